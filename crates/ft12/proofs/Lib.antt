@@ -1,0 +1,10 @@
+mod Lists
+mod Frames
+mod Beginnings
+mod Returns
+mod Exact
+mod Stream
+mod Spoiling
+mod Stages
+mod Computed
+mod Examples

@@ -1,0 +1,129 @@
+//! Frames out of pieces of a stream.
+
+ghost use Rattle.std.specs.Prelude.{◌≡◌, ◌+◌, ◌-◌, ◌^◌, ◌≤◌, ◌<◌, [], length, min, Some, None, IfSome, IfNone};
+ghost use Rattle.ft12.specs.declared.assembling.Heard.TheVariants.{Deaf};
+ghost use Rattle.ft12.specs.Assembly.{Hears, looked_at};
+
+use crate::frame::{Frame, LinkSize, Why};
+use crate::stage::{Data, Stage, Step};
+use arrayvec::ArrayVec;
+use std::marker::Model;
+
+/// What an assembler hears in a piece.
+#[derive(Debug, PartialEq, Eq, Drop)]
+pub enum Heard {
+    /// A whole frame.
+    Frame(Frame),
+    /// The beginning of a frame, or nothing.
+    More,
+    /// No frame and no beginning of one: the first wrong place, counted from the first octet after
+    /// the last frame, and what is wrong there.
+    Never(usize, Why),
+    /// Nothing, since octets before began no frame.
+    Deaf,
+}
+
+/// Makes frames out of pieces of a stream, and looks at each octet once.
+///
+/// Clauses see it as the octets that came since the last frame. They aren't kept: only the place,
+/// the length, the sum and the fields so far are.
+#[derive(Drop)]
+pub struct Assembler {
+    size: LinkSize,
+    /// None: octets began no frame, and all are dropped until `clear`.
+    stage: Option<Stage>,
+    /// The data of the frame that is coming.
+    kept: Data,
+    looked: u64,
+}
+
+impl Model for Assembler {
+    ghost use Rattle.std.specs.Option.{option_map, ForSome};
+    ghost use Rattle.ft12.specs.Assembly.{Assembly};
+    ghost use Rattle.ft12.specs.Stage.{IsStage, so_far};
+
+    ghost Value = { Assembly };
+
+    ghost view = { λ a. record { size = a.size; so_far = option_map (λ s. so_far a.size s a.kept.items) a.stage; looked = a.looked } };
+
+    ghost invariant = { λ a. ForSome a.stage (λ s. IsStage a.size s a.kept.items) };
+}
+
+/// The octet, counted. No octet of a piece is read but here.
+fn look(looked: &mut u64, octet: &u8) -> u8
+    ensures value { result ≡ octet.now }
+    ensures counted { looked.new ≡ min (looked.old + 1) (2 ^ 64 - 1) }
+{
+    *looked = looked.saturating_add(1);
+    *octet
+}
+
+impl Assembler {
+    /// An assembler of a line with addresses of this size, before the first octet.
+    pub fn new(size: LinkSize) -> Self
+        ensures size { result.size ≡ size }
+        ensures so_far { result.so_far ≡ Some [] }
+        ensures looked { result.looked ≡ 0 }
+    {
+        Assembler {
+            size,
+            stage: Some(Stage::Start),
+            kept: ArrayVec::new(),
+            looked: 0,
+        }
+    }
+
+    /// How many octets it has looked at since it was made, at most `u64::MAX`.
+    pub fn looked(&self) -> u64
+        ensures { result ≡ self.now.looked }
+    {
+        self.looked
+    }
+
+    /// Takes octets of a piece, up to the end of a frame, and says how many and what was heard.
+    ///
+    /// Where a frame ends in the piece, the octets after it are left to be fed again. Else all are
+    /// taken. After `Never` all octets are taken and none is looked at, until `clear`.
+    pub fn feed(&mut self, piece: &[u8]) -> (usize, Heard)
+        ensures listening { IfSome self.old.so_far (λ so_far.
+            Hears self.old.size so_far piece.now result.0 result.1 self.new.so_far) }
+        ensures deaf { IfNone self.old.so_far ((result.0 ≡ length piece.now) × (result.1 ≡ Deaf) × (self.new.so_far ≡ None)) }
+        ensures size { self.new.size ≡ self.old.size }
+
+        ensures within { result.0 ≤ length piece.now }
+        ensures progress { 0 < length piece.now → 0 < result.0 }
+
+        ensures looked { self.new.looked ≤ self.old.looked + result.0 }
+        ensures counted { self.new.looked ≡ min (self.old.looked + looked_at self.old.so_far result.0 result.1) (2 ^ 64 - 1) }
+    {
+        let Some(mut stage) = self.stage else {
+            return (piece.len(), Heard::Deaf);
+        };
+        for (i, octet) in piece.iter().enumerate() {
+            let octet = look(&mut self.looked, octet);
+            match stage.with_octet(self.size, &mut self.kept, octet) {
+                Step::More(next) => stage = next,
+                Step::Whole(bare) => {
+                    self.stage = Some(Stage::Start);
+                    return (i + 1, Heard::Frame(bare.with_data(&mut self.kept)));
+                }
+                Step::Never(place, why) => {
+                    self.stage = None;
+                    return (piece.len(), Heard::Never(place, why));
+                }
+            }
+        }
+        self.stage = Some(stage);
+        (piece.len(), Heard::More)
+    }
+
+    /// Begins afresh: what came since the last frame is forgotten.
+    pub fn clear(&mut self)
+        ensures size { self.new.size ≡ self.old.size }
+        ensures so_far { self.new.so_far ≡ Some [] }
+        ensures looked { self.new.looked ≡ self.old.looked }
+    {
+        self.kept.clear();
+        self.stage = Some(Stage::Start);
+    }
+}

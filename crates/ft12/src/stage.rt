@@ -1,0 +1,295 @@
+//! What one octet adds to the beginning of a frame.
+
+ghost use Rattle.std.specs.Prelude.{◌≡◌, ℕ, List, ◌+◌, ◌≤◌, ◌<◌, [], ◌∷◌, ◌++◌, length};
+ghost use Rattle.ft12.specs.declared.frame.LinkSize.{LinkSize};
+ghost use Rattle.ft12.specs.Spelling.{address_len};
+ghost use Rattle.ft12.specs.Stage.{fields_octets, IsFields, head, IsStage, so_far, Steps};
+
+use crate::frame::{Frame, LinkSize, Why};
+use crate::writing::{END, SINGLE, START_DATA, START_FIXED};
+use arrayvec::ArrayVec;
+use std::mem;
+
+/// The data of a frame, as far as they came.
+pub(crate) type Data = ArrayVec<u8, 253>;
+
+/// Which of the two frames with a sum is coming.
+#[derive(Clone, Copy)]
+pub(crate) enum Kind {
+    Fixed,
+    Variable,
+}
+
+/// The control octet and the address, as far as they came.
+#[derive(Clone, Copy)]
+pub(crate) enum Fields {
+    Nothing,
+    Control { c: u8 },
+    /// With the low octet of an address of two.
+    LowAddress { c: u8, low: u8 },
+    Address { c: u8, a: u16 },
+}
+
+/// The len octets from the control octet to the last one of data, as far as they came, and their sum.
+#[derive(Clone, Copy)]
+pub(crate) struct Summing {
+    kind: Kind,
+    len: u8,
+    sum: u8,
+    fields: Fields,
+}
+
+/// All of those octets, and their sum.
+#[derive(Clone, Copy)]
+pub(crate) struct Summed {
+    kind: Kind,
+    len: u8,
+    sum: u8,
+    c: u8,
+    a: u16,
+}
+
+/// Which octet is due, and what is needed of those before it. The data are kept beside it.
+#[derive(Clone, Copy)]
+pub(crate) enum Stage {
+    /// The first octet of a frame.
+    Start,
+    /// The length of a variable frame.
+    Length,
+    /// The length again.
+    LengthAgain { len: u8 },
+    /// The second start octet.
+    SecondStart { len: u8 },
+    /// One of the octets from the control octet to the last one of data.
+    User(Summing),
+    /// The sum.
+    Sum(Summed),
+    /// The end octet.
+    End(Summed),
+}
+
+/// A frame but for its data.
+#[derive(Clone, Copy)]
+pub(crate) enum BareFrame {
+    Single,
+    Fixed { c: u8, a: u16 },
+    Data { c: u8, a: u16 },
+}
+
+/// What the octets are with one more.
+#[derive(Clone, Copy)]
+pub(crate) enum Step {
+    /// A frame, whose data are the ones kept.
+    Whole(BareFrame),
+    /// The beginning of a frame.
+    More(Stage),
+    /// No frame and no beginning of one: the first wrong place, and what is wrong there.
+    Never(usize, Why),
+}
+
+impl BareFrame {
+    ghost use Rattle.ft12.specs.Stage.{HasData, frame_with};
+
+    /// The frame, with the data moved out of where they were kept.
+    pub(crate) fn with_data(self, kept: &mut Data) -> Frame
+        requires { HasData self kept.old.items }
+        ensures frame { result ≡ frame_with self kept.old.items }
+        ensures kept { kept.new.items ≡ [] }
+    {
+        match self {
+            BareFrame::Single => Frame::Single,
+            BareFrame::Fixed { c, a } => Frame::Fixed { c, a },
+            BareFrame::Data { c, a } => {
+                let body = mem::replace(kept, ArrayVec::new());
+                Frame::Data { c, a, body }
+            }
+        }
+    }
+}
+
+impl Kind {
+    /// How many octets come before the control octet.
+    fn head_len(self) -> usize
+        ensures small { result ≤ 4 }
+        ensures all { (len : ℕ) → result ≡ length (head self len) }
+    {
+        match self {
+            Kind::Fixed => 1,
+            Kind::Variable => 4,
+        }
+    }
+}
+
+impl Fields {
+    /// The fields with one more octet, which is one of data where all fields came.
+    fn with_octet(self, size: LinkSize, kept: &mut Data, octet: u8) -> Fields
+        requires fields { IsFields size self kept.old.items }
+        requires room { length (fields_octets size self kept.old.items) < 255 }
+        ensures fields { IsFields size result kept.new.items }
+        ensures octets { fields_octets size result kept.new.items ≡ fields_octets size self kept.old.items ++ octet ∷ [] }
+    {
+        match self {
+            Fields::Nothing => Fields::Control { c: octet },
+            Fields::Control { c } => match size {
+                LinkSize::One => Fields::Address {
+                    c,
+                    a: u16::from(octet),
+                },
+                LinkSize::Two => Fields::LowAddress { c, low: octet },
+            },
+            Fields::LowAddress { c, low } => Fields::Address {
+                c,
+                a: u16::from(low) + 256 * u16::from(octet),
+            },
+            Fields::Address { c, a } => {
+                kept.push(octet);
+                Fields::Address { c, a }
+            }
+        }
+    }
+
+    /// How many octets of fields and data came.
+    fn octet_count(self, size: LinkSize, kept: &Data) -> usize
+        requires { IsFields size self kept.now.items }
+        ensures { result ≡ length (fields_octets size self kept.now.items) }
+    {
+        match self {
+            Fields::Nothing => 0,
+            Fields::Control { .. } => 1,
+            Fields::LowAddress { .. } => 2,
+            Fields::Address { .. } => 1 + size.octets() + kept.len(),
+        }
+    }
+}
+
+impl Summing {
+    ghost use Rattle.ft12.specs.Stage.{IsSumming};
+
+    /// The stage after one more octet.
+    fn with_octet(self, size: LinkSize, kept: &mut Data, octet: u8) -> Stage
+        requires { IsSumming size self kept.old.items }
+        ensures stage { IsStage size result kept.new.items }
+        ensures octets { so_far size result kept.new.items ≡ head self.kind self.len ++ (fields_octets size self.fields kept.old.items ++ octet ∷ []) }
+    {
+        let Summing { kind, len, .. } = self;
+        let fields = self.fields.with_octet(size, kept, octet);
+        let sum = self.sum.wrapping_add(octet);
+        if fields.octet_count(size, kept) < usize::from(len) {
+            return Stage::User(Summing {
+                kind,
+                len,
+                sum,
+                fields,
+            });
+        }
+        match fields {
+            Fields::Address { c, a } => Stage::Sum(Summed {
+                kind,
+                len,
+                sum,
+                c,
+                a,
+            }),
+            _ => unreachable!(),
+        }
+    }
+}
+
+impl Summed {
+    ghost use Rattle.ft12.specs.Stage.{IsSummed, summed_octets};
+
+    /// What the octet after those summed gives.
+    fn at_sum(self, octet: u8) -> Step
+        ensures { (size : LinkSize) (kept : List ℕ) → IsSummed size self kept → Steps size (summed_octets size self kept ++ octet ∷ []) kept result }
+    {
+        if octet == self.sum {
+            Step::More(Stage::End(self))
+        } else {
+            Step::Never(self.kind.head_len() + usize::from(self.len), Why::Sum)
+        }
+    }
+
+    /// What the octet after the right sum gives.
+    fn at_end(self, octet: u8) -> Step
+        ensures { (size : LinkSize) (kept : List ℕ) → IsSummed size self kept → Steps size ((summed_octets size self kept ++ self.sum ∷ []) ++ octet ∷ []) kept result }
+    {
+        let Summed { c, a, .. } = self;
+        if octet != END {
+            let place = self.kind.head_len() + usize::from(self.len) + 1;
+            return Step::Never(place, Why::End);
+        }
+        match self.kind {
+            Kind::Fixed => Step::Whole(BareFrame::Fixed { c, a }),
+            Kind::Variable => Step::Whole(BareFrame::Data { c, a }),
+        }
+    }
+}
+
+impl Stage {
+    /// What one more octet gives.
+    pub(crate) fn with_octet(self, size: LinkSize, kept: &mut Data, octet: u8) -> Step
+        requires { IsStage size self kept.old.items }
+        ensures { Steps size (so_far size self kept.old.items ++ octet ∷ []) kept.new.items result }
+    {
+        match self {
+            Stage::Start => at_start(size, octet),
+            Stage::Length => at_length(size, octet),
+            Stage::LengthAgain { len } => at_length_again(len, octet),
+            Stage::SecondStart { len } => at_second_start(len, octet),
+            Stage::User(summing) => Step::More(summing.with_octet(size, kept, octet)),
+            Stage::Sum(summed) => summed.at_sum(octet),
+            Stage::End(summed) => summed.at_end(octet),
+        }
+    }
+}
+
+fn at_start(size: LinkSize, octet: u8) -> Step
+    ensures { Steps size (octet ∷ []) [] result }
+{
+    match octet {
+        SINGLE => Step::Whole(BareFrame::Single),
+        START_FIXED => Step::More(Stage::User(Summing {
+            kind: Kind::Fixed,
+            len: 1 + size.octets() as u8,
+            sum: 0,
+            fields: Fields::Nothing,
+        })),
+        START_DATA => Step::More(Stage::Length),
+        _ => Step::Never(0, Why::Start),
+    }
+}
+
+fn at_length(size: LinkSize, octet: u8) -> Step
+    ensures { Steps size (0x68 ∷ octet ∷ []) [] result }
+{
+    if usize::from(octet) < 1 + size.octets() {
+        Step::Never(1, Why::LengthSmall)
+    } else {
+        Step::More(Stage::LengthAgain { len: octet })
+    }
+}
+
+fn at_length_again(len: u8, octet: u8) -> Step
+    ensures { (size : LinkSize) → 1 + address_len size ≤ len → Steps size (0x68 ∷ len ∷ octet ∷ []) [] result }
+{
+    if octet == len {
+        Step::More(Stage::SecondStart { len })
+    } else {
+        Step::Never(2, Why::LengthsDiffer)
+    }
+}
+
+fn at_second_start(len: u8, octet: u8) -> Step
+    ensures { (size : LinkSize) → 1 + address_len size ≤ len → Steps size (0x68 ∷ len ∷ len ∷ octet ∷ []) [] result }
+{
+    if octet == START_DATA {
+        Step::More(Stage::User(Summing {
+            kind: Kind::Variable,
+            len,
+            sum: 0,
+            fields: Fields::Nothing,
+        }))
+    } else {
+        Step::Never(3, Why::SecondStart)
+    }
+}

@@ -1,0 +1,91 @@
+//! Frames to octets.
+
+ghost use Rattle.std.specs.Prelude.{◌≡◌, ◌+◌, ◌%◌, ◌^◌, ◌<◌, ◌≤◌, [], ◌∷◌, ◌++◌, List, length, sum};
+ghost use Rattle.arrayvec.specs.ArrayVec.{array_vec_len};
+ghost use Rattle.ft12.specs.Spelling.{address_len, checked, user, spelling, Fits};
+
+use crate::frame::{Frame, LinkSize};
+use arrayvec::ArrayVec;
+
+/// The single character: a short confirmation.
+pub(crate) const SINGLE: u8 = 0xE5;
+
+/// The start octet of a fixed frame.
+pub(crate) const START_FIXED: u8 = 0x10;
+
+/// The start octet of a variable frame, before and after its lengths.
+pub(crate) const START_DATA: u8 = 0x68;
+
+/// The end octet of fixed and variable frames.
+pub(crate) const END: u8 = 0x16;
+
+/// The most octets that a frame has.
+const LONGEST: usize = 261;
+
+/// The sum of octets, modulo 256.
+pub(crate) fn sum_of(octets: &[u8]) -> u8
+    ensures { result ≡ sum octets.now % 256 }
+{
+    let mut sum: u8 = 0;
+    for octet in octets {
+        sum = sum.wrapping_add(*octet);
+    }
+    sum
+}
+
+/// Appends control octet, address and data.
+fn push_user(out: &mut ArrayVec<u8, LONGEST>, size: LinkSize, c: u8, a: u16, body: &[u8])
+    requires address { a < 256 ^ address_len size }
+    requires room { array_vec_len out.old + length (user size c a body.now) ≤ 261 }
+    ensures { out.new.items ≡ out.old.items ++ user size c a body.now }
+{
+    out.push(c);
+    match size {
+        LinkSize::One => out.push(a as u8),
+        LinkSize::Two => {
+            out.push((a % 256) as u8);
+            out.push((a / 256) as u8);
+        }
+    }
+    out.try_extend_from_slice(body).unwrap();
+}
+
+/// Appends control octet, address and data, their sum and the end octet.
+fn push_checked(out: &mut ArrayVec<u8, LONGEST>, size: LinkSize, c: u8, a: u16, body: &[u8])
+    requires address { a < 256 ^ address_len size }
+    requires room { array_vec_len out.old + length (user size c a body.now) + 2 ≤ 261 }
+    ensures { out.new.items ≡ out.old.items ++ checked (user size c a body.now) }
+{
+    let start = out.len();
+    push_user(out, size, c, a, body);
+    let sum = sum_of(&out[start..]);
+    out.push(sum);
+    out.push(END);
+}
+
+/// The octets of a frame, at most 261.
+///
+/// Asks that the address fits its size, and that the control octet, the address and the data are at
+/// most 255 octets.
+pub fn encode(size: LinkSize, f: &Frame) -> ArrayVec<u8, LONGEST>
+    requires { Fits size f.now }
+    ensures { result.items ≡ spelling size f.now }
+{
+    let mut out = ArrayVec::new();
+    match f {
+        Frame::Single => out.push(SINGLE),
+        Frame::Fixed { c, a } => {
+            out.push(START_FIXED);
+            push_checked(&mut out, size, *c, *a, &[]);
+        }
+        Frame::Data { c, a, body } => {
+            let len = (1 + size.octets() + body.len()) as u8;
+            out.push(START_DATA);
+            out.push(len);
+            out.push(len);
+            out.push(START_DATA);
+            push_checked(&mut out, size, *c, *a, body);
+        }
+    }
+    out
+}
