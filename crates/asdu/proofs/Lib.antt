@@ -1,0 +1,11 @@
+pub mod Accepted
+pub mod Answers
+pub mod Counts
+pub mod Joined
+pub mod ObjectChecks
+pub mod ObjectLists
+pub mod Pieces
+pub mod Related
+pub mod Spelling
+pub mod Splits
+pub mod Steps

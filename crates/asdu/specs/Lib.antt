@@ -1,0 +1,10 @@
+pub mod Asdu
+pub mod Fields
+pub mod InformationObjects
+pub mod Objects
+pub mod Reading
+pub mod Refusals
+pub mod Rest
+pub mod Sizes
+pub mod Translation
+pub mod Writing

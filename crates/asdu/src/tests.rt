@@ -1,0 +1,347 @@
+//! Worked ASDUs: read, cut into pieces, and written.
+use crate::{
+    Asdu, CaSize, CauseSize, Head, IoaSize, Object, Refused, Sizes, can_write, head, read,
+    translate, write,
+};
+use arrayvec::ArrayVec;
+use elements::{Cp56, TypeId, Verdict, judge, kind};
+use std::process::Abort;
+
+const SMALL: Sizes = Sizes {
+    cause: CauseSize::One,
+    ca: CaSize::One,
+    ioa: IoaSize::One,
+};
+
+const MIDDLE: Sizes = Sizes {
+    cause: CauseSize::One,
+    ca: CaSize::Two,
+    ioa: IoaSize::Two,
+};
+
+/// Thursday 2024-02-29 12:34:56.789.
+const THURSDAY: [u8; 7] = [0xD5, 0xDD, 0x22, 0x0C, 0x9D, 0x02, 0x18];
+
+type Octets = ArrayVec<u8, 253>;
+
+/// Appends octets; false where they don't fit.
+fn extend(out: &mut Octets, octets: &[u8]) -> bool {
+    out.try_extend_from_slice(octets).is_ok()
+}
+
+/// Appends an element of so many octets, and a tag.
+fn extend_content(out: &mut Octets, kind: TypeId, octet: u8) -> bool {
+    let tag: &[u8] = if kind.tagged() { &THURSDAY } else { &[] };
+    (0..kind.size()).all(|_| out.try_push(octet).is_ok()) && extend(out, tag)
+}
+
+#[test]
+fn reads_objects(rt: HostRuntime) {
+    let octets = [0x01, 0x02, 0x83, 0x01, 0x64, 0x01, 0x65, 0xF0];
+    let asdu = read(SMALL, &octets).expect(&rt, "two single points");
+    assert_eq!(rt; asdu.sizes, SMALL);
+    assert_eq!(rt; asdu.kind, TypeId::MSpNa1);
+    assert_eq!(rt; asdu.octets, octets.as_slice());
+    assert_eq!(rt; asdu.number(), 2);
+    assert!(rt; !asdu.is_sequence());
+    assert_eq!(rt; asdu.cause(), 0x83);
+    assert_eq!(rt; asdu.originator(), 0);
+    assert_eq!(rt; asdu.ca(), 1);
+    assert!(rt; asdu.is_passed_on());
+    let mut objects = asdu.objects();
+    let first = objects.next().expect(&rt, "the first");
+    assert_eq!(rt; first.address, 100);
+    assert_eq!(rt; first.element, [0x01].as_slice());
+    assert_eq!(rt; first.tag, None);
+    let second = objects.next().expect(&rt, "the second");
+    assert_eq!(rt; second.address, 101);
+    assert_eq!(rt; second.element, [0xF0].as_slice());
+    assert!(rt; objects.next().is_none());
+    assert!(rt; objects.next().is_none());
+}
+
+#[test]
+fn reads_sequences(rt: HostRuntime) {
+    let octets = [
+        0x09, 0x82, 0x03, 0x07, 0x01, 0x00, 0x0A, 0x00, 0x00, 0x00, 0x80, 0x00, 0xFF, 0xFF, 0x80,
+    ];
+    let asdu = read(Sizes::TCP, &octets).expect(&rt, "two normalised values");
+    assert_eq!(rt; asdu.number(), 2);
+    assert!(rt; asdu.is_sequence());
+    assert_eq!(rt; asdu.originator(), 7);
+    let wanted = Head {
+        kind: 9,
+        vsq: 0x82,
+        cause: 3,
+        originator: 7,
+        ca: 1,
+        ioa: 10,
+    };
+    assert_eq!(rt; asdu.head(), wanted);
+    let mut objects = asdu.objects();
+    let first = objects.next().expect(&rt, "the first");
+    assert_eq!(rt; first.address, 10);
+    assert_eq!(rt; first.kind.value(first.element), -32_768);
+    let second = objects.next().expect(&rt, "the second");
+    assert_eq!(rt; second.address, 11);
+    assert_eq!(rt; second.element, [0xFF, 0xFF, 0x80].as_slice());
+    assert_eq!(rt; second.kind.value(second.element), -1);
+    assert!(rt; objects.next().is_none());
+}
+
+#[test]
+fn refuses_by_the_first_fault(rt: HostRuntime) {
+    // Too short for a header and an address, whatever the type; in other sizes too.
+    assert_eq!(rt; read(SMALL, &[]), Err(Refused(1)));
+    assert_eq!(rt; read(SMALL, &[0x02, 0x00, 0x03, 0x01]), Err(Refused(1)));
+    assert_eq!(rt;
+        read(Sizes::TCP, &[0x01, 0x01, 3, 0, 1, 0, 1, 0]),
+        Err(Refused(1))
+    );
+    // A type that isn't known, also with number 0.
+    assert_eq!(rt;
+        read(SMALL, &[0x02, 0x00, 0x03, 0x01, 0x64]),
+        Err(Refused(2))
+    );
+    for octet in 58..=64u8 {
+        let tagged = [
+            octet, 0x01, 6, 1, 10, 0x81, 0xD5, 0xDD, 0x22, 0x0C, 0x9D, 0x02, 0x18,
+        ];
+        assert_eq!(rt; read(SMALL, &tagged), Err(Refused(2)));
+    }
+    // Number 0, with SQ 0 and 1, also where the length is wrong.
+    assert_eq!(rt;
+        read(SMALL, &[0x01, 0x00, 0x03, 0x01, 0x64]),
+        Err(Refused(3))
+    );
+    assert_eq!(rt;
+        read(SMALL, &[0x01, 0x80, 0x03, 0x01, 0x64, 0x01]),
+        Err(Refused(3))
+    );
+    // An octet too few or too many, also where the last address is past the size.
+    assert_eq!(rt;
+        read(SMALL, &[0x01, 0x01, 0x03, 0x01, 0x64]),
+        Err(Refused(4))
+    );
+    assert_eq!(rt;
+        read(SMALL, &[0x01, 0x01, 0x03, 0x01, 0x64, 0x01, 0x00]),
+        Err(Refused(4))
+    );
+    assert_eq!(rt;
+        read(SMALL, &[0x01, 0x82, 0x03, 0x01, 0xFF, 0x01]),
+        Err(Refused(4))
+    );
+    // The last address past the size with SQ 1, and the greatest that isn't.
+    assert_eq!(rt;
+        read(SMALL, &[0x01, 0x82, 0x03, 0x01, 0xFF, 0x01, 0x00]),
+        Err(Refused(5))
+    );
+    assert!(rt; read(SMALL, &[0x01, 0x82, 0x03, 0x01, 0xFE, 0x01, 0x00]).is_ok());
+    let last = [0x01, 0x82, 3, 0, 1, 0, 0xFF, 0xFF, 0xFF, 1, 1];
+    assert_eq!(rt; read(Sizes::TCP, &last), Err(Refused(5)));
+}
+
+#[test]
+fn heads_are_not_judged(rt: HostRuntime) {
+    let octets = [0xFF, 0x00, 0xC6, 0x34, 0x12, 0xCD, 0xAB];
+    let wanted = Head {
+        kind: 0xFF,
+        vsq: 0,
+        cause: 0xC6,
+        originator: 0,
+        ca: 0x1234,
+        ioa: 0xABCD,
+    };
+    assert_eq!(rt; head(MIDDLE, &octets), Some(wanted));
+    assert_eq!(rt; head(MIDDLE, &octets[..6]), None);
+    assert_eq!(rt; head(Sizes::TCP, &octets), None);
+    let octets = [1, 2, 3, 4, 5, 6, 7, 8, 9];
+    let wanted = Head {
+        kind: 1,
+        vsq: 2,
+        cause: 3,
+        originator: 4,
+        ca: 0x0605,
+        ioa: 0x09_0807,
+    };
+    assert_eq!(rt; head(Sizes::TCP, &octets), Some(wanted));
+    assert_eq!(rt; head(Sizes::TCP, &octets[..8]), None);
+    assert_eq!(rt; head(SMALL, &octets[..4]), None);
+}
+
+/// Two objects at 16 and 17, as a line of one-octet sizes and as a connection has them.
+#[test]
+fn carries_every_type(rt: HostRuntime) {
+    for octet in 0..=255u8 {
+        let Some(kind) = kind(octet) else {
+            continue;
+        };
+        for sequence in [false, true] {
+            let vsq = if sequence { 0x82 } else { 0x02 };
+            let mut small = Octets::new();
+            let mut wide = Octets::new();
+            assert!(rt; extend(&mut small, &[octet, vsq, 0x43, 0x09, 0x10]));
+            assert!(rt;
+                extend(
+                    &mut wide,
+                    &[octet, vsq, 0x43, 0x00, 0x09, 0x00, 0x10, 0x00, 0x00]
+                )
+            );
+            assert!(rt;
+                extend_content(&mut small, kind, 0xF1) && extend_content(&mut wide, kind, 0xF1)
+            );
+            if !sequence {
+                assert!(rt; extend(&mut small, &[0x11]) && extend(&mut wide, &[0x11, 0x00, 0x00]));
+            }
+            assert!(rt;
+                extend_content(&mut small, kind, 0x8E) && extend_content(&mut wide, kind, 0x8E)
+            );
+            let asdu = read(SMALL, small.as_slice()).expect(&rt, "an ASDU of the line");
+            assert_eq!(rt; asdu.kind, kind);
+            assert_eq!(rt; asdu.is_passed_on(), kind.monitor());
+            check_objects(&rt, &asdu);
+            let pieces = translate(&asdu);
+            assert_eq!(rt; pieces.len(), 1);
+            let piece = pieces.as_slice().first().expect(&rt, "a piece");
+            assert_eq!(rt; piece.as_slice(), wide.as_slice());
+            let asdu = read(Sizes::TCP, piece.as_slice()).expect(&rt, "an ASDU of a connection");
+            check_objects(&rt, &asdu);
+            assert!(rt; can_write(SMALL, &asdu));
+            if can_write(SMALL, &asdu) {
+                assert_eq!(rt; write(SMALL, &asdu).as_slice(), small.as_slice());
+            }
+        }
+    }
+}
+
+fn check_objects<R: Abort>(rt: &R, asdu: &Asdu) {
+    let mut address = 16;
+    let mut first_octet = 0xF1;
+    for object in asdu.objects() {
+        assert_eq!(rt; object.address, address);
+        assert_eq!(rt; object.element.len(), asdu.kind.size());
+        assert_eq!(rt; object.element.first(), Some(&first_octet));
+        assert_eq!(rt; object.tag.is_some(), asdu.kind.tagged());
+        if let Some(tag) = object.tag {
+            assert_eq!(rt; tag, THURSDAY.as_slice());
+        }
+        address = 17;
+        first_octet = 0x8E;
+    }
+    assert_eq!(rt; address, 17);
+}
+
+#[test]
+fn cuts_totals(rt: HostRuntime) {
+    let mut octets = Octets::new();
+    assert!(rt; extend(&mut octets, &[15, 0xB1, 3, 1, 10]));
+    for _ in 0..49 {
+        assert!(rt; extend(&mut octets, &[0xFF, 0xFF, 0xFF, 0xFF, 0x80]));
+    }
+    let asdu = read(SMALL, octets.as_slice()).expect(&rt, "49 totals");
+    let pieces = translate(&asdu);
+    assert_eq!(rt; pieces.len(), 2);
+    let first = pieces.as_slice()[0].as_slice();
+    assert_eq!(rt; first.len(), 249);
+    assert_eq!(rt;
+        &first[..14],
+        [15, 0xB0, 3, 0, 1, 0, 10, 0, 0, 0xFF, 0xFF, 0xFF, 0xFF, 0x80].as_slice()
+    );
+    let second = pieces.as_slice()[1].as_slice();
+    assert_eq!(rt;
+        second,
+        [15, 0x81, 3, 0, 1, 0, 58, 0, 0, 0xFF, 0xFF, 0xFF, 0xFF, 0x80].as_slice()
+    );
+}
+
+#[test]
+fn cuts_single_points(rt: HostRuntime) {
+    let mut octets = Octets::new();
+    assert!(rt; extend(&mut octets, &[1, 124, 3, 1]));
+    for address in 1..=124u8 {
+        assert!(rt; extend(&mut octets, &[address, 0]));
+    }
+    let asdu = read(SMALL, octets.as_slice()).expect(&rt, "124 single points");
+    let pieces = translate(&asdu);
+    let wanted = [(0x3C, 0x01), (0x3C, 0x3D), (0x04, 0x79)];
+    assert_eq!(rt; pieces.len(), wanted.len());
+    let mut pieces = pieces.as_slice().iter();
+    for (number, first) in wanted {
+        let mut text = Octets::new();
+        assert!(rt; extend(&mut text, &[1, number, 3, 0, 1, 0]));
+        for place in 0..number {
+            assert!(rt; extend(&mut text, &[place.wrapping_add(first), 0, 0, 0]));
+        }
+        let piece = pieces.next().expect(&rt, "a piece");
+        assert_eq!(rt; piece.as_slice(), text.as_slice());
+    }
+}
+
+#[test]
+fn carries_wrong_tags(rt: HostRuntime) {
+    // There is no 2023-02-29; IV is set in the element.
+    let octets = [
+        30, 0x01, 3, 1, 100, 0x81, 0xD5, 0xDD, 0x22, 0x0C, 0x9D, 0x02, 0x17,
+    ];
+    let asdu = read(SMALL, &octets).expect(&rt, "a tagged point");
+    let mut objects = asdu.objects();
+    let object = objects.next().expect(&rt, "its object");
+    let tag = object.tag.expect(&rt, "its tag");
+    let tag = <[u8; 7]>::try_from(tag).expect(&rt, "seven octets");
+    assert_eq!(rt; judge(&Cp56(tag)), Verdict::NoSuchDay);
+    let pieces = translate(&asdu);
+    assert_eq!(rt; pieces.len(), 1);
+    let wanted = [
+        30, 0x01, 3, 0, 1, 0, 100, 0, 0, 0x81, 0xD5, 0xDD, 0x22, 0x0C, 0x9D, 0x02, 0x17,
+    ];
+    assert_eq!(rt; pieces.as_slice()[0].as_slice(), wanted.as_slice());
+}
+
+#[test]
+fn passes_reports_on(rt: HostRuntime) {
+    for (kind, cause, wanted) in [
+        (1, 0x03, true),
+        (1, 0x2C, true),
+        (1, 0x6C, false),
+        (1, 0xEC, false),
+        (1, 0x6D, true),
+        (45, 0x07, false),
+        (100, 0x6C, false),
+    ] {
+        let octets = [kind, 0x01, cause, 1, 0, 1];
+        let asdu = read(SMALL, &octets).expect(&rt, "an ASDU");
+        assert_eq!(rt; asdu.is_passed_on(), wanted);
+        assert_eq!(rt; asdu.cause(), cause);
+        // Every cause is translated.
+        assert_eq!(rt; translate(&asdu).len(), 1);
+    }
+}
+
+#[test]
+fn writes_what_fits(rt: HostRuntime) {
+    // The originator 7 goes where the cause has one octet.
+    let octets = [45, 0x01, 0x46, 7, 0x34, 0x12, 0xFF, 0x00, 0x00, 0x81];
+    let asdu = read(Sizes::TCP, &octets).expect(&rt, "a command");
+    assert!(rt; can_write(MIDDLE, &asdu));
+    if can_write(MIDDLE, &asdu) {
+        let wanted = [45, 0x01, 0x46, 0x34, 0x12, 0xFF, 0x00, 0x81];
+        assert_eq!(rt; write(MIDDLE, &asdu).as_slice(), wanted.as_slice());
+    }
+    // In its own sizes it has its own octets.
+    if can_write(Sizes::TCP, &asdu) {
+        assert_eq!(rt; write(Sizes::TCP, &asdu).as_slice(), octets.as_slice());
+    }
+    // A common address past one octet, an object address past two, and too many octets.
+    assert!(rt; !can_write(SMALL, &asdu));
+    let octets = [45, 0x01, 6, 0, 1, 0, 0x00, 0x00, 0x01, 1];
+    let asdu = read(Sizes::TCP, &octets).expect(&rt, "a command");
+    assert!(rt; !can_write(MIDDLE, &asdu));
+    let mut octets = Octets::new();
+    assert!(rt; extend(&mut octets, &[1, 124, 3, 1]));
+    for address in 1..=124u8 {
+        assert!(rt; extend(&mut octets, &[address, 0]));
+    }
+    let asdu = read(SMALL, octets.as_slice()).expect(&rt, "124 single points");
+    assert!(rt; can_write(SMALL, &asdu));
+    assert!(rt; !can_write(MIDDLE, &asdu));
+}

@@ -1,0 +1,181 @@
+//! Writing ASDUs.
+ghost use Rattle.std.specs.Prelude.{◌≡◌, ◌+◌, ◌<◌, ◌≤◌, ◌^◌, ◌∷◌, [], ◌++◌, length, is_some, true};
+ghost use Rattle.std.specs.List.{AllByRecursion};
+ghost use Rattle.byteorder.specs.Endian.{little_bytes};
+ghost use Rattle.arrayvec.specs.ArrayVec.{array_vec_len};
+ghost use Rattle.asdu.specs.Sizes.{header_len, ca_len, ioa_len};
+ghost use Rattle.asdu.specs.Asdu.{vsq, IsInfo, IsAsdu, spelled, originator_octets};
+ghost use Rattle.asdu.specs.Refusals.{body_len};
+ghost use Rattle.asdu.specs.Fields.{is_sequence};
+ghost use Rattle.asdu.specs.Reading.{value_of};
+ghost use Rattle.asdu.specs.Objects.{infos_left, info_of};
+ghost use Rattle.asdu.specs.Writing.{CanBeWritten, with_infos, carried, header_of, lead, lead_len, spelled_info};
+
+use crate::reading::body_octets;
+use crate::{Asdu, CaSize, CauseSize, IoaSize, Object, Objects, Sizes};
+use arrayvec::ArrayVec;
+
+/// The same ASDU in other sizes, without its originator where the cause has one octet; in its own sizes its own octets.
+pub fn write(sizes: Sizes, asdu: &Asdu) -> ArrayVec<u8, 253>
+    requires ca { (value_of asdu.now).ca < 256 ^ ca_len sizes.ca }
+    requires addresses { AllByRecursion (λ i. i.address < 256 ^ ioa_len sizes.ioa) (value_of asdu.now).infos }
+    requires room { length (spelled sizes (carried sizes (value_of asdu.now))) ≤ 253 }
+    ensures written { IsAsdu sizes (carried sizes (value_of asdu.now)) result.items }
+    ensures again { asdu.now.sizes ≡ sizes → result.items ≡ asdu.now.octets.now }
+{
+    spell(sizes, asdu, asdu.objects())
+}
+
+/// Whether `write` has a spelling for it: its common address and its object addresses fit the sizes, and its octets are at
+/// most 253.
+pub fn can_write(sizes: Sizes, asdu: &Asdu) -> bool
+    ensures ca { result ≡ true → (value_of asdu.now).ca < 256 ^ ca_len sizes.ca }
+    ensures addresses { result ≡ true → AllByRecursion (λ i. i.address < 256 ^ ioa_len sizes.ioa) (value_of asdu.now).infos }
+    ensures room { result ≡ true → length (spelled sizes (carried sizes (value_of asdu.now))) ≤ 253 }
+    ensures always { CanBeWritten sizes (value_of asdu.now) → result ≡ true }
+{
+    u32::from(asdu.ca()) < sizes.ca.limit()
+        && addresses_fit(sizes.ioa.limit(), asdu.objects())
+        && octets_in(sizes, asdu) <= 253
+}
+
+/// How many octets it has in these sizes.
+fn octets_in(sizes: Sizes, asdu: &Asdu) -> usize
+    ensures { AllByRecursion (λ i. i.address < 256 ^ ioa_len sizes.ioa) (value_of asdu.now).infos → result ≡ length (spelled sizes (carried sizes (value_of asdu.now))) }
+{
+    sizes.header() + body_octets(asdu.kind, sizes.ioa, asdu.is_sequence(), asdu.number())
+}
+
+/// Whether all addresses are below the limit.
+fn addresses_fit(limit: u32, objects: Objects) -> bool
+    ensures yes { result ≡ true → AllByRecursion (λ i. i.address < limit) (infos_left objects.entry) }
+    ensures no { AllByRecursion (λ i. i.address < limit) (infos_left objects.entry) → result ≡ true }
+{
+    for object in objects {
+        if object.address >= limit {
+            return false;
+        }
+    }
+    true
+}
+
+/// The ASDU with these of its objects.
+pub(crate) fn spell<const N: usize>(sizes: Sizes, asdu: &Asdu, chunk: Objects) -> ArrayVec<u8, N>
+    requires kind { chunk.kind ≡ asdu.now.kind }
+    requires mode { is_some chunk.next_address ≡ is_sequence asdu.now.octets.now }
+    requires some { 1 ≤ chunk.left }
+    requires most { chunk.left ≤ 127 }
+    requires ca { (value_of asdu.now).ca < 256 ^ ca_len sizes.ca }
+    requires infos { AllByRecursion (IsInfo asdu.now.kind (ioa_len sizes.ioa)) (infos_left chunk) }
+    requires room { header_len sizes + body_len asdu.now.kind (ioa_len sizes.ioa) (is_sequence asdu.now.octets.now) chunk.left ≤ N }
+    ensures spells { IsAsdu sizes (with_infos (carried sizes (value_of asdu.now)) (infos_left chunk.entry)) result.items }
+    ensures fits { array_vec_len result ≤ N }
+{
+    let mut out = ArrayVec::new();
+    append_header(&mut out, sizes, asdu, chunk.left);
+    append_lead(&mut out, sizes.ioa, chunk.next_address);
+    let sequence = chunk.next_address.is_some();
+    for object in chunk {
+        append_object(&mut out, sizes.ioa, object, sequence);
+    }
+    out
+}
+
+/// Appends type, VSQ, cause, originator and common address.
+fn append_header<const N: usize>(
+    out: &mut ArrayVec<u8, N>,
+    sizes: Sizes,
+    asdu: &Asdu,
+    number: usize,
+)
+    requires most { number ≤ 127 }
+    requires room { array_vec_len out.old + header_len sizes ≤ N }
+    ensures { out.new.items ≡ out.old.items ++ header_of sizes (carried sizes (value_of asdu.now)) number }
+{
+    let head = asdu.head();
+    append(
+        out,
+        &[head.kind, vsq_octet(asdu.is_sequence(), number), head.cause],
+    );
+    append_originator(out, sizes.cause, head.originator);
+    append_ca(out, sizes.ca, head.ca);
+}
+
+/// The VSQ of so many objects.
+fn vsq_octet(sequence: bool, number: usize) -> u8
+    requires { number ≤ 127 }
+    ensures { result ≡ vsq sequence number }
+{
+    (if sequence { 0x80 } else { 0 }) + number as u8
+}
+
+fn append_originator<const N: usize>(out: &mut ArrayVec<u8, N>, size: CauseSize, originator: u8)
+    requires { array_vec_len out.old + 1 ≤ N }
+    ensures { out.new.items ≡ out.old.items ++ originator_octets size originator }
+{
+    if size == CauseSize::Two {
+        append(out, &[originator]);
+    }
+}
+
+fn append_ca<const N: usize>(out: &mut ArrayVec<u8, N>, size: CaSize, ca: u16)
+    requires { array_vec_len out.old + ca_len size ≤ N }
+    ensures { out.new.items ≡ out.old.items ++ little_bytes (ca_len size) ca }
+{
+    let [low, high] = ca.to_le_bytes();
+    match size {
+        CaSize::One => append(out, &[low]),
+        CaSize::Two => append(out, &[low, high]),
+    }
+}
+
+/// Appends the address that a sequence begins with.
+fn append_lead<const N: usize>(out: &mut ArrayVec<u8, N>, size: IoaSize, address: Option<u32>)
+    requires { array_vec_len out.old + lead_len (ioa_len size) address ≤ N }
+    ensures { out.new.items ≡ out.old.items ++ lead (ioa_len size) address }
+{
+    if let Some(address) = address {
+        append_address(out, size, address);
+    }
+}
+
+/// Appends an object, without its address in a sequence.
+fn append_object<const N: usize>(
+    out: &mut ArrayVec<u8, N>,
+    size: IoaSize,
+    object: Object,
+    sequence: bool,
+)
+    requires { array_vec_len out.old + length (spelled_info (ioa_len size) sequence (info_of object)) ≤ N }
+    ensures { out.new.items ≡ out.old.items ++ spelled_info (ioa_len size) sequence (info_of object.entry) }
+{
+    if !sequence {
+        append_address(out, size, object.address);
+    }
+    append(out, object.element);
+    if let Some(tag) = object.tag {
+        append(out, tag);
+    }
+}
+
+fn append_address<const N: usize>(out: &mut ArrayVec<u8, N>, size: IoaSize, address: u32)
+    requires { array_vec_len out.old + ioa_len size ≤ N }
+    ensures { out.new.items ≡ out.old.items ++ little_bytes (ioa_len size) address }
+{
+    let [low, middle, high, _] = address.to_le_bytes();
+    match size {
+        IoaSize::One => append(out, &[low]),
+        IoaSize::Two => append(out, &[low, middle]),
+        IoaSize::Three => append(out, &[low, middle, high]),
+    }
+}
+
+/// Appends octets that fit.
+pub(crate) fn append<const N: usize>(out: &mut ArrayVec<u8, N>, octets: &[u8])
+    requires { array_vec_len out.old + length octets.now ≤ N }
+    ensures { out.new.items ≡ out.old.items ++ octets.now }
+{
+    let Ok(()) = out.try_extend_from_slice(octets) else {
+        unreachable!();
+    };
+}

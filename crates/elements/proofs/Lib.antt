@@ -1,0 +1,2 @@
+pub mod TimeTagChecks
+pub mod TypeCodes
