@@ -1,0 +1,5 @@
+pub mod Apdus
+pub mod Fronts
+pub mod Exact
+pub mod Stream
+pub mod EachOctet

@@ -1,0 +1,27 @@
+-- APDUs out of pieces of a stream of octets (this gateway's own profile: TCP cuts octets anywhere).
+use Rattle.std.specs.Prelude.{◌≡◌, ℕ, ◌+◌, ◌-◌, ◌^◌, ◌≤◌, min, List, [], ◌++◌, length, Option, Some, None}
+use Rattle.apci.specs.declared.apdu.Front.TheVariants as front
+use Rattle.apci.specs.declared.assembling.Heard.{Heard}
+use Rattle.apci.specs.declared.assembling.Heard.TheVariants as heard
+use Rattle.apci.specs.Reading.{IsFront}
+
+-- What contracts see of an assembler: the octets since the last APDU (none where it is deaf), and how many octets it
+-- has looked at.
+pub record Assembly : Type 0 where
+  pub so_far : Option (List ℕ)
+  pub looked : ℕ
+
+-- What is heard of a piece after the octets so far is what stands at the front of both joined. n octets of the piece are taken.
+abbrev pub Hears : List ℕ → List ℕ → ℕ → Heard → Option (List ℕ) → Type 0
+Hears so_far piece n (heard.Apdu a) after = IsFront (so_far ++ piece) (front.Whole a (length so_far + n)) × (after ≡ Some [])
+Hears so_far piece n heard.More after = IsFront (so_far ++ piece) front.More × (n ≡ length piece) × (after ≡ Some (so_far ++ piece))
+Hears so_far piece n (heard.Never place why) after = IsFront (so_far ++ piece) (front.Never place why) × (n ≡ length piece) × (after ≡ None)
+Hears so_far piece n heard.Deaf after = ⊥
+
+-- Each octet taken was looked at once, but those behind a fault, and those that a deaf assembler drops, not at all.
+-- The count saturates.
+abbrev pub HasLooked : ℕ → ℕ → Heard → ℕ → Type 0
+HasLooked before n (heard.Apdu a) after = after ≡ min (2 ^ 64 - 1) (before + n)
+HasLooked before n heard.More after = after ≡ min (2 ^ 64 - 1) (before + n)
+HasLooked before n (heard.Never place why) after = after ≤ before + n
+HasLooked before n heard.Deaf after = after ≡ before

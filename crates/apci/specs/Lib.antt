@@ -1,0 +1,6 @@
+pub mod Spelling
+pub mod Reading
+pub mod Borrowed
+pub mod Assembly
+pub mod Control
+pub mod Progress

@@ -1,0 +1,260 @@
+//! APDUs out of pieces of a stream, with each octet looked at once.
+
+ghost use Rattle.std.specs.Prelude.{◌≡◌, ℕ, ◌+◌, ◌-◌, ◌^◌, ◌<◌, ◌≤◌, min, ◌↔◌, [], ◌∷◌, ◌++◌, length, Some, IfSome, IfNone, IsTrue};
+ghost use Rattle.apci.specs.declared.assembling.Heard.TheVariants.{Deaf as HeardDeaf};
+ghost use Rattle.apci.specs.declared.assembling.State.TheVariants as State;
+ghost use Rattle.apci.specs.Assembly.{Hears, HasLooked};
+ghost use Rattle.apci.specs.Progress.{so_far, IsState, Gives};
+
+use crate::apdu::{Apdu, Uf, Why};
+use crate::control::{Format, counter_of, format_of};
+use crate::writing::START;
+use arrayvec::ArrayVec;
+use std::marker::Model;
+use std::mem;
+
+/// What an assembler hears in a piece.
+#[derive(Debug, PartialEq, Eq, Drop)]
+pub enum Heard {
+    /// A whole APDU.
+    Apdu(Apdu),
+    /// The beginning of an APDU, or nothing.
+    More,
+    /// No APDU and no beginning of one: what `front` answers for the octets since the last APDU.
+    Never(usize, Why),
+    /// Nothing, since octets before began no APDU.
+    Deaf,
+}
+
+/// Which octet of an APDU is due, with what the octets before it said. The octets of an ASDU stand apart.
+#[derive(Clone, Copy)]
+enum State {
+    /// None: octets before began no APDU.
+    Deaf,
+    Start,
+    Length,
+    Control { len: u8 },
+    ISecond { len: u8, low: u8 },
+    IThird { len: u8, ns: u16 },
+    IFourth { len: u8, ns: u16, low: u8 },
+    Asdu { len: u8, ns: u16, nr: u16 },
+    SSecond,
+    SThird,
+    SFourth { low: u8 },
+    USecond(Uf),
+    UThird(Uf),
+    UFourth(Uf),
+}
+
+/// What one octet gives.
+#[derive(Clone, Copy)]
+enum Step {
+    /// The next octet is due by this state.
+    Goes(State),
+    /// It is an octet of the ASDU, and more are due.
+    Keeps,
+    /// It is the last octet of the ASDU of an I format.
+    I { ns: u16, nr: u16 },
+    /// It is the last octet of an S format.
+    S { nr: u16 },
+    /// It is the last octet of a U format.
+    U(Uf),
+    Never(usize, Why),
+}
+
+/// What the length gives.
+fn length_step(octet: u8) -> Step
+    ensures { Gives (0x68 ∷ octet ∷ []) [] octet State.Length result }
+{
+    if octet < 4 || octet > 253 {
+        return Step::Never(1, Why::Length);
+    }
+    Step::Goes(State::Control { len: octet })
+}
+
+/// What the first control octet gives.
+fn control_step(len: u8, octet: u8) -> Step
+    requires long { 4 ≤ len }
+    requires short { len ≤ 253 }
+    ensures { Gives (0x68 ∷ len ∷ octet ∷ []) [] octet (State.Control len) result }
+{
+    match format_of(octet) {
+        Format::Unknown => Step::Never(2, Why::Control),
+        Format::I => {
+            if len < 13 {
+                Step::Never(1, Why::Short)
+            } else {
+                Step::Goes(State::ISecond { len, low: octet })
+            }
+        }
+        Format::S => {
+            if len != 4 {
+                Step::Never(1, Why::NotFour)
+            } else {
+                Step::Goes(State::SSecond)
+            }
+        }
+        Format::U(function) => {
+            if len != 4 {
+                Step::Never(1, Why::NotFour)
+            } else {
+                Step::Goes(State::USecond(function))
+            }
+        }
+    }
+}
+
+/// What the next octet gives.
+fn stepped(state: State, asdu: &[u8], octet: u8) -> Step
+    requires { IsState state asdu.now }
+    ensures { IfSome (so_far state asdu.now) (λ octets. Gives (octets ++ octet ∷ []) asdu.now octet state result) }
+{
+    match state {
+        State::Deaf => Step::Goes(State::Deaf),
+        State::Start if octet != START => Step::Never(0, Why::Start),
+        State::Start => Step::Goes(State::Length),
+        State::Length => length_step(octet),
+        State::Control { len } => control_step(len, octet),
+        State::ISecond { len, low } => Step::Goes(State::IThird {
+            len,
+            ns: counter_of(low, octet),
+        }),
+        State::IThird { .. } if octet % 2 == 1 => Step::Never(4, Why::Control),
+        State::IThird { len, ns } => Step::Goes(State::IFourth {
+            len,
+            ns,
+            low: octet,
+        }),
+        State::IFourth { len, ns, low } => Step::Goes(State::Asdu {
+            len,
+            ns,
+            nr: counter_of(low, octet),
+        }),
+        State::Asdu { len, .. } if asdu.len() + 5 < usize::from(len) => Step::Keeps,
+        State::Asdu { ns, nr, .. } => Step::I { ns, nr },
+        State::SSecond if octet != 0 => Step::Never(3, Why::Control),
+        State::SSecond => Step::Goes(State::SThird),
+        State::USecond(_) if octet != 0 => Step::Never(3, Why::Control),
+        State::USecond(function) => Step::Goes(State::UThird(function)),
+        State::SThird if octet % 2 == 1 => Step::Never(4, Why::Control),
+        State::SThird => Step::Goes(State::SFourth { low: octet }),
+        State::SFourth { low } => Step::S {
+            nr: counter_of(low, octet),
+        },
+        State::UThird(_) if octet != 0 => Step::Never(4, Why::Control),
+        State::UThird(function) => Step::Goes(State::UFourth(function)),
+        State::UFourth(_) if octet != 0 => Step::Never(5, Why::Control),
+        State::UFourth(function) => Step::U(function),
+    }
+}
+
+/// Makes APDUs out of pieces of a stream.
+///
+/// It keeps the fields so far, and no octet but those of an ASDU. Contracts see the octets since the last APDU, or
+/// none where it is deaf, and how many octets it has looked at.
+#[derive(Drop)]
+pub struct Assembler {
+    state: State,
+    asdu: ArrayVec<u8, 249>,
+    looked: u64,
+}
+
+impl Model for Assembler {
+    ghost use Rattle.apci.specs.Assembly.{Assembly};
+
+    ghost Value = { Assembly };
+
+    ghost use Rattle.apci.specs.Progress.{so_far, IsState};
+
+    ghost view = { λ a. record { so_far = so_far a.state a.asdu.items; looked = a.looked } };
+
+    ghost invariant = { λ a. IsState a.state a.asdu.items };
+}
+
+fn is_deaf(state: &State) -> bool
+    ensures { IsTrue result ↔ (state.now ≡ State.Deaf) }
+{
+    matches!(state, State::Deaf)
+}
+
+/// The octet, counted.
+fn look(looked: &mut u64, octet: &u8) -> u8
+    ensures value { result ≡ octet.now }
+    ensures counted { looked.new ≡ min (2 ^ 64 - 1) (looked.old + 1) }
+{
+    *looked = looked.saturating_add(1);
+    *octet
+}
+
+impl Assembler {
+    /// An assembler that has heard nothing.
+    pub fn new() -> Self
+        ensures so_far { result.so_far ≡ Some [] }
+        ensures looked { result.looked ≡ 0 }
+    {
+        Assembler {
+            state: State::Start,
+            asdu: ArrayVec::new(),
+            looked: 0,
+        }
+    }
+
+    /// How many octets it has looked at, saturating.
+    pub fn looked(&self) -> u64
+        ensures { result ≡ self.now.looked }
+    {
+        self.looked
+    }
+
+    /// Takes octets of a piece, up to the last one of an APDU, and says how many and what was heard. It takes them all
+    /// where no APDU ends in the piece. After a refusal it takes and drops all octets until `clear`.
+    pub fn feed(&mut self, piece: &[u8]) -> (usize, Heard)
+        ensures listening { IfSome self.old.so_far (λ so_far.
+            Hears so_far piece.now result.0 result.1 self.new.so_far) }
+        ensures deaf { IfNone self.old.so_far
+            ((result.0 ≡ length piece.now) × (result.1 ≡ HeardDeaf) × (self.new ≡ self.old)) }
+        ensures within { result.0 ≤ length piece.now }
+        ensures progress { 0 < length piece.now → 0 < result.0 }
+        ensures looked { HasLooked self.old.looked result.0 result.1 self.new.looked }
+        ensures at_most_once { self.new.looked ≤ self.old.looked + result.0 }
+    {
+        if is_deaf(&self.state) {
+            return (piece.len(), Heard::Deaf);
+        }
+        for (i, octet) in piece.iter().enumerate() {
+            let octet = look(&mut self.looked, octet);
+            match stepped(self.state, &self.asdu, octet) {
+                Step::Goes(state) => self.state = state,
+                Step::Keeps => self.asdu.push(octet),
+                Step::I { ns, nr } => {
+                    self.asdu.push(octet);
+                    let asdu = mem::replace(&mut self.asdu, ArrayVec::new());
+                    self.state = State::Start;
+                    return (i + 1, Heard::Apdu(Apdu::I { ns, nr, asdu }));
+                }
+                Step::S { nr } => {
+                    self.state = State::Start;
+                    return (i + 1, Heard::Apdu(Apdu::S { nr }));
+                }
+                Step::U(function) => {
+                    self.state = State::Start;
+                    return (i + 1, Heard::Apdu(Apdu::U(function)));
+                }
+                Step::Never(place, why) => {
+                    self.state = State::Deaf;
+                    return (piece.len(), Heard::Never(place, why));
+                }
+            }
+        }
+        (piece.len(), Heard::More)
+    }
+
+    /// Begins afresh: it hears again, and what had come of an APDU is forgotten.
+    pub fn clear(&mut self)
+        ensures so_far { self.new.so_far ≡ Some [] }
+        ensures looked { self.new.looked ≡ self.old.looked }
+    {
+        self.state = State::Start;
+        self.asdu.clear();
+    }
+}

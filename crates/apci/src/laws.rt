@@ -1,0 +1,27 @@
+//! What holds of APDUs and their octets.
+
+ghost use Rattle.std.specs.Prelude.{◌≡◌, ℕ, List, [], ◌++◌};
+ghost use Rattle.apci.specs.declared.apdu.Apdu.{Apdu};
+ghost use Rattle.apci.specs.declared.apdu.Front.{Front};
+ghost use Rattle.apci.specs.Spelling.{IsApdu, spelling};
+ghost use Rattle.apci.specs.Reading.{IsFront};
+
+/// Each APDU has one spelling.
+pub fn one_spelling()
+    ensures { (a : Apdu) (x y : List ℕ) → IsApdu a x → IsApdu a y → x ≡ y }
+{}
+
+/// No spelling begins another, and no two APDUs have the same.
+pub fn no_spelling_begins_another()
+    ensures { (a b : Apdu) (x rest : List ℕ) → IsApdu a x → IsApdu b (x ++ rest) → (a ≡ b) × (rest ≡ []) }
+{}
+
+/// Octets have one front.
+pub fn one_front()
+    ensures { (x : List ℕ) (a b : Front) → IsFront x a → IsFront x b → a ≡ b }
+{}
+
+/// Octets that begin with the spellings of two APDUs begin with one APDU, and go on alike.
+pub fn spellings_cancel()
+    ensures { (a b : Apdu) (x y : List ℕ) → spelling a ++ x ≡ spelling b ++ y → (a ≡ b) × (x ≡ y) }
+{}

@@ -1,0 +1,13 @@
+-- Pieces that an I format can carry (IEC 60870-5-104, 5).
+use Rattle.std.specs.Prelude.{ℕ, ◌≤◌, List, length}
+use Rattle.std.specs.List.{AllByRecursion}
+use Rattle.arrayvec.specs.ArrayVec.{ArrayVec}
+
+-- each has 9 to 249 octets
+abbrev pub AreAsdus : List (ArrayVec ℕ) → Type 0
+AreAsdus pieces = AllByRecursion (λ p. (9 ≤ length p.items) × (length p.items ≤ 249)) pieces
+
+-- how a queue is kept: the mark is within the pieces, and each can be sent
+pub record IsSound (pieces : List (ArrayVec ℕ)) (mark : ℕ) : Type 0 where
+  pub within : mark ≤ length pieces
+  pub asdus : AreAsdus pieces

@@ -1,0 +1,171 @@
+//! The queue of ASDUs that wait for the control centre: the pieces of reports, from `push` until a connection
+//! acknowledged them (this gateway's own profile; IEC 60870-5-104, 5.1, for what acknowledging is).
+//!
+//! [`Events`] is a list with two marks, its oldest piece and its first unsent one, in a ring of fixed places. Pieces go
+//! behind the newest, are lent to be sent from the mark on, and leave from the oldest. What is sent and not
+//! acknowledged when a connection ends is unsent again ([`Events::rewind`]). What pieces say, and which frames
+//! acknowledge them, is no matter of this crate.
+//!
+//! Proved: each call is one small function on the two lists, and nothing is overwritten or lost. Only `new` takes
+//! memory, and after it no call can fail.
+#![tactic(auto)]
+
+ghost use Rattle.std.specs.Map.Iter.{TakesFirst, deref};
+ghost use Rattle.std.specs.Iterator.{at_most};
+ghost use Rattle.std.specs.Prelude.{◌≡◌, ◌<◌, ◌≤◌, ◌↔◌, [], ◌∷◌, length, drop, IfOk, IfSome, IfNone, IsTrue};
+ghost use Rattle.events.specs.Pieces.{AreAsdus};
+
+use asdu::{Piece, Pieces};
+use circular_buffer::{HeapCircularBuffer, Iter};
+use std::alloc::Global;
+use std::marker::Model;
+use thiserror::Error;
+
+/// Memory was refused.
+#[derive(Clone, Copy, Debug, PartialEq, Eq, Error)]
+#[error("no memory")]
+pub struct NoMemory;
+
+/// The most pieces of one report.
+const MOST_PIECES: usize = 3;
+
+/// The kept pieces, oldest first. Those before the mark were sent on the open connection.
+#[derive(Drop)]
+pub struct Events {
+    ring: HeapCircularBuffer<Piece>,
+    sent: usize,
+}
+
+impl Model for Events {
+    ghost use Rattle.events.specs.Queue.{Queue, queue_of};
+    ghost use Rattle.events.specs.Pieces.{IsSound};
+
+    ghost Value = { Queue };
+
+    ghost view = { λ e. queue_of e.ring.items e.sent e.ring.capacity };
+
+    ghost invariant = { λ e. IsSound e.ring.items e.sent };
+}
+
+impl Events {
+    ghost use Rattle.events.specs.Queue.{empty, kept, free_places, pushed, marked_sent, acknowledged, rewound, octets_of};
+
+    /// An empty queue of so many places. This alone takes memory.
+    pub fn new(alloc: Global, places: usize) -> Result<Events, NoMemory>
+        ensures { IfOk result (λ e. e ≡ empty places) }
+    {
+        let ring = HeapCircularBuffer::with_capacity(alloc, places).map_err(|_| NoMemory)?;
+        Ok(Events { ring, sent: 0 })
+    }
+
+    /// How many more pieces fit.
+    pub fn free(&self) -> usize
+        ensures { result ≡ free_places self.now }
+    {
+        self.ring.capacity() - self.ring.len()
+    }
+
+    /// Whether fewer than three places are free, so that the pieces of a report may not fit.
+    pub fn is_full(&self) -> bool
+        ensures { IsTrue result ↔ (free_places self.now < 3) }
+    {
+        self.free() < MOST_PIECES
+    }
+
+    /// Appends the pieces of a report, unsent. The queue may not be full, and each piece has 9 to 249 octets.
+    pub fn push(&mut self, pieces: Pieces)
+        requires room { 3 ≤ free_places self.old }
+        requires asdus { AreAsdus pieces.items }
+        ensures { self.new ≡ pushed (octets_of pieces.items) self.old }
+    {
+        let count = pieces.len();
+        prove!(count <= self.ring.capacity() - self.ring.len());
+        for piece in pieces {
+            let _ = self.ring.try_push_back(piece);
+        }
+    }
+
+    /// The oldest piece that isn't sent, of 9 to 249 octets.
+    pub fn unsent(&self) -> Option<&[u8]>
+        ensures some { IfSome result (λ piece. self.now.unsent ≡ piece.now ∷ drop 1 self.now.unsent) }
+        ensures none { IfNone result (self.now.unsent ≡ []) }
+        ensures fits { IfSome result (λ piece. (9 ≤ length piece.now) × (length piece.now ≤ 249)) }
+    {
+        let piece = self.ring.get(self.sent)?;
+        Some(piece.as_slice())
+    }
+
+    /// The oldest unsent piece was sent.
+    pub fn mark_sent(&mut self)
+        requires { 0 < length self.old.unsent }
+        ensures { self.new ≡ marked_sent self.old }
+    {
+        prove!(self.sent < self.ring.len());
+        self.sent += 1;
+    }
+
+    /// Removes the `count` oldest pieces, which were sent.
+    pub fn acknowledge(&mut self, count: usize)
+        requires { count ≤ length self.old.sent }
+        ensures { self.new ≡ acknowledged count self.old }
+    {
+        let left = self.ring.len() - count;
+        self.ring.truncate_front(left);
+        self.sent -= count;
+    }
+
+    /// All kept pieces are unsent again.
+    pub fn rewind(&mut self)
+        ensures { self.new ≡ rewound self.old }
+    {
+        self.sent = 0;
+    }
+
+    /// The kept pieces, oldest first.
+    pub fn kept(&self) -> Kept<'_>
+        ensures { result ≡ kept self.now }
+    {
+        let pieces = self.ring.iter();
+        Kept { pieces }
+    }
+
+    /// The ring itself, the oldest piece first.
+    pub fn into_ring(self) -> HeapCircularBuffer<Piece>
+        ensures pieces { octets_of result.items ≡ kept self }
+        ensures capacity { result.capacity ≡ self.places }
+    {
+        let Events { ring, sent: _ } = self;
+        ring
+    }
+}
+
+/// An iterator that lends the kept pieces, oldest first. Contracts see it as the list of those to come.
+#[derive(Drop)]
+pub struct Kept<'a> {
+    pieces: Iter<'a, Piece>,
+}
+
+impl<'a> Model for Kept<'a> {
+    ghost use Rattle.std.specs.Prelude.{List, ℕ};
+    ghost use Rattle.events.specs.Queue.{octets_of};
+
+    ghost Value = { List (List ℕ) };
+
+    ghost view = { λ k. octets_of k.pieces };
+}
+
+impl<'a> Iterator for Kept<'a> {
+    type Item = &'a [u8];
+
+    ghost next_gives = { TakesFirst deref };
+
+    ghost remaining = { λ s. at_most (length s) };
+
+    fn next(&mut self) -> Option<&'a [u8]> {
+        let piece = self.pieces.next()?;
+        Some(piece.as_slice())
+    }
+}
+
+#[cfg(test)]
+mod tests;

@@ -1,0 +1,396 @@
+//! The session of one connection.
+
+ghost use Rattle.std.specs.Prelude.{◌≡◌, ◌+◌, ◌-◌, ◌^◌, ◌<◌, ◌≤◌, if◌then◌else◌, true, false, Some, None, IfOk, IfSome, length, take};
+ghost use Rattle.apci.specs.Spelling.{Fits};
+ghost use Rattle.session.specs.Session.{from_queue};
+
+use crate::kinds::{Close, Kind, Taken, Unacknowledged};
+use apci::{Apdu, Uf};
+use circular_buffer::HeapCircularBuffer;
+use std::alloc::Global;
+use std::marker::Model;
+use thiserror::Error;
+
+/// Memory was refused.
+#[derive(Clone, Copy, Debug, PartialEq, Eq, Error)]
+#[error("no memory")]
+pub struct NoMemory;
+
+/// The counters N(S) and N(R) run modulo this.
+const MODULUS: u16 = 32768;
+
+/// One connection at a time, as the controlled station keeps it: the counters N(S) and N(R), the windows k and w,
+/// the timers t1, t2 and t3, and start and stop of data transfer. Moments are in ms and never fall from call to call.
+#[derive(Drop)]
+pub struct Session {
+    k: u16,
+    w: u16,
+    t1: u64,
+    t2: u64,
+    t3: u64,
+    connected: bool,
+    started: bool,
+    /// A STOPDT act isn't confirmed yet.
+    stopping: bool,
+    /// The sent I frames that aren't acknowledged, oldest first.
+    unacknowledged: HeapCircularBuffer<Unacknowledged>,
+    acked_queue: usize,
+    acked_own: usize,
+    next_sent: u16,
+    next_received: u16,
+    /// How many received I frames aren't acknowledged, counted up to w, and when the oldest of them came.
+    unconfirmed: u16,
+    unconfirmed_since: u64,
+    last_frame: u64,
+    /// When the outstanding TESTFR act was sent.
+    test_sent: Option<u64>,
+    /// A STARTDT con or TESTFR con that is due.
+    reply: Option<Uf>,
+}
+
+impl Model for Session {
+    ghost use Rattle.session.specs.Session.{Session as Machine};
+
+    ghost Value = { Machine };
+
+    ghost use Rattle.session.specs.Fields.{machine_of, IsSound};
+
+    ghost view = { machine_of };
+
+    ghost invariant = { IsSound };
+}
+
+impl Session {
+    ghost use Rattle.session.specs.Session.{new_session, opened, closed, is_running, may_send as can_send, sent as after_sent, left_by, refuses, outcome_of, taken, timed_out, confirmed, pulled, is_valid, acknowledged, newly_by, counted, after_u};
+
+    /// A session without a connection. This alone takes memory: room for k frames.
+    ///
+    /// k is the most I frames that are sent and not acknowledged, w after how many received ones an S frame is due, both
+    /// 1 to 32767. t1 is how long an I frame or a TESTFR act may wait, t2 how long a received I frame may, t3 after how
+    /// long without a frame the connection is tested, all in ms (IEC 60870-5-104, 5.2, 5.5 and 9.6).
+    pub fn new(
+        alloc: Global,
+        k: u16,
+        w: u16,
+        t1: u64,
+        t2: u64,
+        t3: u64,
+    ) -> Result<Session, NoMemory>
+        requires k_in_range { (0 < k) × (k < 32768) }
+        requires w_in_range { (0 < w) × (w < 32768) }
+        ensures { IfOk result (λ s. s ≡ new_session k w t1 t2 t3) }
+    {
+        let unacknowledged = HeapCircularBuffer::with_capacity(alloc, usize::from(k)).map_err(
+            |_| NoMemory,
+        )?;
+        Ok(Session {
+            k,
+            w,
+            t1,
+            t2,
+            t3,
+            connected: false,
+            started: false,
+            stopping: false,
+            unacknowledged,
+            acked_queue: 0,
+            acked_own: 0,
+            next_sent: 0,
+            next_received: 0,
+            unconfirmed: 0,
+            unconfirmed_since: 0,
+            last_frame: 0,
+            test_sent: None,
+            reply: None,
+        })
+    }
+
+    /// A connection begins, stopped, with all counters at 0. One that was open is forgotten.
+    pub fn open(&mut self, now: u64)
+        ensures { self.new ≡ opened now self.old }
+    {
+        self.connected = true;
+        self.started = false;
+        self.stopping = false;
+        self.unacknowledged.clear();
+        self.acked_queue = 0;
+        self.acked_own = 0;
+        self.next_sent = 0;
+        self.next_received = 0;
+        self.unconfirmed = 0;
+        self.unconfirmed_since = 0;
+        self.last_frame = now;
+        self.test_sent = None;
+        self.reply = None;
+    }
+
+    /// The connection ends, and nothing of it is left.
+    pub fn cut(&mut self)
+        ensures { self.new ≡ closed self.old }
+    {
+        self.open(0);
+        self.connected = false;
+    }
+
+    /// Whether a connection is open.
+    pub fn is_open(&self) -> bool
+        ensures { result ≡ self.now.connected }
+    {
+        self.connected
+    }
+
+    /// Whether data transfer is started and no STOPDT is pending. Without a connection it is false.
+    pub fn runs(&self) -> bool
+        ensures { result ≡ is_running self.now }
+    {
+        self.connected && self.started && !self.stopping
+    }
+
+    /// Whether an I frame may go out: data transfer runs, and fewer than k are unacknowledged.
+    pub fn may_send(&self) -> bool
+        ensures { result ≡ can_send self.now }
+    {
+        self.runs() && self.unacknowledged.len() < usize::from(self.k)
+    }
+
+    /// Counts an I frame of this kind as sent now, and answers its N(S) and N(R).
+    pub fn sent(&mut self, kind: Kind, now: u64) -> (u16, u16)
+        requires { can_send self.old ≡ true }
+        ensures numbers { result ≡ (self.old.next_sent, self.old.next_received) }
+        ensures session { self.new ≡ after_sent kind now self.old }
+        ensures fit { (result.0 < 32768) × (result.1 < 32768) }
+    {
+        let numbers = (self.next_sent, self.next_received);
+        let _ = self
+            .unacknowledged
+            .try_push_back(Unacknowledged { kind, moment: now });
+        self.next_sent = (self.next_sent + 1) % MODULUS;
+        self.unconfirmed = 0;
+        numbers
+    }
+
+    /// How many sent frames a valid N(R) leaves unacknowledged.
+    fn left_by(&self, nr: u16) -> usize
+        ensures value { result ≡ left_by nr self.now }
+    {
+        usize::from((self.next_sent + (MODULUS - nr % MODULUS)) % MODULUS)
+    }
+
+    /// Whether N(R) equals, modulo 32768, a number from the acknowledged count to the sent count.
+    fn is_valid(&self, nr: u16) -> bool
+        ensures { result ≡ is_valid nr self.now }
+    {
+        self.left_by(nr) <= self.unacknowledged.len()
+    }
+
+    /// The oldest frames are acknowledged.
+    fn acknowledge(&mut self, count: usize)
+        requires { count ≤ length self.old.unacknowledged }
+        ensures { self.new ≡ acknowledged count self.old }
+    {
+        let queue = from_queue(&self.unacknowledged, count);
+        self.unacknowledged
+            .truncate_front(self.unacknowledged.len() - count);
+        self.acked_queue = queue;
+        self.acked_own = count - queue;
+    }
+
+    /// An APDU came. Where the answer is a close, nothing is acknowledged, and the connection is to be cut.
+    ///
+    /// It is meant for an open connection, once `confirm` has answered None since the `take` before.
+    pub fn take(&mut self, apdu: &Apdu, now: u64) -> Taken
+        ensures outcome { result ≡ outcome_of self.old apdu.now }
+        ensures session { self.new ≡ taken apdu.now now self.old }
+    {
+        let outcome = self.judge(apdu);
+        self.last_frame = now;
+        if let Taken::Close(_) = outcome {
+            self.acknowledge(0);
+            return outcome;
+        }
+        self.acknowledge(self.newly(apdu));
+        match apdu {
+            Apdu::I { .. } => self.count(now),
+            Apdu::S { .. } => {}
+            Apdu::U(function) => self.obey(*function),
+        }
+        outcome
+    }
+
+    /// What the frame leads to.
+    fn judge(&self, apdu: &Apdu) -> Taken
+        ensures { result ≡ outcome_of self.now apdu.now }
+    {
+        match apdu {
+            Apdu::I { .. } if !self.runs() => Taken::Close(Close::Stopped),
+            Apdu::I { ns, .. } if *ns != self.next_received => Taken::Close(Close::SendNumber),
+            Apdu::I { nr, .. } if !self.is_valid(*nr) => Taken::Close(Close::ReceiveNumber),
+            Apdu::I { .. } => Taken::Asdu,
+            Apdu::S { nr } if !self.is_valid(*nr) => Taken::Close(Close::ReceiveNumber),
+            Apdu::S { .. } => Taken::Nothing,
+            Apdu::U(_) => Taken::Nothing,
+        }
+    }
+
+    /// How many frames the frame newly acknowledges.
+    fn newly(&self, apdu: &Apdu) -> usize
+        requires { refuses self.now apdu.now ≡ false }
+        ensures value { result ≡ newly_by apdu.now self.now }
+        ensures fits { result ≤ length self.now.unacknowledged }
+    {
+        match apdu {
+            Apdu::I { nr, .. } | Apdu::S { nr } => self.unacknowledged.len() - self.left_by(*nr),
+            Apdu::U(_) => 0,
+        }
+    }
+
+    /// An I frame came.
+    fn count(&mut self, now: u64)
+        ensures { self.new ≡ counted now self.old }
+    {
+        self.next_received = (self.next_received + 1) % MODULUS;
+        if self.unconfirmed == 0 {
+            self.unconfirmed_since = now;
+        }
+        self.unconfirmed = self.unconfirmed.saturating_add(1).min(self.w);
+    }
+
+    /// A U frame came.
+    fn obey(&mut self, function: Uf)
+        ensures { self.new ≡ after_u function self.old }
+    {
+        match function {
+            Uf::StartAct => {
+                self.started = true;
+                self.stopping = false;
+                self.reply = Some(Uf::StartCon);
+            }
+            Uf::StopAct => self.stopping = true,
+            Uf::TestAct => self.reply = Some(Uf::TestCon),
+            Uf::TestCon => self.test_sent = None,
+            Uf::StartCon | Uf::StopCon => {}
+        }
+    }
+
+    /// How many frames of the queue, and how many own ones, the last `take` acknowledged.
+    pub fn acked(&self) -> (usize, usize)
+        ensures { result ≡ (self.now.acked_queue, self.now.acked_own) }
+    {
+        (self.acked_queue, self.acked_own)
+    }
+
+    /// Close 5 where an I frame or a TESTFR act has waited for t1. Without a connection it is None.
+    pub fn due(&self, now: u64) -> Option<Close>
+        ensures { result ≡ (if timed_out now self.now then Some Close.Timeout else None) }
+    {
+        if !self.connected {
+            return None;
+        }
+        let frame_late = match self.unacknowledged.front() {
+            Some(frame) => now.saturating_sub(frame.moment) >= self.t1,
+            None => false,
+        };
+        let test_late = match self.test_sent {
+            Some(moment) => now.saturating_sub(moment) >= self.t1,
+            None => false,
+        };
+        if frame_late || test_late {
+            Some(Close::Timeout)
+        } else {
+            None
+        }
+    }
+
+    /// The S frame for all that was received.
+    fn confirm_received(&mut self) -> Apdu
+        ensures frame { result ≡ Apdu.S self.old.next_received }
+        ensures fits { Fits result }
+        ensures session { self.new ≡ record self.old { unconfirmed = 0 } }
+    {
+        self.unconfirmed = 0;
+        Apdu::S {
+            nr: self.next_received,
+        }
+    }
+
+    /// The next confirmation that is due, if any. A STOPDT act has an S frame first, where received I frames aren't
+    /// acknowledged, and its STOPDT con once no sent I frame is unacknowledged.
+    pub fn confirm(&mut self) -> Option<Apdu>
+        ensures due { (result, self.new) ≡ confirmed self.old }
+        ensures fits { IfSome result Fits }
+    {
+        if !self.connected {
+            return None;
+        }
+        if self.stopping && self.unconfirmed > 0 {
+            return Some(self.confirm_received());
+        }
+        if let Some(function) = self.reply.take() {
+            return Some(Apdu::U(function));
+        }
+        if self.stopping && self.unacknowledged.is_empty() {
+            self.started = false;
+            self.stopping = false;
+            return Some(Apdu::U(Uf::StopCon));
+        }
+        None
+    }
+
+    /// The S frame if one is due, else the TESTFR act if one is due.
+    pub fn pull(&mut self, now: u64) -> Option<Apdu>
+        ensures due { (result, self.new) ≡ pulled now self.old }
+        ensures fits { IfSome result Fits }
+    {
+        if !self.connected {
+            return None;
+        }
+        let waited = now.saturating_sub(self.unconfirmed_since);
+        if self.unconfirmed > 0 && (self.unconfirmed >= self.w || waited >= self.t2) {
+            return Some(self.confirm_received());
+        }
+        if self.test_sent.is_none() && now.saturating_sub(self.last_frame) >= self.t3 {
+            self.test_sent = Some(now);
+            return Some(Apdu::U(Uf::TestAct));
+        }
+        None
+    }
+
+    /// The ring with the unacknowledged frames, oldest first. Without a connection it is empty.
+    pub fn into_ring(self) -> HeapCircularBuffer<Unacknowledged>
+        ensures { result.items ≡ self.unacknowledged }
+    {
+        let Session {
+            k: _,
+            w: _,
+            t1: _,
+            t2: _,
+            t3: _,
+            connected: _,
+            started: _,
+            stopping: _,
+            unacknowledged,
+            acked_queue: _,
+            acked_own: _,
+            next_sent: _,
+            next_received: _,
+            unconfirmed: _,
+            unconfirmed_since: _,
+            last_frame: _,
+            test_sent: _,
+            reply: _,
+        } = self;
+        unacknowledged
+    }
+}
+
+/// How many of the oldest frames came from the queue.
+fn from_queue(frames: &HeapCircularBuffer<Unacknowledged>, count: usize) -> usize
+    ensures value { result ≡ from_queue (take count frames.now.items) }
+    ensures fits { result ≤ count }
+{
+    frames
+        .iter()
+        .take(count)
+        .filter(|frame| matches!(frame.kind, Kind::Queue))
+        .count()
+}

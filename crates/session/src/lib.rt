@@ -1,0 +1,28 @@
+//! One IEC 60870-5-104 connection at a time, as the controlled station keeps it (clause 5): counters, windows, timers,
+//! and start and stop of data transfer.
+//!
+//! A [`Session`] takes each [`Apdu`](apci::Apdu) that came and says what it leads to ([`Taken`]); it tells which frames
+//! are due, and gives sent I frames their numbers. Time is handed in, in ms. Octets, ASDUs and sockets are no matter of
+//! this crate, and it closes nothing: it says why ([`Close`]).
+//!
+//! Proved: each call is one small function on a record of plain fields. Above it, for every list of calls, what a
+//! session answers is what the standard makes of the frames that came and went out: N(S) and N(R) are the counts of I
+//! frames sent and received, modulo 32768; at most k are unacknowledged; an N(R) is valid where the least number that
+//! isn't below the acknowledged count and equals it modulo 32768 is at most the sent count; S frames, TESTFR act and
+//! the close by t1 come exactly when due; data transfer runs where the latest of STARTDT act and STOPDT act is a STARTDT
+//! act. Only `new` takes memory.
+#![tactic(auto)]
+
+mod connection;
+mod kinds;
+mod laws;
+
+pub use connection::{NoMemory, Session};
+pub use kinds::{Close, Kind, Taken, Unacknowledged};
+pub use laws::{
+    frames_are_judged, frames_are_numbered, reached_is_least, timers_are_kept,
+    transfer_is_controlled, window_is_kept,
+};
+
+#[cfg(test)]
+mod tests;
