@@ -1,0 +1,303 @@
+-- An event comes: first the line's part, then the connection's.
+use Rattle.std.proofs.Common.{◌≡◌, ℕ, ◌+◌, ◌<◌, ◌≤◌, Bool, true, false, List, [], ◌∷◌, ◌++◌, length, max, min, Option, Some, None, refl, sym, ap, subst, ◌∙◌, arith, append_assoc}
+use Rattle.std.specs.Prelude.{if◌then◌else◌}
+use Rattle.std.specs.List.{flat_map, list_all}
+use Rattle.std.proofs.lemmas.List.{append-nil}
+use Rattle.std.proofs.lemmas.Bool.{false≢true}
+use Rattle.asdu.specs.InformationObjects.{InformationObject}
+use Rattle.link.specs.Exchanges.{timed_current}
+use Rattle.session.specs.declared.kinds.Close.TheVariants.{Replaced}
+use Rattle.events.specs.Queue as queue
+use Rattle.gateway.specs.Objects.{objects, has_objects, monitor_objects, parts_of}
+use Rattle.gateway.specs.Log.{Log, LogEntry, Input, LineIn, Opened, TcpIn, CutOff, Ticked, Came, Went, LineOut, Closed, latest, last_moment}
+use Rattle.gateway.specs.Streams.{spelled}
+use Rattle.gateway.specs.Frames.{Sent, Connection, new_connection, AreInOrder}
+use Rattle.gateway.specs.Connections.{Channel, no_channel, new_channel, receiving, present, past, over, AreConnections}
+use Rattle.gateway.specs.Reports.{Setup, exchanges_of, taken_objects, reports_in, parts_of_all}
+use Rattle.gateway.specs.Traffic.{is_replaced, ActsRightly, RestsBetweenSteps, HasRested, IsFaithful}
+use Rattle.gateway.specs.Polling.{Polling, heard, report_heard, due}
+use Rattle.gateway.specs.State.{State, at_moment, disconnected, connected}
+use Rattle.gateway.specs.Steps.{Keeps, KeepsAny, Hears, HearsEvent, Begins}
+use Rattle.gateway.specs.Agrees.{Presently, Carries, Agrees, Tells, Tied}
+use Rattle.gateway.proofs.Objects.{orders_grow, carries_more}
+use Rattle.gateway.proofs.Agreement.{Ended, ended, fresh, stands_now, in_order}
+use Rattle.gateway.proofs.Telling.{IsStable, as_report}
+use Rattle.gateway.proofs.Stations.{keeps_links, LineGoesOn, objects_added, parts_added, taken_grows, parts_grow, after_octets, after_moment}
+
+-- the line's part has been done, and the log has the event
+pub record Heard (p : Setup) (s t : State) (old new : Log) : Type 0 where
+  pub session : t.session ≡ s.session
+  pub so_far : t.so_far ≡ s.so_far
+  pub sizes : t.sizes ≡ s.sizes
+  pub places : t.queue.places ≡ s.queue.places
+  pub sent : t.queue.sent ≡ s.queue.sent
+  pub clock : t.moment ≡ latest new
+  pub line : Tells p t.line (exchanges_of p new)
+  pub more : List InformationObject
+  pub pieces : List (List ℕ)
+  pub taken : taken_objects p new ≡ taken_objects p old ++ more
+  pub parts : parts_of_all p.sizes (reports_in p new) ≡ parts_of_all p.sizes (reports_in p old) + length pieces
+  pub unsent : t.queue.unsent ≡ s.queue.unsent ++ pieces
+  pub objects_are : flat_map objects pieces ≡ more
+  pub whole : list_all has_objects pieces ≡ true
+
+-- the report that came is kept
+kept : (p : Setup) (s t : State) (old new : Log) (line : Polling) (report : Option (List ℕ)) → s.sizes ≡ p.sizes → s.moment ≡ latest new → KeepsAny (record s { line = line }) report t → LineGoesOn p (due line s.moment) old new report → Heard p s (record t { line = due t.line t.moment }) old new
+kept p s t old new line None sizes clock is goes = subst (λ x. Heard p s (record x { line = due x.line x.moment }) old new) (sym is) (record {
+  session = refl;
+  so_far = refl;
+  sizes = refl;
+  places = refl;
+  sent = refl;
+  clock = clock;
+  line = goes.tells;
+  more = [];
+  pieces = [];
+  taken = taken_grows p old new None goes.reported;
+  parts = parts_grow p old new None goes.reported;
+  unsent = sym (append-nil s.queue.unsent);
+  objects_are = refl;
+  whole = refl;
+})
+kept p s t old new line (Some report) sizes clock k goes = subst (λ x. Heard p s (record x { line = due x.line x.moment }) old new) (sym k.after) (record {
+  session = refl;
+  so_far = refl;
+  sizes = refl;
+  places = refl;
+  sent = refl;
+  clock = clock;
+  line = goes.tells;
+  more = monitor_objects p.sizes report;
+  pieces = k.pieces;
+  taken = taken_grows p old new (Some report) goes.reported;
+  parts = parts_grow p old new (Some report) goes.reported ∙ ap (λ n. parts_of_all p.sizes (reports_in p old) + n) (ap (λ z. parts_of z report) (sym sizes) ∙ sym k.number);
+  unsent = refl;
+  objects_are = k.objects_are ∙ ap (λ z. monitor_objects z report) sizes;
+  whole = k.whole;
+})
+
+moments : (s : State) (log : Log) (now : ℕ) → s.moment ≡ latest log → (at_moment s now).moment ≡ max (latest log) (min now last_moment)
+moments s log now e = ap (λ m. max m (min now last_moment)) e
+
+-- an event that isn't the line's
+abbrev NotOfLine : Setup → Log → ℕ → Input → Type 0
+NotOfLine p log now event = (middle t : State) → HearsEvent middle event t → t ≡ middle
+
+only_time : (p : Setup) (s t : State) (log : Log) (now : ℕ) (event : Input) → Agrees p s log [] → NotOfLine p log now event →
+    exchanges_of p (Came now event ∷ log) ≡ record { ended = (exchanges_of p log).ended; current = timed_current p.link.answer_ms (latest (Came now event ∷ log)) (exchanges_of p log).current } → Begins s now event t → Heard p s t log (Came now event ∷ log)
+only_time p s t log now event a other is b =
+    let clock = moments s log now a.clock in
+    let made = kept p (at_moment s now) (at_moment s now) log (Came now event ∷ log) s.line None a.sizes clock refl
+    (subst (λ m. LineGoesOn p (due s.line m) log (Came now event ∷ log) None) (sym clock) (after_moment p s.line log (Came now event ∷ log) (latest (Came now event ∷ log)) is a.line)) in
+    let same : t ≡ record (at_moment s now) { line = due s.line (at_moment s now).moment } = b.times ∙ ap (λ (x : State). let made : State = record x { line = due x.line x.moment } in made) (other (at_moment s now) b.middle b.hears) in
+    subst (λ x. Heard p s x log (Came now event ∷ log)) (sym same) (record {
+      session = made.session;
+      so_far = made.so_far;
+      sizes = made.sizes;
+      places = made.places;
+      sent = made.sent;
+      clock = made.clock;
+      line = made.line;
+      more = made.more;
+      pieces = made.pieces;
+      taken = made.taken;
+      parts = made.parts;
+      unsent = made.unsent;
+      objects_are = made.objects_are;
+      whole = made.whole;
+    })
+
+-- the same for each event
+pub heard_event : (p : Setup) (s t : State) (log : Log) (now : ℕ) (event : Input) → IsStable s.line.size → Agrees p s log [] → Begins s now event t → Heard p s t log (Came now event ∷ log)
+heard_event p s t log now (LineIn octets) stable a b =
+    let clock = moments s log now a.clock in
+    let made = kept p (at_moment s now) b.middle log (Came now (LineIn octets) ∷ log) (heard s.line octets) (report_heard s.line octets) a.sizes clock b.hears
+    (subst (λ m. LineGoesOn p (due (heard s.line octets) m) log (Came now (LineIn octets) ∷ log) (report_heard s.line octets)) (sym clock) (after_octets p s.line log now octets stable a.line)) in
+    subst (λ x. Heard p s x log (Came now (LineIn octets) ∷ log)) (sym b.times) (record {
+      session = made.session;
+      so_far = made.so_far;
+      sizes = made.sizes;
+      places = made.places;
+      sent = made.sent;
+      clock = made.clock;
+      line = made.line;
+      more = made.more;
+      pieces = made.pieces;
+      taken = made.taken;
+      parts = made.parts;
+      unsent = made.unsent;
+      objects_are = made.objects_are;
+      whole = made.whole;
+    })
+heard_event p s t log now Opened stable a b = only_time p s t log now Opened a (λ middle t is. is) refl b
+heard_event p s t log now (TcpIn octets) stable a b = only_time p s t log now (TcpIn octets) a (λ middle t is. is) refl b
+heard_event p s t log now CutOff stable a b = only_time p s t log now CutOff a (λ middle t is. is) refl b
+heard_event p s t log now Ticked stable a b = only_time p s t log now Ticked a (λ middle t is. is) refl b
+
+-- The connection's part
+
+-- the state after the line's part, with a connection's part that is right
+with_connection : (p : Setup) (s t u : State) (old new : Log) (unjudged : List ℕ) (c : Connection) (earlier : List Connection) → Agrees p s old [] → Heard p s t old new → is_replaced new ≡ false →
+    u.line ≡ t.line → u.sizes ≡ t.sizes → u.queue.places ≡ t.queue.places → u.moment ≡ t.moment → u.session.k ≡ s.session.k → Presently u (present new) unjudged c →
+    AreConnections (past new) earlier → AreInOrder (taken_objects p old) earlier → Carries (taken_objects p new) (parts_of_all p.sizes (reports_in p new)) earlier c.sent_frames u.queue.unsent →
+    ActsRightly p new → RestsBetweenSteps p new → Agrees p u new unjudged
+with_connection p s t u old new unjudged c earlier a h settled line sizes places moment k here are orders carries acts rests = record {
+  k = k ∙ a.k;
+  sizes = sizes ∙ h.sizes ∙ a.sizes;
+  places = places ∙ h.places ∙ a.places;
+  clock = moment ∙ h.clock;
+  settled = settled;
+  line = subst (λ l. Tells p l (exchanges_of p new)) (sym line) h.line;
+  c = c;
+  here = here;
+  earlier = earlier;
+  carries = carries;
+  before = record { are = are; orders = subst (λ objs. AreInOrder objs earlier) (sym h.taken) (orders_grow (taken_objects p old) h.more earlier orders); acts = acts; rests = rests };
+}
+
+-- the pieces kept are carried
+carried : (p : Setup) (s t : State) (old new : Log) (earlier : List Connection) (sent : List Sent) → Heard p s t old new → Carries (taken_objects p old) (parts_of_all p.sizes (reports_in p old)) earlier sent s.queue.unsent →
+    Carries (taken_objects p new) (parts_of_all p.sizes (reports_in p new)) earlier sent t.queue.unsent
+carried p s t old new earlier sent h c =
+    subst (λ objs. Carries objs (parts_of_all p.sizes (reports_in p new)) earlier sent t.queue.unsent) (sym h.taken)
+    (subst (λ n. Carries (taken_objects p old ++ h.more) n earlier sent t.queue.unsent) (sym h.parts)
+    (subst (λ u. Carries (taken_objects p old ++ h.more) (parts_of_all p.sizes (reports_in p old) + length h.pieces) earlier sent u) (sym h.unsent)
+    (carries_more (taken_objects p old) h.more (parts_of_all p.sizes (reports_in p old)) earlier sent s.queue.unsent h.pieces h.objects_are h.whole c)))
+
+-- the connection goes on as it was
+goes_on : (p : Setup) (s t : State) (old new : Log) (octets : Channel) (unjudged : List ℕ) (c : Connection) → Heard p s t old new → Presently s octets unjudged c → Presently t octets unjudged c
+goes_on p s t old new octets unjudged c h w = record {
+  link = ap (λ x. x.connected) h.session ∙ w.link;
+  none = w.none;
+  put = w.put;
+  handed = w.handed;
+  sent = w.sent;
+  so_far = w.so_far;
+  assembler = h.so_far ∙ w.assembler;
+  waits = w.waits;
+  joined = w.joined;
+  fit = w.fit;
+  pass = w.pass;
+  tied = subst (λ x. Tied c x t.queue.sent) (sym h.session) (subst (λ q. Tied c s.session q) (sym h.sent) w.tied);
+  numbered = w.numbered;
+}
+
+-- an event that isn't the connection's
+pub come_other : (p : Setup) (s t : State) (log : Log) (now : ℕ) (event : Input) → present (Came now event ∷ log) ≡ present log → past (Came now event ∷ log) ≡ past log → is_replaced (Came now event ∷ log) ≡ false → HasRested p log → Agrees p s log [] → Heard p s t log (Came now event ∷ log) →
+    Agrees p t (Came now event ∷ log) []
+come_other p s t log now event same gone settled rest a h =
+    with_connection p s t t log (Came now event ∷ log) [] a.c a.earlier a h settled refl refl refl refl (ap (λ x. x.k) h.session)
+    (subst (λ x. Presently t x [] a.c) (sym same) (goes_on p s t log (Came now event ∷ log) (present log) [] a.c h a.here))
+    (subst (λ cs. AreConnections cs a.earlier) (sym gone) a.before.are) a.before.orders (carried p s t log (Came now event ∷ log) a.earlier a.c.sent_frames h a.carries) a.before.acts (rest, a.before.rests)
+
+-- what the ended connection leaves in the queue, with the pieces kept since
+left_over : (p : Setup) (s t : State) (log new : Log) (earlier : List Connection) → Heard p s t log new → Carries (taken_objects p log) (parts_of_all p.sizes (reports_in p log)) earlier [] (queue.rewound s.queue).unsent →
+    Carries (taken_objects p new) (parts_of_all p.sizes (reports_in p new)) earlier [] (queue.rewound t.queue).unsent
+left_over p s t log new earlier h c =
+    let all : (queue.rewound t.queue).unsent ≡ (queue.rewound s.queue).unsent ++ h.pieces =
+    ap (λ q. q ++ t.queue.unsent) h.sent ∙ ap (λ u. s.queue.sent ++ u) h.unsent ∙ sym (append_assoc s.queue.sent s.queue.unsent h.pieces) in
+    subst (λ objs. Carries objs (parts_of_all p.sizes (reports_in p new)) earlier [] (queue.rewound t.queue).unsent) (sym h.taken)
+    (subst (λ n. Carries (taken_objects p log ++ h.more) n earlier [] (queue.rewound t.queue).unsent) (sym h.parts)
+    (subst (λ u. Carries (taken_objects p log ++ h.more) (parts_of_all p.sizes (reports_in p log) + length h.pieces) earlier [] u) (sym all)
+    (carries_more (taken_objects p log) h.more (parts_of_all p.sizes (reports_in p log)) earlier [] (queue.rewound s.queue).unsent h.pieces h.objects_are h.whole c)))
+
+small : (p : Setup) (s t : State) (log new : Log) → Agrees p s log [] → Heard p s t log new → t.session.k < 32768
+small p s t log new a h = subst (λ x. x.k < 32768) (sym h.session) a.here.tied.small
+
+pub come_cut : (p : Setup) (s t : State) (log : Log) (now : ℕ) → HasRested p log → Agrees p s log [] → Heard p s t log (Came now CutOff ∷ log) → Agrees p (disconnected t) (Came now CutOff ∷ log) []
+come_cut p s t log now rest a h =
+    let end = ended p s log [] a None (stands_now p s log a) in
+    with_connection p s t (disconnected t) log (Came now CutOff ∷ log) [] new_connection end.earlier a h refl refl refl refl refl (ap (λ x. x.k) h.session)
+    (fresh (disconnected t) no_channel (small p s t log _ a h) refl (λ h. refl) refl refl refl refl refl refl refl refl)
+    end.are end.orders (left_over p s t log (Came now CutOff ∷ log) end.earlier h end.carries) a.before.acts (rest, a.before.rests)
+
+-- a connection opens: as it is once the close of the one before it, if any, has gone out
+opened_with : (p : Setup) (s t : State) (log : Log) (now : ℕ) → HasRested p log → Agrees p s log [] → Heard p s t log (Came now Opened ∷ log) → is_replaced (Came now Opened ∷ log) ≡ false → Agrees p (connected (disconnected t)) (Came now Opened ∷ log) []
+opened_with p s t log now rest a h settled =
+    let end = ended p s log [] a None (stands_now p s log a) in
+    with_connection p s t (connected (disconnected t)) log (Came now Opened ∷ log) [] new_connection end.earlier a h settled refl refl refl refl (ap (λ x. x.k) h.session)
+    (fresh (connected (disconnected t)) new_channel (small p s t log _ a h) refl (λ h. cc) refl refl refl refl refl refl refl refl)
+    end.are end.orders (left_over p s t log (Came now Opened ∷ log) end.earlier h end.carries) a.before.acts (rest, a.before.rests)
+
+pub come_open : (p : Setup) (s t : State) (log : Log) (now : ℕ) → HasRested p log → Agrees p s log [] → Heard p s t log (Came now Opened ∷ log) → t.session.connected ≡ false → Agrees p (connected (disconnected t)) (Came now Opened ∷ log) []
+come_open p s t log now rest a h off = opened_with p s t log now rest a h (sym a.here.link ∙ sym (ap (λ x. x.connected) h.session) ∙ off)
+
+pub come_replaced : (p : Setup) (s t : State) (log : Log) (now : ℕ) → HasRested p log → Agrees p s log [] → Heard p s t log (Came now Opened ∷ log) → t.session.connected ≡ true →
+    Agrees p (connected (disconnected t)) (Went t.moment (Closed Replaced) ∷ Came now Opened ∷ log) []
+come_replaced p s t log now rest a h on =
+    let end = ended p s log [] a None (stands_now p s log a) in
+    let new : Log = Came now Opened ∷ log in
+    let was : is_replaced new ≡ true = sym a.here.link ∙ sym (ap (λ x. x.connected) h.session) ∙ on in
+    record {
+      k = ap (λ x. x.k) h.session ∙ a.k;
+      sizes = h.sizes ∙ a.sizes;
+      places = h.places ∙ a.places;
+      clock = h.clock;
+      settled = refl;
+      line = h.line;
+      c = new_connection;
+      here = fresh (connected (disconnected t)) new_channel (small p s t log _ a h) refl (λ h. cc) refl refl refl refl refl refl refl refl;
+      earlier = end.earlier;
+      carries = left_over p s t log new end.earlier h end.carries;
+      before = record {
+        are = end.are;
+        orders = subst (λ objs. AreInOrder objs end.earlier) (sym h.taken) (orders_grow (taken_objects p log) h.more end.earlier end.orders);
+        acts = (record { moment = h.clock; replaced = sym was; may = λ no'. cc }, a.before.acts);
+        rests = (rest, a.before.rests);
+      };
+    }
+
+-- the log is faithful before that close has gone out, too
+pub opened_faithful : (p : Setup) (s t : State) (log : Log) (now : ℕ) → HasRested p log → Agrees p s log [] → Heard p s t log (Came now Opened ∷ log) → IsFaithful p (Came now Opened ∷ log)
+opened_faithful p s t log now rest a h =
+    let end = ended p s log [] a None (stands_now p s log a) in
+    let new : Log = Came now Opened ∷ log in
+    record {
+      here = new_connection;
+      begun = record { put = []; handed = record { joined = refl; fit = tt }; sent = refl; rest = []; joined = refl; fit = tt; pass = tt };
+      earlier = end.earlier;
+      are = end.are;
+      orders = (
+        in_order (taken_objects p new) (parts_of_all p.sizes (reports_in p new)) new_connection end.earlier (queue.rewound t.queue).unsent tt (left_over p s t log new end.earlier h end.carries),
+        subst (λ objs. AreInOrder objs end.earlier) (sym h.taken) (orders_grow (taken_objects p log) h.more end.earlier end.orders),
+      );
+      links = keeps_links p t.line new h.line;
+      acts = a.before.acts;
+      rests = (rest, a.before.rests);
+    }
+
+-- octets of no connection count for nothing; else none is judged yet
+pub come_bytes : (p : Setup) (s t : State) (log : Log) (now : ℕ) (octets : List ℕ) → HasRested p log → Agrees p s log [] → Heard p s t log (Came now (TcpIn octets) ∷ log) → Agrees p t (Came now (TcpIn octets) ∷ log) (if t.session.connected then octets else [])
+come_bytes p s t log now octets rest a h =
+    subst (λ b. Agrees p t (Came now (TcpIn octets) ∷ log) (if b then octets else [])) (sym (ap (λ x. x.connected) h.session)) (
+    with_connection p s t t log (Came now (TcpIn octets) ∷ log) more a.c a.earlier a h refl refl refl refl refl (ap (λ x. x.k) h.session)
+    (subst (λ x. Presently t x more a.c) (sym (bytes_at s.session.connected (present log) (sym a.here.link))) (record {
+      link = w.link;
+      none = λ off. (closed s.session.connected (a.here.link ∙ off) (a.here.none off).0, (a.here.none off).1);
+      put = w.put;
+      handed = w.handed;
+      sent = w.sent;
+      so_far = w.so_far;
+      assembler = w.assembler;
+      waits = w.waits;
+      joined = ap (λ x. x ++ more) w.joined ∙ append_assoc (spelled a.c.received_frames) (w.so_far ++ []) more ∙ ap (λ x. spelled a.c.received_frames ++ (x ++ more)) (append-nil w.so_far);
+      fit = w.fit;
+      pass = w.pass;
+      tied = w.tied;
+      numbered = w.numbered;
+    }))
+    a.before.are a.before.orders (carried p s t log (Came now (TcpIn octets) ∷ log) a.earlier a.c.sent_frames h a.carries) a.before.acts (rest, a.before.rests))
+  where
+    more : List ℕ
+    more = if s.session.connected then octets else []
+
+    w : Presently t (present log) [] a.c
+    w = goes_on p s t log (Came now (TcpIn octets) ∷ log) (present log) [] a.c h a.here
+
+    bytes_at : (b : Bool) (c : Channel) → c.is_open ≡ b → receiving c octets ≡ record { is_open = c.is_open; sent = c.sent; received = c.received ++ (if b then octets else []) }
+    bytes_at true c h = ap (λ b. if b then record { is_open = true; sent = c.sent; received = c.received ++ octets } else c) h ∙ ap (λ b. record { is_open = b; sent = c.sent; received = c.received ++ octets }) (sym h)
+    bytes_at false c h = ap (λ b. if b then record { is_open = true; sent = c.sent; received = c.received ++ octets } else c) h ∙ ap (λ l. record { is_open = c.is_open; sent = c.sent; received = l }) (sym (append-nil c.received))
+
+    closed : (b : Bool) → b ≡ false → present log ≡ no_channel → record { is_open = (present log).is_open; sent = (present log).sent; received = (present log).received ++ (if b then octets else []) } ≡ no_channel
+    closed true h none = cc
+    closed false h none = ap (λ (c : Channel). record { is_open = c.is_open; sent = c.sent; received = c.received ++ [] }) none

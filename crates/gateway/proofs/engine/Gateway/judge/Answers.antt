@@ -1,0 +1,25 @@
+use Rattle.std.proofs.Common.{arith, ap, length, length-drop}
+use Rattle.session.specs.Session.{Session, from_queue}
+use Rattle.events.specs.Queue.{Queue, free_places}
+use Rattle.gateway.proofs.Counts.{taken_counts}
+use Rattle.gateway.proofs.Sound.{less_kept}
+use Rattle.gateway.proofs.engine.Gateway.judge.Goals as goal
+
+pub invariant_of-self : goal.invariant_of-self
+invariant_of-self c =
+    let old = c.self.inside in
+    record {
+      counted = omega (
+        arith,
+        taken_counts c.args.apdu.now old.moment old.session,
+        ap (λ (s : Session). from_queue s.unacknowledged) c.take-taken.ensures.session,
+        ap (λ (s : Session). s.acked_queue) c.take-taken.ensures.session,
+        ap (λ p. p.0) c.acked-pieces.ensures,
+        ap (λ (q : Queue). length q.sent) c.acknowledge.ensures,
+        length-drop c.acked-pieces.result.0 old.events.sent,
+        c.self.invariant.counted,
+      );
+      listens = c.self.invariant.listens;
+      fits = c.self.invariant.fits;
+      room = λ out up. less_kept c.acked-pieces.result.0 old.events c.acknowledge.new.self c.acknowledge.ensures (c.self.invariant.room out up);
+    }

@@ -1,0 +1,18 @@
+use Rattle.std.proofs.Common.{◌≡◌, ℕ, ◌≤◌, ◌-◌, List, length, drop, true}
+use Rattle.gateway.specs.Reports.{Setup}
+use Rattle.gateway.specs.Agrees.{Tracks, IsSpent}
+use Rattle.gateway.specs.Runs.{events_told}
+use Rattle.gateway.proofs.engine.Gateway.receive.Given as goal
+
+abbrev pub invariant-loop-done : goal.invariant-loop-done
+invariant-loop-done g l = record {
+  kept : (p : Setup) → Tracks p l.fn.self (g.P.Port.log l.fn.port) l.octets → Tracks p l.self (g.P.Port.log l.port) (drop l.done l.octets);
+  on : l.self.session.connected ≡ true;
+  within : l.done ≤ length l.octets;
+  events : events_told (g.P.Port.log l.port) ≡ events_told (g.P.Port.log l.fn.port);
+  script : g.P.Port.script l.port ≡ g.P.Port.script l.fn.port;
+  cause : g.P.Port.failed l.port ≡ g.P.Port.failed l.fn.port;
+}
+
+abbrev pub decreases-loop-done : goal.decreases-loop-done
+decreases-loop-done g l = length l.octets - l.done

@@ -1,0 +1,29 @@
+use Rattle.std.proofs.Common.{ap, sym, subst, ◌∙◌, rules}
+use Rattle.gateway.specs.State.{State}
+use Rattle.gateway.specs.Agrees.{Tracks}
+use Rattle.gateway.proofs.Put.{told_sent, sends_pulled, pulled_open, pulled_spent, none_pulled}
+use Rattle.gateway.proofs.engine.Gateway.send_dues.Goals as goal
+
+pub returns-in-None-clause-kept : goal.returns-in-None-clause-kept
+returns-in-None-clause-kept g c = λ p unjudged h.
+    subst (λ x. Tracks p x (g.P.Port.log c.loop.port) unjudged) (sym (none_pulled c.loop.self c.pull.new.self c.in-None.ensures.due c.pull.ensures.rest)) (c.loop.invariant.kept p unjudged h)
+
+pub returns-in-None-clause-open : goal.returns-in-None-clause-open
+returns-in-None-clause-open g c = pulled_open _ _ _ _ c.pull.ensures.due ∙ c.loop.invariant.on
+
+pub returns-in-None-clause-spent : goal.returns-in-None-clause-spent
+returns-in-None-clause-spent g c = λ h. pulled_spent _ c.loop.self c.pull.new.self c.pull.ensures.due c.pull.ensures.rest (c.loop.invariant.spent h)
+
+pub returns-then-not-hand-clause-open : goal.returns-then-not-hand-clause-open
+returns-then-not-hand-clause-open g c = pulled_open _ _ _ _ c.pull.ensures.due ∙ c.loop.invariant.on
+
+pub loop-preserved : goal.loop-preserved
+loop-preserved g c = record {
+  kept = λ p unjudged h. told_sent p _ _ c.loop.self c.pull.new.self c.in-Some.apdu _ unjudged c.if-not-hand.ensures.told (ap (λ (x : State). x.moment) c.pull.ensures.rest)
+      (sends_pulled c.loop.self c.pull.new.self c.in-Some.apdu c.in-Some.ensures.fits c.in-Some.ensures.due c.pull.ensures.rest) (c.loop.invariant.kept p unjudged h);
+  on = pulled_open _ _ _ _ c.pull.ensures.due ∙ c.loop.invariant.on;
+  spent = λ h. pulled_spent _ c.loop.self c.pull.new.self c.pull.ensures.due c.pull.ensures.rest (c.loop.invariant.spent h);
+  events = c.if-not-hand.ensures.events ∙ c.loop.invariant.events;
+  script = c.if-not-hand.ensures.script ∙ c.loop.invariant.script;
+  cause = search rules;
+}

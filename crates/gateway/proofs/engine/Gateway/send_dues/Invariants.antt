@@ -1,0 +1,15 @@
+use Rattle.std.proofs.Common.{◌≡◌, ℕ, ◌≤◌, ◌-◌, List, length, drop, true}
+use Rattle.gateway.specs.Reports.{Setup}
+use Rattle.gateway.specs.Agrees.{Tracks, IsSpent}
+use Rattle.gateway.specs.Runs.{events_told}
+use Rattle.gateway.proofs.engine.Gateway.send_dues.Given as goal
+
+abbrev pub invariant-loop : goal.invariant-loop
+invariant-loop g l = record {
+  kept : (p : Setup) (unjudged : List ℕ) → Tracks p l.fn.self (g.P.Port.log l.fn.port) unjudged → Tracks p l.self (g.P.Port.log l.port) unjudged;
+  on : l.self.session.connected ≡ l.fn.self.session.connected;
+  spent : IsSpent l.fn.self → IsSpent l.self;
+  events : events_told (g.P.Port.log l.port) ≡ events_told (g.P.Port.log l.fn.port);
+  script : g.P.Port.script l.port ≡ g.P.Port.script l.fn.port;
+  cause : g.P.Port.failed l.port ≡ g.P.Port.failed l.fn.port;
+}

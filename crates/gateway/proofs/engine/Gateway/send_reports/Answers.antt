@@ -1,0 +1,16 @@
+use Rattle.std.proofs.Common.{ap, ◌∙◌, rules}
+use Rattle.gateway.specs.State.{State}
+use Rattle.gateway.proofs.Put.{told_sent, sends_piece}
+use Rattle.gateway.proofs.engine.Gateway.send_reports.Goals as goal
+
+pub loop-apdu-preserved : goal.loop-apdu-preserved
+loop-apdu-preserved g c =
+    let some = c.in-Some.ensures.some in
+    record {
+      kept = λ p unjudged h. told_sent p _ _ c.loop-apdu.self c.next_report.new.self c.in-Some.apdu _ unjudged c.if-not-hand.ensures.told (ap (λ (x : State). x.moment) some.after)
+          (sends_piece c.loop-apdu.self c.in-Some.apdu c.next_report.new.self some) (c.loop-apdu.invariant.kept p unjudged h);
+      on = ap (λ (x : State). x.session.connected) some.after ∙ c.loop-apdu.invariant.on;
+      events = c.if-not-hand.ensures.events ∙ c.loop-apdu.invariant.events;
+      script = c.if-not-hand.ensures.script ∙ c.loop-apdu.invariant.script;
+      cause = search rules;
+    }

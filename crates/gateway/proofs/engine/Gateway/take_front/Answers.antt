@@ -1,0 +1,15 @@
+use Rattle.std.proofs.Common.{◌++◌, drop}
+use Rattle.apci.specs.Spelling.{spelling}
+use Rattle.gateway.proofs.Judgements.{told_fed, told_more, garbled_closes}
+use Rattle.gateway.proofs.engine.Gateway.take_front.Goals as goal
+
+pub returns-in-Apdu-clause-kept : goal.returns-in-Apdu-clause-kept
+returns-in-Apdu-clause-kept g c = λ p h.
+    let f = c.in-Apdu.ensures in
+    let rest = drop c.in-Apdu.count c.args.octets.now in
+    c.take_apdu.ensures.kept p rest (told_fed p _ c.args.self.now c.feed.new.self c.args.octets.now (spelling c.in-Apdu.apdu ++ rest) f.0 f.1 f.2.1 f.2.4 h)
+
+pub returns-in-Refused-clause-kept : goal.returns-in-Refused-clause-kept
+returns-in-Refused-clause-kept g c = λ p h.
+    let f = c.in-Refused.ensures in
+    c.shut.ensures.kept p (garbled_closes p _ c.args.self.now c.feed.new.self c.args.octets.now f.0 c.requires.open f.1 f.2.0 f.2.1 h) c.args.octets.now

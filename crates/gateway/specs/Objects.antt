@@ -1,0 +1,22 @@
+-- Monitor objects in ASDUs of the line and of the connection, and the pieces that a report needs.
+use Rattle.std.specs.Prelude.{ℕ, ◌==◌, not, Bool, List, length, if◌then◌else◌}
+use Rattle.asdu.specs.declared.sizes.Sizes.{Sizes}
+use Rattle.asdu.specs.Sizes.{tcp}
+use Rattle.asdu.specs.InformationObjects.{InformationObject, monitor_objects_of}
+use Rattle.asdu.specs.Translation.{parts}
+
+-- the objects of an ASDU that are passed on to the control centre (profile: of monitor types, but for a negative
+-- 'unknown type')
+abbrev pub monitor_objects : Sizes → List ℕ → List InformationObject
+monitor_objects sizes asdu = monitor_objects_of sizes asdu
+
+-- the same of an ASDU on the connection
+abbrev pub objects : List ℕ → List InformationObject
+objects asdu = monitor_objects tcp asdu
+
+abbrev pub has_objects : List ℕ → Bool
+has_objects asdu = not (length (objects asdu) == 0)
+
+-- how many pieces a report needs, where it adds to the objects taken
+abbrev pub parts_of : Sizes → List ℕ → ℕ
+parts_of sizes report = if length (monitor_objects sizes report) == 0 then 0 else parts sizes report

@@ -1,0 +1,42 @@
+-- What a port's answers and an action's octets mean in a log.
+use Rattle.std.specs.Prelude.{ℕ, List, [], ◌∷◌, take, ◌≤◌}
+use Rattle.gateway.specs.Log.{Input, LineIn, Opened, TcpIn, CutOff, Ticked, Output, LineOut, TcpOut, Closed, LogEntry, Came}
+use Rattle.gateway.specs.declared.ports.Event.{Event}
+use Rattle.gateway.specs.declared.ports.Event.TheVariants as events
+use Rattle.gateway.specs.declared.ports.Action.{Action}
+use Rattle.gateway.specs.declared.ports.Action.TheVariants as actions
+use Rattle.gateway.specs.declared.ports.Next.{Next}
+use Rattle.gateway.specs.declared.ports.Next.TheVariants as answers
+
+abbrev pub input_of : Event → Input
+input_of (events.Line octets) = LineIn octets.now
+input_of events.Open = Opened
+input_of (events.Bytes octets) = TcpIn octets.now
+input_of events.Cut = CutOff
+input_of events.Tick = Ticked
+
+abbrev pub output_of : Action → Output
+output_of (actions.Line octets) = LineOut octets.now
+output_of (actions.Tcp octets) = TcpOut octets.now
+output_of (actions.Close cause) = Closed cause
+
+-- the event that an answer adds to the log; its octets are the front of the buffer
+abbrev pub told_by : Next → List ℕ → List LogEntry
+told_by (answers.Line now len) buf = Came now (LineIn (take len buf)) ∷ []
+told_by (answers.Open now) buf = Came now Opened ∷ []
+told_by (answers.Bytes now len) buf = Came now (TcpIn (take len buf)) ∷ []
+told_by (answers.Cut now) buf = Came now CutOff ∷ []
+told_by (answers.Tick now) buf = Came now Ticked ∷ []
+told_by answers.Done buf = []
+told_by answers.Fault buf = []
+
+-- the octets of an answer are within the buffer
+abbrev pub FitsBuffer : Next → Type 0
+FitsBuffer (answers.Line now len) = len ≤ 1024
+FitsBuffer (answers.Bytes now len) = len ≤ 1024
+FitsBuffer answer = Unit {0}
+
+-- how many failures of the device an answer tells
+abbrev pub faults_of : Next → ℕ
+faults_of answers.Fault = 1
+faults_of answer = 0

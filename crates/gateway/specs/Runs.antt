@@ -1,0 +1,25 @@
+-- How a run ends.
+use Rattle.std.specs.Prelude.{◌≡◌, ℕ, ◌+◌, List, length, Option, option_map}
+use Rattle.gateway.specs.Log.{Log, LogEntry, events_of}
+use Rattle.gateway.specs.declared.runs.End.{End}
+use Rattle.gateway.specs.declared.runs.End.TheVariants.{Finished, Turns, Device}
+
+-- what holds where the device has not failed
+abbrev pub UnlessDevice : End → Type 0 → Type 0
+UnlessDevice Finished P = P
+UnlessDevice Turns P = P
+UnlessDevice Device P = Unit {0}
+
+-- how many failures of the device an end tells
+abbrev pub faults_at : End → ℕ
+faults_at Finished = 0
+faults_at Turns = 0
+faults_at Device = 1
+
+-- the events that a port has told, the oldest first
+abbrev pub events_told : Option Log → Option (List LogEntry)
+events_told told = option_map events_of told
+
+-- where the log is told, so many more events have come
+abbrev pub MoreEvents : ℕ → Option Log → Option Log → Type 0
+MoreEvents n old new = option_map length (events_told new) ≡ option_map (λ events. length events + n) (events_told old)

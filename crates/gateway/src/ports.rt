@@ -1,0 +1,88 @@
+//! What the gateway asks of the outside: events in, actions out.
+ghost use Rattle.std.specs.Prelude.{◌≡◌, ℕ, ◌+◌, ◌<◌, List, [], ◌∷◌, Option, Bool, true, if◌then◌else◌};
+ghost use Rattle.gateway.specs.Log.{LogEntry, Came, Went, tell};
+
+use session::Close;
+
+/// One event.
+#[derive(Clone, Copy)]
+pub enum Event<'a> {
+    /// Octets came from the line, in any piece.
+    Line(&'a [u8]),
+    /// The control centre opened a connection.
+    Open,
+    /// Octets came on the connection, in any piece.
+    Bytes(&'a [u8]),
+    /// The connection is cut.
+    Cut,
+    /// Only time passed.
+    Tick,
+}
+
+/// One action.
+#[derive(Clone, Copy)]
+pub enum Action<'a> {
+    /// A request, for the line.
+    Line(&'a [u8]),
+    /// An APDU, for the connection.
+    Tcp(&'a [u8]),
+    /// The connection is closed.
+    Close(Close),
+}
+
+/// What a port has next: an event with its moment in milliseconds, whose octets are the front of the buffer, or none.
+#[derive(Clone, Copy)]
+pub enum Next {
+    /// So many octets came from the line.
+    Line(u64, usize),
+    /// A connection was opened.
+    Open(u64),
+    /// So many octets came on the connection.
+    Bytes(u64, usize),
+    /// The connection is cut.
+    Cut(u64),
+    /// Only time passed.
+    Tick(u64),
+    /// No event comes any more.
+    Done,
+    /// The device failed.
+    Fault,
+}
+
+/// Where events come from and actions go. A port that tells its log adds each event and each action to it; a call that
+/// fails adds nothing.
+pub trait Port {
+    ghost use Rattle.gateway.specs.Ports.{told_by, output_of, FitsBuffer, faults_of};
+
+    /// The log so far, the newest first, where the port tells it.
+    ghost log: { Self → Option (List LogEntry) };
+
+    /// How often the device failed.
+    ghost failed: { Self → ℕ };
+
+    /// No event comes any more.
+    ghost ended: { Self → Bool };
+
+    /// The events of a whole run, the oldest first, where they are fixed from the start; else none.
+    ghost script: { Self → List LogEntry };
+
+    /// The next event. Its octets, at most 1,024, are put at the front of the buffer.
+    fn next(&mut self, buf: &mut [u8; 1024]) -> Next
+        requires { failed self.old < u64.MAX }
+        ensures told { log self.new ≡ tell (log self.old) (told_by result buf.new) }
+        ensures fits { FitsBuffer result }
+        ensures done { result ≡ Next.Done → ended self.new ≡ true }
+        ensures script { script self.new ≡ script self.old }
+        ensures cause { failed self.new ≡ failed self.old + faults_of result };
+
+    /// Puts an action out at a moment. `false` says that the device failed.
+    fn put(&mut self, now: u64, action: &Action<'_>) -> bool
+        requires { failed self.old < u64.MAX }
+        ensures told { log self.new ≡ (if result then tell (log self.old) (Went now (output_of action.now) ∷ []) else log self.old) }
+        ensures script { script self.new ≡ script self.old }
+        ensures cause { failed self.new ≡ failed self.old + (if result then 0 else 1) };
+
+    /// How often the device failed.
+    fn failures(&self) -> u64
+        ensures { result ≡ failed self.now };
+}

@@ -1,0 +1,263 @@
+//! Runs over stored entries, whose log is stored.
+ghost use Rattle.std.specs.Prelude.{◌≡◌, ℕ, ◌+◌, ◌<◌, ◌≤◌, true, false, List, [], ◌∷◌, ◌++◌, length, take, IfOk, OnOk, OnErr, Option, Some, None, if◌then◌else◌, ◌&&◌};
+ghost use Rattle.std.specs.List.{AllByRecursion};
+ghost use Rattle.gateway.specs.declared.settings.Silence.TheVariants.{Hold};
+ghost use Rattle.gateway.specs.Log.{LogEntry, Came, Went, Ticked, tell, events_of};
+ghost use Rattle.gateway.specs.Ports.{told_by, output_of, FitsBuffer, faults_of};
+ghost use Rattle.gateway.specs.Entries.{FitsPort, event_of, script_of, told_of, log_of, number_of};
+ghost use Rattle.gateway.specs.Setups.{setup_of};
+ghost use Rattle.gateway.specs.Traffic.{IsFaithful, HasRested};
+
+use crate::config::Config;
+use crate::engine::{Gateway, NoMemory};
+use crate::entries::{Entry, Told};
+use crate::ports::{Action, Next, Port};
+use crate::runs::{End, drive_on};
+use session::Close;
+use std::alloc::{AllocError, Global};
+use std::marker::Model;
+
+/// A port that gives a tick at 0 and then stored entries, and stores the log. A refused growth is a fault of the port.
+#[derive(Drop)]
+struct Recording<'a> {
+    alloc: Global,
+    entries: &'a [Entry],
+    /// What is still to come of them.
+    left: &'a [Entry],
+    is_started: bool,
+    log: Vec<Told>,
+    failures: u64,
+}
+
+impl<'a> Model for Recording<'a> {
+    ghost use Rattle.std.specs.Prelude.{◌≡◌, ◌++◌, ◌&&◌};
+    ghost use Rattle.std.specs.List.{AllByRecursion};
+    ghost use Rattle.gateway.specs.Log.{events_of};
+    ghost use Rattle.gateway.specs.Entries.{FitsPort, script_of, log_of};
+    ghost use Rattle.gateway.specs.Recorded.{Recorded, coming};
+
+    ghost Value = { Recorded };
+
+    ghost view = { λ a. record { log = log_of a.log.items; failed = a.failures; started = a.is_started; left = a.left.now; script = script_of a.entries.now } };
+
+    // The events stored are the first of the script, and the others fit the buffer.
+    ghost invariant = { λ a. (events_of (log_of a.log.items) ++ coming a.is_started a.left.now ≡ script_of a.entries.now) × AllByRecursion FitsPort a.left.now };
+}
+
+/// Copies the octets to the front.
+fn fill(buf: &mut [u8; 1024], octets: &[u8])
+    requires { length octets.now ≤ 1024 }
+    ensures { take (length octets.now) buf.new ≡ octets.now }
+{
+    buf[..octets.len()].copy_from_slice(octets);
+}
+
+impl Entry {
+    /// Copies the octets to the front of the buffer.
+    fn announce(&self, buf: &mut [u8; 1024]) -> Next
+        requires { FitsPort self.now }
+        ensures told { told_by result buf.new ≡ event_of self.now ∷ [] }
+        ensures fits { FitsBuffer result }
+        ensures healthy { faults_of result ≡ 0 }
+        ensures some { result ≡ Next.Done → ⊥ }
+    {
+        match self {
+            Entry::Line(now, octets) => {
+                fill(buf, octets);
+                Next::Line(*now, octets.len())
+            }
+            Entry::Open(now) => Next::Open(*now),
+            Entry::Bytes(now, octets) => {
+                fill(buf, octets);
+                Next::Bytes(*now, octets.len())
+            }
+            Entry::Cut(now) => Next::Cut(*now),
+            Entry::Tick(now) => Next::Tick(*now),
+        }
+    }
+
+    /// The same entry with octets of its own.
+    fn copied(&self, alloc: Global) -> Result<Entry, AllocError>
+        ensures { IfOk result (λ entry. event_of entry ≡ event_of self.now) }
+    {
+        match self {
+            Entry::Line(now, octets) => Ok(Entry::Line(*now, Vec::from_slice(alloc, octets)?)),
+            Entry::Open(now) => Ok(Entry::Open(*now)),
+            Entry::Bytes(now, octets) => Ok(Entry::Bytes(*now, Vec::from_slice(alloc, octets)?)),
+            Entry::Cut(now) => Ok(Entry::Cut(*now)),
+            Entry::Tick(now) => Ok(Entry::Tick(*now)),
+        }
+    }
+}
+
+/// The number of a cause.
+fn number(cause: Close) -> u8
+    ensures { result ≡ number_of cause }
+{
+    cause as u8
+}
+
+/// An action as it is stored.
+fn stored(alloc: Global, now: u64, action: &Action<'_>) -> Result<Told, AllocError>
+    ensures { IfOk result (λ x. told_of x ≡ Went now (output_of action.now)) }
+{
+    match action {
+        Action::Line(octets) => Ok(Told::Line(now, Vec::from_slice(alloc, octets)?)),
+        Action::Tcp(octets) => Ok(Told::Tcp(now, Vec::from_slice(alloc, octets)?)),
+        Action::Close(cause) => Ok(Told::Close(now, number(*cause))),
+    }
+}
+
+/// Adds to the log.
+fn keep(log: &mut Vec<Told>, told: Told) -> Result<(), AllocError>
+    ensures ok { OnOk result (log.new.items ≡ log.old.items ++ told ∷ []) }
+    ensures err { OnErr result (log.new.items ≡ log.old.items) }
+{
+    log.push(told)?;
+    Ok(())
+}
+
+impl<'a> Recording<'a> {
+    ghost use Rattle.gateway.specs.Recorded.{Recorded, has_ended};
+
+    fn new(alloc: Global, entries: &'a [Entry]) -> Recording<'a>
+        requires { AllByRecursion FitsPort entries.now }
+        ensures { result ≡ record { log = []; failed = 0; started = false; left = entries.now; script = script_of entries.now } }
+    {
+        Recording {
+            alloc,
+            entries,
+            left: entries,
+            is_started: false,
+            log: Vec::new(alloc),
+            failures: 0,
+        }
+    }
+
+    /// The tick at moment 0 has come.
+    #[tactic(auto, using(crate::proofs::Stored::stored_push))]
+    fn start(&mut self) -> Result<(), AllocError>
+        requires { self.old.started ≡ false }
+        ensures ok { OnOk result (self.new ≡ record self.old { log = Came 0 Ticked ∷ self.old.log; started = true }) }
+        ensures err { OnErr result (self.new ≡ self.old) }
+    {
+        keep(&mut self.log, Told::Came(Entry::Tick(0)))?;
+        self.is_started = true;
+        Ok(())
+    }
+
+    /// The next entry has come.
+    #[tactic(auto, using(crate::proofs::Stored::stored_push))]
+    fn take(&mut self, entry: &'a Entry, left: &'a [Entry]) -> Result<(), AllocError>
+        requires started { self.old.started ≡ true }
+        requires first { self.old.left ≡ entry.now ∷ left.now }
+        ensures ok { OnOk result (self.new ≡ record self.old { log = event_of entry.now ∷ self.old.log; left = left.now }) }
+        ensures err { OnErr result (self.new ≡ self.old) }
+    {
+        let copy = entry.copied(self.alloc)?;
+        keep(&mut self.log, Told::Came(copy))?;
+        self.left = left;
+        Ok(())
+    }
+
+    /// An action went out.
+    #[tactic(auto, using(crate::proofs::Stored::stored_push))]
+    fn store(&mut self, now: u64, action: &Action<'_>) -> Result<(), AllocError>
+        ensures ok { OnOk result (self.new ≡ record self.old { log = Went now (output_of action.now) ∷ self.old.log }) }
+        ensures err { OnErr result (self.new ≡ self.old) }
+    {
+        let told = stored(self.alloc, now, action)?;
+        keep(&mut self.log, told)
+    }
+
+    fn fault(&mut self) -> Next
+        requires { self.old.failed < u64.MAX }
+        ensures fault { result ≡ Next.Fault }
+        ensures state { self.new ≡ record self.old { failed = self.old.failed + 1 } }
+    {
+        self.failures += 1;
+        Next::Fault
+    }
+
+    /// The whole log, the oldest first.
+    fn into_log(self) -> Vec<Told>
+        ensures log { log_of result.items ≡ self.entry.log }
+        ensures events { has_ended self.entry ≡ true → events_of (log_of result.items) ≡ self.entry.script }
+    {
+        let Recording {
+            alloc: _,
+            entries: _,
+            left: _,
+            is_started: _,
+            log,
+            failures: _,
+        } = self;
+        log
+    }
+}
+
+impl<'a> Port for Recording<'a> {
+    ghost use Rattle.gateway.specs.Recorded.{has_ended};
+
+    ghost log = { λ t. Some t.log };
+
+    ghost failed = { λ t. t.failed };
+
+    ghost ended = { has_ended };
+
+    ghost script = { λ t. t.script };
+
+    fn next(&mut self, buf: &mut [u8; 1024]) -> Next {
+        if !self.is_started {
+            return match self.start() {
+                Ok(()) => Next::Tick(0),
+                Err(_) => self.fault(),
+            };
+        }
+        let Some((entry, left)) = self.left.split_first() else {
+            return Next::Done;
+        };
+        match self.take(entry, left) {
+            Ok(()) => entry.announce(buf),
+            Err(_) => self.fault(),
+        }
+    }
+
+    fn put(&mut self, now: u64, action: &Action<'_>) -> bool {
+        match self.store(now, action) {
+            Ok(()) => true,
+            Err(_) => {
+                self.failures += 1;
+                false
+            }
+        }
+    }
+
+    fn failures(&self) -> u64 {
+        self.failures
+    }
+}
+
+/// The log of a run whose events are a tick at moment 0 and then these entries, each with its moment: every event, and
+/// after it what went out at it. Of the octets of an entry at most 1,024 are asked for, and of the settings one station,
+/// whose service is held where it is silent. Only want of memory is answered by an `Err`.
+pub fn engine_log(alloc: Global, config: &Config, entries: &[Entry]) -> Result<Vec<Told>, NoMemory>
+    requires fits { AllByRecursion FitsPort entries.now }
+    requires one { length config.now.stations ≡ 1 }
+    requires holds { config.now.line.silence ≡ Hold }
+    // The events of the log are these, and no others.
+    ensures events { IfOk result (λ told. events_of (log_of told.items) ≡ script_of entries.now) }
+    // What the log shows of the line and of each connection keeps every promise of a gateway with these settings.
+    ensures faithful { IfOk result (λ told. IsFaithful (setup_of config.now) (log_of told.items)) }
+    // After the last step nothing that may be sent is left.
+    ensures rests { IfOk result (λ told. HasRested (setup_of config.now) (log_of told.items)) }
+{
+    let _stations = config.stations();
+    let mut gateway = Gateway::new(alloc, config)?;
+    let mut port = Recording::new(alloc, entries);
+    match drive_on(&mut gateway, &mut port, u64::MAX) {
+        End::Finished => Ok(port.into_log()),
+        End::Turns => Err(NoMemory),
+        End::Device => Err(NoMemory),
+    }
+}

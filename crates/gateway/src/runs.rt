@@ -1,0 +1,65 @@
+//! Whole runs of a gateway over a port.
+ghost use Rattle.std.specs.Prelude.{◌≡◌, ℕ, ◌+◌, ◌<◌, true, false, List, [], ◌∷◌, IfSome, IfOk, IfErr, OnOk, OnErr};
+ghost use Rattle.gateway.specs.Log.{Came};
+ghost use Rattle.gateway.specs.Ports.{told_by, input_of, FitsBuffer, faults_of};
+ghost use Rattle.gateway.specs.Reports.{Setup};
+ghost use Rattle.gateway.specs.Traffic.{IsFaithful, HasRested};
+ghost use Rattle.gateway.specs.Agrees.{Tracks, Rests};
+ghost use Rattle.gateway.specs.Runs.{UnlessDevice, MoreEvents, faults_at};
+
+use crate::engine::Gateway;
+use crate::ports::{Event, Next, Port};
+
+/// How a run ended: the port had no more events, the turns were used up, or the device failed.
+#[derive(Clone, Copy, Debug, PartialEq, Eq)]
+pub enum End {
+    Finished,
+    Turns,
+    Device,
+}
+
+/// Takes events from the port one after another, at most so many, and puts out what follows from each. After `Device`
+/// the gateway is given up.
+pub fn drive_on<P: Port>(gateway: &mut Gateway, port: &mut P, turns: u64) -> End
+    requires { P.failed port.old < u64.MAX }
+    ensures faithful { (p : Setup) → Tracks p gateway.old (P.log port.old) [] → Rests p (P.log port.old) → IfSome (P.log port.new) (IsFaithful p) }
+    ensures rests { (p : Setup) → Tracks p gateway.old (P.log port.old) [] → Rests p (P.log port.old) → UnlessDevice result (IfSome (P.log port.new) (HasRested p)) }
+    ensures kept { (p : Setup) → Tracks p gateway.old (P.log port.old) [] → Rests p (P.log port.old) → UnlessDevice result (Tracks p gateway.new (P.log port.new) []) }
+    ensures turns { result ≡ End.Turns → MoreEvents turns (P.log port.old) (P.log port.new) }
+    ensures finished { result ≡ End.Finished → P.ended port.new ≡ true }
+    ensures script { P.script port.new ≡ P.script port.old }
+    ensures device { P.failed port.new ≡ P.failed port.old + faults_at result }
+{
+    let mut buf = [0; 1024];
+    for _ in 0..turns {
+        let next = port.next(&mut buf);
+        match event_of(next, &buf) {
+            Ok((now, event)) => {
+                if !gateway.step(now, event, port) {
+                    return End::Device;
+                }
+            }
+            Err(end) => return end,
+        }
+    }
+    End::Turns
+}
+
+/// The event that a port's answer stands for, or the end of the run.
+fn event_of(next: Next, buf: &[u8; 1024]) -> Result<(u64, Event<'_>), End>
+    requires { FitsBuffer next }
+    ensures came { IfOk result (λ come. told_by next buf.now ≡ Came come.0 (input_of come.1) ∷ []) }
+    ensures healthy { OnOk result (faults_of next ≡ 0) }
+    ensures none { OnErr result (told_by next buf.now ≡ []) }
+    ensures end { IfErr result (λ end. (faults_of next ≡ faults_at end) × (end ≡ End.Finished → next ≡ Next.Done) × (end ≡ End.Turns → ⊥)) }
+{
+    match next {
+        Next::Line(now, len) => Ok((now, Event::Line(&buf[..len]))),
+        Next::Open(now) => Ok((now, Event::Open)),
+        Next::Bytes(now, len) => Ok((now, Event::Bytes(&buf[..len]))),
+        Next::Cut(now) => Ok((now, Event::Cut)),
+        Next::Tick(now) => Ok((now, Event::Tick)),
+        Next::Done => Err(End::Finished),
+        Next::Fault => Err(End::Device),
+    }
+}

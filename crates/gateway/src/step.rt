@@ -1,0 +1,347 @@
+//! One event, and what goes out at it.
+ghost use Rattle.std.specs.Prelude.{◌≡◌, ℕ, ◌+◌, ◌<◌, ◌≤◌, true, false, List, [], ◌∷◌, ◌++◌, length, drop, IfSome, Some, Option, if◌then◌else◌};
+ghost use Rattle.std.specs.Bool.{OnTrue};
+ghost use Rattle.apci.specs.Spelling.{Fits, spelling};
+ghost use Rattle.session.specs.Session.{may_send};
+ghost use Rattle.gateway.specs.Log.{LogEntry, Went, TcpOut, Opened, tell};
+ghost use Rattle.gateway.specs.Ports.{input_of};
+ghost use Rattle.gateway.specs.Reports.{Setup};
+ghost use Rattle.gateway.specs.Traffic.{IsFaithful};
+ghost use Rattle.gateway.specs.State.{State, disconnected, connected};
+ghost use Rattle.gateway.specs.Agrees.{Tracks, Leaves, HasCome, Rests, IsSpent};
+ghost use Rattle.gateway.specs.Steps.{MayClose, HearsEvent, Begins};
+ghost use Rattle.gateway.specs.Judging.{Goes, IsOnward, faults_in};
+ghost use Rattle.gateway.specs.Runs.{events_told};
+
+use crate::engine::{Found, Gateway};
+use crate::ports::{Action, Event, Port};
+use apci::{Apdu, encode};
+use ft12::front_is_computed;
+use link::requests_are_read_back;
+use session::Close;
+
+/// What an APDU leads to.
+#[derive(Clone, Copy, Debug, PartialEq, Eq)]
+pub enum Outcome {
+    /// It is taken, and the octets after it are next.
+    On,
+    /// Nothing is left to be done with the octets.
+    Over,
+    /// The device failed.
+    Failed,
+}
+
+impl Gateway {
+    /// Hands an APDU to TCP.
+    fn hand<P: Port>(&self, apdu: &Apdu, port: &mut P) -> bool
+        requires ready { P.failed port.old < u64.MAX }
+        requires fits { Fits apdu.now }
+        ensures told { P.log port.new ≡ (if result then tell (P.log port.old) (Went self.now.moment (TcpOut (spelling apdu.now)) ∷ []) else P.log port.old) }
+        ensures events { events_told (P.log port.new) ≡ events_told (P.log port.old) }
+        ensures script { P.script port.new ≡ P.script port.old }
+        ensures cause { P.failed port.new ≡ P.failed port.old + (if result then 0 else 1) }
+    {
+        port.put(self.moment(), &Action::Tcp(&encode(apdu)))
+    }
+
+    /// Sends the confirmations that are due.
+    fn send_confirmations<P: Port>(&mut self, port: &mut P) -> bool
+        requires { P.failed port.old < u64.MAX }
+        ensures kept { (p : Setup) (unjudged : List ℕ) → Tracks p self.old (P.log port.old) unjudged → Leaves result p self.new (P.log port.new) unjudged }
+        ensures open { self.new.session.connected ≡ self.old.session.connected }
+        ensures events { events_told (P.log port.new) ≡ events_told (P.log port.old) }
+        ensures script { P.script port.new ≡ P.script port.old }
+        ensures cause { P.failed port.new ≡ P.failed port.old + (if result then 0 else 1) }
+    {
+        for _ in 0..3 {
+            match self.confirm() {
+                None => return true,
+                Some(apdu) => {
+                    if !self.hand(&apdu, port) {
+                        return false;
+                    }
+                }
+            }
+        }
+        true
+    }
+
+    /// Sends reports while the window is open.
+    fn send_reports<P: Port>(&mut self, port: &mut P) -> bool
+        requires { P.failed port.old < u64.MAX }
+        ensures kept { (p : Setup) (unjudged : List ℕ) → Tracks p self.old (P.log port.old) unjudged → Leaves result p self.new (P.log port.new) unjudged }
+        ensures open { self.new.session.connected ≡ self.old.session.connected }
+        ensures spent { OnTrue result (IsSpent self.new) }
+        ensures events { events_told (P.log port.new) ≡ events_told (P.log port.old) }
+        ensures script { P.script port.new ≡ P.script port.old }
+        ensures cause { P.failed port.new ≡ P.failed port.old + (if result then 0 else 1) }
+    {
+        while let Some(apdu) = self.next_report() {
+            if !self.hand(&apdu, port) {
+                return false;
+            }
+        }
+        true
+    }
+
+    /// Sends the S frame and the TESTFR act that are due.
+    fn send_dues<P: Port>(&mut self, port: &mut P) -> bool
+        requires { P.failed port.old < u64.MAX }
+        ensures kept { (p : Setup) (unjudged : List ℕ) → Tracks p self.old (P.log port.old) unjudged → Leaves result p self.new (P.log port.new) unjudged }
+        ensures open { self.new.session.connected ≡ self.old.session.connected }
+        ensures spent { OnTrue result (IsSpent self.old → IsSpent self.new) }
+        ensures events { events_told (P.log port.new) ≡ events_told (P.log port.old) }
+        ensures script { P.script port.new ≡ P.script port.old }
+        ensures cause { P.failed port.new ≡ P.failed port.old + (if result then 0 else 1) }
+    {
+        for _ in 0..2 {
+            match self.pull() {
+                None => return true,
+                Some(apdu) => {
+                    if !self.hand(&apdu, port) {
+                        return false;
+                    }
+                }
+            }
+        }
+        true
+    }
+
+    /// Sends what may be sent: confirmations, then reports, then what else is due.
+    fn flush<P: Port>(&mut self, port: &mut P) -> bool
+        requires { P.failed port.old < u64.MAX }
+        ensures kept { (p : Setup) (unjudged : List ℕ) → Tracks p self.old (P.log port.old) unjudged → Leaves result p self.new (P.log port.new) unjudged }
+        ensures open { self.new.session.connected ≡ self.old.session.connected }
+        ensures spent { OnTrue result (IsSpent self.new) }
+        ensures events { events_told (P.log port.new) ≡ events_told (P.log port.old) }
+        ensures script { P.script port.new ≡ P.script port.old }
+        ensures cause { P.failed port.new ≡ P.failed port.old + (if result then 0 else 1) }
+    {
+        if !self.send_confirmations(port) {
+            return false;
+        }
+        if !self.send_reports(port) {
+            return false;
+        }
+        self.send_dues(port)
+    }
+
+    /// Closes the connection.
+    fn close<P: Port>(&mut self, cause: Close, port: &mut P) -> bool
+        requires { P.failed port.old < u64.MAX }
+        ensures kept { (p : Setup) → IfSome (P.log port.old) (MayClose p self.old cause) → Leaves result p self.new (P.log port.new) [] }
+        ensures events { events_told (P.log port.new) ≡ events_told (P.log port.old) }
+        ensures script { P.script port.new ≡ P.script port.old }
+        ensures cause { P.failed port.new ≡ P.failed port.old + (if result then 0 else 1) }
+    {
+        let went = port.put(self.moment(), &Action::Close(cause));
+        if went {
+            self.disconnect();
+        }
+        went
+    }
+
+    /// Takes an APDU, and sends what it makes room for, or closes the connection.
+    fn take_apdu<P: Port>(&mut self, apdu: &Apdu, port: &mut P) -> Outcome
+        requires ready { P.failed port.old < u64.MAX }
+        requires fits { Fits apdu.now }
+        requires open { self.old.session.connected ≡ true }
+        requires whole { self.old.so_far ≡ Some [] }
+        ensures kept { (p : Setup) (rest : List ℕ) → Tracks p self.old (P.log port.old) (spelling apdu.now ++ rest) → Goes result p self.new (P.log port.new) rest }
+        ensures open { IsOnward result (self.new.session.connected ≡ true) }
+        ensures events { events_told (P.log port.new) ≡ events_told (P.log port.old) }
+        ensures script { P.script port.new ≡ P.script port.old }
+        ensures cause { P.failed port.new ≡ P.failed port.old + faults_in result }
+    {
+        match self.judge(apdu) {
+            Some(cause) => return self.shut(cause, port),
+            None => {}
+        }
+        if !self.flush(port) {
+            return Outcome::Failed;
+        }
+        Outcome::On
+    }
+
+    /// Takes what stands at the front of the octets, and says how many that is.
+    fn take_front<P: Port>(&mut self, octets: &[u8], port: &mut P) -> (usize, Outcome)
+        requires ready { P.failed port.old < u64.MAX }
+        requires some { 0 < length octets.now }
+        requires open { self.old.session.connected ≡ true }
+        ensures kept { (p : Setup) → Tracks p self.old (P.log port.old) octets.now → Goes result.1 p self.new (P.log port.new) (drop result.0 octets.now) }
+        ensures open { IsOnward result.1 (self.new.session.connected ≡ true) }
+        ensures progress { IsOnward result.1 ((0 < result.0) × (result.0 ≤ length octets.now)) }
+        ensures events { events_told (P.log port.new) ≡ events_told (P.log port.old) }
+        ensures script { P.script port.new ≡ P.script port.old }
+        ensures cause { P.failed port.new ≡ P.failed port.old + faults_in result.1 }
+    {
+        match self.feed(octets) {
+            Found::Apdu(count, apdu) => (count, self.take_apdu(&apdu, port)),
+            Found::More => (0, Outcome::Over),
+            Found::Refused => (0, self.shut(Close::Grammar, port)),
+        }
+    }
+
+    /// Closes the connection, and the octets that are left are dropped.
+    fn shut<P: Port>(&mut self, cause: Close, port: &mut P) -> Outcome
+        requires { P.failed port.old < u64.MAX }
+        ensures kept { (p : Setup) → IfSome (P.log port.old) (MayClose p self.old cause) → (rest : List ℕ) → Goes result p self.new (P.log port.new) rest }
+        ensures over { IsOnward result ⊥ }
+        ensures events { events_told (P.log port.new) ≡ events_told (P.log port.old) }
+        ensures script { P.script port.new ≡ P.script port.old }
+        ensures cause { P.failed port.new ≡ P.failed port.old + faults_in result }
+    {
+        if !self.close(cause, port) {
+            return Outcome::Failed;
+        }
+        Outcome::Over
+    }
+
+    /// Takes the octets of a piece.
+    fn receive<P: Port>(&mut self, octets: &[u8], port: &mut P) -> bool
+        requires ready { P.failed port.old < u64.MAX }
+        requires open { self.old.session.connected ≡ true }
+        ensures kept { (p : Setup) → Tracks p self.old (P.log port.old) octets.now → Leaves result p self.new (P.log port.new) [] }
+        ensures events { events_told (P.log port.new) ≡ events_told (P.log port.old) }
+        ensures script { P.script port.new ≡ P.script port.old }
+        ensures cause { P.failed port.new ≡ P.failed port.old + (if result then 0 else 1) }
+    {
+        let mut done = 0;
+        while done < octets.len() {
+            let (count, went) = self.take_front(&octets[done..], port);
+            match went {
+                Outcome::On => done += count,
+                Outcome::Over => return true,
+                Outcome::Failed => return false,
+            }
+        }
+        true
+    }
+
+    /// Begins a connection, in place of one that is open.
+    fn begin<P: Port>(&mut self, port: &mut P) -> bool
+        requires { P.failed port.old < u64.MAX }
+        ensures kept { (p : Setup) (s : State) (now : ℕ) → Begins s now Opened self.old → IfSome (P.log port.old) (HasCome p s now Opened) → Leaves result p self.new (P.log port.new) [] }
+        ensures events { events_told (P.log port.new) ≡ events_told (P.log port.old) }
+        ensures script { P.script port.new ≡ P.script port.old }
+        ensures cause { P.failed port.new ≡ P.failed port.old + (if result then 0 else 1) }
+    {
+        if self.is_open() {
+            return self.replace(port);
+        }
+        front_is_computed();
+        self.renew();
+        true
+    }
+
+    /// Begins a connection, and closes the one before it.
+    fn replace<P: Port>(&mut self, port: &mut P) -> bool
+        requires ready { P.failed port.old < u64.MAX }
+        requires open { self.old.session.connected ≡ true }
+        ensures kept { (p : Setup) (s : State) (now : ℕ) → Begins s now Opened self.old → IfSome (P.log port.old) (HasCome p s now Opened) → Leaves result p self.new (P.log port.new) [] }
+        ensures events { events_told (P.log port.new) ≡ events_told (P.log port.old) }
+        ensures script { P.script port.new ≡ P.script port.old }
+        ensures cause { P.failed port.new ≡ P.failed port.old + (if result then 0 else 1) }
+    {
+        front_is_computed();
+        if !port.put(self.moment(), &Action::Close(Close::Replaced)) {
+            return false;
+        }
+        self.renew();
+        true
+    }
+
+    fn renew(&mut self)
+        ensures { self.new ≡ connected (disconnected self.old) }
+    {
+        self.disconnect();
+        self.connect();
+    }
+
+    /// Takes what an event means for the line.
+    fn hear_event(&mut self, event: Event<'_>)
+        ensures { HearsEvent self.old (input_of event.entry) self.new }
+    {
+        match event {
+            Event::Line(octets) => self.hear(octets),
+            Event::Open => {}
+            Event::Bytes(_) => {}
+            Event::Cut => {}
+            Event::Tick => {}
+        }
+    }
+
+    /// Takes what an event means for the connection.
+    fn take<P: Port>(&mut self, event: Event<'_>, port: &mut P) -> bool
+        requires { P.failed port.old < u64.MAX }
+        ensures kept { (p : Setup) (s : State) (now : ℕ) → Begins s now (input_of event.entry) self.old → IfSome (P.log port.old) (HasCome p s now (input_of event.entry)) → Leaves result p self.new (P.log port.new) [] }
+        ensures events { events_told (P.log port.new) ≡ events_told (P.log port.old) }
+        ensures script { P.script port.new ≡ P.script port.old }
+        ensures cause { P.failed port.new ≡ P.failed port.old + (if result then 0 else 1) }
+    {
+        front_is_computed();
+        match event {
+            Event::Line(_) => true,
+            Event::Open => self.begin(port),
+            Event::Bytes(octets) => self.take_bytes(octets, port),
+            Event::Cut => {
+                self.disconnect();
+                true
+            }
+            Event::Tick => true,
+        }
+    }
+
+    /// Takes the octets of a piece, where a connection is open.
+    fn take_bytes<P: Port>(&mut self, octets: &[u8], port: &mut P) -> bool
+        requires { P.failed port.old < u64.MAX }
+        ensures kept { (p : Setup) → Tracks p self.old (P.log port.old) (if self.old.session.connected then octets.now else []) → Leaves result p self.new (P.log port.new) [] }
+        ensures events { events_told (P.log port.new) ≡ events_told (P.log port.old) }
+        ensures script { P.script port.new ≡ P.script port.old }
+        ensures cause { P.failed port.new ≡ P.failed port.old + (if result then 0 else 1) }
+    {
+        if !self.is_open() {
+            return true;
+        }
+        self.receive(octets, port)
+    }
+
+    /// Puts out the line's next request, if there is one.
+    fn ask<P: Port>(&mut self, port: &mut P) -> bool
+        requires { P.failed port.old < u64.MAX }
+        ensures kept { (p : Setup) → Tracks p self.old (P.log port.old) [] → Leaves result p self.new (P.log port.new) [] }
+        ensures events { events_told (P.log port.new) ≡ events_told (P.log port.old) }
+        ensures script { P.script port.new ≡ P.script port.old }
+        ensures cause { P.failed port.new ≡ P.failed port.old + (if result then 0 else 1) }
+    {
+        front_is_computed();
+        requests_are_read_back();
+        let Some(octets) = self.next_request() else {
+            return true;
+        };
+        port.put(self.moment(), &Action::Line(&octets))
+    }
+
+    /// Takes one event, and puts out what follows from it: of the line, then of the connection. After `false` the device
+    /// has failed, and the gateway is given up.
+    pub fn step<P: Port>(&mut self, now: u64, event: Event<'_>, port: &mut P) -> bool
+        requires { P.failed port.old < u64.MAX }
+        ensures kept { (p : Setup) → IfSome (P.log port.old) (HasCome p self.old now (input_of event.entry)) → Leaves result p self.new (P.log port.new) [] }
+        ensures rests { (p : Setup) → IfSome (P.log port.old) (HasCome p self.old now (input_of event.entry)) → OnTrue result (Rests p (P.log port.new)) }
+        ensures faithful { (p : Setup) → IfSome (P.log port.old) (HasCome p self.old now (input_of event.entry)) → IfSome (P.log port.new) (IsFaithful p) }
+        ensures events { events_told (P.log port.new) ≡ events_told (P.log port.old) }
+        ensures script { P.script port.new ≡ P.script port.old }
+        ensures cause { P.failed port.new ≡ P.failed port.old + (if result then 0 else 1) }
+    {
+        self.advance_to(now);
+        self.hear_event(event);
+        self.time();
+        if !self.take(event, port) {
+            return false;
+        }
+        if !self.ask(port) {
+            return false;
+        }
+        self.flush(port)
+    }
+}

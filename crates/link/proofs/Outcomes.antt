@@ -1,0 +1,124 @@
+-- What the caller is told is what the exchange shows.
+use Rattle.std.proofs.Common.{◌≡◌, ℕ, ◌||◌, nat_le, ◌+◌, slice_index, Bool, true, false, List, ◌++◌, Option, Some, None, option_and_then, refl, sym, ap, subst, ◌∙◌, inl, inr, if◌then◌else◌}
+use Rattle.ft12.specs.declared.frame.Front.{Front}
+use Rattle.ft12.specs.declared.frame.Front.TheVariants.{Whole, More, Never}
+use Rattle.link.specs.Answers.{Asked, Answer, answer_of}
+use Rattle.link.specs.Exchanges.{OpenExchange, Exchanges, IsOutstanding, answer_to, whole_of, view, views, with_station, heard_octets, timed}
+use Rattle.link.specs.Procedure.{LinkSettings, Link, Down, after_silence, link_after}
+use Rattle.link.specs.Turns.{station_at}
+use Rattle.link.specs.Primary.{Outstanding, Primary, received_from, received, outcome_of, outcome_at, outcome_after, outcome_from, received_outcome, is_late, due_from, timed_out, due_outcome, due_outcome_from, miss_outcome, unanswered}
+use Rattle.link.specs.declared.outcome.Outcome.TheVariants as outcome
+use Rattle.link.specs.Telling.{IsHeard, IsAwaited, IsOver, IsCurrent, TellsBy}
+use Rattle.link.specs.Runs.{silence_outcome}
+use Rattle.link.proofs.Telling.{said_now, heard_open, links_at}
+
+-- an exchange that is over isn't outstanding
+over_not : (front : List ℕ → Front) (address : ℕ) (x : OpenExchange) → IsOver front address x → IsOutstanding address (view front x).exchange → ⊥
+over_not front address x (inl closed) out = cc
+over_not front address x (inr a) out = let now = said_now front address x (Some a.0) a.1 in let none = out.0 in cc
+
+-- nothing is heard yet
+none_yet : (front : List ℕ → Front) (address : ℕ) (x : OpenExchange) (h : Option (List ℕ)) → IsHeard front address x h →
+    option_and_then (answer_of address x.request) (whole_of (front x.octets)) ≡ None
+none_yet front address x (Some octets) m = ap (λ (f : Front). option_and_then (answer_of address x.request) (whole_of f)) m.1
+none_yet front address x None said = said_now front address x None said
+
+awaited_out : (front : List ℕ → Front) (addresses : List ℕ) (turn : ℕ) (o : Outstanding) (x : OpenExchange) → IsAwaited front (slice_index addresses turn) turn o x →
+    IsOutstanding (slice_index addresses x.station) (view front x).exchange
+awaited_out front addresses turn o x w = (
+  ap (λ (i : ℕ). option_and_then (answer_of (slice_index addresses i) x.request) (whole_of (front x.octets))) w.station
+      ∙ none_yet front (slice_index addresses turn) x o.heard w.heard,
+  w.waits,
+)
+
+-- the exchange that is awaited, where one is outstanding
+awaited_at : (front : List ℕ → Front) (addresses : List ℕ) (turn : ℕ) (o : Option Outstanding) (x : OpenExchange) →
+    IsCurrent front addresses turn o (Some x) → IsOutstanding (slice_index addresses x.station) (view front x).exchange →
+    (q : Outstanding) × (o ≡ Some q) × IsAwaited front (slice_index addresses turn) turn q x
+awaited_at front addresses turn None x over out = absurd (over_not front (slice_index addresses x.station) x over out)
+awaited_at front addresses turn (Some q) x w out = (q, refl, w)
+
+pub told_octets : (front : List ℕ → Front) (settings : LinkSettings) (addresses : List ℕ) (p : Primary) (e : Exchanges) (octets : List ℕ) (x : OpenExchange) →
+    TellsBy front settings addresses p e → e.current ≡ Some x → IsOutstanding (slice_index addresses x.station) (view front x).exchange →
+    received_outcome front p octets ≡ outcome_of x.station x.request (answer_to (slice_index addresses x.station) (view front (heard_octets octets x)).exchange)
+told_octets front settings addresses p e octets x t latest out =
+    let a = awaited_at front addresses p.turn p.outstanding x (subst (λ (c : Option OpenExchange). IsCurrent front addresses p.turn p.outstanding c) latest t.current) out in
+    ap (λ (o : Option Outstanding). outcome_from front p o octets) a.1 ∙ go a.0 a.2
+  where
+    go : (q : Outstanding) → IsAwaited front (slice_index addresses p.turn) p.turn q x →
+        outcome_after front p q q.heard octets ≡ outcome_of x.station x.request (answer_to (slice_index addresses x.station) (view front (heard_octets octets x)).exchange)
+    go q w =
+        by_heard q.heard w.heard
+        ∙ ap (λ (i : ℕ). outcome_of i x.request (option_and_then (answer_of (slice_index addresses i) x.request) (whole_of (front (x.octets ++ octets))))) (sym w.station)
+        ∙ ap (λ (z : OpenExchange). outcome_of x.station x.request (answer_to (slice_index addresses x.station) (view front z).exchange)) (sym (heard_open octets x w.waits))
+      where
+        by_front : (f : Front) → outcome_at p q (whole_of f) ≡ outcome_of p.turn x.request (option_and_then (answer_of (slice_index addresses p.turn) x.request) (whole_of f))
+        by_front More = refl
+        by_front (Never place why) = refl
+        by_front (Whole frame n) =
+            ap (λ (a : ℕ). outcome_of p.turn q.request (answer_of a q.request frame)) (t.address p.turn)
+            ∙ ap (λ (r : Asked). outcome_of p.turn r (answer_of (slice_index addresses p.turn) r frame)) (sym w.request)
+
+        by_heard : (h : Option (List ℕ)) → IsHeard front (slice_index addresses p.turn) x h →
+            outcome_after front p q h octets ≡ outcome_of p.turn x.request (option_and_then (answer_of (slice_index addresses p.turn) x.request) (whole_of (front (x.octets ++ octets))))
+        by_heard None said = ap (λ (m : Option Answer). outcome_of p.turn x.request m) (sym (said octets))
+        by_heard (Some before) so = ap (λ (b : List ℕ). outcome_at p q (whole_of (front (b ++ octets)))) so.0 ∙ by_front (front (x.octets ++ octets))
+
+-- nothing is outstanding
+abbrev pub NoneIsOutstanding : (front : List ℕ → Front) → (addresses : List ℕ) → Exchanges → Type 0
+NoneIsOutstanding front addresses e = (x : OpenExchange) → e.current ≡ Some x → IsOutstanding (slice_index addresses x.station) (view front x).exchange → ⊥
+
+free_then : (front : List ℕ → Front) (settings : LinkSettings) (addresses : List ℕ) (p : Primary) (e : Exchanges) → TellsBy front settings addresses p e →
+    NoneIsOutstanding front addresses e → p.outstanding ≡ None
+free_then front settings addresses p e t none = go p.outstanding e.current refl t.current
+  where
+    go : (o : Option Outstanding) (c : Option OpenExchange) → e.current ≡ c → IsCurrent front addresses p.turn o c → o ≡ None
+    go None c is so = refl
+    go (Some q) None is so = absurd so
+    go (Some q) (Some x) is w = absurd (none x is (awaited_out front addresses p.turn q x w))
+
+pub quiet_octets : (front : List ℕ → Front) (settings : LinkSettings) (addresses : List ℕ) (p : Primary) (e : Exchanges) (octets : List ℕ) →
+    TellsBy front settings addresses p e → NoneIsOutstanding front addresses e → (received front p octets ≡ p) × (received_outcome front p octets ≡ outcome.None)
+quiet_octets front settings addresses p e octets t none =
+    let free = free_then front settings addresses p e t none in
+    (ap (λ (o : Option Outstanding). received_from front p o octets) free, ap (λ (o : Option Outstanding). outcome_from front p o octets) free)
+
+pub quiet_due : (front : List ℕ → Front) (settings : LinkSettings) (addresses : List ℕ) (p : Primary) (e : Exchanges) (at : ℕ) →
+    TellsBy front settings addresses p e → NoneIsOutstanding front addresses e → (timed_out p at ≡ p) × (due_outcome p at ≡ outcome.None)
+quiet_due front settings addresses p e at t none =
+    let free = free_then front settings addresses p e t none in
+    (ap (λ (o : Option Outstanding). due_from p o at) free, ap (λ (o : Option Outstanding). due_outcome_from p o at) free)
+
+-- whether the moment closes it
+late_so : (front : List ℕ → Front) (settings : LinkSettings) (addresses : List ℕ) (p : Primary) (e : Exchanges) (at : ℕ) (x : OpenExchange) (q : Outstanding) →
+    TellsBy front settings addresses p e → IsAwaited front (slice_index addresses p.turn) p.turn q x → is_late p q at ≡ (timed settings.answer_ms at x).closed
+late_so front settings addresses p e at x q t w =
+    ap (λ (s : LinkSettings). nat_le (q.since + s.answer_ms) at) t.settings_are
+    ∙ ap (λ (s : ℕ). nat_le (s + settings.answer_ms) at) (sym w.since)
+    ∙ ap (λ (c : Bool). c || nat_le (x.since + settings.answer_ms) at) (sym w.waits)
+
+pub early_due : (front : List ℕ → Front) (settings : LinkSettings) (addresses : List ℕ) (p : Primary) (e : Exchanges) (at : ℕ) (x : OpenExchange) →
+    TellsBy front settings addresses p e → e.current ≡ Some x → IsOutstanding (slice_index addresses x.station) (view front x).exchange →
+    (timed settings.answer_ms at x).closed ≡ false → (timed_out p at ≡ p) × (due_outcome p at ≡ outcome.None)
+early_due front settings addresses p e at x t latest out early =
+    let a = awaited_at front addresses p.turn p.outstanding x (subst (λ (c : Option OpenExchange). IsCurrent front addresses p.turn p.outstanding c) latest t.current) out in
+    let late : is_late p a.0 at ≡ false = late_so front settings addresses p e at x a.0 t a.2 ∙ early in (
+      ap (λ (o : Option Outstanding). due_from p o at) a.1 ∙ ap (λ (b : Bool). if b then unanswered p a.0.request else p) late,
+      ap (λ (o : Option Outstanding). due_outcome_from p o at) a.1 ∙ ap (λ (b : Bool). if b then miss_outcome p a.0.request else outcome.None) late,
+    )
+
+pub told_due : (front : List ℕ → Front) (settings : LinkSettings) (addresses : List ℕ) (p : Primary) (e : Exchanges) (at : ℕ) (x : OpenExchange) →
+    TellsBy front settings addresses p e → e.current ≡ Some x → IsOutstanding (slice_index addresses x.station) (view front x).exchange →
+    (timed settings.answer_ms at x).closed ≡ true →
+    due_outcome p at ≡ silence_outcome x.station x.request
+    (after_silence settings x.request true (link_after settings (slice_index addresses x.station) Down (with_station x.station (views front e.ended))))
+told_due front settings addresses p e at x t latest out late =
+    let a = awaited_at front addresses p.turn p.outstanding x (subst (λ (c : Option OpenExchange). IsCurrent front addresses p.turn p.outstanding c) latest t.current) out in
+    let due : is_late p a.0 at ≡ true = late_so front settings addresses p e at x a.0 t a.2 ∙ late in
+    let links = links_at front settings addresses p e (Some a.0) a.1 t in
+    ap (λ (o : Option Outstanding). due_outcome_from p o at) a.1
+    ∙ ap (λ (b : Bool). if b then miss_outcome p a.0.request else outcome.None) due
+    ∙ ap (λ (s : LinkSettings). silence_outcome p.turn a.0.request (after_silence s a.0.request true (station_at p.stations p.turn).link)) t.settings_are
+    ∙ ap (λ (r : Asked). silence_outcome p.turn r (after_silence settings r true (station_at p.stations p.turn).link)) (sym a.2.request)
+    ∙ ap (λ (l : Link). silence_outcome p.turn x.request (after_silence settings x.request true l)) (sym (links p.turn))
+    ∙ ap (λ (i : ℕ). silence_outcome i x.request (after_silence settings x.request true (link_after settings (slice_index addresses i) Down (with_station i (views front e.ended))))) (sym a.2.station)

@@ -1,0 +1,399 @@
+-- The primary's state is what the exchanges of its line make it: kept by each call.
+use Rattle.std.proofs.Common.{◌≡◌, ℕ, zero, suc, ◌+◌, ◌<◌, ◌||◌, nat_le, slice_index, Bool, true, false, List, [], ◌∷◌, ◌++◌, All, length, map, slice_set, Option, Some, None, option_and_then, refl, sym, ap, subst, ◌∙◌, inl, inr, append_assoc, if◌then◌else◌}
+use Rattle.std.proofs.lemmas.List.{length-set, length-map}
+use Rattle.ft12.specs.declared.frame.Front.{Front}
+use Rattle.ft12.specs.declared.frame.Front.TheVariants.{Whole, More, Never}
+use Rattle.link.specs.Answers.{Asked, Answer, answer_of}
+use Rattle.link.specs.Exchanges.{OpenExchange, Exchanges, no_exchanges, as_list, whole_of, view, heard_octets, heard_current, timed, timed_current, begun_by}
+use Rattle.link.specs.Procedure.{LinkSettings, Link, Down, MaySend, after_outcome, after_answer, after_silence}
+use Rattle.link.specs.Requests.{IsUserData, FitsAddress, FitsAsked}
+use Rattle.link.specs.Turns.{StationState, Chosen, station_at}
+use Rattle.link.specs.Primary.{Outstanding, Primary, start, station_down, choice, station_asked, after_choice, asked_from, asked, sending_from, sending_by, sending, station_answered, awaits, answer_at, said_by, open_octets, took, received_after, received_from, received, station_unanswered, unanswered, is_late, due_from, timed_out, may_offer, with_offer, offered_to, without_offer, withdrawn}
+use Rattle.link.specs.Holding.{FitsOutstanding}
+use Rattle.link.specs.Telling.{IsStable, IsSaid, IsAllowed, IsHeard, IsOver, IsCurrent, past, AreKept, AreLinks, TellsBy}
+use Rattle.link.proofs.Fitting.{FitStations, station_fits, set_fits, down_fits, withdrawn_fits, asked_fits, offered_fits, answered_fits, unanswered_fits, length-down}
+use Rattle.link.proofs.Choice.{MayChooseIt, choice_may}
+use Rattle.link.proofs.Links.{set_view, grown_keeps, begun_keeps, ended_links, alike_links}
+
+nil : (xs : List ℕ) → xs ++ [] ≡ xs
+nil [] = refl
+nil (x ∷ xs) = ap (λ (ys : List ℕ). x ∷ ys) (nil xs)
+
+-- what is said stays said
+pub said_now : (front : List ℕ → Front) (address : ℕ) (x : OpenExchange) (m : Option Answer) → IsSaid front address x m →
+    option_and_then (answer_of address x.request) (whole_of (front x.octets)) ≡ m
+said_now front address x m said =
+    ap (λ (l : List ℕ). option_and_then (answer_of address x.request) (whole_of (front l))) (sym (nil x.octets)) ∙ said []
+
+abbrev pub grown : OpenExchange → List ℕ → OpenExchange
+grown x octets = record { station = x.station; request = x.request; since = x.since; octets = x.octets ++ octets; closed = x.closed }
+
+said_later : (front : List ℕ → Front) (address : ℕ) (x : OpenExchange) (octets : List ℕ) (m : Option Answer) → IsSaid front address x m →
+    IsSaid front address (grown x octets) m
+said_later front address x octets m said more =
+    ap (λ (l : List ℕ). option_and_then (answer_of address x.request) (whole_of (front l))) (append_assoc x.octets octets more) ∙ said (octets ++ more)
+
+-- octets that come to an exchange that isn't closed
+pub heard_open : (octets : List ℕ) (x : OpenExchange) → x.closed ≡ false → heard_octets octets x ≡ grown x octets
+heard_open octets x alive =
+    ap (λ (b : Bool). record { station = x.station; request = x.request; since = x.since; octets = if b then x.octets else x.octets ++ octets; closed = x.closed }) alive
+
+pub heard_closed : (octets : List ℕ) (x : OpenExchange) → x.closed ≡ true → heard_octets octets x ≡ x
+heard_closed octets x closed =
+    ap (λ (b : Bool). record { station = x.station; request = x.request; since = x.since; octets = if b then x.octets else x.octets ++ octets; closed = x.closed }) closed
+
+-- the primary is as it was, and the latest exchange another
+same_state : (front : List ℕ → Front) (settings : LinkSettings) (addresses : List ℕ) (p : Primary) (ended : List OpenExchange) (cur cur' : Option OpenExchange) (o : Option Outstanding) →
+    p.outstanding ≡ o → TellsBy front settings addresses p (record { ended = ended; current = cur }) →
+    IsCurrent front addresses p.turn o cur' → AreKept front settings addresses (ended ++ as_list cur') →
+    AreLinks front settings addresses p.stations (past o (record { ended = ended; current = cur' })) →
+    TellsBy front settings addresses p (record { ended = ended; current = cur' })
+same_state front settings addresses p ended cur cur' o is t current keeps links = record {
+  settings_are = t.settings_are;
+  fits = t.fits;
+  count = t.count;
+  address = t.address;
+  allowed = t.allowed;
+  current = subst (λ (q : Option Outstanding). IsCurrent front addresses p.turn q cur') (sym is) current;
+  keeps = keeps;
+  links = subst (λ (q : Option Outstanding). AreLinks front settings addresses p.stations (past q (record { ended = ended; current = cur' }))) (sym is) links;
+}
+
+-- the links that are known while nothing, or something, is outstanding
+pub links_at : (front : List ℕ → Front) (settings : LinkSettings) (addresses : List ℕ) (p : Primary) (e : Exchanges) (o : Option Outstanding) →
+    p.outstanding ≡ o → TellsBy front settings addresses p e → AreLinks front settings addresses p.stations (past o e)
+links_at front settings addresses p e o is t = subst (λ (q : Option Outstanding). AreLinks front settings addresses p.stations (past q e)) is t.links
+
+-- `next`
+
+pub ask_tells : (front : List ℕ → Front) (settings : LinkSettings) (addresses : List ℕ) (p : Primary) (e : Exchanges) (now : ℕ) (may_poll : Bool) → IsStable front →
+    TellsBy front settings addresses p e → TellsBy front settings addresses (asked p now may_poll) (begun_by now (sending p may_poll) e)
+ask_tells front settings addresses p e now may_poll stable t = go p.outstanding refl
+  where
+    go : (o : Option Outstanding) → p.outstanding ≡ o →
+        TellsBy front settings addresses (asked_from p o now may_poll) (begun_by now (sending_from p o may_poll) e)
+    go (Some o) is = t
+    go None is = choose (choice p may_poll) (choice_may p may_poll t.fits)
+      where
+        choose : (c : Option Chosen) → MayChooseIt p.settings.size p.stations c →
+            TellsBy front settings addresses (after_choice p now c) (begun_by now (sending_by c) e)
+        choose None may = record {
+          settings_are = t.settings_are;
+          fits = record { turn = t.fits.turn; stations = t.fits.stations; outstanding = t.fits.outstanding };
+          count = t.count;
+          address = t.address;
+          allowed = t.allowed;
+          current = t.current;
+          keeps = t.keeps;
+          links = t.links;
+        }
+        choose (Some c) may =
+            let s : StationState = station_asked (station_at p.stations c.station) c.wanted.request in
+            let x : OpenExchange = record { station = c.station; request = c.wanted.request; since = now; octets = []; closed = false } in
+            let links = links_at front settings addresses p e None is t in
+            let there = station_fits p.settings.size p.stations c.station may.within t.fits.stations in
+            record {
+              settings_are = t.settings_are;
+              fits = record {
+                turn = subst (λ (n : ℕ). c.station < n) (sym (length-set p.stations c.station s)) may.within;
+                stations = set_fits p.settings.size p.stations c.station s may.within t.fits.stations
+                    (asked_fits p.settings.size (station_at p.stations c.station) c.wanted.request there);
+                outstanding = may.fits;
+              };
+              count = length-set p.stations c.station s ∙ t.count;
+              address = λ i. set_view (λ (r : StationState). r.address) p.stations c.station s refl i ∙ t.address i;
+              allowed = subst (λ (l : Link). MaySend l c.wanted.request) (sym (set_view (λ (r : StationState). r.link) p.stations c.station s refl c.station)) may.may;
+              current = record { station = refl; request = refl; since = refl; waits = refl; heard = (refl, stable.nothing) };
+              keeps = begun_keeps front settings addresses p.stations (e.ended ++ as_list e.current) x t.keeps links may.may;
+              links = λ i. links i ∙ sym (set_view (λ (r : StationState). r.link) p.stations c.station s refl i);
+            }
+
+-- `due`
+
+pub due_tells : (front : List ℕ → Front) (settings : LinkSettings) (addresses : List ℕ) (p : Primary) (ended : List OpenExchange) (cur : Option OpenExchange) (at : ℕ) →
+    TellsBy front settings addresses p (record { ended = ended; current = cur }) →
+    TellsBy front settings addresses (timed_out p at) (record { ended = ended; current = timed_current settings.answer_ms at cur })
+due_tells front settings addresses p ended cur at t = go p.outstanding cur refl t t.current
+  where
+    ms : ℕ
+    ms = settings.answer_ms
+
+    go : (o : Option Outstanding) (c : Option OpenExchange) → p.outstanding ≡ o → TellsBy front settings addresses p (record { ended = ended; current = c }) →
+        IsCurrent front addresses p.turn o c →
+        TellsBy front settings addresses (due_from p o at) (record { ended = ended; current = timed_current settings.answer_ms at c })
+    go None None is t c = t
+    go (Some o) None is t c = absurd c
+    go None (Some x) is t over = over_case over
+      where
+        links : AreLinks front settings addresses p.stations (ended ++ x ∷ [])
+        links = links_at front settings addresses p (record { ended = ended; current = Some x }) None is t
+
+        over_case : IsOver front (slice_index addresses x.station) x →
+            TellsBy front settings addresses p (record { ended = ended; current = Some (timed settings.answer_ms at x) })
+        over_case (inl closed) =
+            let same : timed settings.answer_ms at x ≡ x =
+            ap (λ (b : Bool). record { station = x.station; request = x.request; since = x.since; octets = x.octets; closed = b || nat_le (x.since + settings.answer_ms) at }) closed
+            ∙ ap (λ (b : Bool). record { station = x.station; request = x.request; since = x.since; octets = x.octets; closed = b }) (sym closed) in
+            subst (λ (z : OpenExchange). TellsBy front settings addresses p (record { ended = ended; current = Some z })) (sym same) t
+        over_case (inr a) =
+            let e = said_now front (slice_index addresses x.station) x (Some a.0) a.1 in
+            same_state front settings addresses p ended (Some x) (Some (timed settings.answer_ms at x)) None is t (inr (a.0, a.1))
+            (grown_keeps front settings addresses ended x (timed settings.answer_ms at x) refl refl t.keeps)
+            (λ i. alike_links front settings addresses ended x (timed settings.answer_ms at x) refl
+            (λ (l : Link). ap (λ (m : Option Answer). after_outcome settings m (view front (timed settings.answer_ms at x)).exchange l) e
+            ∙ ap (λ (m : Option Answer). after_outcome settings m (view front x).exchange l) (sym e)) i ∙ links i)
+    go (Some q) (Some x) is t w = late (is_late p q at) refl
+      where
+        links : AreLinks front settings addresses p.stations ended
+        links = links_at front settings addresses p (record { ended = ended; current = Some x }) (Some q) is t
+
+        asked_fits' : FitsAsked p.settings.size q.request
+        asked_fits' = subst (λ (r : Option Outstanding). FitsOutstanding p.settings.size r) is t.fits.outstanding
+
+        closes : (b : Bool) → is_late p q at ≡ b → (timed settings.answer_ms at x).closed ≡ b
+        closes b e =
+            ap (λ (c : Bool). c || nat_le (x.since + settings.answer_ms) at) w.waits ∙ ap (λ (s : ℕ). nat_le (s + settings.answer_ms) at) w.since
+            ∙ ap (λ (s : LinkSettings). nat_le (q.since + s.answer_ms) at) (sym t.settings_are) ∙ e
+
+        none : (h : Option (List ℕ)) → IsHeard front (slice_index addresses p.turn) x h →
+            option_and_then (answer_of (slice_index addresses p.turn) x.request) (whole_of (front x.octets)) ≡ None
+        none (Some octets) m = ap (λ (f : Front). option_and_then (answer_of (slice_index addresses p.turn) x.request) (whole_of f)) m.1
+        none None said = said_now front (slice_index addresses p.turn) x None said
+
+        late : (b : Bool) → is_late p q at ≡ b →
+            TellsBy front settings addresses (if b then unanswered p q.request else p) (record { ended = ended; current = Some (timed settings.answer_ms at x) })
+        late false e =
+            same_state front settings addresses p ended (Some x) (Some (timed settings.answer_ms at x)) (Some q) is t
+            (record { station = w.station; request = w.request; since = w.since; waits = closes false e; heard = same_heard q.heard w.heard })
+            (grown_keeps front settings addresses ended x (timed settings.answer_ms at x) refl refl t.keeps) links
+          where
+            same_heard : (h : Option (List ℕ)) → IsHeard front (slice_index addresses p.turn) x h →
+                IsHeard front (slice_index addresses p.turn) (timed settings.answer_ms at x) h
+            same_heard (Some octets) m = m
+            same_heard None said = said
+        late true e =
+            let s : StationState = station_unanswered p.settings (station_at p.stations p.turn) q.request in
+            record {
+              settings_are = t.settings_are;
+              fits = record {
+                turn = subst (λ (n : ℕ). p.turn < n) (sym (length-set p.stations p.turn s)) t.fits.turn;
+                stations = set_fits p.settings.size p.stations p.turn s t.fits.turn t.fits.stations
+                    (unanswered_fits p.settings p.settings.size (station_at p.stations p.turn) q.request asked_fits'
+                    (station_fits p.settings.size p.stations p.turn t.fits.turn t.fits.stations));
+                outstanding = tt;
+              };
+              count = length-set p.stations p.turn s ∙ t.count;
+              address = λ i. set_view (λ (r : StationState). r.address) p.stations p.turn s refl i ∙ t.address i;
+              allowed = tt;
+              current = inl (closes true e);
+              keeps = grown_keeps front settings addresses ended x (timed settings.answer_ms at x) refl refl t.keeps;
+              links = ended_links front settings addresses p.stations p.turn ended (timed settings.answer_ms at x) s t.fits.turn links w.station
+                  (ap (λ (z : LinkSettings). after_silence z q.request true (station_at p.stations p.turn).link) t.settings_are
+                  ∙ ap (λ (r : Asked). after_silence settings r true (station_at p.stations p.turn).link) (sym w.request)
+                  ∙ ap (λ (c : Bool). after_silence settings x.request c (station_at p.stations p.turn).link) (sym (closes true e))
+                  ∙ ap (λ (m : Option Answer). after_outcome settings m (view front (timed settings.answer_ms at x)).exchange (station_at p.stations p.turn).link)
+                  (sym (none q.heard w.heard)));
+            }
+
+-- `octets`
+
+pub hear_tells : (front : List ℕ → Front) (settings : LinkSettings) (addresses : List ℕ) (p : Primary) (ended : List OpenExchange) (cur : Option OpenExchange) (octets : List ℕ) →
+    IsStable front → TellsBy front settings addresses p (record { ended = ended; current = cur }) →
+    TellsBy front settings addresses (received front p octets) (record { ended = ended; current = heard_current octets cur })
+hear_tells front settings addresses p ended cur octets stable t = go p.outstanding cur refl t t.current
+  where
+    go : (o : Option Outstanding) (c : Option OpenExchange) → p.outstanding ≡ o → TellsBy front settings addresses p (record { ended = ended; current = c }) →
+        IsCurrent front addresses p.turn o c →
+        TellsBy front settings addresses (received_from front p o octets) (record { ended = ended; current = heard_current octets c })
+    go None None is t c = t
+    go (Some o) None is t c = absurd c
+    go None (Some x) is t over = by_closed x.closed refl
+      where
+        links : AreLinks front settings addresses p.stations (ended ++ x ∷ [])
+        links = links_at front settings addresses p (record { ended = ended; current = Some x }) None is t
+
+        over_case : x.closed ≡ false → IsOver front (slice_index addresses x.station) x →
+            TellsBy front settings addresses p (record { ended = ended; current = Some (grown x octets) })
+        over_case alive (inl closed) = cc
+        over_case alive (inr a) =
+            let before = said_now front (slice_index addresses x.station) x (Some a.0) a.1 in
+            same_state front settings addresses p ended (Some x) (Some (grown x octets)) None is t
+            (inr (a.0, said_later front (slice_index addresses x.station) x octets (Some a.0) a.1))
+            (grown_keeps front settings addresses ended x (grown x octets) refl refl t.keeps)
+            (λ i. alike_links front settings addresses ended x (grown x octets) refl
+            (λ (l : Link). ap (λ (m : Option Answer). after_outcome settings m (view front (grown x octets)).exchange l) (a.1 octets)
+            ∙ ap (λ (m : Option Answer). after_outcome settings m (view front x).exchange l) (sym before)) i ∙ links i)
+
+        by_closed : (b : Bool) → x.closed ≡ b → TellsBy front settings addresses p (record { ended = ended; current = Some (heard_octets octets x) })
+        by_closed true e = subst (λ (z : OpenExchange). TellsBy front settings addresses p (record { ended = ended; current = Some z })) (sym (heard_closed octets x e)) t
+        by_closed false e =
+            subst (λ (z : OpenExchange). TellsBy front settings addresses p (record { ended = ended; current = Some z })) (sym (heard_open octets x e)) (over_case e over)
+    go (Some q) (Some x) is t w =
+        subst (λ (z : OpenExchange). TellsBy front settings addresses (received_from front p (Some q) octets) (record { ended = ended; current = Some z }))
+        (sym (heard_open octets x w.waits)) (by_heard q.heard refl w.heard)
+      where
+        here : ℕ
+        here = slice_index addresses p.turn
+
+        links : AreLinks front settings addresses p.stations ended
+        links = links_at front settings addresses p (record { ended = ended; current = Some x }) (Some q) is t
+
+        keeps : AreKept front settings addresses (ended ++ grown x octets ∷ [])
+        keeps = grown_keeps front settings addresses ended x (grown x octets) refl refl t.keeps
+
+        may : MaySend (station_at p.stations p.turn).link q.request
+        may = subst (λ (r : Option Outstanding). IsAllowed p.stations p.turn r) is t.allowed
+
+        asked_fits' : FitsAsked p.settings.size q.request
+        asked_fits' = subst (λ (r : Option Outstanding). FitsOutstanding p.settings.size r) is t.fits.outstanding
+
+        waits : (heard : Option (List ℕ)) → IsHeard front (slice_index addresses p.turn) (grown x octets) heard →
+            TellsBy front settings addresses (awaits p q heard) (record { ended = ended; current = Some (grown x octets) })
+        waits heard so = record {
+          settings_are = t.settings_are;
+          fits = record { turn = t.fits.turn; stations = t.fits.stations; outstanding = asked_fits' };
+          count = t.count;
+          address = t.address;
+          allowed = may;
+          current = record { station = w.station; request = w.request; since = w.since; waits = w.waits; heard = so };
+          keeps = keeps;
+          links = links;
+        }
+
+        by_front : (f : Front) → front (x.octets ++ octets) ≡ f →
+            TellsBy front settings addresses (took p q (open_octets (x.octets ++ octets) f) (whole_of f)) (record { ended = ended; current = Some (grown x octets) })
+        by_front More e = waits (Some (x.octets ++ octets)) (refl, e)
+        by_front (Never place why) e = waits None
+            (λ (more : List ℕ). ap (λ (f : Front). option_and_then (answer_of (slice_index addresses p.turn) x.request) (whole_of f)) (stable.never (x.octets ++ octets) more place why e))
+        by_front (Whole frame n) e = say (answer_at p q frame) refl
+          where
+            told : (m : Option Answer) → answer_at p q frame ≡ m → answer_of (slice_index addresses p.turn) x.request frame ≡ m
+            told m e' =
+                ap (λ (a : ℕ). answer_of a x.request frame) (sym (t.address p.turn))
+                ∙ ap (λ (r : Asked). answer_of (station_at p.stations p.turn).address r frame) w.request ∙ e'
+
+            said : (m : Option Answer) → answer_at p q frame ≡ m → IsSaid front (slice_index addresses p.turn) (grown x octets) m
+            said m e' more =
+                ap (λ (f : Front). option_and_then (answer_of (slice_index addresses p.turn) x.request) (whole_of f)) (stable.whole (x.octets ++ octets) more frame n e) ∙ told m e'
+
+            say : (m : Option Answer) → answer_at p q frame ≡ m →
+                TellsBy front settings addresses (said_by p q frame m) (record { ended = ended; current = Some (grown x octets) })
+            say None e' = waits None (said None e')
+            say (Some answer) e' =
+                let s : StationState = station_answered (station_at p.stations p.turn) q.request frame answer in
+                record {
+                  settings_are = t.settings_are;
+                  fits = record {
+                    turn = subst (λ (n : ℕ). p.turn < n) (sym (length-set p.stations p.turn s)) t.fits.turn;
+                    stations = set_fits p.settings.size p.stations p.turn s t.fits.turn t.fits.stations
+                        (answered_fits p.settings.size (station_at p.stations p.turn) q.request frame answer
+                        (station_fits p.settings.size p.stations p.turn t.fits.turn t.fits.stations));
+                    outstanding = tt;
+                  };
+                  count = length-set p.stations p.turn s ∙ t.count;
+                  address = λ i. set_view (λ (r : StationState). r.address) p.stations p.turn s refl i ∙ t.address i;
+                  allowed = tt;
+                  current = inr (answer, subst (λ (i : ℕ). IsSaid front (slice_index addresses i) (grown x octets) (Some answer)) (sym w.station) (said (Some answer) e'));
+                  keeps = keeps;
+                  links = ended_links front settings addresses p.stations p.turn ended (grown x octets) s t.fits.turn links w.station
+                      (ap (λ (r : Asked). after_answer r answer (station_at p.stations p.turn).link) (sym w.request)
+                      ∙ ap (λ (m : Option Answer). after_outcome settings m (view front (grown x octets)).exchange (station_at p.stations p.turn).link)
+                      (sym (said_now front (slice_index addresses p.turn) (grown x octets) (Some answer) (said (Some answer) e'))));
+                }
+
+        by_heard : (h : Option (List ℕ)) → q.heard ≡ h → IsHeard front (slice_index addresses p.turn) x h →
+            TellsBy front settings addresses (received_after front p q h octets) (record { ended = ended; current = Some (grown x octets) })
+        by_heard None at so =
+            same_state front settings addresses p ended (Some x) (Some (grown x octets)) (Some q) is t
+            (record {
+              station = w.station;
+              request = w.request;
+              since = w.since;
+              waits = w.waits;
+              heard = subst (λ (h : Option (List ℕ)). IsHeard front (slice_index addresses p.turn) (grown x octets) h) (sym at)
+                  (said_later front (slice_index addresses p.turn) x octets None so);
+            }) keeps links
+        by_heard (Some before) at so =
+            subst (λ (b : List ℕ). TellsBy front settings addresses (received_after front p q (Some b) octets) (record { ended = ended; current = Some (grown x octets) })) (sym so.0)
+            (by_front (front (x.octets ++ octets)) refl)
+
+-- `offer` and `withdraw`
+
+same_views : (front : List ℕ → Front) (settings : LinkSettings) (addresses : List ℕ) (p : Primary) (e : Exchanges) (stations : List StationState) →
+    FitStations p.settings.size stations → length stations ≡ length p.stations →
+    ((i : ℕ) → (station_at stations i).link ≡ (station_at p.stations i).link) → ((i : ℕ) → (station_at stations i).address ≡ (station_at p.stations i).address) →
+    TellsBy front settings addresses p e → TellsBy front settings addresses (record p { stations = stations }) e
+same_views front settings addresses p e stations fit count link address t = record {
+  settings_are = t.settings_are;
+  fits = record { turn = subst (λ (n : ℕ). p.turn < n) (sym count) t.fits.turn; stations = fit; outstanding = t.fits.outstanding };
+  count = count ∙ t.count;
+  address = λ i. address i ∙ t.address i;
+  allowed = go p.outstanding t.allowed;
+  current = t.current;
+  keeps = t.keeps;
+  links = λ i. t.links i ∙ sym (link i);
+}
+  where
+    go : (o : Option Outstanding) → IsAllowed p.stations p.turn o → IsAllowed stations p.turn o
+    go None allowed = tt
+    go (Some o) allowed = subst (λ (l : Link). MaySend l o.request) (sym (link p.turn)) allowed
+
+pub offer_tells : (front : List ℕ → Front) (settings : LinkSettings) (addresses : List ℕ) (p : Primary) (e : Exchanges) (station : ℕ) (asdu : List ℕ) →
+    station < length p.stations → IsUserData p.settings.size asdu → TellsBy front settings addresses p e →
+    TellsBy front settings addresses (offered_to p station asdu) e
+offer_tells front settings addresses p e station asdu within carried t = go (may_offer p station)
+  where
+    s : StationState
+    s = with_offer (station_at p.stations station) (Some asdu)
+
+    go : (b : Bool) → TellsBy front settings addresses
+        (if b then record p { stations = slice_set p.stations station (with_offer (station_at p.stations station) (Some asdu)) } else p) e
+    go false = t
+    go true =
+        same_views front settings addresses p e (slice_set p.stations station (with_offer (station_at p.stations station) (Some asdu)))
+        (set_fits p.settings.size p.stations station _ within t.fits.stations
+        (offered_fits p.settings.size (station_at p.stations station) asdu (station_fits p.settings.size p.stations station within t.fits.stations) carried))
+        (length-set p.stations station _)
+        (set_view (λ (r : StationState). r.link) p.stations station _ refl)
+        (set_view (λ (r : StationState). r.address) p.stations station _ refl) t
+
+pub withdraw_tells : (front : List ℕ → Front) (settings : LinkSettings) (addresses : List ℕ) (p : Primary) (e : Exchanges) → TellsBy front settings addresses p e →
+    TellsBy front settings addresses (withdrawn p) e
+withdraw_tells front settings addresses p e t =
+    same_views front settings addresses p e (map without_offer p.stations) (withdrawn_fits p.settings.size p.stations t.fits.stations)
+    (length-map p.stations without_offer) (link p.stations) (address p.stations) t
+  where
+    link : (ss : List StationState) (i : ℕ) → (station_at (map without_offer ss) i).link ≡ (station_at ss i).link
+    link [] i = refl
+    link (s ∷ ss) zero = refl
+    link (s ∷ ss) (suc i) = link ss i
+
+    address : (ss : List StationState) (i : ℕ) → (station_at (map without_offer ss) i).address ≡ (station_at ss i).address
+    address [] i = refl
+    address (s ∷ ss) zero = refl
+    address (s ∷ ss) (suc i) = address ss i
+
+-- `new`
+
+pub start_tells : (front : List ℕ → Front) (settings : LinkSettings) (addresses : List ℕ) → 0 < length addresses → All (FitsAddress settings.size) addresses →
+    TellsBy front settings addresses (start settings addresses) no_exchanges
+start_tells front settings addresses some fit = record {
+  settings_are = refl;
+  fits = record { turn = subst (λ (n : ℕ). 0 < n) (sym (length-down addresses)) some; stations = down_fits settings.size addresses fit; outstanding = tt };
+  count = length-down addresses;
+  address = address addresses;
+  allowed = tt;
+  current = tt;
+  keeps = λ i. tt;
+  links = λ i. sym (link addresses i);
+}
+  where
+    link : (list : List ℕ) (i : ℕ) → (station_at (map station_down list) i).link ≡ Down
+    link [] i = refl
+    link (a ∷ rest) zero = refl
+    link (a ∷ rest) (suc i) = link rest i
+
+    address : (list : List ℕ) (i : ℕ) → (station_at (map station_down list) i).address ≡ slice_index list i
+    address [] i = refl
+    address (a ∷ rest) zero = refl
+    address (a ∷ rest) (suc i) = address rest i

@@ -1,0 +1,14 @@
+use Rattle.std.proofs.Common.{sym, subst, ◌∙◌, ◌≡◌, None, length}
+use Rattle.ft12.specs.declared.frame.Front.TheVariants.{Whole}
+use Rattle.link.specs.Secondary.{Secondary, HearsOctets}
+use Rattle.link.proofs.Frames.{not_heard}
+use Rattle.link.proofs.station.Station.hear.Goals as goal
+
+pub returns-in_default-clause-heard : goal.returns-in_default-clause-heard
+returns-in_default-clause-heard c = subst (λ (s : Secondary). HearsOctets s c.args.octets.now None s) c.self.view_is
+    (not_heard _ c.args.octets.now c.front.result c.front.ensures.only (λ frame e. c.in_default.not-Whole frame (length c.args.octets.now) (sym e)))
+
+pub returns-then-len-octets-clause-heard : goal.returns-then-len-octets-clause-heard
+returns-then-len-octets-clause-heard c = subst (λ (s : Secondary). HearsOctets s c.args.octets.now None s) c.self.view_is
+    (not_heard _ c.args.octets.now c.front.result c.front.ensures.only
+    (λ frame e. let same : Whole frame (length c.args.octets.now) ≡ Whole c.in-Whole.frame c.in-Whole.len = e ∙ c.in-Whole.is in c.if-len-octets.true cc))

@@ -1,0 +1,59 @@
+-- Which frames answer which request (IEC 60870-5-2, 5.1: the control field of a secondary station, and its procedures of unbalanced transmission).
+-- What the single character E5 stands for is this gateway's own profile.
+use Rattle.std.specs.Prelude.{◌≡◌, ℕ, ◌/◌, ◌%◌, ◌==◌, ◌&&◌, ◌||◌, Bool, List, Option, Some, None, if◌then◌else◌}
+pub use Rattle.ft12.specs.declared.frame.Frame.{Frame}
+pub use Rattle.ft12.specs.declared.frame.Frame.TheVariants.{Single, Fixed, Data}
+pub use Rattle.link.specs.declared.service.Service.{Service}
+pub use Rattle.link.specs.declared.service.Service.TheVariants.{Class1, Class2, Command}
+pub use Rattle.link.specs.declared.service.Asked.{Asked}
+pub use Rattle.link.specs.declared.service.Asked.TheVariants.{Status, Reset, Counted}
+pub use Rattle.link.specs.declared.answer.Answer.{Answer}
+pub use Rattle.link.specs.declared.answer.Answer.TheVariants.{Ready, Confirmed, Busy, Report, NoData, Unable}
+
+-- functions 14 and 15: the service isn't functioning, or isn't implemented
+abbrev pub unable_answer : ℕ → Option Answer
+unable_answer code = if (code == 14) || (code == 15) then Some Unable else None
+
+-- what a function of a fixed frame says to a service
+abbrev pub service_answer : Service → ℕ → Option Answer
+service_answer Class1 code = if code == 9 then Some NoData else unable_answer code
+service_answer Class2 code = if code == 9 then Some NoData else unable_answer code
+service_answer (Command asdu) code = if code == 0 then Some Confirmed else if code == 1 then Some Busy else unable_answer code
+
+-- and to each request
+abbrev pub code_answer : Asked → ℕ → Option Answer
+code_answer Status code = if code == 11 then Some Ready else unable_answer code
+code_answer Reset code = if code == 0 then Some Confirmed else None
+code_answer (Counted fcb service) code = service_answer service code
+
+-- what the single character stands for
+abbrev pub single_answer : Asked → Option Answer
+single_answer Status = None
+single_answer Reset = Some Confirmed
+single_answer (Counted fcb Class1) = Some NoData
+single_answer (Counted fcb Class2) = Some NoData
+single_answer (Counted fcb (Command asdu)) = Some Confirmed
+
+-- what user data are an answer to
+abbrev pub data_answer : Asked → List ℕ → Option Answer
+data_answer Status asdu = None
+data_answer Reset asdu = None
+data_answer (Counted fcb Class1) asdu = Some (Report asdu)
+data_answer (Counted fcb Class2) asdu = Some (Report asdu)
+data_answer (Counted fcb (Command _)) asdu = None
+
+-- the control octet is a secondary station's (PRM 0), and the address is this one
+abbrev pub comes_from : (station control address : ℕ) → Bool
+comes_from station control address = (control / 64 % 2 == 0) && (address == station)
+
+-- what a frame says in answer to a request to this station, or nothing where it doesn't fit
+abbrev pub answer_of : (station : ℕ) → Asked → Frame → Option Answer
+answer_of station request Single = single_answer request
+answer_of station request (Fixed control address) =
+    if comes_from station control address then code_answer request (control % 16) else None
+answer_of station request (Data control address body) =
+    if comes_from station control address && (control % 16 == 8) then data_answer request body.items else None
+
+-- the frame says this in answer to the request
+abbrev pub Says : (station : ℕ) → Asked → Answer → Frame → Type 0
+Says station request answer frame = answer_of station request frame ≡ Some answer

@@ -1,0 +1,128 @@
+-- Exchanges: a request, what came until the next one, and its answer (IEC 60870-5-2, unbalanced transmission procedures; which octets of the
+-- line belong to an exchange is this gateway's own profile).
+use Rattle.std.specs.Prelude.{◌≡◌, ℕ, ◌+◌, ◌==◌, ◌||◌, nat_le, Bool, true, false, List, [], ◌∷◌, ◌++◌, Option, Some, None, IsSome, option_and_then, if◌then◌else◌}
+use Rattle.ft12.specs.declared.frame.Front.{Front}
+use Rattle.ft12.specs.declared.frame.Front.TheVariants.{Whole, More, Never}
+use Rattle.link.specs.Answers.{Frame, Asked, Answer, Report, answer_of}
+
+-- A request to one station, the whole frame at the front of the octets of its exchange, if there was one, and whether the time to answer is over.
+pub record Exchange : Type 0 where
+  pub request : Asked
+  pub front : Option Frame
+  pub closed : Bool
+
+-- The answer: what the frame at the front says, where it fits the request.
+abbrev pub answer_to : (station : ℕ) → Exchange → Option Answer
+answer_to station x = option_and_then (answer_of station x.request) x.front
+
+abbrev pub IsAnswered : (station : ℕ) → Exchange → Type 0
+IsAnswered station x = IsSome (answer_to station x)
+
+-- neither answered nor closed
+abbrev pub IsOutstanding : (station : ℕ) → Exchange → Type 0
+IsOutstanding station x = (answer_to station x ≡ None) × (x.closed ≡ false)
+
+-- closed, and not answered
+abbrev pub IsUnanswered : (station : ℕ) → Exchange → Type 0
+IsUnanswered station x = (answer_to station x ≡ None) × (x.closed ≡ true)
+
+-- an exchange of a line with several stations, named by their index
+pub record LineExchange : Type 0 where
+  pub station : ℕ
+  pub exchange : Exchange
+
+-- those with one station
+abbrev pub with_station : (station : ℕ) → List LineExchange → List Exchange
+with_station station [] = []
+with_station station (e ∷ es) = if e.station == station then e.exchange ∷ with_station station es else with_station station es
+
+-- a request that goes out: the station's index, and what it asks for
+pub record Sending : Type 0 where
+  pub station : ℕ
+  pub request : Asked
+
+-- An exchange so far, with the moment of its request, and all octets that came. None are added once it is closed.
+pub record OpenExchange : Type 0 where
+  pub station : ℕ
+  pub request : Asked
+  pub since : ℕ
+  pub octets : List ℕ
+  pub closed : Bool
+
+-- the exchanges of a line: those that ended by a next request, and the latest
+pub record Exchanges : Type 0 where
+  pub ended : List OpenExchange
+  pub current : Option OpenExchange
+
+abbrev pub as_list : Option OpenExchange → List OpenExchange
+as_list None = []
+as_list (Some x) = x ∷ []
+
+abbrev pub all_of : Exchanges → List OpenExchange
+all_of e = e.ended ++ as_list e.current
+
+abbrev pub no_exchanges : Exchanges
+no_exchanges = record { ended = []; current = None }
+
+-- Octets come.
+abbrev pub heard_octets : List ℕ → OpenExchange → OpenExchange
+heard_octets octets x = record {
+  station = x.station;
+  request = x.request;
+  since = x.since;
+  octets = if x.closed then x.octets else x.octets ++ octets;
+  closed = x.closed;
+}
+
+abbrev pub heard_current : List ℕ → Option OpenExchange → Option OpenExchange
+heard_current octets None = None
+heard_current octets (Some x) = Some (heard_octets octets x)
+
+-- A moment comes: it closes the exchange where it is answer_ms past the request.
+abbrev pub timed : (answer_ms at : ℕ) → OpenExchange → OpenExchange
+timed answer_ms at x = record {
+  station = x.station;
+  request = x.request;
+  since = x.since;
+  octets = x.octets;
+  closed = x.closed || nat_le (x.since + answer_ms) at;
+}
+
+abbrev pub timed_current : (answer_ms at : ℕ) → Option OpenExchange → Option OpenExchange
+timed_current answer_ms at None = None
+timed_current answer_ms at (Some x) = Some (timed answer_ms at x)
+
+-- A request goes out, or none: it ends the exchange before it, and begins one.
+abbrev pub begun_by : (at : ℕ) → Option Sending → Exchanges → Exchanges
+begun_by at None e = e
+begun_by at (Some s) e = record {
+  ended = e.ended ++ as_list e.current;
+  current = Some (record { station = s.station; request = s.request; since = at; octets = []; closed = false });
+}
+
+-- the frame at the front of octets, by a reader of fronts
+abbrev pub whole_of : Front → Option Frame
+whole_of (Whole frame n) = Some frame
+whole_of More = None
+whole_of (Never place why) = None
+
+-- what an exchange so far shows
+abbrev pub view : (front : List ℕ → Front) → OpenExchange → LineExchange
+view front x = record { station = x.station; exchange = record { request = x.request; front = whole_of (front x.octets); closed = x.closed } }
+
+abbrev pub views : (front : List ℕ → Front) → List OpenExchange → List LineExchange
+views front [] = []
+views front (x ∷ xs) = view front x ∷ views front xs
+
+-- the report that an answer bears, with the station's index
+abbrev pub report_by : (station : ℕ) → Option Answer → List (ℕ × List ℕ)
+report_by station (Some (Report asdu)) = (station, asdu) ∷ []
+report_by station answer = []
+
+-- the reports of these exchanges, in order: the data of each poll that was answered with data
+abbrev pub reports_of : (address : ℕ → ℕ) → List LineExchange → List (ℕ × List ℕ)
+reports_of address [] = []
+reports_of address (e ∷ es) = report_by e.station (answer_to (address e.station) e.exchange) ++ reports_of address es
+
+abbrev pub reports_of_exchanges : (front : List ℕ → Front) → (address : ℕ → ℕ) → Exchanges → List (ℕ × List ℕ)
+reports_of_exchanges front address e = reports_of address (views front (all_of e))

@@ -1,0 +1,58 @@
+-- What a `Master` holds, as the machine's state, and what fits the line.
+use Rattle.std.specs.Prelude.{ℕ, ◌<◌, List, All, length, ◌++◌, Option, Some, None, if◌then◌else◌}
+use Rattle.ft12.specs.declared.frame.LinkSize.{LinkSize}
+use Rattle.ft12.specs.declared.frame.Frame.{Frame}
+use Rattle.ft12.specs.declared.frame.Front.{Front}
+use Rattle.link.specs.Exchanges.{whole_of}
+use Rattle.link.specs.Procedure.{Link, Held}
+use Rattle.link.specs.Requests.{IsUserData, FitsAddress, FitsService, FitsAsked}
+use Rattle.link.specs.Turns.{StationState, Chosen, station_at}
+use Rattle.link.specs.Primary.{Outstanding, Primary, open_octets}
+pub use Rattle.link.specs.declared.awaited.Awaited.{Awaited}
+
+-- the outstanding request, with what the assembler has of its answer
+abbrev pub outstanding_of : Awaited → (so_far : Option (List ℕ)) → Outstanding
+outstanding_of a so_far = record { request = a.request; since = a.since; heard = if a.deaf then None else so_far }
+
+abbrev pub outstanding_from : Option Awaited → (so_far : Option (List ℕ)) → Option Outstanding
+outstanding_from None so_far = None
+outstanding_from (Some a) so_far = Some (outstanding_of a so_far)
+
+-- what an assembler with these octets so far makes of a piece: the frame that it completes, if it does, and the octets so far
+abbrev pub frame_after : (front : List ℕ → Front) → (so_far : Option (List ℕ)) → List ℕ → Option Frame
+frame_after front None piece = None
+frame_after front (Some before) piece = whole_of (front (before ++ piece))
+
+abbrev pub so_far_after : (front : List ℕ → Front) → (so_far : Option (List ℕ)) → List ℕ → Option (List ℕ)
+so_far_after front None piece = None
+so_far_after front (Some before) piece = open_octets (before ++ piece) (front (before ++ piece))
+
+abbrev pub FitsLink : LinkSize → Link → Type 0
+FitsLink size (Held fcb service missed) = FitsService size service
+FitsLink size link = Unit {0}
+
+abbrev pub FitsOffer : LinkSize → Option (List ℕ) → Type 0
+FitsOffer size None = Unit {0}
+FitsOffer size (Some asdu) = IsUserData size asdu
+
+-- The station's address and the commands to it fit the line.
+pub record FitsStation (size : LinkSize) (s : StationState) : Type 0 where
+  pub address : FitsAddress size s.address
+  pub link : FitsLink size s.link
+  pub offered : FitsOffer size s.offered
+
+abbrev pub FitsOutstanding : LinkSize → Option Outstanding → Type 0
+FitsOutstanding size None = Unit {0}
+FitsOutstanding size (Some o) = FitsAsked size o.request
+
+-- One of the stations has its turn, and all that is held fits the line.
+pub record IsFitting (p : Primary) : Type 0 where
+  pub turn : p.turn < length p.stations
+  pub stations : All (FitsStation p.settings.size) p.stations
+  pub outstanding : FitsOutstanding p.settings.size p.outstanding
+
+-- What is chosen fits the line.
+abbrev pub IsFittingChoice : Primary → Option Chosen → Type 0
+IsFittingChoice p None = Unit {0}
+IsFittingChoice p (Some c) =
+    (c.station < length p.stations) × FitsAddress p.settings.size (station_at p.stations c.station).address × FitsAsked p.settings.size c.wanted.request

@@ -1,0 +1,13 @@
+pub mod Answers
+pub mod Exchanges
+pub mod Procedure
+pub mod Requests
+pub mod Turns
+pub mod Primary
+pub mod Holding
+pub mod Telling
+pub mod Outstation
+pub mod Delivery
+pub mod Secondary
+pub mod Life
+pub mod Runs

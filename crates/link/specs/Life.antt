@@ -1,0 +1,94 @@
+-- Whole lives of a station: what it was called for, and what an outstation did meanwhile.
+use Rattle.std.specs.Prelude.{ℕ, ◌-◌, ◌^◌, min, Bool, true, false, List, [], ◌∷◌, ◌++◌, Option, Some, None}
+use Rattle.ft12.specs.declared.frame.Frame.{Frame}
+use Rattle.link.specs.Answers.{Class1, Class2, Asked, Counted}
+use Rattle.link.specs.Outstation.{Turn}
+use Rattle.link.specs.Delivery.{reports}
+use Rattle.link.specs.Requests.{Reading, Foreign, Unknown, Asks, reading_of}
+use Rattle.link.specs.Secondary.{Secondary, heard_reading}
+
+-- a call, with what memory allowed; a frame is heard, or octets that are none
+pub data Call : Type 0 where
+  Report1 : (granted : Bool) → (report : List ℕ) → Call
+  Report2 : (granted : Bool) → (report : List ℕ) → Call
+  Hear : (granted : Bool) → (frame : Option Frame) → Call
+
+abbrev pub heard_call : Bool → Secondary → Option Frame → Secondary
+heard_call granted s None = s
+heard_call granted s (Some frame) = (heard_reading granted s (reading_of s.address frame)).state
+
+-- what a call leaves
+abbrev pub called : Secondary → Call → Secondary
+called s (Report1 true report) = record s { class1 = s.class1 ++ report ∷ [] }
+called s (Report1 false report) = s
+called s (Report2 true report) = record s { class2 = s.class2 ++ report ∷ [] }
+called s (Report2 false report) = s
+called s (Hear granted frame) = heard_call granted s frame
+
+abbrev pub after : Secondary → List Call → Secondary
+after s [] = s
+after s (call ∷ calls) = after (called s call) calls
+
+-- the requests that the station hears
+abbrev pub request_asked : Reading → List Asked
+request_asked Foreign = []
+request_asked Unknown = []
+request_asked (Asks request) = request ∷ []
+
+abbrev pub request_heard : (address : ℕ) → Call → List Asked
+request_heard address (Report1 granted report) = []
+request_heard address (Report2 granted report) = []
+request_heard address (Hear granted None) = []
+request_heard address (Hear granted (Some frame)) = request_asked (reading_of address frame)
+
+abbrev pub requests_heard : (address : ℕ) → List Call → List Asked
+requests_heard address [] = []
+requests_heard address (call ∷ calls) = request_heard address call ++ requests_heard address calls
+
+-- its turns at them
+abbrev pub turn_asked : Bool → Secondary → Reading → List Turn
+turn_asked granted s Foreign = []
+turn_asked granted s Unknown = []
+turn_asked granted s (Asks request) = (heard_reading granted s (Asks request)).turn ∷ []
+
+abbrev pub turn_in : Secondary → Call → List Turn
+turn_in s (Report1 granted report) = []
+turn_in s (Report2 granted report) = []
+turn_in s (Hear granted None) = []
+turn_in s (Hear granted (Some frame)) = turn_asked granted s (reading_of s.address frame)
+
+abbrev pub turns_in : Secondary → List Call → List Turn
+turns_in s [] = []
+turns_in s (call ∷ calls) = turn_in s call ++ turns_in (called s call) calls
+
+-- the reports given at a request of class 1, and of class 2
+abbrev pub given1_at : Asked → Turn → List (List ℕ)
+given1_at (Counted fcb Class1) turn = reports turn.done
+given1_at request turn = []
+
+abbrev pub given2_at : Asked → Turn → List (List ℕ)
+given2_at (Counted fcb Class2) turn = reports turn.done
+given2_at request turn = []
+
+abbrev pub given1 : List Asked → List Turn → List (List ℕ)
+given1 (request ∷ requests) (turn ∷ turns) = given1_at request turn ++ given1 requests turns
+given1 requests turns = []
+
+abbrev pub given2 : List Asked → List Turn → List (List ℕ)
+given2 (request ∷ requests) (turn ∷ turns) = given2_at request turn ++ given2 requests turns
+given2 requests turns = []
+
+-- the reports of each class that it was given to tell
+abbrev pub reported1 : List Call → List (List ℕ)
+reported1 [] = []
+reported1 (Report1 true report ∷ calls) = report ∷ reported1 calls
+reported1 (call ∷ calls) = reported1 calls
+
+abbrev pub reported2 : List Call → List (List ℕ)
+reported2 [] = []
+reported2 (Report2 true report ∷ calls) = report ∷ reported2 calls
+reported2 (call ∷ calls) = reported2 calls
+
+-- a count that doesn't go past 64 bits
+abbrev pub saturated : ℕ → ℕ
+saturated n = min n (2 ^ 64 - 1)

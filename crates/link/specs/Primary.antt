@@ -1,0 +1,281 @@
+-- The primary station of unbalanced transmission as a machine: whose turn it is, the request whose answer is awaited, and what a call of it does.
+use Rattle.std.specs.Prelude.{ℕ, ◌+◌, ◌/◌, ◌%◌, ◌==◌, ◌&&◌, nat_le, Bool, true, false, not, List, [], ◌++◌, map, length, slice_set, Option, Some, None, is_none, if◌then◌else◌}
+use Rattle.ft12.specs.declared.frame.Front.{Front}
+use Rattle.ft12.specs.declared.frame.Front.TheVariants.{Whole, More, Never}
+use Rattle.ft12.specs.Spelling.{spelling}
+use Rattle.link.specs.Answers.{Frame, Single, Fixed, Data, Command, Asked, Reset, Counted, Answer, Confirmed, Busy, Report, NoData, Unable, answer_of}
+use Rattle.link.specs.Exchanges.{Sending, whole_of}
+use Rattle.link.specs.Procedure.{LinkSettings, Down, after_answer, after_silence, is_held, holds_command, has_repeats, goes_down}
+use Rattle.link.specs.Requests.{request_frame, kind_of}
+use Rattle.link.specs.Turns.{StationState, Phase, Starting, Over, station_at, wanted, Chosen, chosen_or, first_after}
+pub use Rattle.link.specs.declared.request.Request.{Request}
+pub use Rattle.link.specs.declared.outcome.Outcome.{Outcome}
+pub use Rattle.link.specs.declared.outcome.Outcome.TheVariants as outcome
+
+-- The request whose answer is awaited, since when, and the octets so far of its exchange. None: they can't be the answer any more.
+pub record Outstanding : Type 0 where
+  pub request : Asked
+  pub since : ℕ
+  pub heard : Option (List ℕ)
+
+-- the primary, with the station whose turn it is, what the turn goes on with, and whether an unanswered service is sent again at once
+pub record Primary : Type 0 where
+  pub settings : LinkSettings
+  pub stations : List StationState
+  pub turn : ℕ
+  pub phase : Phase
+  pub again : Bool
+  pub outstanding : Option Outstanding
+
+abbrev pub station_down : (address : ℕ) → StationState
+station_down address = record { address = address; link = Down; acd = false; dfc = false; offered = None }
+
+-- A primary of these stations, whose links are down. The first turn is the first station's.
+abbrev pub start : LinkSettings → (addresses : List ℕ) → Primary
+start settings addresses = record {
+  settings = settings;
+  stations = map station_down addresses;
+  turn = 0;
+  phase = Starting;
+  again = false;
+  outstanding = None;
+}
+
+-- `next`
+
+-- the next request: the present turn goes on, or else the stations are looked at once round, from the one after the last served
+abbrev pub choice : Primary → (may_poll : Bool) → Option Chosen
+choice p may_poll =
+    chosen_or (wanted p.settings.burst may_poll p.again (station_at p.stations p.turn) p.phase) p.turn
+    (first_after p.settings.burst may_poll p.stations (length p.stations) p.turn)
+
+-- A command that is put on the line isn't offered any more.
+abbrev pub offer_left : Asked → Option (List ℕ) → Option (List ℕ)
+offer_left (Counted fcb (Command asdu)) offered = None
+offer_left request offered = offered
+
+abbrev pub station_asked : StationState → Asked → StationState
+station_asked s request = record { address = s.address; link = s.link; acd = s.acd; dfc = s.dfc; offered = offer_left request s.offered }
+
+abbrev pub after_choice : Primary → (now : ℕ) → Option Chosen → Primary
+after_choice p now None = record p { phase = Over; again = false }
+after_choice p now (Some c) = record p {
+  stations = slice_set p.stations c.station (station_asked (station_at p.stations c.station) c.wanted.request);
+  turn = c.station;
+  phase = c.wanted.following;
+  again = false;
+  outstanding = Some (record { request = c.wanted.request; since = now; heard = Some [] });
+}
+
+-- Nothing goes out while a request is outstanding.
+abbrev pub asked_from : Primary → Option Outstanding → (now : ℕ) → (may_poll : Bool) → Primary
+asked_from p (Some o) now may_poll = p
+asked_from p None now may_poll = after_choice p now (choice p may_poll)
+
+-- the primary after `next`
+abbrev pub asked : Primary → (now : ℕ) → (may_poll : Bool) → Primary
+asked p now may_poll = asked_from p p.outstanding now may_poll
+
+abbrev pub sending_by : Option Chosen → Option Sending
+sending_by None = None
+sending_by (Some c) = Some (record { station = c.station; request = c.wanted.request })
+
+abbrev pub sending_from : Primary → Option Outstanding → (may_poll : Bool) → Option Sending
+sending_from p (Some o) may_poll = None
+sending_from p None may_poll = sending_by (choice p may_poll)
+
+-- the request that `next` sends
+abbrev pub sending : Primary → (may_poll : Bool) → Option Sending
+sending p may_poll = sending_from p p.outstanding may_poll
+
+-- The request as it is put on the line. It is sent again where it is the station's held service.
+abbrev pub request_of : Primary → Sending → Request
+request_of p s = record {
+  octets = record { items = spelling p.settings.size (request_frame (station_at p.stations s.station).address s.request) };
+  station = s.station;
+  kind = kind_of s.request;
+  again = is_held (station_at p.stations s.station).link;
+}
+
+-- `octets`
+
+-- ACD: class 1 data wait
+abbrev pub acd_of : Frame → Bool
+acd_of Single = false
+acd_of (Fixed control address) = control / 32 % 2 == 1
+acd_of (Data control address body) = control / 32 % 2 == 1
+
+-- DFC: no more user data are taken
+abbrev pub dfc_of : Frame → Bool
+dfc_of Single = false
+dfc_of (Fixed control address) = control / 16 % 2 == 1
+dfc_of (Data control address body) = control / 16 % 2 == 1
+
+-- The turn is over where the station couldn't serve the request.
+abbrev pub phase_after : Answer → Phase → Phase
+phase_after Unable phase = Over
+phase_after answer phase = phase
+
+abbrev pub station_answered : StationState → Asked → Frame → Answer → StationState
+station_answered s request frame answer =
+    record { address = s.address; link = after_answer request answer s.link; acd = acd_of frame; dfc = dfc_of frame; offered = s.offered }
+
+-- The exchange of the station whose turn it is ends by an answer.
+abbrev pub answered : Primary → Asked → Frame → Answer → Primary
+answered p request frame answer = record p {
+  stations = slice_set p.stations p.turn (station_answered (station_at p.stations p.turn) request frame answer);
+  phase = phase_after answer p.phase;
+  outstanding = None;
+}
+
+-- what the frame says to the request
+abbrev pub answer_at : Primary → Outstanding → Frame → Option Answer
+answer_at p o frame = answer_of (station_at p.stations p.turn).address o.request frame
+
+-- the answer is awaited, with these octets so far
+abbrev pub awaits : Primary → Outstanding → (heard : Option (List ℕ)) → Primary
+awaits p o heard = record p { outstanding = Some (record { request = o.request; since = o.since; heard = heard }) }
+
+-- A frame that doesn't fit can't be the answer, nor what comes after it.
+abbrev pub said_by : Primary → Outstanding → Frame → Option Answer → Primary
+said_by p o frame None = awaits p o None
+said_by p o frame (Some answer) = answered p o.request frame answer
+
+-- the octets that may still become a frame
+abbrev pub open_octets : List ℕ → Front → Option (List ℕ)
+open_octets octets More = Some octets
+open_octets octets (Never place why) = None
+open_octets octets (Whole frame n) = Some []
+
+-- The octets so far are these, or there is a frame at their front.
+abbrev pub took : Primary → Outstanding → (heard : Option (List ℕ)) → Option Frame → Primary
+took p o heard None = awaits p o heard
+took p o heard (Some frame) = said_by p o frame (answer_at p o frame)
+
+-- a frame stands at the front of the exchange
+abbrev pub heard_from : Primary → Option Outstanding → Frame → Primary
+heard_from p None frame = p
+heard_from p (Some o) frame = said_by p o frame (answer_at p o frame)
+
+abbrev pub received_after : (front : List ℕ → Front) → Primary → Outstanding → Option (List ℕ) → List ℕ → Primary
+received_after front p o None octets = p
+received_after front p o (Some before) octets =
+    took p o (open_octets (before ++ octets) (front (before ++ octets))) (whole_of (front (before ++ octets)))
+
+abbrev pub received_from : (front : List ℕ → Front) → Primary → Option Outstanding → List ℕ → Primary
+received_from front p None octets = p
+received_from front p (Some o) octets = received_after front p o o.heard octets
+
+-- the primary after `octets`, by a reader of fronts
+abbrev pub received : (front : List ℕ → Front) → Primary → List ℕ → Primary
+received front p octets = received_from front p p.outstanding octets
+
+-- what the caller is told of an answer
+abbrev pub outcome_by : (station : ℕ) → Asked → Answer → Outcome
+outcome_by station Reset Confirmed = outcome.Started station
+outcome_by station (Counted fcb service) Confirmed = outcome.Accepted station
+outcome_by station request Busy = outcome.Busy station
+outcome_by station request (Report asdu) = outcome.Report station (record { items = asdu })
+outcome_by station request NoData = outcome.Empty station
+outcome_by station request Unable = outcome.Down station
+outcome_by station request answer = outcome.None
+
+abbrev pub outcome_of : (station : ℕ) → Asked → Option Answer → Outcome
+outcome_of station request None = outcome.None
+outcome_of station request (Some answer) = outcome_by station request answer
+
+abbrev pub outcome_at : Primary → Outstanding → Option Frame → Outcome
+outcome_at p o None = outcome.None
+outcome_at p o (Some frame) = outcome_of p.turn o.request (answer_at p o frame)
+
+abbrev pub heard_outcome : Primary → Option Outstanding → Frame → Outcome
+heard_outcome p None frame = outcome.None
+heard_outcome p (Some o) frame = outcome_of p.turn o.request (answer_at p o frame)
+
+abbrev pub outcome_after : (front : List ℕ → Front) → Primary → Outstanding → Option (List ℕ) → List ℕ → Outcome
+outcome_after front p o None octets = outcome.None
+outcome_after front p o (Some before) octets = outcome_at p o (whole_of (front (before ++ octets)))
+
+abbrev pub outcome_from : (front : List ℕ → Front) → Primary → Option Outstanding → List ℕ → Outcome
+outcome_from front p None octets = outcome.None
+outcome_from front p (Some o) octets = outcome_after front p o o.heard octets
+
+-- what `octets` answers
+abbrev pub received_outcome : (front : List ℕ → Front) → Primary → List ℕ → Outcome
+received_outcome front p octets = outcome_from front p p.outstanding octets
+
+-- `due`
+
+abbrev pub station_unanswered : LinkSettings → StationState → Asked → StationState
+station_unanswered settings s request =
+    record { address = s.address; link = after_silence settings request true s.link; acd = s.acd; dfc = s.dfc; offered = s.offered }
+
+-- The exchange of the station whose turn it is ends with no answer. The turn is over, save where the service is sent again at once.
+abbrev pub unanswered : Primary → Asked → Primary
+unanswered p request =
+    let s = station_unanswered p.settings (station_at p.stations p.turn) request in
+    record p {
+      stations = slice_set p.stations p.turn s;
+      phase = if has_repeats p.settings s.link then p.phase else Over;
+      again = has_repeats p.settings s.link;
+      outstanding = None;
+    }
+
+abbrev pub is_late : Primary → Outstanding → (now : ℕ) → Bool
+is_late p o now = nat_le (o.since + p.settings.answer_ms) now
+
+abbrev pub due_from : Primary → Option Outstanding → (now : ℕ) → Primary
+due_from p None now = p
+due_from p (Some o) now = if is_late p o now then unanswered p o.request else p
+
+-- the primary after `due`
+abbrev pub timed_out : Primary → (now : ℕ) → Primary
+timed_out p now = due_from p p.outstanding now
+
+-- The caller is told where the station's link is down now.
+abbrev pub miss_outcome : Primary → Asked → Outcome
+miss_outcome p request =
+    if goes_down request (after_silence p.settings request true (station_at p.stations p.turn).link) then outcome.Down p.turn else outcome.None
+
+abbrev pub due_outcome_from : Primary → Option Outstanding → (now : ℕ) → Outcome
+due_outcome_from p None now = outcome.None
+due_outcome_from p (Some o) now =
+    if is_late p o now then miss_outcome p o.request else outcome.None
+
+-- what `due` answers
+abbrev pub due_outcome : Primary → (now : ℕ) → Outcome
+due_outcome p now = due_outcome_from p p.outstanding now
+
+-- `offer` and `withdraw`
+
+abbrev pub is_command : Asked → Bool
+is_command (Counted fcb (Command asdu)) = true
+is_command request = false
+
+abbrev pub is_sending_command : Option Outstanding → Bool
+is_sending_command None = false
+is_sending_command (Some o) = is_command o.request
+
+-- The station has no offered command, and none that was put on the line and isn't done.
+abbrev pub may_offer : Primary → (station : ℕ) → Bool
+may_offer p station =
+    is_none (station_at p.stations station).offered
+    && (not (holds_command (station_at p.stations station).link)
+    && not ((p.turn == station) && is_sending_command p.outstanding))
+
+abbrev pub with_offer : StationState → Option (List ℕ) → StationState
+with_offer s offered = record { address = s.address; link = s.link; acd = s.acd; dfc = s.dfc; offered = offered }
+
+-- the primary after `offer`
+abbrev pub offered_to : Primary → (station : ℕ) → List ℕ → Primary
+offered_to p station asdu =
+    if may_offer p station
+    then record p { stations = slice_set p.stations station (with_offer (station_at p.stations station) (Some asdu)) }
+    else p
+
+abbrev pub without_offer : StationState → StationState
+without_offer s = with_offer s None
+
+-- the primary after `withdraw`
+abbrev pub withdrawn : Primary → Primary
+withdrawn p = record p { stations = map without_offer p.stations }

@@ -1,0 +1,103 @@
+-- Requests as frames, and what a frame asks for (IEC 60870-5-2, 5.1: the control field of a primary station).
+use Rattle.std.specs.Prelude.{ℕ, ◌+◌, ◌/◌, ◌%◌, ◌^◌, ◌<◌, ◌≤◌, ◌==◌, ◌&&◌, Bool, List, [], ◌∷◌, length, All, Option, Some, None, if◌then◌else◌}
+use Rattle.ft12.specs.declared.frame.LinkSize.{LinkSize}
+use Rattle.ft12.specs.declared.frame.Front.{Front}
+use Rattle.ft12.specs.declared.frame.Front.TheVariants.{Whole, More, Never}
+use Rattle.ft12.specs.Spelling.{address_len, IsOctet}
+use Rattle.ft12.specs.Fronts.{front_of}
+use Rattle.link.specs.Answers.{Frame, Single, Fixed, Data, Service, Class1, Class2, Command, Asked, Status, Reset, Counted}
+pub use Rattle.link.specs.declared.request.Reading.{Reading}
+pub use Rattle.link.specs.declared.request.Reading.TheVariants.{Foreign, Unknown, Asks}
+pub use Rattle.link.specs.declared.request.RequestKind.{RequestKind}
+pub use Rattle.link.specs.declared.request.RequestKind.TheVariants as kind
+
+-- PRM 1, FCV 1, and the frame count bit
+abbrev pub counted_control : (fcb : Bool) → (function : ℕ) → ℕ
+counted_control fcb function = if fcb then 0x70 + function else 0x50 + function
+
+-- the frame of a request to the station with this address
+abbrev pub request_frame : (address : ℕ) → Asked → Frame
+request_frame address Status = Fixed 0x49 address
+request_frame address Reset = Fixed 0x40 address
+request_frame address (Counted fcb Class1) = Fixed (counted_control fcb 10) address
+request_frame address (Counted fcb Class2) = Fixed (counted_control fcb 11) address
+request_frame address (Counted fcb (Command asdu)) = Data (counted_control fcb 3) address (record { items = asdu })
+
+abbrev pub FitsAddress : LinkSize → (address : ℕ) → Type 0
+FitsAddress size address = address < 256 ^ address_len size
+
+-- data fit a frame
+abbrev pub FitsFrame : LinkSize → List ℕ → Type 0
+FitsFrame size asdu = 1 + address_len size + length asdu < 256
+
+-- user data that a frame can carry: at least one octet
+pub record IsUserData (size : LinkSize) (asdu : List ℕ) : Type 0 where
+  pub some : 1 ≤ length asdu
+  pub fits : FitsFrame size asdu
+  pub octets : All IsOctet asdu
+
+abbrev pub FitsService : LinkSize → Service → Type 0
+FitsService size Class1 = Unit {0}
+FitsService size Class2 = Unit {0}
+FitsService size (Command asdu) = IsUserData size asdu
+
+abbrev pub FitsAsked : LinkSize → Asked → Type 0
+FitsAsked size Status = Unit {0}
+FitsAsked size Reset = Unit {0}
+FitsAsked size (Counted fcb service) = FitsService size service
+
+abbrev pub service_kind : Service → RequestKind
+service_kind Class1 = kind.Class1
+service_kind Class2 = kind.Class2
+service_kind (Command asdu) = kind.Command
+
+abbrev pub kind_of : Asked → RequestKind
+kind_of Status = kind.Status
+kind_of Reset = kind.Reset
+kind_of (Counted fcb service) = service_kind service
+
+-- the control octet is a primary station's (PRM 1), and the address is this one
+abbrev pub comes_to : (station control address : ℕ) → Bool
+comes_to station control address = (control / 64 % 2 == 1) && (address == station)
+
+-- by the function of a request with a valid frame count bit
+abbrev pub counted_reading : (fcb : Bool) → (function : ℕ) → Reading
+counted_reading fcb function =
+    if function == 10 then Asks (Counted fcb Class1) else if function == 11 then Asks (Counted fcb Class2) else Unknown
+
+abbrev pub plain_reading : (function : ℕ) → Reading
+plain_reading function = if function == 9 then Asks Status else if function == 0 then Asks Reset else Unknown
+
+abbrev pub short_reading : (control : ℕ) → Reading
+short_reading control =
+    if control / 16 % 2 == 1 then counted_reading (control / 32 % 2 == 1) (control % 16) else plain_reading (control % 16)
+
+abbrev pub data_reading : (control : ℕ) → List ℕ → Reading
+data_reading control [] = Unknown
+data_reading control (octet ∷ octets) =
+    if (control / 16 % 2 == 1) && (control % 16 == 3) then Asks (Counted (control / 32 % 2 == 1) (Command (octet ∷ octets))) else Unknown
+
+-- what a frame asks of the station with this address
+abbrev pub reading_of : (station : ℕ) → Frame → Reading
+reading_of station Single = Foreign
+reading_of station (Fixed c a) = if comes_to station c a then short_reading c else Foreign
+reading_of station (Data c a body) = if comes_to station c a then data_reading c body.items else Foreign
+
+abbrev pub asked_by : (address : ℕ) → Reading → Option (ℕ × Asked)
+asked_by address (Asks request) = Some (address, request)
+asked_by address reading = None
+
+-- the address of a request's frame, and what it asks for
+abbrev pub asked_in : Frame → Option (ℕ × Asked)
+asked_in Single = None
+asked_in (Fixed c a) = asked_by a (reading_of a (Fixed c a))
+asked_in (Data c a body) = asked_by a (reading_of a (Data c a body))
+
+abbrev pub request_at : (len : ℕ) → Front → Option (ℕ × Asked)
+request_at len (Whole frame n) = if n == len then asked_in frame else None
+request_at len More = None
+request_at len (Never place why) = None
+
+-- the address and the request of the frame that the octets are
+abbrev pub request_in : LinkSize → List ℕ → Option (ℕ × Asked)
+request_in size octets = request_at (length octets) (front_of size octets)

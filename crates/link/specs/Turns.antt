@@ -1,0 +1,80 @@
+-- Turns: the stations are served in the order of the settings, each for a turn (this gateway's own profile; the requests that a turn has are those
+-- of IEC 60870-5-2's unbalanced transmission procedures).
+use Rattle.std.specs.Prelude.{ℕ, zero, suc, ◌&&◌, ◌||◌, nat_lt, Bool, true, false, not, List, length, slice_index_or, Option, Some, None, if◌then◌else◌}
+use Rattle.link.specs.Answers.{Service, Class1, Class2, Command, Asked, Status, Reset, Counted}
+use Rattle.link.specs.Procedure.{Link, Down, Available, Next, Held}
+pub use Rattle.link.specs.declared.turn.StationState.{StationState}
+pub use Rattle.link.specs.declared.turn.Phase.{Phase}
+pub use Rattle.link.specs.declared.turn.Phase.TheVariants.{Starting, Commanding, Polling, Class1Polling, Over}
+pub use Rattle.link.specs.declared.turn.Wanted.{Wanted}
+pub use Rattle.link.specs.declared.turn.Chosen.{Chosen}
+
+-- a station that isn't there
+abbrev pub no_station : StationState
+no_station = record { address = 0; link = Down; acd = false; dfc = false; offered = None }
+
+abbrev pub station_at : List StationState → ℕ → StationState
+station_at stations i = slice_index_or stations i no_station
+
+abbrev pub wants : Asked → Phase → Option Wanted
+wants request following = Some (record { request = request; following = following })
+
+abbrev pub is_poll : Service → Bool
+is_poll Class1 = true
+is_poll Class2 = true
+is_poll (Command asdu) = false
+
+-- Polls: class 1 while ACD is set, at most burst of them. Where ACD was clear, one of class 2 comes first.
+abbrev pub wanted_poll : (burst : ℕ) → (fcb : Bool) → (acd : Bool) → Phase → Option Wanted
+wanted_poll burst fcb acd Polling =
+    if acd then wants (Counted fcb Class1) (Class1Polling 1) else wants (Counted fcb Class2) (Class1Polling 0)
+wanted_poll burst fcb acd (Class1Polling sent) =
+    if acd && nat_lt sent burst then wants (Counted fcb Class1) (Class1Polling (suc sent)) else None
+wanted_poll burst fcb acd phase = None
+
+-- polls from this phase on, where they may be sent
+abbrev pub polls_from : (burst : ℕ) → (may_poll : Bool) → (fcb : Bool) → StationState → Phase → Option Wanted
+polls_from burst may_poll fcb s phase = if may_poll then wanted_poll burst fcb s.acd phase else None
+
+-- the offered command, where the station takes one, or else polls
+abbrev pub commands_from : (burst : ℕ) → (may_poll : Bool) → (fcb : Bool) → StationState → Option (List ℕ) → Option Wanted
+commands_from burst may_poll fcb s (Some asdu) =
+    if s.dfc then polls_from burst may_poll fcb s Polling else wants (Counted fcb (Command asdu)) Polling
+commands_from burst may_poll fcb s None = polls_from burst may_poll fcb s Polling
+
+-- what an up station's turn goes on with
+abbrev pub next_of : (burst : ℕ) → (may_poll : Bool) → (fcb : Bool) → StationState → Phase → Option Wanted
+next_of burst may_poll fcb s Starting = commands_from burst may_poll fcb s s.offered
+next_of burst may_poll fcb s Commanding = commands_from burst may_poll fcb s s.offered
+next_of burst may_poll fcb s Polling = polls_from burst may_poll fcb s Polling
+next_of burst may_poll fcb s (Class1Polling sent) = polls_from burst may_poll fcb s (Class1Polling sent)
+next_of burst may_poll fcb s Over = None
+
+-- What the station's turn has next, by its link: it is started, a held service is sent once (again at once where its repeats aren't
+-- used up), and then come a command and polls.
+abbrev pub wanted_by : (burst : ℕ) → (may_poll again : Bool) → StationState → Link → Phase → Option Wanted
+wanted_by burst may_poll again s Down Starting = wants Status Starting
+wanted_by burst may_poll again s Available Starting = wants Reset Over
+wanted_by burst may_poll again s (Next fcb) phase = next_of burst may_poll fcb s phase
+wanted_by burst may_poll again s (Held fcb service missed) Starting =
+    if may_poll || not (is_poll service) then wants (Counted fcb service) Commanding else None
+wanted_by burst may_poll true s (Held fcb service missed) phase = wants (Counted fcb service) phase
+wanted_by burst may_poll again s link phase = None
+
+abbrev pub wanted : (burst : ℕ) → (may_poll again : Bool) → StationState → Phase → Option Wanted
+wanted burst may_poll again s phase = wanted_by burst may_poll again s s.link phase
+
+-- the next place, round a count of places
+abbrev pub place_after : (count place : ℕ) → ℕ
+place_after count place = if nat_lt (suc place) count then suc place else 0
+
+abbrev pub chosen_or : Option Wanted → (place : ℕ) → Option Chosen → Option Chosen
+chosen_or (Some w) place other = Some (record { station = place; wanted = w })
+chosen_or None place other = other
+
+-- the first of so many stations after this one that has a request to begin a turn with
+abbrev pub first_after : (burst : ℕ) → (may_poll : Bool) → List StationState → (many place : ℕ) → Option Chosen
+first_after burst may_poll stations zero place = None
+first_after burst may_poll stations (suc many) place =
+    chosen_or (wanted burst may_poll false (station_at stations (place_after (length stations) place)) Starting) (place_after (length stations) place)
+    (first_after burst may_poll stations many (place_after (length stations) place))

@@ -1,0 +1,11 @@
+//! The request whose answer is awaited.
+
+use crate::service::Asked;
+
+/// A request, since when its answer is awaited (in milliseconds), and whether what came can't be the answer any more.
+#[derive(Drop)]
+pub struct Awaited {
+    pub request: Asked,
+    pub since: u64,
+    pub deaf: bool,
+}

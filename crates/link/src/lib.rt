@@ -1,0 +1,63 @@
+//! Link procedures of unbalanced transmission (IEC 60870-5-2, over frames of format class FT1.2).
+//!
+//! [`Master`] is the primary station of one line: it says which request goes out next ([`Master::next`]), hears the octets that
+//! come back ([`Master::octets`]) and is told the time ([`Master::due`]). [`Station`] is the other end, a secondary station.
+//! Neither reads a clock, nor a line: moments and octets are handed in, requests and answers are handed out. Left out are balanced
+//! mode, user data without reply, requests for access demand, and links without an address.
+//!
+//! Each call of [`Master`] is one function on a small machine (`specs/Primary.antt`), and of [`Station`] on another
+//! (`specs/Secondary.antt`). Above them stand laws, as public functions with no body:
+//! - over every list of calls the exchanges of the line keep the frame count bit of each station
+//!   ([`frame_count_bits_are_kept`], [`master_tells_the_log`]), no request goes out while one is outstanding
+//!   ([`requests_wait_their_turn`]), each station has its turn ([`each_station_has_its_turn`]), a command is sent for the first
+//!   time once, in order ([`commands_are_sent_in_order`]), and what the caller is told is what the exchanges show
+//!   ([`outcomes_are_answers`], [`outcomes_bear_the_reports`]);
+//! - a station runs as an outstation that hears each request to it ([`station_is_an_outstation`]);
+//! - and where the frame count bit is kept and an outstation's answers come in their exchange and unaltered, each service acts once
+//!   and its answer is taken once ([`each_service_acts_once`], [`sessions_are_known`], [`commands_are_accepted`],
+//!   [`reports_are_learnt`], [`silence_is_no_reset`]).
+#![tactic(auto)]
+
+mod answer;
+mod asdu;
+mod awaited;
+mod laws;
+mod life;
+mod master;
+mod no_memory;
+mod outcome;
+mod procedure;
+mod refinement;
+mod request;
+mod runs;
+mod service;
+mod settings;
+mod station;
+mod turn;
+
+pub use answer::Answer;
+pub use asdu::Asdu;
+pub use laws::{
+    master_tells_the_log, outcomes_bear_the_reports, requests_are_read_back,
+    requests_wait_their_turn, services_need_a_station_that_is_up,
+};
+pub use life::station_is_an_outstation;
+pub use master::Master;
+pub use no_memory::NoMemory;
+pub use outcome::Outcome;
+pub use procedure::Link;
+pub use refinement::{
+    commands_are_accepted, each_service_acts_once, reports_are_learnt, sessions_are_known,
+    silence_is_no_reset,
+};
+pub use request::{Reading, Request, RequestKind, read_request};
+pub use runs::{
+    commands_are_sent_in_order, each_station_has_its_turn, frame_count_bits_are_kept,
+    outcomes_are_answers,
+};
+pub use service::{Asked, Service};
+pub use settings::LinkSettings;
+pub use station::Station;
+
+#[cfg(test)]
+mod tests;

@@ -1,0 +1,372 @@
+//! The primary station of unbalanced transmission (IEC 60870-5-2).
+ghost use Rattle.std.specs.Prelude.{◌≡◌, ◌<◌, List, [], All, length, map, None, Some, IfOk, option_map, if◌then◌else◌};
+ghost use Rattle.link.specs.Turns.{Over};
+ghost use Rattle.ft12.specs.Fronts.{front_of};
+ghost use Rattle.link.specs.Requests.{IsUserData, FitsAddress, FitsAsked};
+ghost use Rattle.link.specs.Primary.{start, choice, station_asked, after_choice, asked, sending, request_of, acd_of, dfc_of, phase_after, station_answered, heard_from, heard_outcome, received, received_outcome, station_unanswered, unanswered, miss_outcome, timed_out, due_outcome, is_sending_command, may_offer, offered_to, without_offer, withdrawn};
+ghost use Rattle.link.specs.Holding.{outstanding_of, IsFittingChoice, frame_after, so_far_after};
+
+use crate::answer::Answer;
+use crate::asdu::Asdu;
+use crate::awaited::Awaited;
+use crate::no_memory::NoMemory;
+use crate::outcome::{Outcome, told};
+use crate::procedure::Link;
+use crate::request::Request;
+use crate::service::{Asked, Service};
+use crate::settings::LinkSettings;
+use crate::turn::{Chosen, Phase, StationState, first_wanted, nth_station};
+use ft12::{Assembler, Frame, Heard, front_is_computed};
+use std::alloc::Global;
+use std::marker::Model;
+
+/// The primary station of a line: whose turn it is, the request whose answer is awaited, and what is sent next.
+#[derive(Drop)]
+pub struct Master {
+    settings: LinkSettings,
+    stations: Vec<StationState>,
+    turn: usize,
+    phase: Phase,
+    again: bool,
+    outstanding: Option<Awaited>,
+    assembler: Assembler,
+}
+
+impl Model for Master {
+    ghost use Rattle.std.specs.Prelude.{◌≡◌};
+    ghost use Rattle.link.specs.Primary.{Primary};
+    ghost use Rattle.link.specs.Holding.{outstanding_from, IsFitting};
+
+    ghost Value = { Primary };
+
+    ghost view = { λ m. record {
+      settings = m.settings;
+      stations = m.stations.items;
+      turn = m.turn;
+      phase = m.phase;
+      again = m.again;
+      outstanding = outstanding_from m.outstanding m.assembler.so_far;
+    } };
+
+    ghost invariant = { λ m. record {
+      size : m.assembler.size ≡ m.settings.size;
+      fits : IsFitting (record {
+        settings = m.settings;
+        stations = m.stations.items;
+        turn = m.turn;
+        phase = m.phase;
+        again = m.again;
+        outstanding = outstanding_from m.outstanding m.assembler.so_far;
+      });
+    } };
+}
+
+impl StationState {
+    /// A command that is put on the line isn't offered any more.
+    fn take_offer(&mut self, request: &Asked)
+        ensures { self.new ≡ station_asked self.old request.now }
+    {
+        if let Asked::Counted(_, Service::Command(_)) = request {
+            self.offered = None;
+        }
+    }
+
+    fn answer(&mut self, request: &Asked, frame: &Frame, answer: &Answer)
+        ensures { self.new ≡ station_answered self.old request.now frame.now answer.now }
+    {
+        self.link.answer(request, answer);
+        self.acd = class1_waits(frame);
+        self.dfc = is_full(frame);
+    }
+
+    fn miss(&mut self, settings: LinkSettings, request: &Asked)
+        ensures { self.new ≡ station_unanswered settings self.old request.now }
+    {
+        self.link.miss(settings, request);
+    }
+}
+
+fn class1_waits(frame: &Frame) -> bool
+    ensures { result ≡ acd_of frame.now }
+{
+    match frame {
+        Frame::Single => false,
+        Frame::Fixed { c, .. } | Frame::Data { c, .. } => *c / 32 % 2 == 1,
+    }
+}
+
+fn is_full(frame: &Frame) -> bool
+    ensures { result ≡ dfc_of frame.now }
+{
+    match frame {
+        Frame::Single => false,
+        Frame::Fixed { c, .. } | Frame::Data { c, .. } => *c / 16 % 2 == 1,
+    }
+}
+
+fn phase_of(answer: &Answer, phase: Phase) -> Phase
+    ensures { result ≡ phase_after answer.now phase }
+{
+    match answer {
+        Answer::Unable => Phase::Over,
+        _ => phase,
+    }
+}
+
+fn phase_missed(again: bool, phase: Phase) -> Phase
+    ensures { result ≡ if again then phase else Over }
+{
+    if again { phase } else { Phase::Over }
+}
+
+fn sends_command(outstanding: &Option<Awaited>) -> bool
+    ensures { result ≡ is_sending_command (option_map (λ a. outstanding_of a None) outstanding.now) }
+{
+    match outstanding {
+        Some(awaited) => matches!(&awaited.request, Asked::Counted(_, Service::Command(_))),
+        None => false,
+    }
+}
+
+fn withdraw_all(stations: &mut [StationState])
+    ensures { stations.new ≡ map without_offer stations.old }
+{
+    for station in stations.iter_mut() {
+        station.offered = None;
+    }
+}
+
+/// The frame that a piece completes, if it does.
+fn frame_in(assembler: &mut Assembler, piece: &[u8]) -> Option<Frame>
+    ensures frame { result ≡ frame_after (front_of assembler.old.size) assembler.old.so_far piece.now }
+    ensures so_far { assembler.new.so_far ≡ so_far_after (front_of assembler.old.size) assembler.old.so_far piece.now }
+    ensures size { assembler.new.size ≡ assembler.old.size }
+{
+    front_is_computed();
+    match assembler.feed(piece).1 {
+        Heard::Frame(frame) => Some(frame),
+        Heard::More | Heard::Never(_, _) | Heard::Deaf => None,
+    }
+}
+
+impl Master {
+    /// A primary station of the stations with these link addresses, in the order of their turns. Their links are down. It asks for
+    /// at least one, and for addresses that fit their size. Only this call takes memory: `Err` where there is none.
+    pub fn new(alloc: Global, settings: LinkSettings, addresses: &[u16]) -> Result<Master, NoMemory>
+        requires some { 0 < length addresses.now }
+        requires fit { All (FitsAddress settings.size) addresses.now }
+        ensures { IfOk result (λ m. m ≡ start settings addresses.now) }
+    {
+        let mut stations = Vec::new(alloc);
+        for address in addresses {
+            let station = StationState {
+                address: *address,
+                link: Link::Down,
+                acd: false,
+                dfc: false,
+                offered: None,
+            };
+            if stations.push(station).is_err() {
+                return Err(NoMemory);
+            }
+        }
+        Ok(Master {
+            settings,
+            stations,
+            turn: 0,
+            phase: Phase::Starting,
+            again: false,
+            outstanding: None,
+            assembler: Assembler::new(settings.size),
+        })
+    }
+
+    fn choose(&self, may_poll: bool) -> Option<Chosen>
+        ensures chosen { result ≡ choice self.now may_poll }
+        ensures fits { IsFittingChoice self.now result }
+    {
+        let station = nth_station(&self.stations, self.turn);
+        match station.wants(self.settings.burst, may_poll, self.again, self.phase) {
+            Some(wanted) => Some(Chosen {
+                station: self.turn,
+                wanted,
+            }),
+            None => first_wanted(&self.stations, self.settings.burst, may_poll, self.turn),
+        }
+    }
+
+    /// The next request, at this moment in milliseconds: none where one is outstanding, or no station has any. With `may_poll`
+    /// false no data are asked for, save by a poll that is unanswered and sent again at once. The request is to be put on the
+    /// line: its exchange begins now.
+    pub fn next(&mut self, now: u64, may_poll: bool) -> Option<Request>
+        ensures state { self.new ≡ asked self.old now may_poll }
+        ensures request { result ≡ option_map (request_of self.old) (sending self.old may_poll) }
+    {
+        if self.outstanding.is_some() {
+            return None;
+        }
+        match self.choose(may_poll) {
+            Some(chosen) => Some(self.begin(now, chosen)),
+            None => {
+                self.phase = Phase::Over;
+                self.again = false;
+                None
+            }
+        }
+    }
+
+    fn begin(&mut self, now: u64, chosen: Chosen) -> Request
+        requires { IsFittingChoice self.old (Some chosen) }
+        ensures state { self.new ≡ after_choice self.old now (Some chosen) }
+        ensures request { result ≡ request_of self.old (record { station = chosen.station; request = chosen.wanted.request }) }
+    {
+        let Chosen { station, wanted } = chosen;
+        let there = nth_station(&self.stations, station);
+        let request = Request {
+            octets: wanted.request.octets(self.settings.size, there.address),
+            station,
+            kind: wanted.request.kind(),
+            again: there.link.is_held(),
+        };
+        self.stations[station].take_offer(&wanted.request);
+        self.turn = station;
+        self.phase = wanted.following;
+        self.again = false;
+        self.outstanding = Some(Awaited {
+            request: wanted.request,
+            since: now,
+            deaf: false,
+        });
+        self.assembler.clear();
+        request
+    }
+
+    /// Hears octets of the line, in any pieces, and answers what came of the exchange. Its answer is the frame at the front of
+    /// its octets. Those that come while no request is outstanding, and those after an answer or after what can't be one, are
+    /// dropped.
+    pub fn octets(&mut self, octets: &[u8]) -> Outcome
+        ensures state { self.new ≡ received (front_of self.old.settings.size) self.old octets.now }
+        ensures outcome { result ≡ received_outcome (front_of self.old.settings.size) self.old octets.now }
+    {
+        let Some(awaited) = &self.outstanding else {
+            return Outcome::None;
+        };
+        if awaited.deaf {
+            return Outcome::None;
+        }
+        match frame_in(&mut self.assembler, octets) {
+            Some(frame) => self.hear(&frame),
+            None => Outcome::None,
+        }
+    }
+
+    /// A frame stands at the front of the exchange.
+    fn hear(&mut self, frame: &Frame) -> Outcome
+        ensures state { self.new ≡ heard_from self.old self.old.outstanding frame.now }
+        ensures outcome { result ≡ heard_outcome self.old self.old.outstanding frame.now }
+    {
+        match self.outstanding.take() {
+            None => Outcome::None,
+            Some(awaited) => self.hear_for(awaited, frame),
+        }
+    }
+
+    fn hear_for(&mut self, awaited: Awaited, frame: &Frame) -> Outcome
+        requires none { self.old.outstanding ≡ None }
+        requires fits { FitsAsked self.old.settings.size awaited.request }
+        ensures state { heard_from self.old (Some (outstanding_of awaited None)) frame.now ≡ self.new }
+        ensures outcome { result ≡ heard_outcome self.old (Some (outstanding_of awaited None)) frame.now }
+    {
+        let place = self.turn;
+        let address = nth_station(&self.stations, place).address;
+        match awaited.request.answered_by(address, frame) {
+            None => {
+                self.outstanding = Some(Awaited {
+                    request: awaited.request,
+                    since: awaited.since,
+                    deaf: true,
+                });
+                Outcome::None
+            }
+            Some(answer) => {
+                self.stations[place].answer(&awaited.request, frame, &answer);
+                self.phase = phase_of(&answer, self.phase);
+                told(place, &awaited.request, answer)
+            }
+        }
+    }
+
+    /// Ends, as unanswered, an exchange that is outstanding where this moment, in milliseconds, is at least `answer_ms` past its
+    /// request. `Down` where the station's link is given up: with `hold` false, after one sending and its repeats.
+    pub fn due(&mut self, now: u64) -> Outcome
+        ensures state { self.new ≡ timed_out self.old now }
+        ensures outcome { result ≡ due_outcome self.old now }
+    {
+        let Some(late) = &self.outstanding else {
+            return Outcome::None;
+        };
+        if now < late.since || now - late.since < self.settings.answer_ms {
+            return Outcome::None;
+        }
+        match self.outstanding.take() {
+            None => Outcome::None,
+            Some(awaited) => self.miss(&awaited.request),
+        }
+    }
+
+    /// The request has no answer in time.
+    fn miss(&mut self, request: &Asked) -> Outcome
+        requires none { self.old.outstanding ≡ None }
+        requires fits { FitsAsked self.old.settings.size request.now }
+        ensures state { self.new ≡ unanswered self.old request.now }
+        ensures outcome { result ≡ miss_outcome self.old request.now }
+    {
+        let place = self.turn;
+        let settings = self.settings;
+        self.stations[place].miss(settings, request);
+        let station = nth_station(&self.stations, place);
+        let again = station.link.has_repeats(settings);
+        let down = station.link.is_lost(request);
+        self.phase = phase_missed(again, self.phase);
+        self.again = again;
+        if down {
+            Outcome::Down(place)
+        } else {
+            Outcome::None
+        }
+    }
+
+    /// Whether the station has no command that isn't done.
+    fn is_free(&self, station: usize) -> bool
+        requires { station < length self.now.stations }
+        ensures { result ≡ may_offer self.now station }
+    {
+        let there = nth_station(&self.stations, station);
+        there.offered.is_none()
+            && !there.link.holds_command()
+            && !(self.turn == station && sends_command(&self.outstanding))
+    }
+
+    /// Offers a command to the station with this index: user data of at least one octet that fit a frame (253 with one-octet
+    /// addresses, 252 with two). False, and nothing changes, where the station has an offered command, or one that was put on
+    /// the line and isn't done.
+    pub fn offer(&mut self, station: usize, asdu: &[u8]) -> bool
+        requires station { station < length self.old.stations }
+        requires asdu { IsUserData self.old.settings.size asdu.now }
+        ensures state { self.new ≡ offered_to self.old station asdu.now }
+        ensures accepted { result ≡ may_offer self.old station }
+    {
+        if !self.is_free(station) {
+            return false;
+        }
+        self.stations[station].offered = Some(Asdu::new(asdu));
+        true
+    }
+
+    /// Takes back every offered command that was never put on the line.
+    pub fn withdraw(&mut self)
+        ensures { self.new ≡ withdrawn self.old }
+    {
+        withdraw_all(&mut self.stations);
+    }
+}

@@ -1,0 +1,41 @@
+//! What the caller of a primary station is told of an exchange.
+ghost use Rattle.std.specs.Prelude.{◌≡◌};
+ghost use Rattle.link.specs.Primary.{outcome_by};
+
+use crate::answer::Answer;
+use crate::service::Asked;
+use arrayvec::ArrayVec;
+
+/// What came of an exchange. Stations are named by their index.
+#[derive(Drop)]
+pub enum Outcome {
+    /// Nothing that the caller has to know.
+    None,
+    /// The link to the station was reset: it is up.
+    Started(usize),
+    /// A poll was answered with these data.
+    Report(usize, ArrayVec<u8, 253>),
+    /// A poll was answered that there are no data.
+    Empty(usize),
+    /// A command was confirmed.
+    Accepted(usize),
+    /// A command wasn't taken: the link is busy.
+    Busy(usize),
+    /// The station is down: it answered that the service isn't functioning or not implemented, or it stayed silent.
+    Down(usize),
+}
+
+/// What an answer to the request is told as.
+pub(crate) fn told(station: usize, request: &Asked, answer: Answer) -> Outcome
+    ensures { result ≡ outcome_by station request.now answer }
+{
+    match (request, answer) {
+        (Asked::Reset, Answer::Confirmed) => Outcome::Started(station),
+        (Asked::Counted(_, _), Answer::Confirmed) => Outcome::Accepted(station),
+        (_, Answer::Busy) => Outcome::Busy(station),
+        (_, Answer::Report(asdu)) => Outcome::Report(station, asdu.into_octets()),
+        (_, Answer::NoData) => Outcome::Empty(station),
+        (_, Answer::Unable) => Outcome::Down(station),
+        (_, _) => Outcome::None,
+    }
+}

@@ -1,0 +1,90 @@
+//! The link to one station, as its exchanges leave it.
+ghost use Rattle.std.specs.Prelude.{◌≡◌, true};
+ghost use Rattle.link.specs.Procedure.{after_answer, after_silence, missed_so_far, has_repeats, goes_down, is_held, holds_command};
+
+use crate::answer::Answer;
+use crate::service::{Asked, Service};
+use crate::settings::LinkSettings;
+
+/// The link to a station: down, down with its status known, or up. Up, either the next service has this frame count bit, or the
+/// one that isn't answered is due again, after so many unanswered sendings (they are counted up to one more than the repeats).
+#[derive(Drop)]
+pub enum Link {
+    Down,
+    Available,
+    Next(bool),
+    Held(bool, Service, u16),
+}
+
+impl Link {
+    /// A request was answered.
+    pub(crate) fn answer(&mut self, request: &Asked, answer: &Answer)
+        ensures { self.new ≡ after_answer request.now answer.now self.old }
+    {
+        match (request, answer) {
+            (Asked::Status, Answer::Ready) => *self = Link::Available,
+            (Asked::Status | Asked::Counted(_, _), Answer::Unable) => *self = Link::Down,
+            (Asked::Reset, Answer::Confirmed) => *self = Link::Next(true),
+            (Asked::Counted(fcb, _), _) => *self = Link::Next(!*fcb),
+            (_, _) => {}
+        }
+    }
+
+    fn missed(&self) -> u16
+        ensures { result ≡ missed_so_far self.now }
+    {
+        match self {
+            Link::Held(_, _, missed) => *missed,
+            _ => 0,
+        }
+    }
+
+    /// A request had no answer in time.
+    pub(crate) fn miss(&mut self, settings: LinkSettings, request: &Asked)
+        ensures { self.new ≡ after_silence settings request.now true self.old }
+    {
+        match request {
+            Asked::Status | Asked::Reset => *self = Link::Down,
+            Asked::Counted(fcb, service) => {
+                let missed = self.missed();
+                let most = u16::from(settings.retries);
+                if missed < most {
+                    *self = Link::Held(*fcb, service.copied(), missed + 1);
+                } else if settings.hold {
+                    *self = Link::Held(*fcb, service.copied(), most + 1);
+                } else {
+                    *self = Link::Down;
+                }
+            }
+        }
+    }
+
+    /// Whether an unanswered service is to be sent again at once.
+    pub(crate) fn has_repeats(&self, settings: LinkSettings) -> bool
+        ensures { result ≡ has_repeats settings self.now }
+    {
+        match self {
+            Link::Held(_, _, missed) => *missed <= u16::from(settings.retries),
+            _ => false,
+        }
+    }
+
+    /// Whether the request was a service, and the link is down now.
+    pub(crate) fn is_lost(&self, request: &Asked) -> bool
+        ensures { result ≡ goes_down request.now self.now }
+    {
+        matches!((request, self), (Asked::Counted(_, _), Link::Down))
+    }
+
+    pub(crate) fn holds_command(&self) -> bool
+        ensures { result ≡ holds_command self.now }
+    {
+        matches!(self, Link::Held(_, Service::Command(_), _))
+    }
+
+    pub(crate) fn is_held(&self) -> bool
+        ensures { result ≡ is_held self.now }
+    {
+        matches!(self, Link::Held(_, _, _))
+    }
+}

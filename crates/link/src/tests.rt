@@ -1,0 +1,7 @@
+//! Examples of the line procedures, with their octets.
+
+mod bench;
+mod lines;
+mod losses;
+mod starts;
+mod stations;

@@ -1,0 +1,3 @@
+pub mod SettingsLemmas
+pub mod StationLemmas
+pub mod UnknownLemmas

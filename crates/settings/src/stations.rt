@@ -1,0 +1,174 @@
+//! The list of stations.
+ghost use Rattle.std.specs.List.{list_any};
+ghost use Rattle.std.specs.Prelude.{◌==◌, ◌≡◌, ◌≤◌, false, Some, IfOk, option_map};
+ghost use Rattle.toml.specs.View.{view, table_view};
+ghost use Rattle.settings.specs.Faults.{seen};
+ghost use Rattle.settings.specs.Keys.{whole_of};
+ghost use Rattle.gateway.specs.Config.{AreStations};
+ghost use Rattle.gateway.specs.Settings.{IsLinkAddress, IsCommonAddress};
+ghost use Rattle.settings.specs.Stations.{greatest_address, greatest_ca, address_row, ca_row, address_of, ca_of, distinct_number, station_of, stations_of, IsAsExpected, IsNext};
+
+use crate::ConfigFault;
+use crate::fault::WrongKey;
+use crate::keys::{Flag, Whole};
+use asdu::CaSize;
+use ft12::LinkSize;
+use gateway::Station;
+use std::alloc::Global;
+use toml::{Table, Value};
+
+const SELECT: Flag = Flag {
+    key: "select",
+    path: "station.select",
+};
+
+/// How many stations a line has at most.
+const MOST_STATIONS: usize = 32;
+
+/// The greatest link address: the broadcast address is none.
+fn greatest_link_address(size: LinkSize) -> u32
+    ensures value { result ≡ greatest_address size }
+    ensures range { result ≤ 65534 }
+{
+    match size {
+        LinkSize::One => 254,
+        LinkSize::Two => 65534,
+    }
+}
+
+/// The greatest common address: the global address is none.
+fn greatest_common_address(size: CaSize) -> u32
+    ensures value { result ≡ greatest_ca size }
+    ensures range { result ≤ 65534 }
+{
+    match size {
+        CaSize::One => 254,
+        CaSize::Two => 65534,
+    }
+}
+
+/// Reads the array of stations, one after the other.
+#[tactic(auto, using(crate::proofs::StationLemmas::count_of_view, crate::proofs::StationLemmas::stations_from_wrong, crate::proofs::StationLemmas::stations_from_next, crate::proofs::StationLemmas::stations_from_end, crate::proofs::StationLemmas::none_good, crate::proofs::StationLemmas::good_more))]
+pub(crate) fn read_stations(
+    alloc: Global,
+    value: Option<&Value>,
+    link: LinkSize,
+    ca: CaSize,
+) -> Result<Vec<Station>, ConfigFault>
+    ensures value { IsAsExpected (stations_of link ca (option_map (λ v. view v.now) value.entry)) result }
+    ensures limits { IfOk result (λ stations. AreStations link ca stations.items) }
+{
+    let Some(value) = value else {
+        return Err(ConfigFault::Key("station"));
+    };
+    let Some(tables) = value.as_array() else {
+        return Err(ConfigFault::Key("station"));
+    };
+    let count = tables.len();
+    if count == 0 || count > MOST_STATIONS {
+        return Err(ConfigFault::Key("station"));
+    }
+    let mut stations = Vec::with_capacity(alloc, count)?;
+    for table in tables {
+        let station = read_station(table, link, ca, stations.as_slice())?;
+        stations.push(station)?;
+    }
+    Ok(stations)
+}
+
+fn has_address(stations: &[Station], address: u16) -> bool
+    ensures { result ≡ list_any (λ s. s.address == address) stations.now }
+{
+    stations.iter().any(|station| station.address == address)
+}
+
+fn has_common_address(stations: &[Station], ca: u16) -> bool
+    ensures { result ≡ list_any (λ s. s.ca == ca) stations.now }
+{
+    stations.iter().any(|station| station.ca == ca)
+}
+
+/// The number, where no other station has it.
+fn distinct(n: u16, taken: bool, path: &'static str) -> Result<u16, WrongKey>
+    ensures value { seen result ≡ distinct_number n taken path.entry.now }
+    ensures same { IfOk result (λ m. m ≡ n) }
+    ensures free { IfOk result (λ _. taken ≡ false) }
+{
+    if taken {
+        return Err(WrongKey { path });
+    }
+    Ok(n)
+}
+
+/// Reads one station; `others` are those before it.
+fn read_station(
+    value: &Value,
+    link: LinkSize,
+    ca: CaSize,
+    others: &[Station],
+) -> Result<Station, WrongKey>
+    ensures value { seen result ≡ station_of link ca others.now (view value.now) }
+    ensures next { IfOk result (IsNext link ca others.now) }
+{
+    let Some(table) = value.as_table() else {
+        return Err(WrongKey {
+            path: "station.address",
+        });
+    };
+    let address = read_address(table, link, others)?;
+    let ca = read_common_address(table, ca, others)?;
+    let select = SELECT.read(Some(table))?;
+    Ok(Station {
+        address,
+        ca,
+        select,
+    })
+}
+
+/// A link address that none of the others has.
+fn read_address(table: &Table, size: LinkSize, others: &[Station]) -> Result<u16, WrongKey>
+    ensures value { seen result ≡ address_of size others.now (table_view table.now) }
+    ensures range { IfOk result (IsLinkAddress size) }
+    ensures new { IfOk result (λ a. list_any (λ s. s.address == a) others.now ≡ false) }
+{
+    let address = link_address(table, size)?;
+    distinct(address, has_address(others, address), "station.address")
+}
+
+fn link_address(table: &Table, size: LinkSize) -> Result<u16, WrongKey>
+    ensures value { seen result ≡ whole_of (address_row size) (Some (table_view table.now)) }
+    ensures range { IfOk result (IsLinkAddress size) }
+{
+    let row = Whole {
+        key: "address",
+        path: "station.address",
+        low: 1,
+        high: greatest_link_address(size),
+        default: None,
+    };
+    Ok(row.read(Some(table))? as u16)
+}
+
+/// A common address that none of the others has.
+fn read_common_address(table: &Table, size: CaSize, others: &[Station]) -> Result<u16, WrongKey>
+    ensures value { seen result ≡ ca_of size others.now (table_view table.now) }
+    ensures range { IfOk result (IsCommonAddress size) }
+    ensures new { IfOk result (λ c. list_any (λ s. s.ca == c) others.now ≡ false) }
+{
+    let ca = common_address(table, size)?;
+    distinct(ca, has_common_address(others, ca), "station.ca")
+}
+
+fn common_address(table: &Table, size: CaSize) -> Result<u16, WrongKey>
+    ensures value { seen result ≡ whole_of (ca_row size) (Some (table_view table.now)) }
+    ensures range { IfOk result (IsCommonAddress size) }
+{
+    let row = Whole {
+        key: "ca",
+        path: "station.ca",
+        low: 1,
+        high: greatest_common_address(size),
+        default: None,
+    };
+    Ok(row.read(Some(table))? as u16)
+}

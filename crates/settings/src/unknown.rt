@@ -1,0 +1,177 @@
+//! Keys that the settings don't know.
+ghost use Rattle.std.specs.Prelude.{◌≡◌, ◌++◌, map, option_map, OnOk, IfOk, MatchOption, Contains, All, [], false, string_bytes};
+ghost use Rattle.std.specs.Ordering.{is_lt};
+ghost use Rattle.std.specs.String.{string_cmp};
+ghost use Rattle.toml.specs.View.{view, table_view, items_view};
+ghost use Rattle.settings.specs.Unknown.{knows, knows_line, prefix, member_keys, unknown_in, unknown_of, unknown_under, unknown_stations, unknown_items, unknown_paths, IsRefusedFor};
+
+use crate::ConfigFault;
+use crate::keys::given;
+use std::alloc::{AllocError, Global};
+use toml::{Table, Value};
+
+/// A table of the settings: the file itself, or one in it.
+#[derive(Clone, Copy, Debug)]
+enum Section {
+    Root,
+    Line,
+    Tcp,
+    Station,
+    Live,
+}
+
+impl Section {
+    fn knows(self, key: &str) -> bool
+        ensures { result ≡ knows self key.now }
+    {
+        match self {
+            Section::Root => key == "line" || key == "tcp" || key == "station" || key == "live",
+            Section::Line => knows_line(key),
+            Section::Tcp => {
+                key == "k"
+                    || key == "w"
+                    || key == "t1_ms"
+                    || key == "t2_ms"
+                    || key == "t3_ms"
+                    || key == "select_ms"
+            }
+            Section::Station => key == "address" || key == "ca" || key == "select",
+            Section::Live => key == "line" || key == "listen",
+        }
+    }
+
+    /// What stands before a key of this table in its dotted path.
+    fn prefix(self) -> &'static str
+        ensures { result.now ≡ prefix self }
+    {
+        match self {
+            Section::Root => "",
+            Section::Line => "line.",
+            Section::Tcp => "tcp.",
+            Section::Station => "station.",
+            Section::Live => "live.",
+        }
+    }
+}
+
+fn knows_line(key: &str) -> bool
+    ensures { result ≡ knows_line key.now }
+{
+    key == "link"
+        || key == "cause"
+        || key == "ca"
+        || key == "ioa"
+        || key == "answer_ms"
+        || key == "retries"
+        || key == "silence"
+        || key == "burst"
+        || key == "queue"
+}
+
+/// Refuses a file with an unknown key, and names the one whose dotted path is the least in the order of octets.
+#[tactic(auto, using(crate::proofs::UnknownLemmas::least_of, crate::proofs::UnknownLemmas::none_of))]
+pub(crate) fn refuse_unknown(alloc: Global, root: &Table) -> Result<(), ConfigFault>
+    ensures { IsRefusedFor (unknown_paths (table_view root.now)) result }
+{
+    match least(unknown_paths(alloc, root)?) {
+        None => Ok(()),
+        Some(path) => Err(ConfigFault::Unknown(path)),
+    }
+}
+
+/// The least of some texts.
+fn least(paths: Vec<String>) -> Option<String>
+    ensures { MatchOption result (paths.items ≡ []) (λ m. Contains paths.items m × All (λ x. is_lt (string_cmp x m) ≡ false) paths.items) }
+{
+    paths.into_iter().min()
+}
+
+/// The dotted paths of all unknown keys.
+#[tactic(auto, using(crate::proofs::UnknownLemmas::keys_of_table))]
+fn unknown_paths(alloc: Global, root: &Table) -> Result<Vec<String>, AllocError>
+    ensures { IfOk result (λ paths. map string_bytes paths.items ≡ unknown_paths (table_view root.now)) }
+{
+    let mut paths = Vec::new(alloc);
+    push_unknown(alloc, &mut paths, Section::Root, root)?;
+    push_section(alloc, &mut paths, Section::Line, given(Some(root), "line"))?;
+    push_section(alloc, &mut paths, Section::Tcp, given(Some(root), "tcp"))?;
+    push_stations(alloc, &mut paths, root)?;
+    push_section(alloc, &mut paths, Section::Live, given(Some(root), "live"))?;
+    Ok(paths)
+}
+
+/// Appends the dotted paths of a table's unknown keys.
+#[tactic(auto, using(crate::proofs::UnknownLemmas::keys_of_table))]
+fn push_unknown(
+    alloc: Global,
+    paths: &mut Vec<String>,
+    section: Section,
+    table: &Table,
+) -> Result<(), AllocError>
+    ensures { OnOk result (map string_bytes paths.new.items
+        ≡ map string_bytes paths.old.items ++ unknown_in section (member_keys (table_view table.now))) }
+{
+    let before = section.prefix();
+    for key in table.keys() {
+        if !section.knows(key.as_str()) {
+            paths.push(format!(in alloc; "{before}{key}")?)?;
+        }
+    }
+    Ok(())
+}
+
+/// Appends the unknown keys of a section, where it is there.
+fn push_section(
+    alloc: Global,
+    paths: &mut Vec<String>,
+    section: Section,
+    value: Option<&Value>,
+) -> Result<(), AllocError>
+    ensures { OnOk result (map string_bytes paths.new.items
+        ≡ map string_bytes paths.old.items ++ unknown_under section (option_map (λ v. view v.now) value.entry)) }
+{
+    match value {
+        Some(value) => push_table(alloc, paths, section, value),
+        None => Ok(()),
+    }
+}
+
+/// Appends the unknown keys of a value that is a table.
+fn push_table(
+    alloc: Global,
+    paths: &mut Vec<String>,
+    section: Section,
+    value: &Value,
+) -> Result<(), AllocError>
+    ensures { OnOk result (map string_bytes paths.new.items
+        ≡ map string_bytes paths.old.items ++ unknown_of section (view value.now)) }
+{
+    match value.as_table() {
+        Some(table) => push_unknown(alloc, paths, section, table),
+        None => Ok(()),
+    }
+}
+
+fn push_stations(alloc: Global, paths: &mut Vec<String>, root: &Table) -> Result<(), AllocError>
+    ensures { OnOk result (map string_bytes paths.new.items
+        ≡ map string_bytes paths.old.items ++ unknown_stations (table_view root.now)) }
+{
+    let Some(value) = given(Some(root), "station") else {
+        return Ok(());
+    };
+    match value.as_array() {
+        Some(tables) => push_items(alloc, paths, tables.as_slice()),
+        None => Ok(()),
+    }
+}
+
+#[tactic(auto, using(crate::proofs::UnknownLemmas::items_next, crate::proofs::UnknownLemmas::items_end))]
+fn push_items(alloc: Global, paths: &mut Vec<String>, tables: &[Value]) -> Result<(), AllocError>
+    ensures { OnOk result (map string_bytes paths.new.items
+        ≡ map string_bytes paths.old.items ++ unknown_items (items_view tables.now)) }
+{
+    for table in tables {
+        push_table(alloc, paths, Section::Station, table)?;
+    }
+    Ok(())
+}

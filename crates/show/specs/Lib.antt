@@ -1,0 +1,6 @@
+pub mod Bits
+pub mod Sizes
+pub mod Outcome
+pub mod Units
+pub mod Line
+pub mod Tcp

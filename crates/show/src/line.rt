@@ -1,0 +1,84 @@
+//! Octets of the line in words.
+ghost use Rattle.std.specs.Prelude.{◌≡◌, ◌++◌, IfOk, OnOk, length, string_bytes};
+ghost use Rattle.show.specs.Line.{frame_line, frame_lines, frame_outcome, front_lines, front_outcome, number_of, IsLineShown};
+
+use crate::control::control_text;
+use crate::outcome::push_rest;
+use crate::units::push_unit;
+use crate::{LineSizes, Outcome, Shown};
+use ft12::{Frame, Front, Why, front};
+use std::alloc::{AllocError, Global};
+
+/// Shows what stands at the front of octets of the line: the frame and its ASDU, and how many octets follow;
+/// or that they begin a frame, or why they begin none.
+pub fn show_line(alloc: Global, sizes: LineSizes, octets: &[u8]) -> Result<Shown, AllocError>
+    ensures { IfOk result (λ shown. IsLineShown sizes octets.now (string_bytes shown.lines) shown.outcome) }
+{
+    let front = front(sizes.link, octets);
+    let mut lines = String::new(alloc);
+    let outcome = push_front(alloc, &mut lines, sizes, octets.len(), &front)?;
+    Ok(Shown { lines, outcome })
+}
+
+/// Appends the lines of what stands at the front of so many octets.
+fn push_front(
+    alloc: Global,
+    lines: &mut String,
+    sizes: LineSizes,
+    count: usize,
+    front: &Front,
+) -> Result<Outcome, AllocError>
+    ensures lines { OnOk result (string_bytes lines.new ≡ string_bytes lines.old ++ front_lines sizes count front.now) }
+    ensures outcome { IfOk result (λ outcome. outcome ≡ front_outcome sizes count front.now) }
+{
+    match front {
+        Front::Whole(frame, len) => {
+            let outcome = push_frame(alloc, lines, sizes, frame)?;
+            let rest = count.saturating_sub(*len);
+            push_rest(lines, rest)?;
+            Ok(outcome.with_rest(rest))
+        }
+        Front::More => {
+            writeln!(lines, "truncated")?;
+            Ok(Outcome::Faulty)
+        }
+        Front::Never(place, why) => {
+            let number = number_of(*why);
+            writeln!(lines, "refused {number} at {place}")?;
+            Ok(Outcome::Faulty)
+        }
+    }
+}
+
+/// Appends the lines of a frame and of its data.
+fn push_frame(
+    alloc: Global,
+    lines: &mut String,
+    sizes: LineSizes,
+    frame: &Frame,
+) -> Result<Outcome, AllocError>
+    ensures lines { OnOk result (string_bytes lines.new ≡ string_bytes lines.old ++ frame_lines sizes frame.now) }
+    ensures outcome { IfOk result (λ outcome. outcome ≡ frame_outcome sizes frame.now) }
+{
+    match frame {
+        Frame::Single => writeln!(lines, "single")?,
+        Frame::Fixed { c, a } => {
+            let control = control_text(alloc, *c)?;
+            writeln!(lines, "fixed {control} address={a}")?;
+        }
+        Frame::Data { c, a, body } => {
+            let control = control_text(alloc, *c)?;
+            let octets = body.len();
+            writeln!(lines, "data {control} address={a} octets={octets}")?;
+            return push_unit(alloc, lines, sizes.asdu, body.as_slice());
+        }
+    }
+    Ok(Outcome::Good)
+}
+
+/// The number of a refusal.
+fn number_of(why: Why) -> u8
+    ensures { result ≡ number_of why }
+{
+    why as u8
+}

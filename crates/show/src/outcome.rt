@@ -1,0 +1,41 @@
+//! What octets in words are, and whether they were as they should be.
+ghost use Rattle.std.specs.Prelude.{◌≡◌, ◌++◌, OnOk, string_bytes};
+ghost use Rattle.show.specs.Outcome.{rest_line, with_rest};
+
+use std::alloc::AllocError;
+
+/// Whether octets are as they should be.
+#[derive(Clone, Copy, Debug, PartialEq, Eq)]
+pub enum Outcome {
+    /// One whole frame, with no data or an ASDU that could be read, and nothing after it.
+    Good,
+    /// No whole frame, an ASDU that was refused, or octets after the frame.
+    Faulty,
+}
+
+/// Octets in words.
+#[derive(Debug, PartialEq, Eq, Drop)]
+pub struct Shown {
+    /// One fact a line, each ended by a line feed.
+    pub lines: String,
+    pub outcome: Outcome,
+}
+
+impl Outcome {
+    /// The outcome where so many octets follow the frame.
+    pub(crate) fn with_rest(self, rest: usize) -> Outcome
+        ensures { result ≡ with_rest rest self }
+    {
+        if rest == 0 { self } else { Outcome::Faulty }
+    }
+}
+
+/// Appends the line for the octets after a frame, where there are any.
+pub(crate) fn push_rest(lines: &mut String, rest: usize) -> Result<(), AllocError>
+    ensures { OnOk result (string_bytes lines.new ≡ string_bytes lines.old ++ rest_line rest) }
+{
+    if rest > 0 {
+        writeln!(lines, "rest {rest}")?;
+    }
+    Ok(())
+}

@@ -1,0 +1,164 @@
+-- What the commands answer (this gateway's own profile).
+use Rattle.std.specs.Prelude.{◌≡◌, ◌⊎◌, ◌==◌, ℕ, Bool, true, false, not, if◌then◌else◌, length, codes, List, [], ◌∷◌, ◌++◌, Option, Some, None, Result, Ok, Err, MatchResult, Vec, string_bytes}
+use Rattle.std.specs.List.{flat_map}
+use Rattle.std.specs.Io.KnownBytes.{Appends, Keeps}
+use Rattle.std.specs.declared.alloc.Global.{Global}
+use Rattle.show.specs.Sizes.{sizes_of}
+use Rattle.show.specs.Line.{IsLineShown}
+use Rattle.show.specs.Tcp.{IsTcpShown}
+use Rattle.show.specs.declared.sizes.LineSizes.{LineSizes}
+use Rattle.show.specs.declared.outcome.Outcome.{Outcome}
+use Rattle.show.specs.declared.outcome.Outcome.TheVariants.{Good, Faulty}
+use Rattle.traces.specs.Fields.{octets_of}
+use Rattle.traces.specs.Trace.{IsTraceOf}
+use Rattle.traces.specs.declared.trace.TextFault.TheVariants.{Line as WrongLine}
+use Rattle.gateway.specs.Config.{Settings}
+use Rattle.gateway.specs.Entries.{log_of, script_of}
+use Rattle.gateway.specs.Log.{events_of}
+use Rattle.gateway.specs.Setups.{setup_of}
+use Rattle.gateway.specs.Traffic.{IsFaithful, HasRested}
+use Rattle.gateway.specs.declared.settings.Silence.{Silence}
+use Rattle.gateway.specs.declared.settings.Silence.TheVariants.{Hold, Reset}
+use Rattle.gateway.specs.declared.entries.Entry.{Entry}
+use Rattle.gateway.specs.declared.entries.Told.{Told}
+use Rattle.settings.specs.Settings.{IsReadOfText}
+use Rattle.settings.specs.declared.fault.ConfigFault.{ConfigFault}
+use Rattle.settings.specs.declared.fault.ConfigFault.TheVariants.{NotToml, Key, Unknown, NoMemory as NoMemoryThere}
+use Rattle.telegate.specs.Actions.{action_line}
+use Rattle.telegate.specs.Faults.{status_of}
+use Rattle.telegate.specs.declared.answer.Answer.{Answer}
+use Rattle.telegate.specs.declared.fault.Fault.{Fault}
+use Rattle.telegate.specs.declared.fault.Fault.TheVariants.{Config, Trace, Sizes, Octets, Device, NoMemory}
+use Rattle.telegate.specs.declared.job.Job.{Job}
+use Rattle.telegate.specs.declared.job.Job.TheVariants.{Show101, Show104, Check, Replay}
+
+abbrev pub is_hold : Silence → Bool
+is_hold Hold = true
+is_hold Reset = false
+
+-- octets that are as they should be, 0, or not, 1
+abbrev pub status_by : Outcome → ℕ
+status_by Good = 0
+status_by Faulty = 1
+
+-- the octets of a word
+abbrev pub IsOctetsFault : List ℕ → Fault → Type 0
+IsOctetsFault hex Octets = octets_of hex ≡ None
+IsOctetsFault hex NoMemory = Unit {0}
+IsOctetsFault hex _ = ⊥
+
+abbrev pub IsReadOctets : List ℕ → Result (Vec ℕ Global) Fault → Type 0
+IsReadOctets hex result = MatchResult result (λ v. octets_of hex ≡ Some v.items) (IsOctetsFault hex)
+
+-- the lines of the frame at the front, and a status that tells a fault in the octets
+pub record IsLineAnswer (sizes hex : List ℕ) (answer : Answer) : Type 0 where
+  pub line_sizes : LineSizes
+  pub octets : List ℕ
+  pub outcome : Outcome
+  pub read_sizes : sizes_of sizes ≡ Some line_sizes
+  pub read_octets : octets_of hex ≡ Some octets
+  pub shown : IsLineShown line_sizes octets (string_bytes answer.text) outcome
+  pub status : answer.status ≡ status_by outcome
+
+-- sizes are judged before octets
+abbrev pub IsLineFault : List ℕ → List ℕ → Fault → Type 0
+IsLineFault sizes hex Sizes = sizes_of sizes ≡ None
+IsLineFault sizes hex Octets = ((s : LineSizes) × (sizes_of sizes ≡ Some s)) × (octets_of hex ≡ None)
+IsLineFault sizes hex NoMemory = Unit {0}
+IsLineFault sizes hex _ = ⊥
+
+abbrev pub IsShown101 : List ℕ → List ℕ → Result Answer Fault → Type 0
+IsShown101 sizes hex result = MatchResult result (IsLineAnswer sizes hex) (IsLineFault sizes hex)
+
+pub record IsTcpAnswer (hex : List ℕ) (answer : Answer) : Type 0 where
+  pub octets : List ℕ
+  pub outcome : Outcome
+  pub read_octets : octets_of hex ≡ Some octets
+  pub shown : IsTcpShown octets (string_bytes answer.text) outcome
+  pub status : answer.status ≡ status_by outcome
+
+abbrev pub IsShown104 : List ℕ → Result Answer Fault → Type 0
+IsShown104 hex result = MatchResult result (IsTcpAnswer hex) (IsOctetsFault hex)
+
+-- settings are refused by the first fault
+abbrev pub IsConfigFault : List ℕ → Fault → Type 0
+IsConfigFault config (Config why) = IsReadOfText config (Err why)
+IsConfigFault config NoMemory = Unit {0}
+IsConfigFault config _ = ⊥
+
+abbrev pub IsReadConfig : List ℕ → Result Settings Fault → Type 0
+IsReadConfig config result = MatchResult result (λ c. IsReadOfText config (Ok c)) (IsConfigFault config)
+
+-- settings that are read are told to be good
+pub record IsCheckAnswer (config : List ℕ) (answer : Answer) : Type 0 where
+  pub settings : Settings
+  pub read_config : IsReadOfText config (Ok settings)
+  pub text : string_bytes answer.text ≡ codes "ok" ++ 10 ∷ []
+  pub status : answer.status ≡ 0
+
+abbrev pub IsChecked : List ℕ → Result Answer Fault → Type 0
+IsChecked config result = MatchResult result (IsCheckAnswer config) (IsConfigFault config)
+
+-- the first key of good settings that a run can't have yet: silence must hold the service, and there is one station
+abbrev pub unsupported : Settings → Option (List ℕ)
+unsupported s =
+    if not (is_hold s.line.silence) then Some (codes "line.silence")
+    else (if length s.stations == 1 then None else Some (codes "station"))
+
+-- the lines of the actions of the log of a run: the events of the log are the trace's, and the log keeps every promise of a
+-- gateway with these settings
+pub record IsRunAnswer (config trace : List ℕ) (answer : Answer) : Type 0 where
+  pub settings : Settings
+  pub supported : unsupported settings ≡ None
+  pub entries : Vec Entry Global
+  pub log : List Told
+  pub read_config : IsReadOfText config (Ok settings)
+  pub read_trace : IsTraceOf trace (Ok entries)
+  pub events : events_of (log_of log) ≡ script_of entries.items
+  pub faithful : IsFaithful (setup_of settings) (log_of log)
+  pub rests : HasRested (setup_of settings) (log_of log)
+  pub text : string_bytes answer.text ≡ flat_map action_line log
+  pub status : answer.status ≡ 0
+
+abbrev pub IsUnsupported : List ℕ → ConfigFault → Type 0
+IsUnsupported config (Key path) = (s : Settings) × IsReadOfText config (Ok s) × (unsupported s ≡ Some path.now)
+IsUnsupported config _ = ⊥
+
+-- settings are judged before the trace
+abbrev pub IsRunFault : List ℕ → List ℕ → Fault → Type 0
+IsRunFault config trace (Config why) = IsReadOfText config (Err why) ⊎ IsUnsupported config why
+IsRunFault config trace (Trace n) = ((s : Settings) × IsReadOfText config (Ok s)) × IsTraceOf trace (Err (WrongLine n))
+IsRunFault config trace NoMemory = Unit {0}
+IsRunFault config trace _ = ⊥
+
+abbrev pub IsReplayed : List ℕ → List ℕ → Result Answer Fault → Type 0
+IsReplayed config trace result = MatchResult result (IsRunAnswer config trace) (IsRunFault config trace)
+
+-- the answer to a command
+abbrev pub IsAnsweredBy : Job → Result Answer Fault → Type 0
+IsAnsweredBy (Show101 sizes hex) result = IsShown101 sizes.now hex.now result
+IsAnsweredBy (Show104 hex) result = IsShown104 hex.now result
+IsAnsweredBy (Check config) result = IsChecked config.now result
+IsAnsweredBy (Replay config trace) result = IsReplayed config.now trace.now result
+
+-- the command is done: its answer's text was appended to the output, and the status is the answer's
+pub record IsDone (job : Job) (old new : Option (List ℕ)) (exit : ℕ) : Type 0 where
+  pub answer : Answer
+  pub answered : IsAnsweredBy job (Ok answer)
+  pub printed : Appends old new (string_bytes answer.text)
+  pub status : exit ≡ answer.status
+
+-- the command stopped at a fault (which may be want of memory) before anything was printed
+pub record IsStopped (job : Job) (old new : Option (List ℕ)) (exit : ℕ) : Type 0 where
+  pub fault : Fault
+  pub answered : IsAnsweredBy job (Err fault)
+  pub printed : Keeps old new
+  pub status : exit ≡ status_of fault
+
+-- the output couldn't be written
+abbrev pub IsDeviceFailed : ℕ → Type 0
+IsDeviceFailed status = status ≡ 3
+
+-- what a command does to the output, whose octets are these before and after, and its exit status
+abbrev pub Performs : Job → Option (List ℕ) → Option (List ℕ) → ℕ → Type 0
+Performs job old new status = IsDone job old new status ⊎ (IsStopped job old new status ⊎ IsDeviceFailed status)

@@ -1,0 +1,29 @@
+//! What a command prints.
+ghost use Rattle.std.specs.Prelude.{◌≡◌};
+ghost use Rattle.telegate.specs.Answers.{IsAnsweredBy};
+
+use crate::check::check;
+use crate::fault::Fault;
+use crate::job::Job;
+use crate::replay::replay;
+use crate::show::{show101, show104};
+use std::alloc::Global;
+
+/// What a command prints on standard output, and its exit status.
+#[derive(Debug, PartialEq, Eq, Drop)]
+pub(crate) struct Answer {
+    pub(crate) text: String,
+    pub(crate) status: u8,
+}
+
+/// The answer to a command, or why it stops.
+pub(crate) fn answer_to(alloc: Global, job: &Job<'_>) -> Result<Answer, Fault>
+    ensures { IsAnsweredBy job.now result }
+{
+    match job {
+        Job::Show101(sizes, hex) => show101(alloc, *sizes, *hex),
+        Job::Show104(hex) => show104(alloc, *hex),
+        Job::Check(config) => check(alloc, *config),
+        Job::Replay { config, trace } => replay(alloc, *config, *trace),
+    }
+}

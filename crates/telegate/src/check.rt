@@ -1,0 +1,31 @@
+//! The command that judges settings.
+ghost use Rattle.std.specs.Prelude.{◌≡◌};
+ghost use Rattle.telegate.specs.Answers.{IsChecked, IsReadConfig};
+
+use crate::answer::Answer;
+use crate::fault::{DONE, Fault};
+use gateway::Config;
+use settings::ConfigFault;
+use std::alloc::Global;
+
+/// Judges a file of settings: `ok`, or the first fault.
+pub(crate) fn check(alloc: Global, config: &[u8]) -> Result<Answer, Fault>
+    ensures { IsChecked config.now result }
+{
+    let _settings = read_config(alloc, config)?;
+    match String::from_str(alloc, "ok\n") {
+        Ok(text) => Ok(Answer { text, status: DONE }),
+        Err(_) => Err(Fault::NoMemory),
+    }
+}
+
+/// The settings of a file.
+pub(crate) fn read_config(alloc: Global, config: &[u8]) -> Result<Config, Fault>
+    ensures { IsReadConfig config.now result }
+{
+    match settings::read_config(alloc, config) {
+        Ok(config) => Ok(config),
+        Err(ConfigFault::NoMemory) => Err(Fault::NoMemory),
+        Err(fault) => Err(Fault::Config(fault)),
+    }
+}

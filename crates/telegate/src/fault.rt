@@ -1,0 +1,56 @@
+//! Why a command stops, and the exit statuses.
+ghost use Rattle.std.specs.Prelude.{◌≡◌};
+ghost use Rattle.telegate.specs.Faults.{status_of};
+
+use settings::ConfigFault;
+use thiserror::Error;
+
+/// The exit status of a command that is done.
+pub(crate) const DONE: u8 = 0;
+
+/// The exit status of a bad frame or a file with wrong content.
+pub(crate) const BAD_CONTENT: u8 = 1;
+
+/// The exit status of wrong words.
+pub(crate) const USAGE: u8 = 2;
+
+/// The exit status where a file or a device failed.
+pub(crate) const DEVICE_FAILED: u8 = 3;
+
+/// The exit status where memory was refused.
+pub(crate) const NO_MEMORY: u8 = 4;
+
+/// Why a command stops. Its text is the one line on standard error.
+#[derive(Debug, Drop, Error)]
+pub(crate) enum Fault {
+    /// The settings are refused.
+    #[error("{0}")]
+    Config(ConfigFault),
+    /// This line of the trace is wrong.
+    #[error("trace: line {0}")]
+    Trace(u64),
+    /// The sizes of a line's addresses are no such four digits.
+    #[error("bad sizes")]
+    Sizes,
+    /// The octets aren't 1 to 1,024 in hexadecimal.
+    #[error("bad octets")]
+    Octets,
+    /// The output can't be written.
+    #[error("device failed")]
+    Device,
+    #[error("no memory")]
+    NoMemory,
+}
+
+impl Fault {
+    /// The exit status.
+    pub(crate) fn status(&self) -> u8
+        ensures { result ≡ status_of self.now }
+    {
+        match self {
+            Fault::Config(_) | Fault::Trace(_) | Fault::Sizes | Fault::Octets => BAD_CONTENT,
+            Fault::Device => DEVICE_FAILED,
+            Fault::NoMemory => NO_MEMORY,
+        }
+    }
+}

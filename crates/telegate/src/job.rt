@@ -1,0 +1,14 @@
+//! The work of a command.
+
+/// A command, with the octets of its files in place of their names.
+#[derive(Clone, Copy, Debug, PartialEq, Eq)]
+pub enum Job<'a> {
+    /// The frame at the front of octets of the line: the sizes of its addresses, and the octets in hexadecimal.
+    Show101(&'a str, &'a str),
+    /// The APDU at the front of octets of the connection, in hexadecimal.
+    Show104(&'a str),
+    /// The judgement of a file of settings.
+    Check(&'a [u8]),
+    /// A run of the gateway over the events of a trace.
+    Replay { config: &'a [u8], trace: &'a [u8] },
+}

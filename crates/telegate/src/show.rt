@@ -1,0 +1,58 @@
+//! The commands that show a frame.
+ghost use Rattle.std.specs.Prelude.{◌≡◌};
+ghost use Rattle.telegate.specs.Answers.{IsReadOctets, IsShown101, IsShown104, status_by};
+
+use crate::answer::Answer;
+use crate::fault::{BAD_CONTENT, DONE, Fault};
+use show::{Outcome, Shown};
+use std::alloc::Global;
+
+/// Shows the line frame at the front of octets. The sizes are judged before the octets.
+pub(crate) fn show101(alloc: Global, sizes: &str, hex: &str) -> Result<Answer, Fault>
+    ensures { IsShown101 sizes.now hex.now result }
+{
+    let Some(sizes) = show::read_sizes(sizes) else {
+        return Err(Fault::Sizes);
+    };
+    let octets = read_octets(alloc, hex)?;
+    match show::show_line(alloc, sizes, octets.as_slice()) {
+        Ok(shown) => Ok(answer_of(shown)),
+        Err(_) => Err(Fault::NoMemory),
+    }
+}
+
+/// Shows the APDU at the front of octets.
+pub(crate) fn show104(alloc: Global, hex: &str) -> Result<Answer, Fault>
+    ensures { IsShown104 hex.now result }
+{
+    let octets = read_octets(alloc, hex)?;
+    match show::show_tcp(alloc, octets.as_slice()) {
+        Ok(shown) => Ok(answer_of(shown)),
+        Err(_) => Err(Fault::NoMemory),
+    }
+}
+
+/// The octets of a word.
+fn read_octets(alloc: Global, hex: &str) -> Result<Vec<u8>, Fault>
+    ensures { IsReadOctets hex.now result }
+{
+    match traces::read_octets(alloc, hex.as_bytes()) {
+        Ok(Some(octets)) => Ok(octets),
+        Ok(None) => Err(Fault::Octets),
+        Err(_) => Err(Fault::NoMemory),
+    }
+}
+
+/// The lines, and the exit status that tells a fault in the octets.
+fn answer_of(shown: Shown) -> Answer
+    ensures text { result.text ≡ shown.lines }
+    ensures status { result.status ≡ status_by shown.outcome }
+{
+    Answer {
+        text: shown.lines,
+        status: match shown.outcome {
+            Outcome::Good => DONE,
+            Outcome::Faulty => BAD_CONTENT,
+        },
+    }
+}

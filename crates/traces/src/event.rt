@@ -1,0 +1,62 @@
+//! The event of one line.
+ghost use Rattle.std.specs.Prelude.{◌≡◌, IfOk, IfSome, option_map};
+ghost use Rattle.gateway.specs.Entries.{FitsPort};
+ghost use Rattle.traces.specs.Event.{event_of, bare_in, octets_in, event_in};
+
+use crate::decimal::decimal;
+use crate::lines::pieces;
+use crate::octets::read_octets;
+use gateway::Entry;
+use std::alloc::{AllocError, Global};
+
+const SPACE: u8 = b' ';
+
+/// The event of one line, if it is one.
+pub(crate) fn event(alloc: Global, line: &[u8]) -> Result<Option<Entry>, AllocError>
+    ensures event { IfOk result (λ e. option_map event_of e ≡ event_in line.now) }
+    ensures fits { IfOk result (λ e. IfSome e FitsPort) }
+{
+    let fields = pieces(alloc, line, SPACE)?;
+    match fields.as_slice() {
+        [moment, kind] => Ok(bare(*moment, *kind)),
+        [moment, kind, text] => with_octets(alloc, *moment, *kind, *text),
+        _ => Ok(None),
+    }
+}
+
+/// An event without octets.
+fn bare(moment: &[u8], kind: &[u8]) -> Option<Entry>
+    ensures event { option_map event_of result ≡ bare_in moment.now kind.now }
+    ensures fits { IfSome result FitsPort }
+{
+    let now = decimal(moment)?;
+    match kind {
+        b"T" => Some(Entry::Tick(now)),
+        b"O" => Some(Entry::Open(now)),
+        b"C" => Some(Entry::Cut(now)),
+        _ => None,
+    }
+}
+
+/// An event with octets.
+fn with_octets(
+    alloc: Global,
+    moment: &[u8],
+    kind: &[u8],
+    text: &[u8],
+) -> Result<Option<Entry>, AllocError>
+    ensures event { IfOk result (λ e. option_map event_of e ≡ octets_in moment.now kind.now text.now) }
+    ensures fits { IfOk result (λ e. IfSome e FitsPort) }
+{
+    let Some(now) = decimal(moment) else {
+        return Ok(None);
+    };
+    let Some(octets) = read_octets(alloc, text)? else {
+        return Ok(None);
+    };
+    match kind {
+        b"S" => Ok(Some(Entry::Line(now, octets))),
+        b"R" => Ok(Some(Entry::Bytes(now, octets))),
+        _ => Ok(None),
+    }
+}

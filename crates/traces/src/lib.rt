@@ -1,0 +1,19 @@
+//! The text of a trace: the events of a run, one a line (this gateway's own profile).
+//!
+//! `read_trace` reads a whole trace into the gateway's `Entry`s, or names its first wrong line (`TextFault`); `read_octets`
+//! reads octets in hexadecimal alone. What a run does with the events, and with moments that go back, is the gateway's
+//! matter. Proved: the entries are the events that the lines tell, in their order, and no line is wrong; a line that is
+//! refused is the first that is neither empty, nor a comment, nor an event; an entry's octets fit what a port gives at
+//! once; `read_octets` answers the octets that the digits spell, and nothing for any other text.
+#![tactic(auto)]
+
+mod decimal;
+mod event;
+mod lines;
+mod octets;
+#[cfg(test)]
+mod tests;
+mod trace;
+
+pub use octets::read_octets;
+pub use trace::{TextFault, read_trace};
