@@ -1,5 +1,5 @@
 -- Each thing that is told keeps the agreement of state and log.
-use Rattle.std.proofs.Common.{◌≡◌, ℕ, ◌+◌, ◌%◌, ◌<◌, ◌≤◌, ◌&&◌, Bool, true, false, cond, nat_lt, List, [], ◌∷◌, ◌++◌, length, take, drop, max, min, refl, ap, sym, ◌∙◌, subst, arith, append_assoc, length-append, Option, Some, None, zero-add}
+use Rattle.std.proofs.Common.{◌≡◌, ℕ, ◌%◌, ◌<◌, ◌≤◌, ◌&&◌, Bool, true, false, nat_lt, List, [], ◌∷◌, ◌++◌, length, take, drop, refl, ap, sym, ◌∙◌, subst, arith, append_assoc, length-append, Option, Some, None, zero-add}
 use Rattle.std.specs.Prelude.{if◌then◌else◌, map}
 use Rattle.std.specs.List.{flat_map}
 use Rattle.std.proofs.lemmas.List.{append-nil}
@@ -15,14 +15,14 @@ use Rattle.session.specs.Session as session
 use Rattle.session.specs.Session.{Session, may_send, is_running, is_from_queue, refuses}
 use Rattle.events.specs.Queue as queue
 use Rattle.gateway.specs.Objects.{objects, has_objects}
-use Rattle.gateway.specs.Log.{Log, Came, Went, Opened, TcpIn, CutOff, TcpOut, Closed, latest}
+use Rattle.gateway.specs.Log.{Log, Went, TcpOut, Closed, latest}
 use Rattle.gateway.specs.Streams.{spelled, IsRefused}
-use Rattle.gateway.specs.Frames.{Sent, Connection, new_connection, data_frames, acknowledged_count, fault_of, first_unacknowledged, objects_of_frames, monitor_objects_sent, IsNumberedFrom, IsInOrder, AreInOrder}
-use Rattle.gateway.specs.Connections.{Channel, no_channel, new_channel, receiving, sending, ends, present, past, over, IsBehind, BeginsWithFault, IsConnection, AreConnections}
-use Rattle.gateway.specs.Reports.{Setup, exchanges_of, taken_objects, reports_in, parts_of_all, KeepsLinks}
-use Rattle.gateway.specs.Traffic.{is_replaced, replaces, GoesOut, ActsRightly, HasRested, IsAtRest, IsFaithful}
-use Rattle.gateway.specs.State.{State, at_moment, disconnected, connected, framed, next_frame, piece_sent}
-use Rattle.gateway.specs.Agrees.{Presently, Carries, Past, Agrees, Tied, Unconfirmed, Tells, IsSpent, pieces_of}
+use Rattle.gateway.specs.Frames.{Sent, Connection, new_connection, data_frames, acknowledged_count, fault_of, objects_of_frames, IsNumberedFrom, IsInOrder, AreInOrder}
+use Rattle.gateway.specs.Connections.{Channel, no_channel, sending, ends, present, past, over, IsBehind, BeginsWithFault, IsConnection, AreConnections}
+use Rattle.gateway.specs.Reports.{Setup, taken_objects, reports_in, parts_of_all}
+use Rattle.gateway.specs.Traffic.{is_replaced, replaces, IsAtRest, IsFaithful}
+use Rattle.gateway.specs.State.{State, disconnected, framed, next_frame, piece_sent}
+use Rattle.gateway.specs.Agrees.{Presently, Carries, Past, Agrees, Tied, IsSpent, pieces_of}
 use Rattle.gateway.proofs.Unconfirmed.{numbered_more}
 use Rattle.gateway.proofs.Tied.{tied_taken, tied_piece, heard_more, sent_more, SameWindow, tied_same, fault_cases}
 use Rattle.gateway.proofs.Frames.{pass_grows, taken_stays, nothing_waits}

@@ -1,6 +1,6 @@
 -- The definitions, computed on the log of one report: the start of the link, a poll answered by a single point, and a
 -- connection with STARTDT on which the point goes out.
-use Rattle.std.proofs.Common.{◌≡◌, ℕ, List, [], ◌∷◌, true, None, refl}
+use Rattle.std.proofs.Common.{◌≡◌, [], ◌∷◌, true, None, refl}
 use Rattle.ft12.specs.declared.frame.LinkSize.TheVariants.{One}
 use Rattle.ft12.specs.Fronts.{front_of}
 use Rattle.elements.specs.declared.types.TypeId.TheVariants.{MSpNa1}

@@ -1,28 +1,27 @@
 -- An event comes: first the line's part, then the connection's.
-use Rattle.std.proofs.Common.{◌≡◌, ℕ, ◌+◌, ◌<◌, ◌≤◌, Bool, true, false, List, [], ◌∷◌, ◌++◌, length, max, min, Option, Some, None, refl, sym, ap, subst, ◌∙◌, arith, append_assoc}
+use Rattle.std.proofs.Common.{◌≡◌, ℕ, ◌+◌, ◌<◌, Bool, true, false, List, [], ◌∷◌, ◌++◌, length, max, min, Option, Some, None, refl, sym, ap, subst, ◌∙◌, append_assoc}
 use Rattle.std.specs.Prelude.{if◌then◌else◌}
 use Rattle.std.specs.List.{flat_map, list_all}
 use Rattle.std.proofs.lemmas.List.{append-nil}
-use Rattle.std.proofs.lemmas.Bool.{false≢true}
 use Rattle.asdu.specs.InformationObjects.{InformationObject}
 use Rattle.link.specs.Exchanges.{timed_current}
 use Rattle.session.specs.declared.kinds.Close.TheVariants.{Replaced}
 use Rattle.events.specs.Queue as queue
 use Rattle.gateway.specs.Objects.{objects, has_objects, monitor_objects, parts_of}
-use Rattle.gateway.specs.Log.{Log, LogEntry, Input, LineIn, Opened, TcpIn, CutOff, Ticked, Came, Went, LineOut, Closed, latest, last_moment}
+use Rattle.gateway.specs.Log.{Log, Input, LineIn, Opened, TcpIn, CutOff, Ticked, Came, Went, Closed, latest, last_moment}
 use Rattle.gateway.specs.Streams.{spelled}
 use Rattle.gateway.specs.Frames.{Sent, Connection, new_connection, AreInOrder}
-use Rattle.gateway.specs.Connections.{Channel, no_channel, new_channel, receiving, present, past, over, AreConnections}
+use Rattle.gateway.specs.Connections.{Channel, no_channel, new_channel, receiving, present, past, AreConnections}
 use Rattle.gateway.specs.Reports.{Setup, exchanges_of, taken_objects, reports_in, parts_of_all}
 use Rattle.gateway.specs.Traffic.{is_replaced, ActsRightly, RestsBetweenSteps, HasRested, IsFaithful}
 use Rattle.gateway.specs.Polling.{Polling, heard, report_heard, due}
 use Rattle.gateway.specs.State.{State, at_moment, disconnected, connected}
-use Rattle.gateway.specs.Steps.{Keeps, KeepsAny, Hears, HearsEvent, Begins}
+use Rattle.gateway.specs.Steps.{KeepsAny, HearsEvent, Begins}
 use Rattle.gateway.specs.Agrees.{Presently, Carries, Agrees, Tells, Tied}
 use Rattle.gateway.proofs.Objects.{orders_grow, carries_more}
-use Rattle.gateway.proofs.Agreement.{Ended, ended, fresh, stands_now, in_order}
-use Rattle.gateway.proofs.Telling.{IsStable, as_report}
-use Rattle.gateway.proofs.Stations.{keeps_links, LineGoesOn, objects_added, parts_added, taken_grows, parts_grow, after_octets, after_moment}
+use Rattle.gateway.proofs.Agreement.{ended, fresh, stands_now, in_order}
+use Rattle.gateway.proofs.Telling.{IsStable}
+use Rattle.gateway.proofs.Stations.{keeps_links, LineGoesOn, taken_grows, parts_grow, after_octets, after_moment}
 
 -- the line's part has been done, and the log has the event
 pub record Heard (p : Setup) (s t : State) (old new : Log) : Type 0 where

@@ -1,5 +1,5 @@
 -- The line's lemmas where a port may tell no log, in the form that answers cite.
-use Rattle.std.proofs.Common.{◌≡◌, ℕ, ◌<◌, ◌≤◌, ◌+◌, ◌-◌, Bool, true, false, List, [], ◌∷◌, ◌++◌, length, refl, ap, sym, ◌∙◌, subst, arith, Option, Some, None, length-append}
+use Rattle.std.proofs.Common.{◌≡◌, ℕ, ◌≤◌, ◌+◌, Bool, true, false, List, [], ◌∷◌, ◌++◌, length, refl, ap, sym, ◌∙◌, subst, arith, Option, Some, None, length-append}
 use Rattle.std.specs.Prelude.{IfSome, if◌then◌else◌, option_map}
 use Rattle.std.proofs.lemmas.List.{append-nil}
 use Rattle.ft12.specs.declared.frame.LinkSize.{LinkSize}
@@ -8,28 +8,26 @@ use Rattle.ft12.specs.declared.frame.Why.{Why}
 use Rattle.ft12.specs.declared.frame.Front.TheVariants.{Whole, More, Never}
 use Rattle.ft12.specs.Fronts.{front_of}
 use Rattle.ft12.specs.Spelling as line
-use Rattle.link.specs.declared.service.Asked.TheVariants.{Status, Reset, Counted}
-use Rattle.link.specs.declared.service.Service.TheVariants.{Class2}
 use Rattle.link.specs.Requests.{request_frame}
 use Rattle.session.specs.declared.kinds.Close.TheVariants.{Replaced}
-use Rattle.events.specs.Queue.{Queue, free_places, kept}
+use Rattle.events.specs.Queue.{free_places}
 use Rattle.gateway.specs.declared.polling.Phase.{Phase}
 use Rattle.gateway.specs.declared.polling.Phase.TheVariants.{Down, Available, Up}
 use Rattle.gateway.specs.Log.{Log, LogEntry, events_of, Input, Opened, TcpIn, CutOff, Ticked, LineIn, Came, Went, LineOut, Closed, tell}
-use Rattle.gateway.specs.Frames.{Connection, acknowledged_reports, reports_among, AreInOrder}
-use Rattle.gateway.specs.Reports.{Setup, address_at, exchanges_of, taken_objects, reports_in, parts_of_all}
-use Rattle.gateway.specs.Traffic.{IsFull, HasRoom, is_poll, HasRested, IsFaithful}
+use Rattle.gateway.specs.Frames.{AreInOrder}
+use Rattle.gateway.specs.Reports.{Setup, address_at, taken_objects, reports_in, parts_of_all}
+use Rattle.gateway.specs.Traffic.{HasRoom, is_poll, IsFaithful}
 use Rattle.gateway.specs.Runs.{events_told, MoreEvents}
 use Rattle.gateway.specs.Phases.{asked_of, is_up}
 use Rattle.gateway.specs.Polling.{asked, due}
 use Rattle.gateway.specs.State.{State, at_moment, disconnected, connected}
 use Rattle.gateway.specs.Steps.{HearsEvent, Begins}
-use Rattle.gateway.specs.Agrees.{Agrees, Tracks, Leaves, HasCome, Rests, Tells, Carries}
+use Rattle.gateway.specs.Agrees.{Agrees, Tracks, Leaves, HasCome, Rests, Carries}
 use Rattle.gateway.proofs.Objects.{split_reports}
 use Rattle.gateway.proofs.Agreement.{stands_now}
 use Rattle.gateway.proofs.Put.{told_faithful}
-use Rattle.gateway.proofs.Telling.{IsStable, as_report}
-use Rattle.gateway.proofs.Stations.{AreRead, LineGoesOn, taken_grows, parts_grow, after_request}
+use Rattle.gateway.proofs.Telling.{IsStable}
+use Rattle.gateway.proofs.Stations.{AreRead, taken_grows, parts_grow, after_request}
 use Rattle.gateway.proofs.Come.{Heard, heard_event, come_other, come_open, come_replaced, come_cut, come_bytes, opened_faithful}
 
 -- A request goes out

@@ -1,6 +1,6 @@
 -- The link that exchanges leave, as the last one changes and as one more begins.
-use Rattle.std.proofs.Common.{◌≡◌, ℕ, suc, ◌==◌, nat_lt, Bool, true, false, not, cond, List, [], ◌∷◌, ◌++◌, Option, Some, None, refl, sym, ap, subst, ◌∙◌, inl, inr, append_assoc}
-use Rattle.std.specs.Prelude.{if◌then◌else◌, option_and_then, ◌⊎◌}
+use Rattle.std.proofs.Common.{◌≡◌, ℕ, suc, ◌==◌, nat_lt, Bool, true, false, List, [], ◌∷◌, ◌++◌, refl, sym, ap, subst, ◌∙◌, inl, inr, append_assoc}
+use Rattle.std.specs.Prelude.{if◌then◌else◌}
 use Rattle.std.proofs.lemmas.List.{append-nil}
 use Rattle.ft12.specs.declared.frame.LinkSize.{LinkSize}
 use Rattle.ft12.specs.Fronts.{front_of}
@@ -9,10 +9,9 @@ use Rattle.link.specs.declared.answer.Answer.TheVariants.{Ready, Confirmed, Busy
 use Rattle.link.specs.declared.service.Asked.{Asked}
 use Rattle.link.specs.declared.service.Service.TheVariants.{Class2}
 use Rattle.link.specs.declared.procedure.Link.{Link}
-use Rattle.link.specs.declared.procedure.Link.TheVariants.{Down as LinkDown, Available as LinkAvailable, Next, Held}
+use Rattle.link.specs.declared.procedure.Link.TheVariants.{Down as LinkDown, Held}
 use Rattle.link.specs.declared.settings.LinkSettings.{LinkSettings}
-use Rattle.link.specs.Answers.{answer_of}
-use Rattle.link.specs.Exchanges.{Exchange, LineExchange, OpenExchange, whole_of, view, views, with_station, report_by, reports_of, answer_to}
+use Rattle.link.specs.Exchanges.{Exchange, LineExchange, OpenExchange, view, views, with_station, report_by, reports_of, answer_to}
 use Rattle.link.specs.Procedure as procedure
 use Rattle.link.specs.Procedure.{MaySend, KeepsFrameCountBit, link_after, after, held, missed_so_far}
 use Rattle.gateway.specs.declared.polling.Phase.{Phase}

@@ -8,7 +8,7 @@ use Rattle.std.proofs.lemmas.Bool.{cases_lt, and_parts, and_from}
 use Rattle.session.specs.Session.{Session}
 use Rattle.gateway.specs.Objects.{objects, has_objects}
 use Rattle.asdu.specs.InformationObjects.{InformationObject}
-use Rattle.gateway.specs.Frames.{Connection, Sent, acknowledged_count, acknowledged_frames, objects_of_frames, first_unacknowledged, reports_among, acknowledged_reports, AreInOrder}
+use Rattle.gateway.specs.Frames.{Connection, Sent, acknowledged_count, acknowledged_frames, objects_of_frames, first_unacknowledged, reports_among, AreInOrder}
 use Rattle.gateway.specs.Agrees.{Carries, Tied, pieces_of}
 use Rattle.gateway.proofs.Pieces.{objects-pieces_of, all-pieces_of}
 

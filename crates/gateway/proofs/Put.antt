@@ -1,21 +1,20 @@
 -- The lemmas of Agreement where a port may tell no log, in the form that answers cite.
-use Rattle.std.proofs.Common.{◌≡◌, ℕ, ◌<◌, ◌≤◌, ◌&&◌, Bool, true, false, not, cond, List, [], ◌∷◌, length, refl, ap, sym, ◌∙◌, subst, Option, Some, None}
-use Rattle.std.specs.Prelude.{IfSome, IfNone, nat_lt, if◌then◌else◌, ◌==◌, option_map}
+use Rattle.std.proofs.Common.{◌≡◌, ℕ, ◌&&◌, Bool, true, false, not, cond, List, [], ◌∷◌, length, refl, ap, sym, ◌∙◌, subst, Option, Some, None}
+use Rattle.std.specs.Prelude.{IfSome, IfNone, nat_lt, if◌then◌else◌, ◌==◌}
 use Rattle.std.specs.Bool.{OnTrue}
 use Rattle.std.proofs.lemmas.Bool.{and_parts, not-false}
 use Rattle.apci.specs.declared.apdu.Apdu.{Apdu}
 use Rattle.apci.specs.declared.apdu.Uf.{Uf}
 use Rattle.apci.specs.Spelling.{spelling, Fits}
 use Rattle.session.specs.declared.kinds.Close.{Close}
-use Rattle.session.specs.declared.kinds.Close.TheVariants.{Replaced}
 use Rattle.session.specs.Session as session
 use Rattle.session.specs.Session.{Session, may_send, is_running}
-use Rattle.gateway.specs.Log.{Log, LogEntry, Went, Output, Input, LineIn, Opened, TcpIn, CutOff, Ticked, TcpOut, Closed, tell, events_of}
+use Rattle.gateway.specs.Log.{Log, Went, Output, TcpOut, Closed, tell}
 use Rattle.gateway.specs.Reports.{Setup}
-use Rattle.gateway.specs.Traffic.{IsFaithful, HasRested}
+use Rattle.gateway.specs.Traffic.{IsFaithful}
 use Rattle.gateway.specs.Runs.{events_told}
-use Rattle.gateway.specs.State.{State, disconnected, connected}
-use Rattle.gateway.specs.Agrees.{Agrees, Tracks, Leaves, HasCome, Rests, IsSpent}
+use Rattle.gateway.specs.State.{State, disconnected}
+use Rattle.gateway.specs.Agrees.{Agrees, Tracks, Leaves, Rests, IsSpent}
 use Rattle.gateway.specs.Steps.{SendsPiece, MayClose}
 use Rattle.gateway.proofs.Tied.{SameWindow}
 use Rattle.gateway.proofs.Agreement.{HasNoData, faithful, after_piece, after_due, after_close, rested}

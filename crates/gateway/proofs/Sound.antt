@@ -1,5 +1,5 @@
 -- What holds of the gateway's parts together.
-use Rattle.std.proofs.Common.{◌≡◌, ℕ, ◌+◌, ◌-◌, ◌<◌, ◌≤◌, Bool, true, false, not, List, [], ◌++◌, length, drop, inl, inr, refl, ap, sym, ◌∙◌, subst, arith, length-append, length-drop, Option, Some, None}
+use Rattle.std.proofs.Common.{◌≡◌, ℕ, ◌<◌, ◌≤◌, Bool, true, false, not, List, ◌++◌, length, drop, inl, inr, refl, ap, sym, ◌∙◌, subst, arith, length-append, length-drop, Option, Some, None}
 use Rattle.std.specs.Prelude.{IfSome, IfNone, IsTrue, is_some, ◌↔◌, if◌then◌else◌, ◌==◌, ◌%◌, ◌&&◌, ◌||◌}
 use Rattle.std.proofs.lemmas.Bool.{cases_lt}
 use Rattle.ft12.specs.declared.frame.Frame.{Frame}

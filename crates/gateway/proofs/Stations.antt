@@ -1,32 +1,29 @@
 -- The line's part of the agreement as the log goes on.
-use Rattle.std.proofs.Common.{◌≡◌, ℕ, zero, suc, ◌+◌, ◌<◌, ◌≤◌, ◌^◌, ◌==◌, slice_index, Bool, true, false, List, [], ◌∷◌, ◌++◌, length, max, min, Option, Some, None, refl, sym, ap, subst, ◌∙◌, arith, append_assoc, eq-eqb}
+use Rattle.std.proofs.Common.{◌≡◌, ℕ, zero, suc, ◌+◌, ◌<◌, Bool, List, [], ◌∷◌, ◌++◌, length, Option, Some, None, refl, sym, ap, subst, ◌∙◌, arith, eq-eqb}
 use Rattle.std.specs.Prelude.{if◌then◌else◌, option_and_then, option_map}
 use Rattle.std.specs.List.{flat_map}
 use Rattle.std.proofs.lemmas.List.{append-nil}
 use Rattle.std.proofs.lemmas.Grind.{flat_map-append}
 use Rattle.ft12.specs.declared.frame.LinkSize.{LinkSize}
-use Rattle.ft12.specs.declared.frame.Frame.{Frame}
-use Rattle.ft12.specs.declared.frame.Front.TheVariants.{Whole}
 use Rattle.ft12.specs.Fronts.{front_of}
 use Rattle.ft12.specs.Spelling as line
 use Rattle.ft12.specs.Spelling.{address_len}
 use Rattle.asdu.specs.declared.sizes.Sizes.{Sizes}
 use Rattle.asdu.specs.InformationObjects.{InformationObject}
 use Rattle.link.specs.declared.service.Asked.{Asked}
-use Rattle.link.specs.declared.service.Asked.TheVariants.{Status, Reset, Counted}
 use Rattle.link.specs.declared.procedure.Link.TheVariants.{Down as LinkDown}
 use Rattle.link.specs.Exchanges.{Exchanges, Sending, begun_by, whole_of, timed_current, heard_current, reports_of_exchanges}
 use Rattle.link.specs.Procedure.{KeepsFrameCountBit}
 use Rattle.link.specs.Requests.{request_frame, request_in, FitsAddress, FitsAsked}
 use Rattle.gateway.specs.declared.polling.Phase.{Phase}
 use Rattle.gateway.specs.declared.polling.Phase.TheVariants.{Down, Available, Up}
-use Rattle.gateway.specs.Objects.{objects, has_objects, monitor_objects, parts_of}
-use Rattle.gateway.specs.Log.{Log, LogEntry, Input, LineIn, Came, Went, LineOut, latest}
-use Rattle.gateway.specs.Reports.{Setup, address_at, index_of, sent_to, sending_in, exchanges_of, exchanges_with, reports_in, taken_objects, parts_of_all, KeepsLinks}
+use Rattle.gateway.specs.Objects.{monitor_objects, parts_of}
+use Rattle.gateway.specs.Log.{Log, LineIn, Came, Went, LineOut, latest}
+use Rattle.gateway.specs.Reports.{Setup, address_at, sent_to, sending_in, exchanges_of, exchanges_with, reports_in, taken_objects, parts_of_all, KeepsLinks}
 use Rattle.gateway.specs.Phases.{asked_of}
 use Rattle.gateway.specs.Polling.{Polling, heard, report_heard, due, asked}
 use Rattle.gateway.specs.Agrees.{Tells}
-use Rattle.gateway.proofs.Telling.{IsStable, reports, as_report, Leads, heard_tells, due_tells, asked_tells}
+use Rattle.gateway.proofs.Telling.{IsStable, reports, as_report, heard_tells, due_tells, asked_tells}
 
 -- the exchanges keep the procedure
 pub keeps_links : (p : Setup) (s : Polling) (log : Log) → Tells p s (exchanges_of p log) → KeepsLinks p log

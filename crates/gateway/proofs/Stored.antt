@@ -1,12 +1,8 @@
 -- What is stored, and the start of a run.
-use Rattle.std.proofs.Common.{◌≡◌, ℕ, suc, ◌+◌, ◌<◌, ◌≤◌, ◌^◌, Bool, true, false, ◌&&◌, List, [], ◌∷◌, ◌++◌, length, map, Option, Some, None, refl, ap, sym, ◌∙◌, subst, arith, append_assoc}
-use Rattle.std.specs.Prelude.{IfSome}
+use Rattle.std.proofs.Common.{◌≡◌, ℕ, suc, ◌<◌, ◌≤◌, ◌^◌, Bool, true, false, ◌&&◌, List, [], ◌∷◌, ◌++◌, length, map, refl, ap, sym, ◌∙◌, subst, arith, append_assoc}
 use Rattle.std.specs.List.{AllByRecursion}
 use Rattle.std.proofs.lemmas.List.{append-nil}
-use Rattle.std.proofs.lemmas.Bool.{and_parts}
 use Rattle.ft12.specs.Spelling.{address_len}
-use Rattle.session.specs.Session as session
-use Rattle.events.specs.Queue as queue
 use Rattle.gateway.specs.declared.settings.Silence.TheVariants.{Hold}
 use Rattle.gateway.specs.declared.settings.Station.{Station}
 use Rattle.gateway.specs.declared.entries.Entry.{Entry}

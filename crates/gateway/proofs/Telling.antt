@@ -15,9 +15,8 @@ use Rattle.link.specs.declared.answer.Answer.TheVariants.{Ready, Confirmed, Busy
 use Rattle.link.specs.declared.service.Asked.{Asked}
 use Rattle.link.specs.declared.procedure.Link.{Link}
 use Rattle.link.specs.declared.procedure.Link.TheVariants.{Down as LinkDown}
-use Rattle.link.specs.declared.settings.LinkSettings.{LinkSettings}
 use Rattle.link.specs.Answers.{answer_of}
-use Rattle.link.specs.Exchanges.{Exchange, Exchanges, OpenExchange, Sending, heard_octets, heard_current, timed, timed_current, begun_by, whole_of, views, all_of, report_by, reports_of, reports_of_exchanges, answer_to}
+use Rattle.link.specs.Exchanges.{Exchanges, OpenExchange, heard_octets, heard_current, timed, timed_current, begun_by, whole_of, views, all_of, report_by, reports_of, reports_of_exchanges, answer_to}
 use Rattle.link.specs.Procedure as procedure
 use Rattle.link.specs.Procedure.{KeepsFrameCountBit, link_after, after, after_outcome}
 use Rattle.gateway.specs.Reports.{Setup, address_at}

@@ -1,6 +1,6 @@
 -- The sent frames that are not acknowledged, what the session keeps of them, and the pieces among them.
-use Rattle.std.proofs.Common.{suc, ◌%◌, add-zero, ◌≡◌, ℕ, ◌+◌, ◌≤◌, true, false, cond, List, [], ◌∷◌, ◌++◌, length, take, drop, refl, ap, sym, subst, ◌∙◌, arith}
-use Rattle.std.proofs.lemmas.List.{map-append, drop-map, drop-drop, length-drop, length-append, drop-append-le, append-nil}
+use Rattle.std.proofs.Common.{suc, ◌%◌, add-zero, ◌≡◌, ℕ, ◌+◌, ◌≤◌, true, cond, List, [], ◌∷◌, ◌++◌, length, take, drop, refl, ap, sym, subst, ◌∙◌, arith}
+use Rattle.std.proofs.lemmas.List.{map-append, drop-map, drop-drop, length-drop, length-append, drop-append-le}
 use Rattle.session.specs.declared.kinds.Unacknowledged.{Unacknowledged}
 use Rattle.session.specs.declared.kinds.Kind.TheVariants.{Queue as FromQueue}
 use Rattle.session.specs.Session.{is_from_queue, from_queue}

@@ -1,7 +1,6 @@
 -- What a gateway's state says of the log so far.
 use Rattle.std.specs.Prelude.{◌≡◌, ℕ, ◌+◌, ◌%◌, ◌<◌, ◌≤◌, ◌^◌, ◌⊎◌, Bool, true, false, cond, List, [], ◌∷◌, ◌++◌, length, drop, map, Option, Some, None, IfSome, option_and_then}
 use Rattle.std.specs.List.{flat_map, list_all}
-use Rattle.ft12.specs.declared.frame.LinkSize.{LinkSize}
 use Rattle.ft12.specs.declared.frame.Front.TheVariants.{More}
 use Rattle.ft12.specs.Fronts.{front_of}
 use Rattle.ft12.specs.Spelling.{address_len}
@@ -17,9 +16,8 @@ use Rattle.link.specs.Exchanges.{OpenExchange, Exchanges, whole_of, views, all_o
 use Rattle.link.specs.Procedure.{KeepsFrameCountBit, link_after}
 use Rattle.session.specs.Session.{Session, is_running, is_from_queue, may_send}
 use Rattle.session.specs.declared.kinds.Unacknowledged.{Unacknowledged}
-use Rattle.events.specs.Queue.{Queue}
 use Rattle.gateway.specs.Objects.{objects, has_objects}
-use Rattle.gateway.specs.Log.{Log, LogEntry, Input, Came, latest}
+use Rattle.gateway.specs.Log.{Log, Input, Came, latest}
 use Rattle.gateway.specs.Streams.{spelled, AllFit, AreFrames}
 use Rattle.gateway.specs.Frames.{Sent, Connection, new_connection, data_frames, runs, i_frames, acknowledged_count, objects_of_frames, first_unacknowledged, reports_among, acknowledged_reports, IsNumberedFrom, AreInOrder}
 use Rattle.gateway.specs.Connections.{Channel, no_channel, present, past, Passes, AreConnections}

@@ -1,5 +1,5 @@
 -- The settings of a gateway, and the rules for its stations (profile).
-use Rattle.std.specs.Prelude.{ℕ, ◌≡◌, ◌≢◌, ◌≤◌, List, [], ◌∷◌, length, map}
+use Rattle.std.specs.Prelude.{◌≢◌, ◌≤◌, List, [], ◌∷◌, length}
 use Rattle.std.specs.List.{AllByRecursion}
 use Rattle.ft12.specs.declared.frame.LinkSize.{LinkSize}
 use Rattle.asdu.specs.declared.sizes.CaSize.{CaSize}

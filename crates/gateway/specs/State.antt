@@ -1,5 +1,5 @@
 -- What a gateway is to its callers, and what each part of a step makes of it.
-use Rattle.std.specs.Prelude.{◌≡◌, ℕ, ◌≤◌, ◌<◌, ◌^◌, min, max, true, List, [], ◌∷◌, length, is_some, Option, Some, None}
+use Rattle.std.specs.Prelude.{◌≡◌, ℕ, ◌≤◌, ◌<◌, ◌^◌, min, max, true, List, [], ◌∷◌, length, is_some, Option, Some}
 use Rattle.ft12.specs.Spelling.{address_len}
 use Rattle.apci.specs.declared.apdu.Apdu.{Apdu}
 use Rattle.apci.specs.declared.apdu.Apdu.TheVariants.{I}

@@ -1,5 +1,5 @@
 -- What the parts of a step make of a gateway.
-use Rattle.std.specs.Prelude.{◌≡◌, ℕ, ◌<◌, ◌⊎◌, true, false, List, [], ◌∷◌, ◌++◌, length, Option, Some, None}
+use Rattle.std.specs.Prelude.{◌≡◌, ℕ, true, false, List, ◌∷◌, length, Option, Some, None}
 use Rattle.std.specs.List.{flat_map, list_all}
 use Rattle.apci.specs.declared.apdu.Apdu.{Apdu}
 use Rattle.apci.specs.Spelling.{Fits}
@@ -10,7 +10,6 @@ use Rattle.events.specs.Queue as queue
 use Rattle.gateway.specs.Objects.{objects, has_objects, monitor_objects, parts_of}
 use Rattle.gateway.specs.Log.{Log, Input, LineIn}
 use Rattle.gateway.specs.Connections.{ends, present, IsConnection}
-use Rattle.gateway.specs.Traffic.{is_replaced}
 use Rattle.gateway.specs.Reports.{Setup}
 use Rattle.gateway.specs.Polling.{heard, report_heard, due as line_due}
 use Rattle.gateway.specs.State.{State, at_moment, framed, disconnected, next_frame, piece_sent}

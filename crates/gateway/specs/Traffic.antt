@@ -1,6 +1,5 @@
 -- What holds of every log of a gateway.
-use Rattle.std.specs.Prelude.{◌≡◌, ℕ, ◌+◌, ◌<◌, Bool, true, false, List, [], ◌∷◌, length, Option, Some, None}
-use Rattle.ft12.specs.declared.frame.LinkSize.{LinkSize}
+use Rattle.std.specs.Prelude.{◌≡◌, ℕ, ◌+◌, ◌<◌, Bool, true, false, List, [], ◌∷◌, length, Some, None}
 use Rattle.ft12.specs.Spelling.{spelling}
 use Rattle.link.specs.declared.service.Asked.{Asked}
 use Rattle.link.specs.declared.service.Asked.TheVariants.{Status, Reset, Counted}
@@ -11,7 +10,7 @@ use Rattle.session.specs.declared.kinds.Close.TheVariants.{Replaced}
 use Rattle.gateway.specs.Log.{Log, Opened, Came, Went, Output, LineOut, TcpOut, Closed, latest}
 use Rattle.gateway.specs.Streams.{IsOneFrame}
 use Rattle.gateway.specs.Frames.{Connection, runs, acknowledged_count, acknowledged_reports, first_unacknowledged, monitor_objects_sent, AreInOrder}
-use Rattle.gateway.specs.Connections.{Channel, present, past, ends, IsConnection, AreConnections, IsBegun}
+use Rattle.gateway.specs.Connections.{present, past, ends, IsConnection, AreConnections, IsBegun}
 use Rattle.gateway.specs.Reports.{Setup, address_at, taken_objects, reports_in, parts_of_all, KeepsLinks}
 
 -- the connections of a log, the newest first: the one that is open, or an empty one where there is none, and those before it

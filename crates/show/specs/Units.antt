@@ -7,7 +7,7 @@ use Rattle.hex.specs.Hex.{encode_upper}
 use Rattle.elements.specs.declared.types.TypeId.{TypeId}
 use Rattle.elements.specs.declared.tag.Verdict.{Verdict}
 use Rattle.elements.specs.declared.tag.Verdict.TheVariants.{Good, MarkedInvalid, OutOfRange, NoSuchDay, WrongWeekday}
-use Rattle.elements.specs.TimeTag.{fields_of, verdict_of}
+use Rattle.elements.specs.TimeTag.{verdict_of}
 use Rattle.elements.specs.Types.{row, value_shown, type_of}
 use Rattle.asdu.specs.Asdu.{Info, AsduValue}
 use Rattle.asdu.specs.Fields.{value_at}
@@ -26,7 +26,7 @@ verdict_text WrongWeekday = codes "wrong weekday"
 
 -- a time tag in hexadecimal, and the verdict on it
 abbrev pub judged_text : List ℕ → List ℕ
-judged_text octets = codes " tag=" ++ encode_upper octets ++ codes " " ++ verdict_text (verdict_of (fields_of octets))
+judged_text octets = codes " tag=" ++ encode_upper octets ++ codes " " ++ verdict_text (verdict_of octets)
 
 abbrev pub tag_text : Option (List ℕ) → List ℕ
 tag_text None = []

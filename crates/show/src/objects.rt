@@ -2,7 +2,6 @@
 ghost use Rattle.std.specs.Prelude.{◌≡◌, ◌++◌, IfOk, OnOk, length, string_bytes};
 ghost use Rattle.std.specs.Option.{ForSome, option_copied};
 ghost use Rattle.elements.specs.Types.{row};
-ghost use Rattle.elements.specs.TimeTag.{verdict_of, fields_of};
 ghost use Rattle.asdu.specs.Objects.{info_of};
 ghost use Rattle.show.specs.Units.{object_line, value_text, content_text, judged_text, tag_text, verdict_text};
 

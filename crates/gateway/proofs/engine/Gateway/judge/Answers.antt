@@ -1,6 +1,6 @@
 use Rattle.std.proofs.Common.{arith, ap, length, length-drop}
 use Rattle.session.specs.Session.{Session, from_queue}
-use Rattle.events.specs.Queue.{Queue, free_places}
+use Rattle.events.specs.Queue.{Queue}
 use Rattle.gateway.proofs.Counts.{taken_counts}
 use Rattle.gateway.proofs.Sound.{less_kept}
 use Rattle.gateway.proofs.engine.Gateway.judge.Goals as goal

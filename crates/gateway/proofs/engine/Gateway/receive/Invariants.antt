@@ -1,6 +1,6 @@
-use Rattle.std.proofs.Common.{◌≡◌, ℕ, ◌≤◌, ◌-◌, List, length, drop, true}
+use Rattle.std.proofs.Common.{◌≡◌, ◌≤◌, ◌-◌, length, drop, true}
 use Rattle.gateway.specs.Reports.{Setup}
-use Rattle.gateway.specs.Agrees.{Tracks, IsSpent}
+use Rattle.gateway.specs.Agrees.{Tracks}
 use Rattle.gateway.specs.Runs.{events_told}
 use Rattle.gateway.proofs.engine.Gateway.receive.Given as goal
 

@@ -1,4 +1,4 @@
-use Rattle.std.proofs.Common.{◌≡◌, ℕ, ◌≤◌, ◌-◌, List, length, drop, true}
+use Rattle.std.proofs.Common.{◌≡◌, ℕ, List}
 use Rattle.gateway.specs.Reports.{Setup}
 use Rattle.gateway.specs.Agrees.{Tracks, IsSpent}
 use Rattle.gateway.specs.Runs.{events_told}

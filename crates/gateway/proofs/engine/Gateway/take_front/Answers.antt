@@ -1,6 +1,6 @@
 use Rattle.std.proofs.Common.{◌++◌, drop}
 use Rattle.apci.specs.Spelling.{spelling}
-use Rattle.gateway.proofs.Judgements.{told_fed, told_more, garbled_closes}
+use Rattle.gateway.proofs.Judgements.{told_fed, garbled_closes}
 use Rattle.gateway.proofs.engine.Gateway.take_front.Goals as goal
 
 pub returns-in-Apdu-clause-kept : goal.returns-in-Apdu-clause-kept

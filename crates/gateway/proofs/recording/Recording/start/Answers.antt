@@ -1,5 +1,5 @@
 use Rattle.std.proofs.Common.{ap, ◌∙◌}
-use Rattle.gateway.specs.Recorded.{Recorded, coming}
+use Rattle.gateway.specs.Recorded.{Recorded}
 use Rattle.gateway.proofs.Stored.{start_sound}
 use Rattle.gateway.proofs.recording.Recording.start.Goals as goal
 
