@@ -4,28 +4,6 @@ use crate::job::Job;
 use std::test::Fail;
 
 #[test]
-fn each_type_is_shown_on_the_line(rt: HostRuntime) -> Result<(), Fail> {
-    for (sizes, hex, lines) in &types::LINE {
-        let done = performed(rt.alloc(), &Job::Show101(*sizes, *hex));
-        assert_eq!(rt; done.out.as_slice(), lines.as_bytes(), "{hex}");
-        assert_eq!(rt; done.status, 0);
-        assert_eq!(rt; done.err.as_slice(), b"".as_slice());
-    }
-    Ok(())
-}
-
-#[test]
-fn each_type_is_shown_on_the_connection(rt: HostRuntime) -> Result<(), Fail> {
-    for (hex, lines) in &types::TCP {
-        let done = performed(rt.alloc(), &Job::Show104(*hex));
-        assert_eq!(rt; done.out.as_slice(), lines.as_bytes(), "{hex}");
-        assert_eq!(rt; done.status, 0);
-        assert_eq!(rt; done.err.as_slice(), b"".as_slice());
-    }
-    Ok(())
-}
-
-#[test]
 fn each_text_of_the_line(rt: HostRuntime) -> Result<(), Fail> {
     for (sizes, hex, lines, status) in &texts::LINE {
         let done = performed(rt.alloc(), &Job::Show101(*sizes, *hex));

@@ -1,8 +1,35 @@
-//! A frame of each type, with SQ 0 and 1, and what it is in words; the octets and the words were computed from the
+//! A frame of each type, with SQ 0 and 1, and what it is in words. The octets and the words were computed from the
 //! standard's tables, apart from this program.
+use super::performed;
+use crate::job::Job;
+use std::alloc::Global;
+use std::process::Abort;
 
-/// Of the line: the sizes, the octets, and the lines.
-pub(super) static LINE: [(&str, &str, &str); 46] = [
+/// Octets of the line: their sizes, the octets, and the lines.
+type LineRow = (&'static str, &'static str, &'static str);
+
+/// Octets of the connection, and the lines.
+type TcpRow = (&'static str, &'static str);
+
+fn shown_on_the_line(rt: &impl Abort, alloc: Global, rows: &[LineRow]) {
+    for (sizes, hex, lines) in rows {
+        let done = performed(alloc, &Job::Show101(*sizes, *hex));
+        assert_eq!(rt; done.out.as_slice(), lines.as_bytes(), "{hex}");
+        assert_eq!(rt; done.status, 0);
+        assert_eq!(rt; done.err.as_slice(), b"".as_slice());
+    }
+}
+
+fn shown_on_the_connection(rt: &impl Abort, alloc: Global, rows: &[TcpRow]) {
+    for (hex, lines) in rows {
+        let done = performed(alloc, &Job::Show104(*hex));
+        assert_eq!(rt; done.out.as_slice(), lines.as_bytes(), "{hex}");
+        assert_eq!(rt; done.status, 0);
+        assert_eq!(rt; done.err.as_slice(), b"".as_slice());
+    }
+}
+
+static SINGLE_POINTS_ON_THE_LINE: [LineRow; 4] = [
     (
         "2223",
         "68111168080201010214000100640000016B0000F0E316",
@@ -23,6 +50,38 @@ pub(super) static LINE: [(&str, &str, &str); 46] = [
         "6818186808011E820301640001D5DD220C3D0218F0D5DD220CBD0218F016",
         "data c=08 prm=0 acd=0 dfc=0 function=8 address=1 octets=22\nasdu type=30 sq=1 number=2 test=0 negative=0 cause=3 originator=0 ca=1\nobject address=100 value=1 element=01 tag=D5DD220C3D0218 wrong weekday\nobject address=101 value=0 element=F0 tag=D5DD220CBD0218 wrong weekday\n",
     ),
+];
+
+#[test]
+fn single_points_on_the_line(rt: HostRuntime) {
+    shown_on_the_line(&rt, rt.alloc(), &SINGLE_POINTS_ON_THE_LINE);
+}
+
+static SINGLE_POINTS_ON_THE_CONNECTION: [TcpRow; 4] = [
+    (
+        "68120200FCFF010214010100640000016B0000F0",
+        "I ns=1 nr=32766 octets=14\nasdu type=1 sq=0 number=2 test=0 negative=0 cause=20 originator=1 ca=1\nobject address=100 value=1 element=01\nobject address=107 value=0 element=F0\n",
+    ),
+    (
+        "680F0400FAFF01828302FEFF64000001F0",
+        "I ns=2 nr=32765 octets=11\nasdu type=1 sq=1 number=2 test=1 negative=0 cause=3 originator=2 ca=65534\nobject address=100 value=1 element=01\nobject address=101 value=0 element=F0\n",
+    ),
+    (
+        "68200600F8FF1E024703010064000001D5DD220C9E02186B0000F0D5DD220C3D0218",
+        "I ns=3 nr=32764 octets=28\nasdu type=30 sq=0 number=2 test=0 negative=1 cause=7 originator=3 ca=1\nobject address=100 value=1 element=01 tag=D5DD220C9E0218 no such day\nobject address=107 value=0 element=F0 tag=D5DD220C3D0218 wrong weekday\n",
+    ),
+    (
+        "681D0800F6FF1E820304FEFF64000001D5DD220C3D0218F0D5DD220CBD0218",
+        "I ns=4 nr=32763 octets=25\nasdu type=30 sq=1 number=2 test=0 negative=0 cause=3 originator=4 ca=65534\nobject address=100 value=1 element=01 tag=D5DD220C3D0218 wrong weekday\nobject address=101 value=0 element=F0 tag=D5DD220CBD0218 wrong weekday\n",
+    ),
+];
+
+#[test]
+fn single_points_on_the_connection(rt: HostRuntime) {
+    shown_on_the_connection(&rt, rt.alloc(), &SINGLE_POINTS_ON_THE_CONNECTION);
+}
+
+static DOUBLE_POINTS_ON_THE_LINE: [LineRow; 4] = [
     (
         "2223",
         "68111168080201030214000100640000026B0000837916",
@@ -43,6 +102,38 @@ pub(super) static LINE: [(&str, &str, &str); 46] = [
         "6818186808011F82030164000260EA220C9D021883D5DD220C9E02185E16",
         "data c=08 prm=0 acd=0 dfc=0 function=8 address=1 octets=22\nasdu type=31 sq=1 number=2 test=0 negative=0 cause=3 originator=0 ca=1\nobject address=100 value=2 element=02 tag=60EA220C9D0218 out of range\nobject address=101 value=3 element=83 tag=D5DD220C9E0218 no such day\n",
     ),
+];
+
+#[test]
+fn double_points_on_the_line(rt: HostRuntime) {
+    shown_on_the_line(&rt, rt.alloc(), &DOUBLE_POINTS_ON_THE_LINE);
+}
+
+static DOUBLE_POINTS_ON_THE_CONNECTION: [TcpRow; 4] = [
+    (
+        "68120A00F4FF030214050100640000026B000083",
+        "I ns=5 nr=32762 octets=14\nasdu type=3 sq=0 number=2 test=0 negative=0 cause=20 originator=5 ca=1\nobject address=100 value=2 element=02\nobject address=107 value=3 element=83\n",
+    ),
+    (
+        "680F0C00F2FF03828306FEFF6400000283",
+        "I ns=6 nr=32761 octets=11\nasdu type=3 sq=1 number=2 test=1 negative=0 cause=3 originator=6 ca=65534\nobject address=100 value=2 element=02\nobject address=101 value=3 element=83\n",
+    ),
+    (
+        "68200E00F0FF1F024707010064000002D5DDA20C9D02186B00008360EA220C9D0218",
+        "I ns=7 nr=32760 octets=28\nasdu type=31 sq=0 number=2 test=0 negative=1 cause=7 originator=7 ca=1\nobject address=100 value=2 element=02 tag=D5DDA20C9D0218 marked invalid\nobject address=107 value=3 element=83 tag=60EA220C9D0218 out of range\n",
+    ),
+    (
+        "681D1000EEFF1F820308FEFF6400000260EA220C9D021883D5DD220C9E0218",
+        "I ns=8 nr=32759 octets=25\nasdu type=31 sq=1 number=2 test=0 negative=0 cause=3 originator=8 ca=65534\nobject address=100 value=2 element=02 tag=60EA220C9D0218 out of range\nobject address=101 value=3 element=83 tag=D5DD220C9E0218 no such day\n",
+    ),
+];
+
+#[test]
+fn double_points_on_the_connection(rt: HostRuntime) {
+    shown_on_the_connection(&rt, rt.alloc(), &DOUBLE_POINTS_ON_THE_CONNECTION);
+}
+
+static STEP_POSITIONS_ON_THE_LINE: [LineRow; 4] = [
     (
         "2223",
         "681313680802010502140001006400007F806B0000BF01B516",
@@ -63,6 +154,38 @@ pub(super) static LINE: [(&str, &str, &str); 46] = [
         "681A1A6808012082030164007F80D5DD220C9D0218BF01D5DDA20C9D02188016",
         "data c=08 prm=0 acd=0 dfc=0 function=8 address=1 octets=24\nasdu type=32 sq=1 number=2 test=0 negative=0 cause=3 originator=0 ca=1\nobject address=100 value=-1 element=7F80 tag=D5DD220C9D0218 good 1709210096789\nobject address=101 value=63 element=BF01 tag=D5DDA20C9D0218 marked invalid\n",
     ),
+];
+
+#[test]
+fn step_positions_on_the_line(rt: HostRuntime) {
+    shown_on_the_line(&rt, rt.alloc(), &STEP_POSITIONS_ON_THE_LINE);
+}
+
+static STEP_POSITIONS_ON_THE_CONNECTION: [TcpRow; 4] = [
+    (
+        "68141200ECFF0502140901006400007F806B0000BF01",
+        "I ns=9 nr=32758 octets=16\nasdu type=5 sq=0 number=2 test=0 negative=0 cause=20 originator=9 ca=1\nobject address=100 value=-1 element=7F80\nobject address=107 value=63 element=BF01\n",
+    ),
+    (
+        "68111400EAFF0582830AFEFF6400007F80BF01",
+        "I ns=10 nr=32757 octets=13\nasdu type=5 sq=1 number=2 test=1 negative=0 cause=3 originator=10 ca=65534\nobject address=100 value=-1 element=7F80\nobject address=101 value=63 element=BF01\n",
+    ),
+    (
+        "68221600E8FF2002470B01006400007F80D5DD220CBD02186B0000BF01D5DD220C9D0218",
+        "I ns=11 nr=32756 octets=30\nasdu type=32 sq=0 number=2 test=0 negative=1 cause=7 originator=11 ca=1\nobject address=100 value=-1 element=7F80 tag=D5DD220CBD0218 wrong weekday\nobject address=107 value=63 element=BF01 tag=D5DD220C9D0218 good 1709210096789\n",
+    ),
+    (
+        "681F1800E6FF2082030CFEFF6400007F80D5DD220C9D0218BF01D5DDA20C9D0218",
+        "I ns=12 nr=32755 octets=27\nasdu type=32 sq=1 number=2 test=0 negative=0 cause=3 originator=12 ca=65534\nobject address=100 value=-1 element=7F80 tag=D5DD220C9D0218 good 1709210096789\nobject address=101 value=63 element=BF01 tag=D5DDA20C9D0218 marked invalid\n",
+    ),
+];
+
+#[test]
+fn step_positions_on_the_connection(rt: HostRuntime) {
+    shown_on_the_connection(&rt, rt.alloc(), &STEP_POSITIONS_ON_THE_CONNECTION);
+}
+
+static BITSTRINGS_ON_THE_LINE: [LineRow; 4] = [
     (
         "2223",
         "6819196808020107021400010064000078563412106B0000FFFFFFFF819916",
@@ -83,6 +206,38 @@ pub(super) static LINE: [(&str, &str, &str); 46] = [
         "6820206808012182030164007856341210D5DD220C3D0218FFFFFFFF81D5DD220CBD0218A316",
         "data c=08 prm=0 acd=0 dfc=0 function=8 address=1 octets=30\nasdu type=33 sq=1 number=2 test=0 negative=0 cause=3 originator=0 ca=1\nobject address=100 value=305419896 element=7856341210 tag=D5DD220C3D0218 wrong weekday\nobject address=101 value=4294967295 element=FFFFFFFF81 tag=D5DD220CBD0218 wrong weekday\n",
     ),
+];
+
+#[test]
+fn bitstrings_on_the_line(rt: HostRuntime) {
+    shown_on_the_line(&rt, rt.alloc(), &BITSTRINGS_ON_THE_LINE);
+}
+
+static BITSTRINGS_ON_THE_CONNECTION: [TcpRow; 4] = [
+    (
+        "681A1A00E4FF0702140D010064000078563412106B0000FFFFFFFF81",
+        "I ns=13 nr=32754 octets=22\nasdu type=7 sq=0 number=2 test=0 negative=0 cause=20 originator=13 ca=1\nobject address=100 value=305419896 element=7856341210\nobject address=107 value=4294967295 element=FFFFFFFF81\n",
+    ),
+    (
+        "68171C00E2FF0782830EFEFF6400007856341210FFFFFFFF81",
+        "I ns=14 nr=32753 octets=19\nasdu type=7 sq=1 number=2 test=1 negative=0 cause=3 originator=14 ca=65534\nobject address=100 value=305419896 element=7856341210\nobject address=101 value=4294967295 element=FFFFFFFF81\n",
+    ),
+    (
+        "68281E00E0FF2102470F01006400007856341210D5DD220C9E02186B0000FFFFFFFF81D5DD220C3D0218",
+        "I ns=15 nr=32752 octets=36\nasdu type=33 sq=0 number=2 test=0 negative=1 cause=7 originator=15 ca=1\nobject address=100 value=305419896 element=7856341210 tag=D5DD220C9E0218 no such day\nobject address=107 value=4294967295 element=FFFFFFFF81 tag=D5DD220C3D0218 wrong weekday\n",
+    ),
+    (
+        "68252000DEFF21820310FEFF6400007856341210D5DD220C3D0218FFFFFFFF81D5DD220CBD0218",
+        "I ns=16 nr=32751 octets=33\nasdu type=33 sq=1 number=2 test=0 negative=0 cause=3 originator=16 ca=65534\nobject address=100 value=305419896 element=7856341210 tag=D5DD220C3D0218 wrong weekday\nobject address=101 value=4294967295 element=FFFFFFFF81 tag=D5DD220CBD0218 wrong weekday\n",
+    ),
+];
+
+#[test]
+fn bitstrings_on_the_connection(rt: HostRuntime) {
+    shown_on_the_connection(&rt, rt.alloc(), &BITSTRINGS_ON_THE_CONNECTION);
+}
+
+static NORMALISED_VALUES_ON_THE_LINE: [LineRow; 4] = [
     (
         "2223",
         "681515680802010902140001006400000080006B0000FFFF80F816",
@@ -103,6 +258,38 @@ pub(super) static LINE: [(&str, &str, &str); 46] = [
         "681C1C68080122820301640000800060EA220C9D0218FFFF80D5DD220C9E0218DA16",
         "data c=08 prm=0 acd=0 dfc=0 function=8 address=1 octets=26\nasdu type=34 sq=1 number=2 test=0 negative=0 cause=3 originator=0 ca=1\nobject address=100 value=-32768 element=008000 tag=60EA220C9D0218 out of range\nobject address=101 value=-1 element=FFFF80 tag=D5DD220C9E0218 no such day\n",
     ),
+];
+
+#[test]
+fn normalised_values_on_the_line(rt: HostRuntime) {
+    shown_on_the_line(&rt, rt.alloc(), &NORMALISED_VALUES_ON_THE_LINE);
+}
+
+static NORMALISED_VALUES_ON_THE_CONNECTION: [TcpRow; 4] = [
+    (
+        "68162200DCFF0902141101006400000080006B0000FFFF80",
+        "I ns=17 nr=32750 octets=18\nasdu type=9 sq=0 number=2 test=0 negative=0 cause=20 originator=17 ca=1\nobject address=100 value=-32768 element=008000\nobject address=107 value=-1 element=FFFF80\n",
+    ),
+    (
+        "68132400DAFF09828312FEFF640000008000FFFF80",
+        "I ns=18 nr=32749 octets=15\nasdu type=9 sq=1 number=2 test=1 negative=0 cause=3 originator=18 ca=65534\nobject address=100 value=-32768 element=008000\nobject address=101 value=-1 element=FFFF80\n",
+    ),
+    (
+        "68242600D8FF220247130100640000008000D5DDA20C9D02186B0000FFFF8060EA220C9D0218",
+        "I ns=19 nr=32748 octets=32\nasdu type=34 sq=0 number=2 test=0 negative=1 cause=7 originator=19 ca=1\nobject address=100 value=-32768 element=008000 tag=D5DDA20C9D0218 marked invalid\nobject address=107 value=-1 element=FFFF80 tag=60EA220C9D0218 out of range\n",
+    ),
+    (
+        "68212800D6FF22820314FEFF64000000800060EA220C9D0218FFFF80D5DD220C9E0218",
+        "I ns=20 nr=32747 octets=29\nasdu type=34 sq=1 number=2 test=0 negative=0 cause=3 originator=20 ca=65534\nobject address=100 value=-32768 element=008000 tag=60EA220C9D0218 out of range\nobject address=101 value=-1 element=FFFF80 tag=D5DD220C9E0218 no such day\n",
+    ),
+];
+
+#[test]
+fn normalised_values_on_the_connection(rt: HostRuntime) {
+    shown_on_the_connection(&rt, rt.alloc(), &NORMALISED_VALUES_ON_THE_CONNECTION);
+}
+
+static SCALED_VALUES_ON_THE_LINE: [LineRow; 4] = [
     (
         "2223",
         "681515680802010B02140001006400000100006B00000080FF7C16",
@@ -123,6 +310,38 @@ pub(super) static LINE: [(&str, &str, &str); 46] = [
         "681C1C680801238203016400010000D5DD220C9D02180080FFD5DDA20C9D02184416",
         "data c=08 prm=0 acd=0 dfc=0 function=8 address=1 octets=26\nasdu type=35 sq=1 number=2 test=0 negative=0 cause=3 originator=0 ca=1\nobject address=100 value=1 element=010000 tag=D5DD220C9D0218 good 1709210096789\nobject address=101 value=-32768 element=0080FF tag=D5DDA20C9D0218 marked invalid\n",
     ),
+];
+
+#[test]
+fn scaled_values_on_the_line(rt: HostRuntime) {
+    shown_on_the_line(&rt, rt.alloc(), &SCALED_VALUES_ON_THE_LINE);
+}
+
+static SCALED_VALUES_ON_THE_CONNECTION: [TcpRow; 4] = [
+    (
+        "68162A00D4FF0B02141501006400000100006B00000080FF",
+        "I ns=21 nr=32746 octets=18\nasdu type=11 sq=0 number=2 test=0 negative=0 cause=20 originator=21 ca=1\nobject address=100 value=1 element=010000\nobject address=107 value=-32768 element=0080FF\n",
+    ),
+    (
+        "68132C00D2FF0B828316FEFF6400000100000080FF",
+        "I ns=22 nr=32745 octets=15\nasdu type=11 sq=1 number=2 test=1 negative=0 cause=3 originator=22 ca=65534\nobject address=100 value=1 element=010000\nobject address=101 value=-32768 element=0080FF\n",
+    ),
+    (
+        "68242E00D0FF230247170100640000010000D5DD220CBD02186B00000080FFD5DD220C9D0218",
+        "I ns=23 nr=32744 octets=32\nasdu type=35 sq=0 number=2 test=0 negative=1 cause=7 originator=23 ca=1\nobject address=100 value=1 element=010000 tag=D5DD220CBD0218 wrong weekday\nobject address=107 value=-32768 element=0080FF tag=D5DD220C9D0218 good 1709210096789\n",
+    ),
+    (
+        "68213000CEFF23820318FEFF640000010000D5DD220C9D02180080FFD5DDA20C9D0218",
+        "I ns=24 nr=32743 octets=29\nasdu type=35 sq=1 number=2 test=0 negative=0 cause=3 originator=24 ca=65534\nobject address=100 value=1 element=010000 tag=D5DD220C9D0218 good 1709210096789\nobject address=101 value=-32768 element=0080FF tag=D5DDA20C9D0218 marked invalid\n",
+    ),
+];
+
+#[test]
+fn scaled_values_on_the_connection(rt: HostRuntime) {
+    shown_on_the_connection(&rt, rt.alloc(), &SCALED_VALUES_ON_THE_CONNECTION);
+}
+
+static SHORT_FLOATS_ON_THE_LINE: [LineRow; 4] = [
     (
         "2223",
         "681919680802010D02140001006400000000803F006B0000000080BF807C16",
@@ -143,6 +362,38 @@ pub(super) static LINE: [(&str, &str, &str); 46] = [
         "6820206808012482030164000000803F00D5DD220C3D0218000080BF80D5DD220CBD02188316",
         "data c=08 prm=0 acd=0 dfc=0 function=8 address=1 octets=30\nasdu type=36 sq=1 number=2 test=0 negative=0 cause=3 originator=0 ca=1\nobject address=100 value=1065353216 element=0000803F00 tag=D5DD220C3D0218 wrong weekday\nobject address=101 value=3212836864 element=000080BF80 tag=D5DD220CBD0218 wrong weekday\n",
     ),
+];
+
+#[test]
+fn short_floats_on_the_line(rt: HostRuntime) {
+    shown_on_the_line(&rt, rt.alloc(), &SHORT_FLOATS_ON_THE_LINE);
+}
+
+static SHORT_FLOATS_ON_THE_CONNECTION: [TcpRow; 4] = [
+    (
+        "681A3200CCFF0D02141901006400000000803F006B0000000080BF80",
+        "I ns=25 nr=32742 octets=22\nasdu type=13 sq=0 number=2 test=0 negative=0 cause=20 originator=25 ca=1\nobject address=100 value=1065353216 element=0000803F00\nobject address=107 value=3212836864 element=000080BF80\n",
+    ),
+    (
+        "68173400CAFF0D82831AFEFF6400000000803F00000080BF80",
+        "I ns=26 nr=32741 octets=19\nasdu type=13 sq=1 number=2 test=1 negative=0 cause=3 originator=26 ca=65534\nobject address=100 value=1065353216 element=0000803F00\nobject address=101 value=3212836864 element=000080BF80\n",
+    ),
+    (
+        "68283600C8FF2402471B01006400000000803F00D5DD220C9E02186B0000000080BF80D5DD220C3D0218",
+        "I ns=27 nr=32740 octets=36\nasdu type=36 sq=0 number=2 test=0 negative=1 cause=7 originator=27 ca=1\nobject address=100 value=1065353216 element=0000803F00 tag=D5DD220C9E0218 no such day\nobject address=107 value=3212836864 element=000080BF80 tag=D5DD220C3D0218 wrong weekday\n",
+    ),
+    (
+        "68253800C6FF2482031CFEFF6400000000803F00D5DD220C3D0218000080BF80D5DD220CBD0218",
+        "I ns=28 nr=32739 octets=33\nasdu type=36 sq=1 number=2 test=0 negative=0 cause=3 originator=28 ca=65534\nobject address=100 value=1065353216 element=0000803F00 tag=D5DD220C3D0218 wrong weekday\nobject address=101 value=3212836864 element=000080BF80 tag=D5DD220CBD0218 wrong weekday\n",
+    ),
+];
+
+#[test]
+fn short_floats_on_the_connection(rt: HostRuntime) {
+    shown_on_the_connection(&rt, rt.alloc(), &SHORT_FLOATS_ON_THE_CONNECTION);
+}
+
+static INTEGRATED_TOTALS_ON_THE_LINE: [LineRow; 4] = [
     (
         "2223",
         "681919680802010F0214000100640000FFFFFFFFA56B00000100000000A216",
@@ -163,192 +414,14 @@ pub(super) static LINE: [(&str, &str, &str); 46] = [
         "682020680801258203016400FFFFFFFFA560EA220C9D02180100000000D5DD220C9E02188116",
         "data c=08 prm=0 acd=0 dfc=0 function=8 address=1 octets=30\nasdu type=37 sq=1 number=2 test=0 negative=0 cause=3 originator=0 ca=1\nobject address=100 value=-1 element=FFFFFFFFA5 tag=60EA220C9D0218 out of range\nobject address=101 value=1 element=0100000000 tag=D5DD220C9E0218 no such day\n",
     ),
-    (
-        "2223",
-        "68111168080201460214000100640000816B000002BA16",
-        "data c=08 prm=0 acd=0 dfc=0 function=8 address=258 octets=14\nasdu type=70 sq=0 number=2 test=0 negative=0 cause=20 originator=0 ca=1\nobject address=100 value=1 element=81\nobject address=107 value=2 element=02\n",
-    ),
-    (
-        "1211",
-        "680A0A68080146828309016481024516",
-        "data c=08 prm=0 acd=0 dfc=0 function=8 address=1 octets=8\nasdu type=70 sq=1 number=2 test=1 negative=0 cause=3 originator=9 ca=1\nobject address=100 value=1 element=81\nobject address=101 value=2 element=02\n",
-    ),
-    (
-        "2122",
-        "680E0E687302012D024701006400816B00003D16",
-        "data c=73 prm=1 fcb=1 fcv=1 function=3 address=258 octets=11\nasdu type=45 sq=0 number=2 test=0 negative=1 cause=7 originator=0 ca=1\nobject address=100 value=1 element=81\nobject address=107 value=0 element=00\n",
-    ),
-    (
-        "1112",
-        "680A0A6873012D820301640081000C16",
-        "data c=73 prm=1 fcb=1 fcv=1 function=3 address=1 octets=8\nasdu type=45 sq=1 number=2 test=0 negative=0 cause=3 originator=0 ca=1\nobject address=100 value=1 element=81\nobject address=101 value=0 element=00\n",
-    ),
-    (
-        "2223",
-        "681111687302012E0214000100640000026B0000810D16",
-        "data c=73 prm=1 fcb=1 fcv=1 function=3 address=258 octets=14\nasdu type=46 sq=0 number=2 test=0 negative=0 cause=20 originator=0 ca=1\nobject address=100 value=2 element=02\nobject address=107 value=1 element=81\n",
-    ),
-    (
-        "1211",
-        "680A0A6873012E828309016402819816",
-        "data c=73 prm=1 fcb=1 fcv=1 function=3 address=1 octets=8\nasdu type=46 sq=1 number=2 test=1 negative=0 cause=3 originator=9 ca=1\nobject address=100 value=2 element=02\nobject address=101 value=1 element=81\n",
-    ),
-    (
-        "2122",
-        "680E0E687302012F024701006400016B007E3D16",
-        "data c=73 prm=1 fcb=1 fcv=1 function=3 address=258 octets=11\nasdu type=47 sq=0 number=2 test=0 negative=1 cause=7 originator=0 ca=1\nobject address=100 value=1 element=01\nobject address=107 value=2 element=7E\n",
-    ),
-    (
-        "1112",
-        "680A0A6873012F8203016400017E0C16",
-        "data c=73 prm=1 fcb=1 fcv=1 function=3 address=1 octets=8\nasdu type=47 sq=1 number=2 test=0 negative=0 cause=3 originator=0 ca=1\nobject address=100 value=1 element=01\nobject address=101 value=2 element=7E\n",
-    ),
-    (
-        "2223",
-        "68151568730201300214000100640000FF7F806B00000080000A16",
-        "data c=73 prm=1 fcb=1 fcv=1 function=3 address=258 octets=18\nasdu type=48 sq=0 number=2 test=0 negative=0 cause=20 originator=0 ca=1\nobject address=100 value=32767 element=FF7F80\nobject address=107 value=-32768 element=008000\n",
-    ),
-    (
-        "1211",
-        "680E0E687301308283090164FF7F800080009516",
-        "data c=73 prm=1 fcb=1 fcv=1 function=3 address=1 octets=12\nasdu type=48 sq=1 number=2 test=1 negative=0 cause=3 originator=9 ca=1\nobject address=100 value=32767 element=FF7F80\nobject address=101 value=-32768 element=008000\n",
-    ),
-    (
-        "2122",
-        "68121268730201310247010064000C00006B00F4FF803F16",
-        "data c=73 prm=1 fcb=1 fcv=1 function=3 address=258 octets=15\nasdu type=49 sq=0 number=2 test=0 negative=1 cause=7 originator=0 ca=1\nobject address=100 value=12 element=0C0000\nobject address=107 value=-12 element=F4FF80\n",
-    ),
-    (
-        "1112",
-        "680E0E6873013182030164000C0000F4FF800E16",
-        "data c=73 prm=1 fcb=1 fcv=1 function=3 address=1 octets=12\nasdu type=49 sq=1 number=2 test=0 negative=0 cause=3 originator=0 ca=1\nobject address=100 value=12 element=0C0000\nobject address=101 value=-12 element=F4FF80\n",
-    ),
-    (
-        "2223",
-        "68111168730201640214000100640000146B000024F816",
-        "data c=73 prm=1 fcb=1 fcv=1 function=3 address=258 octets=14\nasdu type=100 sq=0 number=2 test=0 negative=0 cause=20 originator=0 ca=1\nobject address=100 value=20 element=14\nobject address=107 value=36 element=24\n",
-    ),
-    (
-        "1211",
-        "680A0A68730164828309016414248316",
-        "data c=73 prm=1 fcb=1 fcv=1 function=3 address=1 octets=8\nasdu type=100 sq=1 number=2 test=1 negative=0 cause=3 originator=9 ca=1\nobject address=100 value=20 element=14\nobject address=101 value=36 element=24\n",
-    ),
 ];
 
-/// Of the connection: the octets, and the lines.
-pub(super) static TCP: [(&str, &str); 46] = [
-    (
-        "68120200FCFF010214010100640000016B0000F0",
-        "I ns=1 nr=32766 octets=14\nasdu type=1 sq=0 number=2 test=0 negative=0 cause=20 originator=1 ca=1\nobject address=100 value=1 element=01\nobject address=107 value=0 element=F0\n",
-    ),
-    (
-        "680F0400FAFF01828302FEFF64000001F0",
-        "I ns=2 nr=32765 octets=11\nasdu type=1 sq=1 number=2 test=1 negative=0 cause=3 originator=2 ca=65534\nobject address=100 value=1 element=01\nobject address=101 value=0 element=F0\n",
-    ),
-    (
-        "68200600F8FF1E024703010064000001D5DD220C9E02186B0000F0D5DD220C3D0218",
-        "I ns=3 nr=32764 octets=28\nasdu type=30 sq=0 number=2 test=0 negative=1 cause=7 originator=3 ca=1\nobject address=100 value=1 element=01 tag=D5DD220C9E0218 no such day\nobject address=107 value=0 element=F0 tag=D5DD220C3D0218 wrong weekday\n",
-    ),
-    (
-        "681D0800F6FF1E820304FEFF64000001D5DD220C3D0218F0D5DD220CBD0218",
-        "I ns=4 nr=32763 octets=25\nasdu type=30 sq=1 number=2 test=0 negative=0 cause=3 originator=4 ca=65534\nobject address=100 value=1 element=01 tag=D5DD220C3D0218 wrong weekday\nobject address=101 value=0 element=F0 tag=D5DD220CBD0218 wrong weekday\n",
-    ),
-    (
-        "68120A00F4FF030214050100640000026B000083",
-        "I ns=5 nr=32762 octets=14\nasdu type=3 sq=0 number=2 test=0 negative=0 cause=20 originator=5 ca=1\nobject address=100 value=2 element=02\nobject address=107 value=3 element=83\n",
-    ),
-    (
-        "680F0C00F2FF03828306FEFF6400000283",
-        "I ns=6 nr=32761 octets=11\nasdu type=3 sq=1 number=2 test=1 negative=0 cause=3 originator=6 ca=65534\nobject address=100 value=2 element=02\nobject address=101 value=3 element=83\n",
-    ),
-    (
-        "68200E00F0FF1F024707010064000002D5DDA20C9D02186B00008360EA220C9D0218",
-        "I ns=7 nr=32760 octets=28\nasdu type=31 sq=0 number=2 test=0 negative=1 cause=7 originator=7 ca=1\nobject address=100 value=2 element=02 tag=D5DDA20C9D0218 marked invalid\nobject address=107 value=3 element=83 tag=60EA220C9D0218 out of range\n",
-    ),
-    (
-        "681D1000EEFF1F820308FEFF6400000260EA220C9D021883D5DD220C9E0218",
-        "I ns=8 nr=32759 octets=25\nasdu type=31 sq=1 number=2 test=0 negative=0 cause=3 originator=8 ca=65534\nobject address=100 value=2 element=02 tag=60EA220C9D0218 out of range\nobject address=101 value=3 element=83 tag=D5DD220C9E0218 no such day\n",
-    ),
-    (
-        "68141200ECFF0502140901006400007F806B0000BF01",
-        "I ns=9 nr=32758 octets=16\nasdu type=5 sq=0 number=2 test=0 negative=0 cause=20 originator=9 ca=1\nobject address=100 value=-1 element=7F80\nobject address=107 value=63 element=BF01\n",
-    ),
-    (
-        "68111400EAFF0582830AFEFF6400007F80BF01",
-        "I ns=10 nr=32757 octets=13\nasdu type=5 sq=1 number=2 test=1 negative=0 cause=3 originator=10 ca=65534\nobject address=100 value=-1 element=7F80\nobject address=101 value=63 element=BF01\n",
-    ),
-    (
-        "68221600E8FF2002470B01006400007F80D5DD220CBD02186B0000BF01D5DD220C9D0218",
-        "I ns=11 nr=32756 octets=30\nasdu type=32 sq=0 number=2 test=0 negative=1 cause=7 originator=11 ca=1\nobject address=100 value=-1 element=7F80 tag=D5DD220CBD0218 wrong weekday\nobject address=107 value=63 element=BF01 tag=D5DD220C9D0218 good 1709210096789\n",
-    ),
-    (
-        "681F1800E6FF2082030CFEFF6400007F80D5DD220C9D0218BF01D5DDA20C9D0218",
-        "I ns=12 nr=32755 octets=27\nasdu type=32 sq=1 number=2 test=0 negative=0 cause=3 originator=12 ca=65534\nobject address=100 value=-1 element=7F80 tag=D5DD220C9D0218 good 1709210096789\nobject address=101 value=63 element=BF01 tag=D5DDA20C9D0218 marked invalid\n",
-    ),
-    (
-        "681A1A00E4FF0702140D010064000078563412106B0000FFFFFFFF81",
-        "I ns=13 nr=32754 octets=22\nasdu type=7 sq=0 number=2 test=0 negative=0 cause=20 originator=13 ca=1\nobject address=100 value=305419896 element=7856341210\nobject address=107 value=4294967295 element=FFFFFFFF81\n",
-    ),
-    (
-        "68171C00E2FF0782830EFEFF6400007856341210FFFFFFFF81",
-        "I ns=14 nr=32753 octets=19\nasdu type=7 sq=1 number=2 test=1 negative=0 cause=3 originator=14 ca=65534\nobject address=100 value=305419896 element=7856341210\nobject address=101 value=4294967295 element=FFFFFFFF81\n",
-    ),
-    (
-        "68281E00E0FF2102470F01006400007856341210D5DD220C9E02186B0000FFFFFFFF81D5DD220C3D0218",
-        "I ns=15 nr=32752 octets=36\nasdu type=33 sq=0 number=2 test=0 negative=1 cause=7 originator=15 ca=1\nobject address=100 value=305419896 element=7856341210 tag=D5DD220C9E0218 no such day\nobject address=107 value=4294967295 element=FFFFFFFF81 tag=D5DD220C3D0218 wrong weekday\n",
-    ),
-    (
-        "68252000DEFF21820310FEFF6400007856341210D5DD220C3D0218FFFFFFFF81D5DD220CBD0218",
-        "I ns=16 nr=32751 octets=33\nasdu type=33 sq=1 number=2 test=0 negative=0 cause=3 originator=16 ca=65534\nobject address=100 value=305419896 element=7856341210 tag=D5DD220C3D0218 wrong weekday\nobject address=101 value=4294967295 element=FFFFFFFF81 tag=D5DD220CBD0218 wrong weekday\n",
-    ),
-    (
-        "68162200DCFF0902141101006400000080006B0000FFFF80",
-        "I ns=17 nr=32750 octets=18\nasdu type=9 sq=0 number=2 test=0 negative=0 cause=20 originator=17 ca=1\nobject address=100 value=-32768 element=008000\nobject address=107 value=-1 element=FFFF80\n",
-    ),
-    (
-        "68132400DAFF09828312FEFF640000008000FFFF80",
-        "I ns=18 nr=32749 octets=15\nasdu type=9 sq=1 number=2 test=1 negative=0 cause=3 originator=18 ca=65534\nobject address=100 value=-32768 element=008000\nobject address=101 value=-1 element=FFFF80\n",
-    ),
-    (
-        "68242600D8FF220247130100640000008000D5DDA20C9D02186B0000FFFF8060EA220C9D0218",
-        "I ns=19 nr=32748 octets=32\nasdu type=34 sq=0 number=2 test=0 negative=1 cause=7 originator=19 ca=1\nobject address=100 value=-32768 element=008000 tag=D5DDA20C9D0218 marked invalid\nobject address=107 value=-1 element=FFFF80 tag=60EA220C9D0218 out of range\n",
-    ),
-    (
-        "68212800D6FF22820314FEFF64000000800060EA220C9D0218FFFF80D5DD220C9E0218",
-        "I ns=20 nr=32747 octets=29\nasdu type=34 sq=1 number=2 test=0 negative=0 cause=3 originator=20 ca=65534\nobject address=100 value=-32768 element=008000 tag=60EA220C9D0218 out of range\nobject address=101 value=-1 element=FFFF80 tag=D5DD220C9E0218 no such day\n",
-    ),
-    (
-        "68162A00D4FF0B02141501006400000100006B00000080FF",
-        "I ns=21 nr=32746 octets=18\nasdu type=11 sq=0 number=2 test=0 negative=0 cause=20 originator=21 ca=1\nobject address=100 value=1 element=010000\nobject address=107 value=-32768 element=0080FF\n",
-    ),
-    (
-        "68132C00D2FF0B828316FEFF6400000100000080FF",
-        "I ns=22 nr=32745 octets=15\nasdu type=11 sq=1 number=2 test=1 negative=0 cause=3 originator=22 ca=65534\nobject address=100 value=1 element=010000\nobject address=101 value=-32768 element=0080FF\n",
-    ),
-    (
-        "68242E00D0FF230247170100640000010000D5DD220CBD02186B00000080FFD5DD220C9D0218",
-        "I ns=23 nr=32744 octets=32\nasdu type=35 sq=0 number=2 test=0 negative=1 cause=7 originator=23 ca=1\nobject address=100 value=1 element=010000 tag=D5DD220CBD0218 wrong weekday\nobject address=107 value=-32768 element=0080FF tag=D5DD220C9D0218 good 1709210096789\n",
-    ),
-    (
-        "68213000CEFF23820318FEFF640000010000D5DD220C9D02180080FFD5DDA20C9D0218",
-        "I ns=24 nr=32743 octets=29\nasdu type=35 sq=1 number=2 test=0 negative=0 cause=3 originator=24 ca=65534\nobject address=100 value=1 element=010000 tag=D5DD220C9D0218 good 1709210096789\nobject address=101 value=-32768 element=0080FF tag=D5DDA20C9D0218 marked invalid\n",
-    ),
-    (
-        "681A3200CCFF0D02141901006400000000803F006B0000000080BF80",
-        "I ns=25 nr=32742 octets=22\nasdu type=13 sq=0 number=2 test=0 negative=0 cause=20 originator=25 ca=1\nobject address=100 value=1065353216 element=0000803F00\nobject address=107 value=3212836864 element=000080BF80\n",
-    ),
-    (
-        "68173400CAFF0D82831AFEFF6400000000803F00000080BF80",
-        "I ns=26 nr=32741 octets=19\nasdu type=13 sq=1 number=2 test=1 negative=0 cause=3 originator=26 ca=65534\nobject address=100 value=1065353216 element=0000803F00\nobject address=101 value=3212836864 element=000080BF80\n",
-    ),
-    (
-        "68283600C8FF2402471B01006400000000803F00D5DD220C9E02186B0000000080BF80D5DD220C3D0218",
-        "I ns=27 nr=32740 octets=36\nasdu type=36 sq=0 number=2 test=0 negative=1 cause=7 originator=27 ca=1\nobject address=100 value=1065353216 element=0000803F00 tag=D5DD220C9E0218 no such day\nobject address=107 value=3212836864 element=000080BF80 tag=D5DD220C3D0218 wrong weekday\n",
-    ),
-    (
-        "68253800C6FF2482031CFEFF6400000000803F00D5DD220C3D0218000080BF80D5DD220CBD0218",
-        "I ns=28 nr=32739 octets=33\nasdu type=36 sq=1 number=2 test=0 negative=0 cause=3 originator=28 ca=65534\nobject address=100 value=1065353216 element=0000803F00 tag=D5DD220C3D0218 wrong weekday\nobject address=101 value=3212836864 element=000080BF80 tag=D5DD220CBD0218 wrong weekday\n",
-    ),
+#[test]
+fn integrated_totals_on_the_line(rt: HostRuntime) {
+    shown_on_the_line(&rt, rt.alloc(), &INTEGRATED_TOTALS_ON_THE_LINE);
+}
+
+static INTEGRATED_TOTALS_ON_THE_CONNECTION: [TcpRow; 4] = [
     (
         "681A3A00C4FF0F02141D0100640000FFFFFFFFA56B00000100000000",
         "I ns=29 nr=32738 octets=22\nasdu type=15 sq=0 number=2 test=0 negative=0 cause=20 originator=29 ca=1\nobject address=100 value=-1 element=FFFFFFFFA5\nobject address=107 value=1 element=0100000000\n",
@@ -365,6 +438,32 @@ pub(super) static TCP: [(&str, &str); 46] = [
         "68254000BEFF25820320FEFF640000FFFFFFFFA560EA220C9D02180100000000D5DD220C9E0218",
         "I ns=32 nr=32735 octets=33\nasdu type=37 sq=1 number=2 test=0 negative=0 cause=3 originator=32 ca=65534\nobject address=100 value=-1 element=FFFFFFFFA5 tag=60EA220C9D0218 out of range\nobject address=101 value=1 element=0100000000 tag=D5DD220C9E0218 no such day\n",
     ),
+];
+
+#[test]
+fn integrated_totals_on_the_connection(rt: HostRuntime) {
+    shown_on_the_connection(&rt, rt.alloc(), &INTEGRATED_TOTALS_ON_THE_CONNECTION);
+}
+
+static END_OF_INITIALISATION_ON_THE_LINE: [LineRow; 2] = [
+    (
+        "2223",
+        "68111168080201460214000100640000816B000002BA16",
+        "data c=08 prm=0 acd=0 dfc=0 function=8 address=258 octets=14\nasdu type=70 sq=0 number=2 test=0 negative=0 cause=20 originator=0 ca=1\nobject address=100 value=1 element=81\nobject address=107 value=2 element=02\n",
+    ),
+    (
+        "1211",
+        "680A0A68080146828309016481024516",
+        "data c=08 prm=0 acd=0 dfc=0 function=8 address=1 octets=8\nasdu type=70 sq=1 number=2 test=1 negative=0 cause=3 originator=9 ca=1\nobject address=100 value=1 element=81\nobject address=101 value=2 element=02\n",
+    ),
+];
+
+#[test]
+fn end_of_initialisation_on_the_line(rt: HostRuntime) {
+    shown_on_the_line(&rt, rt.alloc(), &END_OF_INITIALISATION_ON_THE_LINE);
+}
+
+static END_OF_INITIALISATION_ON_THE_CONNECTION: [TcpRow; 2] = [
     (
         "68124200BCFF460214210100640000816B000002",
         "I ns=33 nr=32734 octets=14\nasdu type=70 sq=0 number=2 test=0 negative=0 cause=20 originator=33 ca=1\nobject address=100 value=1 element=81\nobject address=107 value=2 element=02\n",
@@ -373,6 +472,32 @@ pub(super) static TCP: [(&str, &str); 46] = [
         "680F4400BAFF46828322FEFF6400008102",
         "I ns=34 nr=32733 octets=11\nasdu type=70 sq=1 number=2 test=1 negative=0 cause=3 originator=34 ca=65534\nobject address=100 value=1 element=81\nobject address=101 value=2 element=02\n",
     ),
+];
+
+#[test]
+fn end_of_initialisation_on_the_connection(rt: HostRuntime) {
+    shown_on_the_connection(&rt, rt.alloc(), &END_OF_INITIALISATION_ON_THE_CONNECTION);
+}
+
+static SINGLE_COMMANDS_ON_THE_LINE: [LineRow; 2] = [
+    (
+        "2122",
+        "680E0E687302012D024701006400816B00003D16",
+        "data c=73 prm=1 fcb=1 fcv=1 function=3 address=258 octets=11\nasdu type=45 sq=0 number=2 test=0 negative=1 cause=7 originator=0 ca=1\nobject address=100 value=1 element=81\nobject address=107 value=0 element=00\n",
+    ),
+    (
+        "1112",
+        "680A0A6873012D820301640081000C16",
+        "data c=73 prm=1 fcb=1 fcv=1 function=3 address=1 octets=8\nasdu type=45 sq=1 number=2 test=0 negative=0 cause=3 originator=0 ca=1\nobject address=100 value=1 element=81\nobject address=101 value=0 element=00\n",
+    ),
+];
+
+#[test]
+fn single_commands_on_the_line(rt: HostRuntime) {
+    shown_on_the_line(&rt, rt.alloc(), &SINGLE_COMMANDS_ON_THE_LINE);
+}
+
+static SINGLE_COMMANDS_ON_THE_CONNECTION: [TcpRow; 2] = [
     (
         "68124600B8FF2D0247230100640000816B000000",
         "I ns=35 nr=32732 octets=14\nasdu type=45 sq=0 number=2 test=0 negative=1 cause=7 originator=35 ca=1\nobject address=100 value=1 element=81\nobject address=107 value=0 element=00\n",
@@ -381,6 +506,32 @@ pub(super) static TCP: [(&str, &str); 46] = [
         "680F4800B6FF2D820324FEFF6400008100",
         "I ns=36 nr=32731 octets=11\nasdu type=45 sq=1 number=2 test=0 negative=0 cause=3 originator=36 ca=65534\nobject address=100 value=1 element=81\nobject address=101 value=0 element=00\n",
     ),
+];
+
+#[test]
+fn single_commands_on_the_connection(rt: HostRuntime) {
+    shown_on_the_connection(&rt, rt.alloc(), &SINGLE_COMMANDS_ON_THE_CONNECTION);
+}
+
+static DOUBLE_COMMANDS_ON_THE_LINE: [LineRow; 2] = [
+    (
+        "2223",
+        "681111687302012E0214000100640000026B0000810D16",
+        "data c=73 prm=1 fcb=1 fcv=1 function=3 address=258 octets=14\nasdu type=46 sq=0 number=2 test=0 negative=0 cause=20 originator=0 ca=1\nobject address=100 value=2 element=02\nobject address=107 value=1 element=81\n",
+    ),
+    (
+        "1211",
+        "680A0A6873012E828309016402819816",
+        "data c=73 prm=1 fcb=1 fcv=1 function=3 address=1 octets=8\nasdu type=46 sq=1 number=2 test=1 negative=0 cause=3 originator=9 ca=1\nobject address=100 value=2 element=02\nobject address=101 value=1 element=81\n",
+    ),
+];
+
+#[test]
+fn double_commands_on_the_line(rt: HostRuntime) {
+    shown_on_the_line(&rt, rt.alloc(), &DOUBLE_COMMANDS_ON_THE_LINE);
+}
+
+static DOUBLE_COMMANDS_ON_THE_CONNECTION: [TcpRow; 2] = [
     (
         "68124A00B4FF2E0214250100640000026B000081",
         "I ns=37 nr=32730 octets=14\nasdu type=46 sq=0 number=2 test=0 negative=0 cause=20 originator=37 ca=1\nobject address=100 value=2 element=02\nobject address=107 value=1 element=81\n",
@@ -389,6 +540,32 @@ pub(super) static TCP: [(&str, &str); 46] = [
         "680F4C00B2FF2E828326FEFF6400000281",
         "I ns=38 nr=32729 octets=11\nasdu type=46 sq=1 number=2 test=1 negative=0 cause=3 originator=38 ca=65534\nobject address=100 value=2 element=02\nobject address=101 value=1 element=81\n",
     ),
+];
+
+#[test]
+fn double_commands_on_the_connection(rt: HostRuntime) {
+    shown_on_the_connection(&rt, rt.alloc(), &DOUBLE_COMMANDS_ON_THE_CONNECTION);
+}
+
+static REGULATING_STEPS_ON_THE_LINE: [LineRow; 2] = [
+    (
+        "2122",
+        "680E0E687302012F024701006400016B007E3D16",
+        "data c=73 prm=1 fcb=1 fcv=1 function=3 address=258 octets=11\nasdu type=47 sq=0 number=2 test=0 negative=1 cause=7 originator=0 ca=1\nobject address=100 value=1 element=01\nobject address=107 value=2 element=7E\n",
+    ),
+    (
+        "1112",
+        "680A0A6873012F8203016400017E0C16",
+        "data c=73 prm=1 fcb=1 fcv=1 function=3 address=1 octets=8\nasdu type=47 sq=1 number=2 test=0 negative=0 cause=3 originator=0 ca=1\nobject address=100 value=1 element=01\nobject address=101 value=2 element=7E\n",
+    ),
+];
+
+#[test]
+fn regulating_steps_on_the_line(rt: HostRuntime) {
+    shown_on_the_line(&rt, rt.alloc(), &REGULATING_STEPS_ON_THE_LINE);
+}
+
+static REGULATING_STEPS_ON_THE_CONNECTION: [TcpRow; 2] = [
     (
         "68124E00B0FF2F0247270100640000016B00007E",
         "I ns=39 nr=32728 octets=14\nasdu type=47 sq=0 number=2 test=0 negative=1 cause=7 originator=39 ca=1\nobject address=100 value=1 element=01\nobject address=107 value=2 element=7E\n",
@@ -397,6 +574,32 @@ pub(super) static TCP: [(&str, &str); 46] = [
         "680F5000AEFF2F820328FEFF640000017E",
         "I ns=40 nr=32727 octets=11\nasdu type=47 sq=1 number=2 test=0 negative=0 cause=3 originator=40 ca=65534\nobject address=100 value=1 element=01\nobject address=101 value=2 element=7E\n",
     ),
+];
+
+#[test]
+fn regulating_steps_on_the_connection(rt: HostRuntime) {
+    shown_on_the_connection(&rt, rt.alloc(), &REGULATING_STEPS_ON_THE_CONNECTION);
+}
+
+static NORMALISED_SET_POINTS_ON_THE_LINE: [LineRow; 2] = [
+    (
+        "2223",
+        "68151568730201300214000100640000FF7F806B00000080000A16",
+        "data c=73 prm=1 fcb=1 fcv=1 function=3 address=258 octets=18\nasdu type=48 sq=0 number=2 test=0 negative=0 cause=20 originator=0 ca=1\nobject address=100 value=32767 element=FF7F80\nobject address=107 value=-32768 element=008000\n",
+    ),
+    (
+        "1211",
+        "680E0E687301308283090164FF7F800080009516",
+        "data c=73 prm=1 fcb=1 fcv=1 function=3 address=1 octets=12\nasdu type=48 sq=1 number=2 test=1 negative=0 cause=3 originator=9 ca=1\nobject address=100 value=32767 element=FF7F80\nobject address=101 value=-32768 element=008000\n",
+    ),
+];
+
+#[test]
+fn normalised_set_points_on_the_line(rt: HostRuntime) {
+    shown_on_the_line(&rt, rt.alloc(), &NORMALISED_SET_POINTS_ON_THE_LINE);
+}
+
+static NORMALISED_SET_POINTS_ON_THE_CONNECTION: [TcpRow; 2] = [
     (
         "68165200ACFF300214290100640000FF7F806B0000008000",
         "I ns=41 nr=32726 octets=18\nasdu type=48 sq=0 number=2 test=0 negative=0 cause=20 originator=41 ca=1\nobject address=100 value=32767 element=FF7F80\nobject address=107 value=-32768 element=008000\n",
@@ -405,6 +608,32 @@ pub(super) static TCP: [(&str, &str); 46] = [
         "68135400AAFF3082832AFEFF640000FF7F80008000",
         "I ns=42 nr=32725 octets=15\nasdu type=48 sq=1 number=2 test=1 negative=0 cause=3 originator=42 ca=65534\nobject address=100 value=32767 element=FF7F80\nobject address=101 value=-32768 element=008000\n",
     ),
+];
+
+#[test]
+fn normalised_set_points_on_the_connection(rt: HostRuntime) {
+    shown_on_the_connection(&rt, rt.alloc(), &NORMALISED_SET_POINTS_ON_THE_CONNECTION);
+}
+
+static SCALED_SET_POINTS_ON_THE_LINE: [LineRow; 2] = [
+    (
+        "2122",
+        "68121268730201310247010064000C00006B00F4FF803F16",
+        "data c=73 prm=1 fcb=1 fcv=1 function=3 address=258 octets=15\nasdu type=49 sq=0 number=2 test=0 negative=1 cause=7 originator=0 ca=1\nobject address=100 value=12 element=0C0000\nobject address=107 value=-12 element=F4FF80\n",
+    ),
+    (
+        "1112",
+        "680E0E6873013182030164000C0000F4FF800E16",
+        "data c=73 prm=1 fcb=1 fcv=1 function=3 address=1 octets=12\nasdu type=49 sq=1 number=2 test=0 negative=0 cause=3 originator=0 ca=1\nobject address=100 value=12 element=0C0000\nobject address=101 value=-12 element=F4FF80\n",
+    ),
+];
+
+#[test]
+fn scaled_set_points_on_the_line(rt: HostRuntime) {
+    shown_on_the_line(&rt, rt.alloc(), &SCALED_SET_POINTS_ON_THE_LINE);
+}
+
+static SCALED_SET_POINTS_ON_THE_CONNECTION: [TcpRow; 2] = [
     (
         "68165600A8FF3102472B01006400000C00006B0000F4FF80",
         "I ns=43 nr=32724 octets=18\nasdu type=49 sq=0 number=2 test=0 negative=1 cause=7 originator=43 ca=1\nobject address=100 value=12 element=0C0000\nobject address=107 value=-12 element=F4FF80\n",
@@ -413,6 +642,32 @@ pub(super) static TCP: [(&str, &str); 46] = [
         "68135800A6FF3182032CFEFF6400000C0000F4FF80",
         "I ns=44 nr=32723 octets=15\nasdu type=49 sq=1 number=2 test=0 negative=0 cause=3 originator=44 ca=65534\nobject address=100 value=12 element=0C0000\nobject address=101 value=-12 element=F4FF80\n",
     ),
+];
+
+#[test]
+fn scaled_set_points_on_the_connection(rt: HostRuntime) {
+    shown_on_the_connection(&rt, rt.alloc(), &SCALED_SET_POINTS_ON_THE_CONNECTION);
+}
+
+static INTERROGATIONS_ON_THE_LINE: [LineRow; 2] = [
+    (
+        "2223",
+        "68111168730201640214000100640000146B000024F816",
+        "data c=73 prm=1 fcb=1 fcv=1 function=3 address=258 octets=14\nasdu type=100 sq=0 number=2 test=0 negative=0 cause=20 originator=0 ca=1\nobject address=100 value=20 element=14\nobject address=107 value=36 element=24\n",
+    ),
+    (
+        "1211",
+        "680A0A68730164828309016414248316",
+        "data c=73 prm=1 fcb=1 fcv=1 function=3 address=1 octets=8\nasdu type=100 sq=1 number=2 test=1 negative=0 cause=3 originator=9 ca=1\nobject address=100 value=20 element=14\nobject address=101 value=36 element=24\n",
+    ),
+];
+
+#[test]
+fn interrogations_on_the_line(rt: HostRuntime) {
+    shown_on_the_line(&rt, rt.alloc(), &INTERROGATIONS_ON_THE_LINE);
+}
+
+static INTERROGATIONS_ON_THE_CONNECTION: [TcpRow; 2] = [
     (
         "68125A00A4FF6402142D0100640000146B000024",
         "I ns=45 nr=32722 octets=14\nasdu type=100 sq=0 number=2 test=0 negative=0 cause=20 originator=45 ca=1\nobject address=100 value=20 element=14\nobject address=107 value=36 element=24\n",
@@ -422,3 +677,8 @@ pub(super) static TCP: [(&str, &str); 46] = [
         "I ns=46 nr=32721 octets=11\nasdu type=100 sq=1 number=2 test=1 negative=0 cause=3 originator=46 ca=65534\nobject address=100 value=20 element=14\nobject address=101 value=36 element=24\n",
     ),
 ];
+
+#[test]
+fn interrogations_on_the_connection(rt: HostRuntime) {
+    shown_on_the_connection(&rt, rt.alloc(), &INTERROGATIONS_ON_THE_CONNECTION);
+}
