@@ -6,7 +6,7 @@ use crate::check::check;
 use crate::fault::Fault;
 use crate::job::Job;
 use crate::replay::replay;
-use crate::show::{show101, show104};
+use crate::showing::{show101, show104};
 use std::alloc::Global;
 
 /// What a command prints on standard output, and its exit status.

@@ -14,7 +14,7 @@ mod files;
 mod job;
 mod performing;
 mod replay;
-mod show;
+mod showing;
 #[cfg(test)]
 mod tests;
 
