@@ -20,3 +20,5 @@ pub mod Running
 pub mod Turning
 pub mod Leaving
 pub mod Resting
+pub mod AskingPolls
+pub mod AskingRests
