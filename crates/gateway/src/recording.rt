@@ -10,6 +10,7 @@ ghost use Rattle.gateway.specs.Traffic.{IsFaithful, HasRested};
 use crate::config::Config;
 use crate::engine::{Gateway, NoMemory};
 use crate::entries::{Entry, Told};
+use crate::laws::session_is_told;
 use crate::ports::{Action, Next, Port};
 use crate::runs::{End, drive_on};
 use link::master_tells_the_log;
@@ -251,6 +252,7 @@ pub fn engine_log(alloc: Global, config: &Config, entries: &[Entry]) -> Result<V
     ensures rests { IfOk result (λ told. HasRested (setup_of config.now) (log_of told.items)) }
 {
     master_tells_the_log();
+    session_is_told();
     let _stations = config.stations();
     let mut gateway = Gateway::new(alloc, config)?;
     let mut port = Recording::new(alloc, entries);

@@ -434,6 +434,73 @@ fn connections_close_by_their_cause(rt: HostRuntime) -> Result<(), Fail> {
     Ok(())
 }
 
+#[test]
+fn timers_run_out(rt: HostRuntime) -> Result<(), Fail> {
+    let alloc = rt.alloc();
+    // A received I frame is acknowledged after t2.
+    assert!(rt;
+        leads(
+            alloc,
+            &[
+                (50, 'R', "680E0000000064010600010000000014"),
+                (10050, 'T', "")
+            ],
+            &[(10050, 'S', "107B017C16"), (10050, 'T', "680401000200")]
+        )?
+    );
+    // A connection without a frame for t3 is tested, and closed where the test has no answer for t1.
+    assert!(rt;
+        leads(
+            alloc,
+            &[(20040, 'T', ""), (35040, 'T', "")],
+            &[
+                (20040, 'S', "107B017C16"),
+                (20040, 'T', "680443000000"),
+                (35040, 'X', "5"),
+                (35040, 'S', "107B017C16")
+            ]
+        )?
+    );
+    Ok(())
+}
+
+#[test]
+fn each_act_is_confirmed(rt: HostRuntime) -> Result<(), Fail> {
+    let alloc = rt.alloc();
+    // TESTFR act in a flood, and STOPDT act.
+    assert!(rt;
+        leads(
+            alloc,
+            &[(50, 'R', "680443000000680443000000680413000000")],
+            &[
+                (50, 'T', "680483000000"),
+                (50, 'T', "680483000000"),
+                (50, 'T', "680423000000")
+            ]
+        )?
+    );
+    // STOPDT con waits until each sent I frame is acknowledged.
+    assert!(rt;
+        leads(
+            alloc,
+            &[
+                (50, 'S', POINT),
+                (60, 'R', "680413000000"),
+                (70, 'R', "680401000200")
+            ],
+            &[
+                (50, 'S', "105B015C16"),
+                (50, 'T', SENT),
+                (70, 'T', "680423000000")
+            ]
+        )?
+    );
+    // Frames that the grammar refuses.
+    assert!(rt; leads(alloc, &[(50, 'R', "680401010000")], &[(50, 'X', "1")])?);
+    assert!(rt; leads(alloc, &[(50, 'R', "680507")], &[(50, 'X', "1")])?);
+    Ok(())
+}
+
 /// What goes out at thirteen reports without a connection, and then at one whose window is twelve frames.
 const WINDOW: [Row<'static>; 30] = [
     (0, 'S', "1049014A16"),
