@@ -4,7 +4,7 @@ ghost use Rattle.gateway.specs.Entries.{FitsPort};
 ghost use Rattle.traces.specs.Event.{event_of, bare_in, octets_in, event_in};
 
 use crate::decimal::decimal;
-use crate::lines::pieces;
+use crate::lines::cut;
 use crate::octets::read_octets;
 use gateway::Entry;
 use std::alloc::{AllocError, Global};
@@ -16,11 +16,15 @@ pub(crate) fn event(alloc: Global, line: &[u8]) -> Result<Option<Entry>, AllocEr
     ensures event { IfOk result (λ e. option_map event_of e ≡ event_in line.now) }
     ensures fits { IfOk result (λ e. IfSome e FitsPort) }
 {
-    let fields = pieces(alloc, line, SPACE)?;
-    match fields.as_slice() {
-        [moment, kind] => Ok(bare(*moment, *kind)),
-        [moment, kind, text] => with_octets(alloc, *moment, *kind, *text),
-        _ => Ok(None),
+    let (moment, Some(rest)) = cut(line, SPACE) else {
+        return Ok(None);
+    };
+    match cut(rest, SPACE) {
+        (kind, None) => Ok(bare(moment, kind)),
+        (kind, Some(rest)) => match cut(rest, SPACE) {
+            (text, None) => with_octets(alloc, moment, kind, text),
+            _ => Ok(None),
+        },
     }
 }
 
