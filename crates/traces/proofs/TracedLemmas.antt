@@ -2,7 +2,9 @@
 use Rattle.std.proofs.Common.{◌≡◌, ℕ, ◌+◌, Bool, true, false, List, [], ◌∷◌, ◌++◌, map, reverse, Option, Some, None, refl, ap, sym, ◌∙◌, subst, append_assoc}
 use Rattle.std.proofs.lemmas.List.{reverse-append, append-nil}
 use Rattle.std.specs.List.{AllByRecursion}
-use Rattle.std.specs.Io.KnownBytes.{Appends, Keeps}
+use Rattle.std.specs.Io.KnownBytes.{Appends}
+use Rattle.std.specs.Prelude.{is_err, Result, Ok, Err, OnOk}
+use Rattle.std.proofs.KnownBytes.{Appends-trans}
 use Rattle.gateway.specs.Log.{Log, LogEntry, Came, Went, Output, events_of}
 use Rattle.gateway.specs.Entries.{FitsPort, event_of, script_of, told_of, stored_log, log_of}
 use Rattle.gateway.specs.declared.entries.Entry.{Entry}
@@ -38,3 +40,18 @@ script_next (Open now) log left = append_assoc (events_of log) (event_of (Open n
 script_next (Bytes now octets) log left = append_assoc (events_of log) (event_of (Bytes now octets) ∷ []) (map event_of left)
 script_next (Cut now) log left = append_assoc (events_of log) (event_of (Cut now) ∷ []) (map event_of left)
 script_next (Tick now) log left = append_assoc (events_of log) (event_of (Tick now) ∷ []) (map event_of left)
+
+-- An action that was put: its line went out, and it is stored.
+
+pub log_put : (xs ys zs : List Told) (told : Told) (entry : LogEntry) → told_of told ≡ entry → ys ≡ xs → zs ≡ ys ++ told ∷ [] → log_of zs ≡ entry ∷ log_of xs
+log_put xs ys zs told entry is same put = ap log_of put ∙ log_next ys told ∙ ap (λ e. e ∷ log_of ys) is ∙ ap (λ l. entry ∷ log_of l) same
+
+pub lines_put : (before old new : Option (List ℕ)) (xs ys zs : List Told) (told : Told) (line : List ℕ) (now : ℕ) (action : Output) →
+    Appends before old (lines_of_actions (log_of xs)) → Appends old new line → line ≡ line_of now action → told_of told ≡ Went now action → ys ≡ xs → zs ≡ ys ++ told ∷ [] → Appends before new (lines_of_actions (log_of zs))
+lines_put before old new xs ys zs told line now action had got text is same put =
+    subst (λ log. Appends before new (lines_of_actions log)) (sym (log_put xs ys zs told (Went now action) is same put)) (Appends-trans before old new _ (line_of now action) had (subst (Appends old new) text got))
+
+-- what a call that didn't fail promises of its success
+pub on_success : {T E : Type 0} (r : Result T E) (P : Type 0) → is_err r ≡ false → OnOk r P → P
+on_success (Ok v) P good h = h
+on_success (Err e) P good h = cc

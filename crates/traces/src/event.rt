@@ -3,7 +3,7 @@ ghost use Rattle.std.specs.Prelude.{◌≡◌, IfOk, IfSome, option_map};
 ghost use Rattle.gateway.specs.Entries.{FitsPort};
 ghost use Rattle.traces.specs.Event.{event_of, bare_in, octets_in, event_in};
 
-use crate::decimal::decimal;
+use crate::numbers::decimal;
 use crate::lines::cut;
 use crate::octets::read_octets;
 use gateway::Entry;
