@@ -8,18 +8,18 @@
 #![tactic(auto)]
 
 mod actions;
+mod decimal;
 mod event;
 mod health;
 mod lines;
-mod numbers;
 mod octets;
 mod port;
 mod reading;
 #[cfg(test)]
 mod tests;
 
+pub use decimal::decimal as read_decimal;
 pub use lines::{is_skipped, pieces};
-pub use numbers::decimal;
 pub use octets::read_octets;
 pub use port::{Beginning, Trace};
 pub use reading::{TextFault, read_trace};

@@ -8,11 +8,7 @@ ghost use Rattle.traces.specs.Trace.{is_skipped};
 use std::alloc::{AllocError, Global};
 
 /// The pieces of a text between its separators.
-pub fn pieces<'a>(
-    alloc: Global,
-    text: &'a [u8],
-    separator: u8,
-) -> Result<Vec<&'a [u8]>, AllocError>
+pub fn pieces<'a>(alloc: Global, text: &'a [u8], separator: u8) -> Result<Vec<&'a [u8]>, AllocError>
     ensures { IfOk result (λ v. map (λ piece. piece.now) v.items ≡ slice_split (λ b. b == separator) text.entry.now) }
 {
     text.split(|b| *b == separator).collect(alloc)

@@ -1,6 +1,6 @@
 use Rattle.std.proofs.Common.{◌<◌, ◌^◌, arith}
 use Rattle.traces.proofs.TraceLemmas.{below_limit}
-use Rattle.traces.proofs.numbers.decimal.Goals as goal
+use Rattle.traces.proofs.decimal.decimal.Goals as goal
 
 pub overflow_mul-value : goal.overflow_mul-value
 overflow_mul-value c =

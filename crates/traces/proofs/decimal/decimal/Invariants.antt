@@ -1,6 +1,6 @@
 use Rattle.std.proofs.Common.{◌≡◌, ◌<◌, ◌^◌, drop}
 use Rattle.traces.specs.Fields.{digits_after}
-use Rattle.traces.proofs.numbers.decimal.Given as goal
+use Rattle.traces.proofs.decimal.decimal.Given as goal
 
 abbrev pub invariant-loop-digit : goal.invariant-loop-digit
 invariant-loop-digit l = record {
