@@ -1,5 +1,5 @@
 -- What the commands answer (this gateway's own profile).
-use Rattle.std.specs.Prelude.{◌≡◌, ◌⊎◌, ◌==◌, ℕ, Bool, true, false, not, if◌then◌else◌, length, codes, List, [], ◌∷◌, ◌++◌, Option, Some, None, Result, Ok, Err, MatchResult, Vec}
+use Rattle.std.specs.Prelude.{◌≡◌, ◌⊎◌, ℕ, codes, List, [], ◌∷◌, ◌++◌, Option, Some, None, Result, Ok, Err, MatchResult, Vec}
 use Rattle.std.specs.Io.KnownBytes.{Appends, Keeps}
 use Rattle.std.specs.declared.alloc.Global.{Global}
 use Rattle.show.specs.Sizes.{sizes_of}
@@ -17,22 +17,15 @@ use Rattle.gateway.specs.Entries.{script_of}
 use Rattle.gateway.specs.Log.{Log, events_of}
 use Rattle.gateway.specs.Setups.{setup_of}
 use Rattle.gateway.specs.Traffic.{IsFaithful, HasRested}
-use Rattle.gateway.specs.declared.settings.Silence.{Silence}
-use Rattle.gateway.specs.declared.settings.Silence.TheVariants.{Hold, Reset}
+use Rattle.delivery.specs.Delivery.{Delivers}
 use Rattle.gateway.specs.declared.entries.Entry.{Entry}
 use Rattle.settings.specs.Settings.{IsReadOfText}
-use Rattle.settings.specs.declared.fault.ConfigFault.{ConfigFault}
-use Rattle.settings.specs.declared.fault.ConfigFault.TheVariants.{NotToml, Key, Unknown, NoMemory as NoMemoryThere}
 use Rattle.telegate.specs.Faults.{status_of}
 use Rattle.telegate.specs.declared.answer.Answer.{Answer}
 use Rattle.telegate.specs.declared.fault.Fault.{Fault}
 use Rattle.telegate.specs.declared.fault.Fault.TheVariants.{Config, Trace, Sizes, Octets, Device, NoMemory}
 use Rattle.telegate.specs.declared.job.Job.{Job}
 use Rattle.telegate.specs.declared.job.Job.TheVariants.{Show101, Show104, Check, Replay}
-
-abbrev pub is_hold : Silence → Bool
-is_hold Hold = true
-is_hold Reset = false
 
 -- octets that are as they should be, 0, or not, 1
 abbrev pub status_by : Outcome → ℕ
@@ -97,25 +90,19 @@ pub record IsCheckAnswer (config : List ℕ) (answer : Answer) : Type 0 where
 abbrev pub IsChecked : List ℕ → Result Answer Fault → Type 0
 IsChecked config result = MatchResult result (IsCheckAnswer config) (IsConfigFault config)
 
--- the first key of good settings that a run can't have yet: silence must hold the service, and there is one station
-abbrev pub unsupported : Settings → Option (List ℕ)
-unsupported s =
-    if not (is_hold s.line.silence) then Some (codes "line.silence")
-    else (if length s.stations == 1 then None else Some (codes "station"))
-
 -- The lines of the actions of the log of a run over these entries: the events of the log are a tick at moment 0 and the
--- entries, and the log keeps every promise of a gateway with these settings.
+-- entries, the log keeps every promise of a gateway with these settings, and so delivers what the outstations reported.
 pub record IsRun (settings : Settings) (entries : List Entry) (answer : Answer) : Type 0 where
   pub log : Log
   pub events : events_of log ≡ script_of entries
   pub faithful : IsFaithful (setup_of settings) log
   pub rests : HasRested (setup_of settings) log
+  pub delivers : Delivers (setup_of settings) log
   pub text : answer.text.items ≡ lines_of_actions log
   pub status : answer.status ≡ 0
 
 pub record IsRunAnswer (config trace : List ℕ) (answer : Answer) : Type 0 where
   pub settings : Settings
-  pub supported : unsupported settings ≡ None
   pub entries : Vec Entry Global
   pub read_config : IsReadOfText config (Ok settings)
   pub read_trace : IsTraceOf trace (Ok entries)
@@ -129,13 +116,9 @@ IsMemory _ = ⊥
 abbrev pub IsRunOf : Settings → List Entry → Result Answer Fault → Type 0
 IsRunOf settings entries result = MatchResult result (IsRun settings entries) IsMemory
 
-abbrev pub IsUnsupported : List ℕ → ConfigFault → Type 0
-IsUnsupported config (Key path) = (s : Settings) × IsReadOfText config (Ok s) × (unsupported s ≡ Some path.now)
-IsUnsupported config _ = ⊥
-
 -- settings are judged before the trace
 abbrev pub IsRunFault : List ℕ → List ℕ → Fault → Type 0
-IsRunFault config trace (Config why) = IsReadOfText config (Err why) ⊎ IsUnsupported config why
+IsRunFault config trace (Config why) = IsReadOfText config (Err why)
 IsRunFault config trace (Trace n) = ((s : Settings) × IsReadOfText config (Ok s)) × IsTraceOf trace (Err (WrongLine n))
 IsRunFault config trace NoMemory = Unit {0}
 IsRunFault config trace _ = ⊥

@@ -1,16 +1,13 @@
 //! The command that runs the gateway over a trace.
-ghost use Rattle.std.specs.Prelude.{◌≡◌, IfNone, length};
 ghost use Rattle.std.specs.List.{AllByRecursion};
-ghost use Rattle.std.specs.Option.{option_copied};
-ghost use Rattle.gateway.specs.declared.settings.Silence.TheVariants.{Hold};
 ghost use Rattle.gateway.specs.Entries.{FitsPort};
-ghost use Rattle.telegate.specs.Answers.{IsReplayed, IsRunOf, unsupported};
+ghost use Rattle.telegate.specs.Answers.{IsReplayed, IsRunOf};
 
 use crate::answer::Answer;
 use crate::check::read_config;
 use crate::fault::{DONE, Fault};
-use gateway::{Config, End, Entry, Silence, drive};
-use settings::ConfigFault;
+use delivery::nothing_is_lost;
+use gateway::{Config, End, Entry, drive};
 use std::alloc::Global;
 use traces::{Beginning, TextFault, Trace, read_trace};
 
@@ -20,31 +17,10 @@ pub(crate) fn replay(alloc: Global, config: &[u8], trace: &[u8]) -> Result<Answe
     ensures { IsReplayed config.now trace.now result }
 {
     let config = read_config(alloc, config)?;
-    if let Some(key) = unsupported(&config) {
-        return Err(Fault::Config(ConfigFault::Key(key)));
-    }
     match read_trace(alloc, trace) {
         Ok(entries) => run(alloc, &config, entries),
         Err(TextFault::Line(n)) => Err(Fault::Trace(n)),
         Err(TextFault::NoMemory) => Err(Fault::NoMemory),
-    }
-}
-
-/// The first key of the settings that a run can't have yet: silence holds the service, and there is one station.
-fn unsupported(config: &Config) -> Option<&'static str>
-    ensures key { option_copied result ≡ unsupported config.now }
-    ensures one { IfNone result (length config.now.stations ≡ 1) }
-    ensures holds { IfNone result (config.now.line.silence ≡ Hold) }
-{
-    match config.line().silence {
-        Silence::Reset => Some("line.silence"),
-        Silence::Hold => {
-            if config.stations().len() == 1 {
-                None
-            } else {
-                Some("station")
-            }
-        }
     }
 }
 
@@ -59,11 +35,10 @@ impl Beginning for Page {
 
 /// Runs the gateway over entries. The lines of its actions go to a page, which is printed at once.
 fn run(alloc: Global, config: &Config, entries: Vec<Entry>) -> Result<Answer, Fault>
-    requires fits { AllByRecursion FitsPort entries.items }
-    requires one { length config.now.stations ≡ 1 }
-    requires holds { config.now.line.silence ≡ Hold }
+    requires { AllByRecursion FitsPort entries.items }
     ensures { IsRunOf config.now entries.items result }
 {
+    nothing_is_lost();
     // A turn for each entry, one for the tick at moment 0, and one in which there is no more.
     let Some(turns) = (entries.len() as u64).checked_add(2) else {
         return Err(Fault::NoMemory);

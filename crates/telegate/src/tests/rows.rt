@@ -11,7 +11,7 @@ const OPENED: &str =
     "0 > S 1049014A16\n10 > S 1040014116\n20 > S 107B017C16\n40 > T 68040B000000\n";
 
 /// What follows the opening, and what it gives. `N` is the report of one single point.
-static AFTER_OPENING: [(&str, &str); 10] = [
+static AFTER_OPENING: [(&str, &str); 11] = [
     // One report: the next poll, and an I frame.
     (
         "50 S 680909680801010103016400017416\n",
@@ -39,6 +39,11 @@ static AFTER_OPENING: [(&str, &str); 10] = [
     ("50 R 680401000200\n", "50 > X 3\n"),
     // A second connection takes the place of the first.
     ("50 O\n", "50 > X 7\n"),
+    // The station has more data of class 1.
+    (
+        "50 S 680909682801010103016400019416\n",
+        "50 > S 105A015B16\n50 > T 680E0000000001010300010064000001\n",
+    ),
     // A negative 'unknown type' isn't passed on.
     ("50 S 68090968080101016C01640001DD16\n", "50 > S 105B015C16\n"),
     // A time tag passes as it is, here one with a wrong weekday.
@@ -233,6 +238,40 @@ fn a_long_report_goes_out_in_pieces_and_again_what_was_not_acknowledged(
     want.push_str("90 > T 68040B000000\n")?;
     push_piece(&mut want, 90, "68FA00000000013C03000100", 61, 60)?;
     push_piece(&mut want, 90, "681A02000000010403000100", 121, 4)?;
+    let job = Job::Replay {
+        config: config.as_bytes(),
+        trace: trace.as_bytes(),
+    };
+    let done = performed(alloc, &job);
+    assert_eq!(rt; done.out.as_slice(), want.as_bytes());
+    assert_eq!(rt; done.status, 0);
+    Ok(())
+}
+
+#[test]
+fn two_stations_take_turns(rt: HostRuntime) -> Result<(), Fail> {
+    let alloc = rt.alloc();
+    let config =
+        "[line]\nlink = 1\ncause = 1\nca = 1\nioa = 2\n[[station]]\naddress = 1\nca = 1\n[[station]]\naddress = 2\nca = 2\n";
+    let trace = "10 S 100B010C16\n20 S E5\n30 S 100B020D16\n40 S E5\n50 S E5\n";
+    let want = "0 > S 1049014A16\n10 > S 1040014116\n20 > S 1049024B16\n30 > S 1040024216\n40 > S 107B017C16\n50 > S 107B027D16\n";
+    let job = Job::Replay {
+        config: config.as_bytes(),
+        trace: trace.as_bytes(),
+    };
+    let done = performed(alloc, &job);
+    assert_eq!(rt; done.out.as_slice(), want.as_bytes());
+    assert_eq!(rt; done.status, 0);
+    Ok(())
+}
+
+#[test]
+fn a_silent_link_is_reset_where_the_settings_say_so(rt: HostRuntime) -> Result<(), Fail> {
+    let alloc = rt.alloc();
+    let config =
+        "[line]\nlink = 1\ncause = 1\nca = 1\nioa = 2\nqueue = 100\nretries = 1\nsilence = \"reset\"\n[[station]]\naddress = 1\nca = 1\n";
+    let trace = format!(in alloc; "{OPENING}220 T\n420 T\n")?;
+    let want = format!(in alloc; "{OPENED}220 > S 107B017C16\n420 > S 1049014A16\n")?;
     let job = Job::Replay {
         config: config.as_bytes(),
         trace: trace.as_bytes(),
