@@ -218,11 +218,18 @@ fn a_write_that_fails_is_a_fault_of_the_port(rt: HostRuntime) -> Result<(), Fail
     let alloc = rt.alloc();
     // A line is 9 octets long.
     for octets in 0..20u64 {
-        let mut port =
-            Trace::<Failing>::new(alloc, read_trace(alloc, b"7 T\n")?, Failing { octets });
+        let mut port = Trace::<Failing>::new(
+            alloc,
+            read_trace(alloc, b"7 T\n")?,
+            Failing { octets },
+        );
         let mut buf = [0; 1024];
         assert!(rt; matches!(port.next(&mut buf), Next::Tick(0)));
-        assert_eq!(rt; port.put(7, &Action::Line(&[0xE5])), octets >= 9, "{octets}");
+        assert_eq!(rt;
+            port.put(7, &Action::Line(&[0xE5])),
+            octets >= 9,
+            "{octets}"
+        );
         assert_eq!(rt; port.failures(), if octets >= 9 { 0 } else { 1 });
         // A port that failed gives nothing more.
         if octets < 9 {

@@ -45,7 +45,10 @@ static AFTER_OPENING: [(&str, &str); 11] = [
         "50 > S 105A015B16\n50 > T 680E0000000001010300010064000001\n",
     ),
     // A negative 'unknown type' isn't passed on.
-    ("50 S 68090968080101016C01640001DD16\n", "50 > S 105B015C16\n"),
+    (
+        "50 S 68090968080101016C01640001DD16\n",
+        "50 > S 105B015C16\n",
+    ),
     // A time tag passes as it is, here one with a wrong weekday.
     (
         "50 S 6810106808011E010301640001D5DD220C9D02172716\n",
@@ -254,7 +257,8 @@ fn two_stations_take_turns(rt: HostRuntime) -> Result<(), Fail> {
     let config =
         "[line]\nlink = 1\ncause = 1\nca = 1\nioa = 2\n[[station]]\naddress = 1\nca = 1\n[[station]]\naddress = 2\nca = 2\n";
     let trace = "10 S 100B010C16\n20 S E5\n30 S 100B020D16\n40 S E5\n50 S E5\n";
-    let want = "0 > S 1049014A16\n10 > S 1040014116\n20 > S 1049024B16\n30 > S 1040024216\n40 > S 107B017C16\n50 > S 107B027D16\n";
+    let want =
+        "0 > S 1049014A16\n10 > S 1040014116\n20 > S 1049024B16\n30 > S 1040024216\n40 > S 107B017C16\n50 > S 107B027D16\n";
     let job = Job::Replay {
         config: config.as_bytes(),
         trace: trace.as_bytes(),
