@@ -3,10 +3,10 @@ ghost use Rattle.std.specs.Prelude.{◌≡◌, IfOk};
 ghost use Rattle.std.specs.List.{AllByRecursion};
 ghost use Rattle.gateway.specs.Entries.{FitsPort};
 ghost use Rattle.traces.specs.Trace.{IsTraceOf};
-ghost use Rattle.traces.specs.declared.trace.TextFault.TheVariants.{NoMemory};
+ghost use Rattle.traces.specs.declared.reading.TextFault.TheVariants.{NoMemory};
 
 use crate::event::event;
-use crate::lines::{is_skipped, pieces};
+use crate::lines::{cut, is_skipped};
 use gateway::Entry;
 use std::alloc::{AllocError, AllocFailed, Global};
 use thiserror::Error;
@@ -43,22 +43,28 @@ impl<T: Drop> From<AllocFailed<T>> for TextFault {
 /// skipped. A line is a moment in ms of 1 to 15 decimal digits, a space and `T` (a tick), `O` (a connection opens) or
 /// `C` (it is cut), or `S` (octets from the line) or `R` (from the connection), a space and 1 to 1,024 octets in
 /// hexadecimal. The first wrong line is the fault.
-#[tactic(auto, using(crate::proofs::TraceLemmas::told_skip, crate::proofs::TraceLemmas::wrong_skip, crate::proofs::TraceLemmas::told_next, crate::proofs::TraceLemmas::wrong_next, crate::proofs::TraceLemmas::wrong_here, crate::proofs::TraceLemmas::told_end, crate::proofs::TraceLemmas::wrong_end, crate::proofs::TraceLemmas::fits_more))]
+#[tactic(auto, using(crate::proofs::TraceLemmas::told_skip, crate::proofs::TraceLemmas::wrong_skip, crate::proofs::TraceLemmas::told_next, crate::proofs::TraceLemmas::wrong_next, crate::proofs::TraceLemmas::wrong_here, crate::proofs::TraceLemmas::fits_more))]
 pub fn read_trace(alloc: Global, text: &[u8]) -> Result<Vec<Entry>, TextFault>
     ensures entries { IsTraceOf text.now result }
     // What a port gives the gateway at most.
     ensures fits { IfOk result (λ v. AllByRecursion FitsPort v.items) }
 {
-    let lines = pieces(alloc, text, LINE_FEED)?;
     let mut entries = Vec::new(alloc);
-    for (i, line) in lines.iter().enumerate() {
-        if is_skipped(*line) {
+    let mut left = Some(text);
+    for number in 1..u64::MAX {
+        let Some(text) = left else {
+            return Ok(entries);
+        };
+        let (line, rest) = cut(text, LINE_FEED);
+        left = rest;
+        if is_skipped(line) {
             continue;
         }
-        match event(alloc, *line)? {
+        match event(alloc, line)? {
             Some(entry) => entries.push(entry)?,
-            None => return Err(TextFault::Line(i as u64 + 1)),
+            None => return Err(TextFault::Line(number)),
         }
     }
-    Ok(entries)
+    // No memory holds so many lines.
+    Err(TextFault::NoMemory)
 }
