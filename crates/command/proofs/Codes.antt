@@ -1,6 +1,6 @@
 -- The octet of a type.
 use Rattle.std.proofs.Common.{◌≡◌, ℕ, Bool, true, false, List, [], ◌∷◌, subst, sym, refl}
-use Rattle.std.specs.Prelude.{Option, Some, None, find, if◌then◌else◌, ◌==◌}
+use Rattle.std.specs.Prelude.{Some, find, if◌then◌else◌, ◌==◌}
 use Rattle.std.proofs.lemmas.Bool.{eqb-true}
 use Rattle.elements.specs.Types.{row, types, type_of}
 use Rattle.elements.specs.declared.types.TypeId.{TypeId}

@@ -6,3 +6,7 @@ pub mod State
 pub mod Judging
 pub mod Mirrors
 pub mod Fields
+pub mod History
+pub mod Calls
+pub mod Rules
+pub mod Laws

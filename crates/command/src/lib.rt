@@ -7,6 +7,7 @@ mod commands;
 mod content;
 mod judging;
 mod keeping;
+mod laws;
 mod mirrors;
 mod selection;
 mod station;
@@ -14,4 +15,8 @@ mod waiting;
 
 pub use act::{Act, Answer};
 pub use commands::{Commands, NoMemory};
+pub use laws::{
+    commands_are_forwarded, executes_are_selected, judgement_is_the_first_rule_that_applies,
+    own_answers_are_given, settings_stay,
+};
 pub use station::StationInfo;

@@ -1,4 +1,4 @@
-use Rattle.std.proofs.Common.{◌≡◌, ◌≤◌, List, ℕ, length, subst, ap, sym, ◌∙◌}
+use Rattle.std.proofs.Common.{◌≤◌, List, ℕ, length, subst, ap, sym, ◌∙◌}
 use Rattle.std.specs.Prelude.{Some}
 use Rattle.command.specs.State.{State, first_answer}
 use Rattle.command.proofs.Kept.{first_some, first_fits}
