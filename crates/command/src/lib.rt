@@ -20,3 +20,6 @@ pub use laws::{
     own_answers_are_given, settings_stay,
 };
 pub use station::StationInfo;
+
+#[cfg(test)]
+mod tests;
