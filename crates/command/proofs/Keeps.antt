@@ -9,7 +9,7 @@ use Rattle.command.specs.declared.waiting.Line.{Line}
 use Rattle.command.specs.declared.waiting.Line.TheVariants as line
 use Rattle.command.specs.declared.selection.Selection.{Selection}
 use Rattle.command.specs.State.{State, is_used}
-use Rattle.command.specs.History.{History, forwarded_to, sent_count, SendsInTurn, on_line, is_on_line, AnswersRightly, ExecutesAreSelected, own_kept, own_sent, KeepsOwnAnswers}
+use Rattle.command.specs.History.{History, forwarded_to, sent_count, ForwardsCommands, on_line, is_on_line, GivesOwnAnswers, ExecutesAreSelected, own_kept, own_sent, KeepsOwnAnswers}
 use Rattle.command.proofs.Sendings.{waiting_for, AreShaped}
 use Rattle.command.proofs.Tied.{Tied}
 
@@ -24,7 +24,7 @@ pub record KeepsQueue (sizes : Sizes) (stations : List StationInfo) (ms : ℕ) (
   pub count : (k : ℕ) → sent_count sizes stations ms k h ≤ length (forwarded_to sizes stations ms k h)
   pub in_turn : (k : ℕ) → drop (sent_count sizes stations ms k h) (forwarded_to sizes stations ms k h) ≡ waiting_for k waiting
   pub shaped : AreShaped sizes stations waiting
-  pub sends : SendsInTurn sizes stations ms h
+  pub sends : ForwardsCommands sizes stations ms h
 
 -- each line holds what stands on it
 pub record KeepsLines (sizes : Sizes) (stations : List StationInfo) (ms : ℕ) (lines : List Line) (h : History) : Type 0 where
@@ -43,7 +43,7 @@ pub record Keeps (sizes : Sizes) (stations : List StationInfo) (ms : ℕ) (waiti
   pub own : KeepsOwn answers h
   pub tied : AllByRecursion (Tied sizes stations ms h) selections
   pub executes : ExecutesAreSelected sizes stations ms h
-  pub rightly : AnswersRightly sizes stations ms h
+  pub rightly : GivesOwnAnswers sizes stations ms h
 
 -- the settings stay
 pub record Same (s t : State) : Type 0 where

@@ -117,10 +117,10 @@ module _ (sizes : Sizes) (stations : List StationInfo) (select_ms : ℕ) where
 
   -- Each first sending is the oldest command that was forwarded to its station on the open connection and didn't go
   -- out: in the order in which they came, each once, and only while their connection is open.
-  abbrev pub SendsInTurn : History → Type 0
-  SendsInTurn [] = Unit {0}
-  SendsInTurn (Sent k octets ∷ h) = (next_octets k h ≡ Some octets) × SendsInTurn h
-  SendsInTurn (_ ∷ h) = SendsInTurn h
+  abbrev pub ForwardsCommands : History → Type 0
+  ForwardsCommands [] = Unit {0}
+  ForwardsCommands (Sent k octets ∷ h) = (next_octets k h ≡ Some octets) × ForwardsCommands h
+  ForwardsCommands (_ ∷ h) = ForwardsCommands h
 
   -- ---- The line
 
@@ -154,13 +154,13 @@ module _ (sizes : Sizes) (stations : List StationInfo) (select_ms : ℕ) where
   busy_answer k h = option_map (λ xs. answer (negative xs) xs) (on_line k h)
 
   -- Each answer is the ASDU that came with its cause octet replaced, and nothing that has a fault of its own is forwarded.
-  abbrev pub AnswersRightly : History → Type 0
-  AnswersRightly [] = Unit {0}
-  AnswersRightly (Judged now xs (Some a) ∷ h) = (a ≡ answer (cause_given xs) xs) × AnswersRightly h
-  AnswersRightly (Judged now xs None ∷ h) = (fault sizes stations xs ≡ None) × AnswersRightly h
-  AnswersRightly (Refused k a ∷ h) = (a ≡ busy_answer k h) × AnswersRightly h
-  AnswersRightly (GivenUp k b ∷ h) = (b ≡ is_on_line k h) × AnswersRightly h
-  AnswersRightly (_ ∷ h) = AnswersRightly h
+  abbrev pub GivesOwnAnswers : History → Type 0
+  GivesOwnAnswers [] = Unit {0}
+  GivesOwnAnswers (Judged now xs (Some a) ∷ h) = (a ≡ answer (cause_given xs) xs) × GivesOwnAnswers h
+  GivesOwnAnswers (Judged now xs None ∷ h) = (fault sizes stations xs ≡ None) × GivesOwnAnswers h
+  GivesOwnAnswers (Refused k a ∷ h) = (a ≡ busy_answer k h) × GivesOwnAnswers h
+  GivesOwnAnswers (GivenUp k b ∷ h) = (b ≡ is_on_line k h) × GivesOwnAnswers h
+  GivesOwnAnswers (_ ∷ h) = GivesOwnAnswers h
 
   -- ---- Selections
 

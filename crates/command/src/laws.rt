@@ -10,7 +10,7 @@ ghost use Rattle.command.specs.Octets.{answer};
 ghost use Rattle.command.specs.State.{State, octets_waiting};
 ghost use Rattle.command.specs.Judging.{judged};
 ghost use Rattle.command.specs.Rules.{rules_for, first_cause};
-ghost use Rattle.command.specs.History.{SendsInTurn, next_octets, ExecutesAreSelected, AnswersRightly, own_kept, own_sent, KeepsOwnAnswers};
+ghost use Rattle.command.specs.History.{ForwardsCommands, next_octets, ExecutesAreSelected, GivesOwnAnswers, own_kept, own_sent, KeepsOwnAnswers};
 ghost use Rattle.command.specs.Laws.{AfterEachRun};
 
 /// The answer to an ASDU is the one that the first rule that applies gives; where none applies it is forwarded.
@@ -21,7 +21,7 @@ pub fn judgement_is_the_first_rule_that_applies()
 /// First sendings to a station are the commands forwarded to it, in their order, each once, and only while their
 /// connection is open. What waits is the next of them.
 pub fn commands_are_forwarded()
-    ensures in_turn { AfterEachRun (λ stations sizes select_ms s h. SendsInTurn sizes stations select_ms h) }
+    ensures in_turn { AfterEachRun (λ stations sizes select_ms s h. ForwardsCommands sizes stations select_ms h) }
     ensures waiting { AfterEachRun (λ stations sizes select_ms s h. (k : ℕ) → octets_waiting k s ≡ next_octets sizes stations select_ms k h) }
 {}
 
@@ -34,7 +34,7 @@ pub fn executes_are_selected()
 /// Each answer is the right one, and the own answers that are kept go out first in, first out: 16 of them at most
 /// wait, and the end of a connection removes them.
 pub fn own_answers_are_given()
-    ensures right { AfterEachRun (λ stations sizes select_ms s h. AnswersRightly sizes stations select_ms h) }
+    ensures right { AfterEachRun (λ stations sizes select_ms s h. GivesOwnAnswers sizes stations select_ms h) }
     ensures in_turn { AfterEachRun (λ stations sizes select_ms s h. own_kept h ≡ own_sent h ++ s.answers) }
     ensures kept { AfterEachRun (λ stations sizes select_ms s h. KeepsOwnAnswers h) }
 {}
