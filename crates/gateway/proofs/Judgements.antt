@@ -31,18 +31,18 @@ unfolded s so_far other e f = ap val (sym e ∙ f)
     val None = []
     val (Some x) = x
 
-nothing_so_far : (p : Setup) (s : State) (log : Log) (unjudged : List ℕ) (a : Agrees p s log unjudged) → s.so_far ≡ Some [] → a.here.so_far ≡ []
+nothing_so_far : (p : Setup) (s : State) (log : Log) (unjudged : List ℕ) (a : Agrees p s log unjudged false) → s.so_far ≡ Some [] → a.here.so_far ≡ []
 nothing_so_far p s log unjudged a e = unfolded s a.here.so_far [] a.here.assembler e
 
 -- the frame is taken
-frame_taken : (p : Setup) (s : State) (log : Log) (rest : List ℕ) (f : Apdu) (a : Agrees p s log (spelling f ++ rest)) → s.session.connected ≡ true → Fits f → s.so_far ≡ Some [] → is_close (outcome_of s.session f) ≡ false → Agrees p (framed f s) log rest
+frame_taken : (p : Setup) (s : State) (log : Log) (rest : List ℕ) (f : Apdu) (a : Agrees p s log (spelling f ++ rest) false) → s.session.connected ≡ true → Fits f → s.so_far ≡ Some [] → is_close (outcome_of s.session f) ≡ false → Agrees p (framed f s) log rest false
 frame_taken p s log rest f a on fits so goes =
     let both = no_close f a.c s.session s.queue.sent (outcome_of s.session f) goes a.here.tied refl in
     after_heard p s log (spelling f ++ rest) rest f a on so fits (ap (λ x. x ++ (spelling f ++ rest)) (nothing_so_far p s log _ a so)) both.0 both.1
 
-pub judged_on : (p : Setup) (told : Option Log) (s t : State) (f : Apdu) (rest : List ℕ) → s.session.connected ≡ true → Fits f → s.so_far ≡ Some [] → Judged s f None t → Tracks p s told (spelling f ++ rest) → Tracks p t told rest
+pub judged_on : (p : Setup) (told : Option Log) (s t : State) (f : Apdu) (rest : List ℕ) → s.session.connected ≡ true → Fits f → s.so_far ≡ Some [] → Judged s f None t → Tracks p s told (spelling f ++ rest) false → Tracks p t told rest false
 judged_on p None s t f rest on fits so j a = tt
-judged_on p (Some log) s t f rest on fits so j a = subst (λ x. Agrees p x log rest) (sym j.1) (frame_taken p s log rest f a on fits so j.0)
+judged_on p (Some log) s t f rest on fits so j a = subst (λ x. Agrees p x log rest false) (sym j.1) (frame_taken p s log rest f a on fits so j.0)
 
 pub judged_open : (s t : State) (f : Apdu) → s.session.connected ≡ true → Judged s f None t → t.session.connected ≡ true
 judged_open s t f on j = ap (λ (x : State). x.session.connected) j.1 ∙ (taken_stays f s.moment s.session).connected ∙ on
@@ -54,7 +54,7 @@ fault_dropped s f cause e =
     let is : session.taken f s.moment s.session ≡ session.acknowledged 0 (record s.session { last_frame = s.moment }) = cond-true (refuses s.session f) _ _ refused in
     ap (λ (x : Session). disconnected (let made : State = record s { queue = queue.acknowledged x.acked_queue s.queue; session = x } in made)) is
 
-pub judged_closes : (p : Setup) (told : Option Log) (s t : State) (f : Apdu) (cause : Close) (rest : List ℕ) → s.session.connected ≡ true → Fits f → s.so_far ≡ Some [] → Judged s f (Some cause) t → Tracks p s told (spelling f ++ rest) → IfSome told (MayClose p t cause)
+pub judged_closes : (p : Setup) (told : Option Log) (s t : State) (f : Apdu) (cause : Close) (rest : List ℕ) → s.session.connected ≡ true → Fits f → s.so_far ≡ Some [] → Judged s f (Some cause) t → Tracks p s told (spelling f ++ rest) false → IfSome told (MayClose p t cause)
 judged_closes p None s t f cause rest on fits so j a = tt
 judged_closes p (Some log) s t f cause rest on fits so j a =
     let fault = fault_closes f a.c s.session s.queue.sent cause a.here.tied j.0 in
@@ -69,14 +69,19 @@ judged_closes p (Some log) s t f cause rest on fits so j a =
     }
 
 -- the octets of the frame so far count as not judged
-fed : (p : Setup) (s : State) (log : Log) (piece unjudged so_far : List ℕ) → s.so_far ≡ Some so_far → so_far ++ piece ≡ unjudged → Agrees p s log piece → Agrees p (record s { so_far = Some [] }) log unjudged
+fed : (p : Setup) (s : State) (log : Log) (piece unjudged so_far : List ℕ) → s.so_far ≡ Some so_far → so_far ++ piece ≡ unjudged → Agrees p s log piece false → Agrees p (record s { so_far = Some [] }) log unjudged false
 fed p s log piece unjudged so_far so e a = record {
   k = a.k;
   sizes = a.sizes;
   places = a.places;
   clock = a.clock;
+  counts = a.counts;
   settled = a.settled;
+  found = a.found;
   line = a.line;
+  primary = a.primary;
+  turns = a.turns;
+  asks = a.asks;
   c = a.c;
   here = record {
     link = a.here.link;
@@ -98,17 +103,17 @@ fed p s log piece unjudged so_far so e a = record {
   before = a.before;
 }
 
-pub told_fed : (p : Setup) (told : Option Log) (s t : State) (piece unjudged so_far : List ℕ) → s.so_far ≡ Some so_far → so_far ++ piece ≡ unjudged → t ≡ record s { so_far = Some [] } → Tracks p s told piece → Tracks p t told unjudged
+pub told_fed : (p : Setup) (told : Option Log) (s t : State) (piece unjudged so_far : List ℕ) → s.so_far ≡ Some so_far → so_far ++ piece ≡ unjudged → t ≡ record s { so_far = Some [] } → Tracks p s told piece false → Tracks p t told unjudged false
 told_fed p None s t piece unjudged so_far so e is h = tt
-told_fed p (Some log) s t piece unjudged so_far so e is a = subst (λ x. Agrees p x log unjudged) (sym is) (fed p s log piece unjudged so_far so e a)
+told_fed p (Some log) s t piece unjudged so_far so e is a = subst (λ x. Agrees p x log unjudged false) (sym is) (fed p s log piece unjudged so_far so e a)
 
-pub told_more : (p : Setup) (told : Option Log) (s t : State) (piece so_far : List ℕ) → s.so_far ≡ Some so_far → IsMore (so_far ++ piece) → t ≡ record s { so_far = Some (so_far ++ piece) } → Tracks p s told piece → Tracks p t told []
+pub told_more : (p : Setup) (told : Option Log) (s t : State) (piece so_far : List ℕ) → s.so_far ≡ Some so_far → IsMore (so_far ++ piece) → t ≡ record s { so_far = Some (so_far ++ piece) } → Tracks p s told piece false → Tracks p t told [] false
 told_more p None s t piece so_far so more is h = tt
 told_more p (Some log) s t piece so_far so more is a =
     let same : a.here.so_far ≡ so_far = unfolded s a.here.so_far so_far a.here.assembler so in
     after_more p s t log piece a (subst (λ x. IsMore (x ++ piece)) (sym same) more) (is ∙ ap (λ x. let made : State = record s { so_far = Some (x ++ piece) } in made) (sym same))
 
-pub garbled_closes : (p : Setup) (told : Option Log) (s t : State) (piece so_far : List ℕ) → s.session.connected ≡ true → s.so_far ≡ Some so_far → IsRefused (so_far ++ piece) → t ≡ record s { so_far = Some [] } → Tracks p s told piece → IfSome told (MayClose p t Grammar)
+pub garbled_closes : (p : Setup) (told : Option Log) (s t : State) (piece so_far : List ℕ) → s.session.connected ≡ true → s.so_far ≡ Some so_far → IsRefused (so_far ++ piece) → t ≡ record s { so_far = Some [] } → Tracks p s told piece false → IfSome told (MayClose p t Grammar)
 garbled_closes p None s t piece so_far on so refused is h = tt
 garbled_closes p (Some log) s t piece so_far on so refused is a =
     let same : a.here.so_far ≡ so_far = unfolded s a.here.so_far so_far a.here.assembler so in

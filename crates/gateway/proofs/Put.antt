@@ -13,6 +13,7 @@ use Rattle.gateway.specs.Log.{Log, Went, Output, TcpOut, Closed, tell}
 use Rattle.gateway.specs.Reports.{Setup}
 use Rattle.gateway.specs.Traffic.{IsFaithful}
 use Rattle.gateway.specs.Runs.{events_told}
+use Rattle.gateway.specs.LineLaws.{LineLaws}
 use Rattle.gateway.specs.State.{State, disconnected}
 use Rattle.gateway.specs.Agrees.{Agrees, Tracks, Leaves, Rests, IsSpent}
 use Rattle.gateway.specs.Steps.{SendsPiece, MayClose}
@@ -28,24 +29,24 @@ pub events_put : (b : Bool) (told after : Option Log) (now : ℕ) (action : Outp
 events_put true told after now action e = ap events_told e ∙ events_went told now action
 events_put false told after now action e = ap events_told e
 
-pub told_faithful : (p : Setup) (told : Option Log) (s : State) (unjudged : List ℕ) → Tracks p s told unjudged → IfSome told (IsFaithful p)
-told_faithful p None s unjudged h = tt
-told_faithful p (Some log) s unjudged a = faithful p s log unjudged a
+pub told_faithful : (p : Setup) (told : Option Log) (s : State) (unjudged : List ℕ) (is_asked : Bool) → Tracks p s told unjudged is_asked → IfSome told (IsFaithful p)
+told_faithful p None s unjudged is_asked h = tt
+told_faithful p (Some log) s unjudged is_asked a = faithful p s log unjudged is_asked a
 
-pub told_leaves : (p : Setup) (result : Bool) (told : Option Log) (s : State) → Leaves result p s told [] → IfSome told (IsFaithful p)
-told_leaves p true told s h = told_faithful p told s [] h
-told_leaves p false told s h = h
+pub told_leaves : (p : Setup) (result : Bool) (told : Option Log) (s : State) (is_asked : Bool) → Leaves result p s told [] is_asked → IfSome told (IsFaithful p)
+told_leaves p true told s is_asked h = told_faithful p told s [] is_asked h
+told_leaves p false told s is_asked h = h
 
 -- handing this frame to TCP leads from one state to the other
 abbrev pub Sends : State → Apdu → State → Type 0
-Sends s f t = (p : Setup) (log : Log) (unjudged : List ℕ) → Agrees p s log unjudged → Agrees p t (Went s.moment (TcpOut (spelling f)) ∷ log) unjudged
+Sends s f t = (p : Setup) (log : Log) (unjudged : List ℕ) (is_asked : Bool) → Agrees p s log unjudged is_asked → Agrees p t (Went s.moment (TcpOut (spelling f)) ∷ log) unjudged is_asked
 
-pub told_sent : (p : Setup) (told after : Option Log) (s t : State) (f : Apdu) (now : ℕ) (unjudged : List ℕ) → after ≡ tell told (Went now (TcpOut (spelling f)) ∷ []) → now ≡ s.moment → Sends s f t → Tracks p s told unjudged → Tracks p t after unjudged
-told_sent p told after s t f now unjudged e same sends h = rw (e, same) (by_log told h)
+pub told_sent : (p : Setup) (told after : Option Log) (s t : State) (f : Apdu) (now : ℕ) (unjudged : List ℕ) (is_asked : Bool) → after ≡ tell told (Went now (TcpOut (spelling f)) ∷ []) → now ≡ s.moment → Sends s f t → Tracks p s told unjudged is_asked → Tracks p t after unjudged is_asked
+told_sent p told after s t f now unjudged is_asked e same sends h = rw (e, same) (by_log told h)
   where
-    by_log : (told : Option Log) → Tracks p s told unjudged → Tracks p t (tell told (Went s.moment (TcpOut (spelling f)) ∷ [])) unjudged
+    by_log : (told : Option Log) → Tracks p s told unjudged is_asked → Tracks p t (tell told (Went s.moment (TcpOut (spelling f)) ∷ [])) unjudged is_asked
     by_log None h = tt
-    by_log (Some log) a = sends p log unjudged a
+    by_log (Some log) a = sends p log unjudged is_asked a
 
 pub open_of : (s : Session) → may_send s ≡ true → s.connected ≡ true
 open_of s may =
@@ -54,7 +55,7 @@ open_of s may =
     (and_parts s.connected s.started two).0
 
 pub sends_piece : (s : State) (f : Apdu) (t : State) → SendsPiece s f t → Sends s f t
-sends_piece s f t h p log unjudged a = rw (h.after, h.frame) (after_piece p s log unjudged h.asdu h.rest a h.may (open_of s.session h.may) h.first (subst Fits h.frame h.fits))
+sends_piece s f t h p log unjudged is_asked a = rw (h.after, h.frame) (after_piece p s log unjudged h.asdu h.rest is_asked a h.may (open_of s.session h.may) h.first (subst Fits h.frame h.fits))
 
 -- what is due leaves the window as it was, and is no I frame
 record LeavesWindow (s : Session) (d : Option Apdu × Session) : Type 0 where
@@ -105,13 +106,13 @@ pulled_leaves now s =
     (λ k. nothing_leaves s)))
 
 sends_due : (s : State) (f : Apdu) (t : Session) → Fits f → LeavesWindow s.session (Some f, t) → Sends s f (record s { session = t })
-sends_due s f t fits h p log unjudged a = after_due p s t log unjudged f a h.sends.0 fits h.sends.1 h.same
+sends_due s f t fits h p log unjudged is_asked a = after_due p s t log unjudged f is_asked a h.sends.0 fits h.sends.1 h.same
 
 pub sends_confirmation : (s t : State) (f : Apdu) → Fits f → ◌≡◌ {A = Option Apdu × Session} (Some f, t.session) (session.confirmed s.session) → t ≡ record s { session = t.session } → Sends s f t
-sends_confirmation s t f fits e rest p log unjudged a = rw rest (sends_due s f t.session fits (subst (LeavesWindow s.session) (sym e) (confirmed_leaves s.session)) p log unjudged a)
+sends_confirmation s t f fits e rest p log unjudged is_asked a = rw rest (sends_due s f t.session fits (subst (LeavesWindow s.session) (sym e) (confirmed_leaves s.session)) p log unjudged is_asked a)
 
 pub sends_pulled : (s t : State) (f : Apdu) → Fits f → ◌≡◌ {A = Option Apdu × Session} (Some f, t.session) (session.pulled s.moment s.session) → t ≡ record s { session = t.session } → Sends s f t
-sends_pulled s t f fits e rest p log unjudged a = rw rest (sends_due s f t.session fits (subst (LeavesWindow s.session) (sym e) (pulled_leaves s.moment s.session)) p log unjudged a)
+sends_pulled s t f fits e rest p log unjudged is_asked a = rw rest (sends_due s f t.session fits (subst (LeavesWindow s.session) (sym e) (pulled_leaves s.moment s.session)) p log unjudged is_asked a)
 
 -- where nothing is due, nothing changes
 pub no_confirmation : (s t : State) → ◌≡◌ {A = Option Apdu × Session} (None, t.session) (session.confirmed s.session) → t ≡ record s { session = t.session } → t ≡ s
@@ -136,10 +137,10 @@ pulled_spent r s t e rest spent may =
     let before : may_send s.session ≡ true = sym (ap (λ b. b && nat_lt (length t.session.unacknowledged) t.session.k) same.same_running ∙ ap (λ us. is_running s.session && nat_lt (length us) t.session.k) same.same_frames ∙ ap (λ k. is_running s.session && nat_lt (length s.session.unacknowledged) k) same.same_k) ∙ may in
     ap (λ (x : State). x.queue.unsent) rest ∙ spent before
 
-pub told_closed : (p : Setup) (told after : Option Log) (s t : State) (cause : Close) (now : ℕ) → after ≡ tell told (Went now (Closed cause) ∷ []) → now ≡ s.moment → t ≡ disconnected s → IfSome told (MayClose p s cause) → Tracks p t after []
+pub told_closed : (p : Setup) (told after : Option Log) (s t : State) (cause : Close) (now : ℕ) → after ≡ tell told (Went now (Closed cause) ∷ []) → now ≡ s.moment → t ≡ disconnected s → IfSome told (MayClose p s cause) → Tracks p t after [] false
 told_closed p told after s t cause now e same is h = rw (e, same, is) (by_log told h)
   where
-    by_log : (told : Option Log) → IfSome told (MayClose p s cause) → Tracks p (disconnected s) (tell told (Went s.moment (Closed cause) ∷ [])) []
+    by_log : (told : Option Log) → IfSome told (MayClose p s cause) → Tracks p (disconnected s) (tell told (Went s.moment (Closed cause) ∷ [])) [] false
     by_log None h = tt
     by_log (Some log) h =
         let moment : s.moment ≡ h.state.moment = ap (λ (x : State). x.moment) h.same in
@@ -147,13 +148,13 @@ told_closed p told after s t cause now e same is h = rw (e, same, is) (by_log to
 
 pub may_close_faithful : (p : Setup) (told : Option Log) (s : State) (cause : Close) → IfSome told (MayClose p s cause) → IfSome told (IsFaithful p)
 may_close_faithful p None s cause h = tt
-may_close_faithful p (Some log) s cause h = faithful p h.state log h.unjudged h.agrees
+may_close_faithful p (Some log) s cause h = faithful p h.state log h.unjudged false h.agrees
 
-pub told_rested : (p : Setup) (told : Option Log) (s : State) → IsSpent s → Tracks p s told [] → Rests p told
-told_rested p None s spent h = tt
-told_rested p (Some []) s spent a = tt
-told_rested p (Some (t ∷ log)) s spent a = rested p s (t ∷ log) a spent
+pub told_rested : (laws : LineLaws) (p : Setup) (told : Option Log) (s : State) → IsSpent s → Tracks p s told [] true → Rests p told
+told_rested laws p None s spent h = tt
+told_rested laws p (Some []) s spent a = tt
+told_rested laws p (Some (t ∷ log)) s spent a = rested laws p s (t ∷ log) a spent
 
-pub told_done : (p : Setup) (result : Bool) (told : Option Log) (s : State) → OnTrue result (IsSpent s) → Leaves result p s told [] → OnTrue result (Rests p told)
-told_done p true told s spent h = told_rested p told s spent h
-told_done p false told s spent h = tt
+pub told_done : (laws : LineLaws) (p : Setup) (result : Bool) (told : Option Log) (s : State) → OnTrue result (IsSpent s) → Leaves result p s told [] true → OnTrue result (Rests p told)
+told_done laws p true told s spent h = told_rested laws p told s spent h
+told_done laws p false told s spent h = tt

@@ -1,5 +1,5 @@
 -- What taking an APDU leads to.
-use Rattle.std.specs.Prelude.{ℕ, List, [], Option, IfSome}
+use Rattle.std.specs.Prelude.{ℕ, false, List, [], Option, IfSome}
 use Rattle.gateway.specs.Log.{Log}
 use Rattle.gateway.specs.Reports.{Setup}
 use Rattle.gateway.specs.Traffic.{IsFaithful}
@@ -9,8 +9,8 @@ use Rattle.gateway.specs.State.{State}
 use Rattle.gateway.specs.Agrees.{Tracks}
 
 abbrev pub Goes : Outcome → Setup → State → Option Log → List ℕ → Type 0
-Goes On p s told rest = Tracks p s told rest
-Goes Over p s told rest = Tracks p s told []
+Goes On p s told rest = Tracks p s told rest false
+Goes Over p s told rest = Tracks p s told [] false
 Goes Failed p s told rest = IfSome told (IsFaithful p)
 
 abbrev pub IsOnward : Outcome → Type 0 → Type 0

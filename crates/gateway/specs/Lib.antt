@@ -6,11 +6,14 @@ pub mod Log
 pub mod Ports
 pub mod Objects
 pub mod Reports
-pub mod Phases
-pub mod Polling
+pub mod Polls
+pub mod Counting
 pub mod Streams
 pub mod Frames
 pub mod Connections
+pub mod Room
+pub mod Line
+pub mod LineLaws
 pub mod Traffic
 pub mod State
 pub mod Finding

@@ -1,5 +1,5 @@
 -- What the line brought, as its log shows: exchanges, and the objects of the reports taken.
-use Rattle.std.specs.Prelude.{ℕ, suc, ◌+◌, ◌<◌, ◌==◌, List, [], ◌∷◌, slice_index, length, Option, Some, None, option_and_then, option_map, if◌then◌else◌}
+use Rattle.std.specs.Prelude.{◌≡◌, ℕ, suc, ◌+◌, ◌<◌, ◌==◌, List, [], ◌∷◌, slice_index, length, Option, Some, None, option_and_then, option_map, if◌then◌else◌}
 use Rattle.std.specs.List.{flat_map}
 use Rattle.ft12.specs.Fronts.{front_of}
 use Rattle.asdu.specs.declared.sizes.Sizes.{Sizes}
@@ -29,6 +29,10 @@ address_at addresses i = slice_index addresses i
 abbrev pub index_of : ℕ → List ℕ → Option ℕ
 index_of address [] = None
 index_of address (a ∷ addresses) = if a == address then Some 0 else option_map suc (index_of address addresses)
+
+-- each station is found by its address
+abbrev pub AreFound : List ℕ → Type 0
+AreFound addresses = (i : ℕ) → i < length addresses → index_of (address_at addresses i) addresses ≡ Some i
 
 -- a request to the station with this address, if there is one
 abbrev pub sent_to : List ℕ → (ℕ × Asked) → Option Sending

@@ -5,8 +5,8 @@ use Rattle.gateway.proofs.Put.{told_sent, sends_pulled, pulled_open, pulled_spen
 use Rattle.gateway.proofs.engine.Gateway.send_dues.Goals as goal
 
 pub returns-in-None-clause-kept : goal.returns-in-None-clause-kept
-returns-in-None-clause-kept g c = λ p unjudged h.
-    subst (λ x. Tracks p x (g.P.Port.log c.loop.port) unjudged) (sym (none_pulled c.loop.self c.pull.new.self c.in-None.ensures.due c.pull.ensures.rest)) (c.loop.invariant.kept p unjudged h)
+returns-in-None-clause-kept g c = λ p unjudged is_asked h.
+    subst (λ x. Tracks p x (g.P.Port.log c.loop.port) unjudged is_asked) (sym (none_pulled c.loop.self c.pull.new.self c.in-None.ensures.due c.pull.ensures.rest)) (c.loop.invariant.kept p unjudged is_asked h)
 
 pub returns-in-None-clause-open : goal.returns-in-None-clause-open
 returns-in-None-clause-open g c = pulled_open _ _ _ _ c.pull.ensures.due ∙ c.loop.invariant.on
@@ -19,8 +19,8 @@ returns-then-not-hand-clause-open g c = pulled_open _ _ _ _ c.pull.ensures.due �
 
 pub loop-preserved : goal.loop-preserved
 loop-preserved g c = record {
-  kept = λ p unjudged h. told_sent p _ _ c.loop.self c.pull.new.self c.in-Some.apdu _ unjudged c.if-not-hand.ensures.told (ap (λ (x : State). x.moment) c.pull.ensures.rest)
-      (sends_pulled c.loop.self c.pull.new.self c.in-Some.apdu c.in-Some.ensures.fits c.in-Some.ensures.due c.pull.ensures.rest) (c.loop.invariant.kept p unjudged h);
+  kept = λ p unjudged is_asked h. told_sent p _ _ c.loop.self c.pull.new.self c.in-Some.apdu _ unjudged is_asked c.if-not-hand.ensures.told (ap (λ (x : State). x.moment) c.pull.ensures.rest)
+      (sends_pulled c.loop.self c.pull.new.self c.in-Some.apdu c.in-Some.ensures.fits c.in-Some.ensures.due c.pull.ensures.rest) (c.loop.invariant.kept p unjudged is_asked h);
   on = pulled_open _ _ _ _ c.pull.ensures.due ∙ c.loop.invariant.on;
   spent = λ h. pulled_spent _ c.loop.self c.pull.new.self c.pull.ensures.due c.pull.ensures.rest (c.loop.invariant.spent h);
   events = c.if-not-hand.ensures.events ∙ c.loop.invariant.events;

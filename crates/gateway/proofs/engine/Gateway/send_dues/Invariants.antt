@@ -1,4 +1,4 @@
-use Rattle.std.proofs.Common.{◌≡◌, ℕ, List}
+use Rattle.std.proofs.Common.{◌≡◌, ℕ, Bool, List}
 use Rattle.gateway.specs.Reports.{Setup}
 use Rattle.gateway.specs.Agrees.{Tracks, IsSpent}
 use Rattle.gateway.specs.Runs.{events_told}
@@ -6,7 +6,7 @@ use Rattle.gateway.proofs.engine.Gateway.send_dues.Given as goal
 
 abbrev pub invariant-loop : goal.invariant-loop
 invariant-loop g l = record {
-  kept : (p : Setup) (unjudged : List ℕ) → Tracks p l.fn.self (g.P.Port.log l.fn.port) unjudged → Tracks p l.self (g.P.Port.log l.port) unjudged;
+  kept : (p : Setup) (unjudged : List ℕ) (is_asked : Bool) → Tracks p l.fn.self (g.P.Port.log l.fn.port) unjudged is_asked → Tracks p l.self (g.P.Port.log l.port) unjudged is_asked;
   on : l.self.session.connected ≡ l.fn.self.session.connected;
   spent : IsSpent l.fn.self → IsSpent l.self;
   events : events_told (g.P.Port.log l.port) ≡ events_told (g.P.Port.log l.fn.port);

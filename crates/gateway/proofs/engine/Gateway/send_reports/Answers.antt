@@ -7,8 +7,8 @@ pub loop-apdu-preserved : goal.loop-apdu-preserved
 loop-apdu-preserved g c =
     let some = c.in-Some.ensures.some in
     record {
-      kept = λ p unjudged h. told_sent p _ _ c.loop-apdu.self c.next_report.new.self c.in-Some.apdu _ unjudged c.if-not-hand.ensures.told (ap (λ (x : State). x.moment) some.after)
-          (sends_piece c.loop-apdu.self c.in-Some.apdu c.next_report.new.self some) (c.loop-apdu.invariant.kept p unjudged h);
+      kept = λ p unjudged is_asked h. told_sent p _ _ c.loop-apdu.self c.next_report.new.self c.in-Some.apdu _ unjudged is_asked c.if-not-hand.ensures.told (ap (λ (x : State). x.moment) some.after)
+          (sends_piece c.loop-apdu.self c.in-Some.apdu c.next_report.new.self some) (c.loop-apdu.invariant.kept p unjudged is_asked h);
       on = ap (λ (x : State). x.session.connected) some.after ∙ c.loop-apdu.invariant.on;
       events = c.if-not-hand.ensures.events ∙ c.loop-apdu.invariant.events;
       script = c.if-not-hand.ensures.script ∙ c.loop-apdu.invariant.script;
