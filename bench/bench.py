@@ -10,7 +10,6 @@ peak of the resident memory in octets for each octet of the trace. `--growth` re
 """
 import argparse
 import os
-import resource
 import subprocess
 import sys
 import tempfile
@@ -51,17 +50,18 @@ def config(stations=1, queue=1000, k=12):
 
 
 class Trace:
-    """Lines of a trace, a millisecond after one another."""
+    """Lines of a trace, a millisecond after one another. They are written at once: what this process holds would count as the
+    program's peak memory, which begins as a copy of this process."""
 
-    def __init__(self):
-        self.lines = []
-        self.now = 0
+    def __init__(self, file):
+        self.file = file
+        self.events = 0
         self.counted = 0
 
     def add(self, what, octets=None):
-        self.now += 1
-        text = f"{self.now} {what}"
-        self.lines.append(text if octets is None else f"{text} {octets.hex().upper()}")
+        self.events += 1
+        digits = "" if octets is None else f" {octets.hex().upper()}"
+        self.file.write(f"{self.events} {what}{digits}\n")
 
     def start_stations(self, stations):
         for station in range(1, stations + 1):
@@ -73,63 +73,59 @@ class Trace:
         self.add("R", START)
 
 
-def steady(events, stations=1):
+def steady(t, events, stations=1):
     """A report an event, and an S frame after each eighth."""
-    t = Trace()
     t.start_stations(stations)
     t.start_connection()
     station = 0
-    while len(t.lines) < events:
+    while t.events < events:
         t.add("S", report(station + 1))
         station = (station + 1) % stations
         t.counted += 1
         if t.counted % 8 == 0:
             t.add("R", acknowledgement(t.counted))
-    return config(stations), t, "objects"
+    return config(stations), "objects"
 
 
-def stations(events):
+def stations(t, events):
     """As `steady`, with 32 stations in turn."""
-    return steady(events, 32)
+    return steady(t, events, 32)
 
 
-def pieces(events):
+def pieces(t, events):
     """As `steady`, with a piece for each octet."""
-    t = Trace()
     t.start_stations(1)
     t.start_connection()
-    while len(t.lines) < events:
+    while t.events < events:
         for octet in report(1):
             t.add("S", bytes([octet]))
         t.counted += 1
         if t.counted % 8 == 0:
             for octet in acknowledgement(t.counted):
                 t.add("R", bytes([octet]))
-    return config(), t, "objects"
+    return config(), "objects"
 
 
-def flood(events):
+def flood(t, events):
     """TESTFR act without end, in pieces of 1,024 octets."""
-    t = Trace()
     t.start_stations(1)
     t.start_connection()
     stream = TEST * 512
     place = 0
-    while len(t.lines) < max(16, events // 100):
+    while t.events < max(16, events // 100):
         t.add("R", stream[place : place + 1024])
         place = (place + 1024) % 6
         t.counted += 1
     t.counted = t.counted * 1024 // 6
-    return config(), t, "APDUs"
+    return config(), "APDUs"
 
 
-def queue(events):
+def queue(t, events):
     """A queue of 65,535 places, filled without a connection and then drained, again and again."""
-    t = Trace()
     t.start_stations(1)
     waiting = 0
-    while len(t.lines) < events:
-        while waiting < 65533 and len(t.lines) < events:
+    while t.events < events:
+        while waiting < 65533 and t.events < events:
             t.add("S", report(1))
             waiting += 1
             t.counted += 1
@@ -142,7 +138,7 @@ def queue(events):
             waiting -= now
             t.add("R", acknowledgement(sent))
         t.add("C")
-    return config(queue=65535, k=32767), t, "objects"
+    return config(queue=65535, k=32767), "objects"
 
 
 WORKLOADS = {"steady": steady, "stations": stations, "pieces": pieces, "flood": flood, "queue": queue}
@@ -162,16 +158,16 @@ def replay(program, settings, trace):
 
 
 def measured(program, folder, name, events):
-    settings_text, trace, counted = WORKLOADS[name](events)
     settings = os.path.join(folder, f"{name}.toml")
     path = os.path.join(folder, f"{name}.trace")
+    with open(path, "w") as file:
+        trace = Trace(file)
+        settings_text, counted = WORKLOADS[name](trace, events)
     with open(settings, "w") as file:
         file.write(settings_text)
-    with open(path, "w") as file:
-        file.write("\n".join(trace.lines) + "\n")
     runs = [replay(program, settings, path) for _ in range(3)]
     return {
-        "events": len(trace.lines),
+        "events": trace.events,
         "octets": os.path.getsize(path),
         "seconds": min(run[0] for run in runs),
         "peak": max(run[1] for run in runs),

@@ -1,10 +1,13 @@
-//! The text of a trace: the events of a run, one a line (this gateway's own profile).
+//! The text of a trace: the events of a run and its actions, one a line (this gateway's own profile).
 //!
 //! `read_trace` reads a whole trace into the gateway's `Entry`s, or names its first wrong line (`TextFault`); `read_octets`
-//! reads octets in hexadecimal alone. What a run does with the events, and with moments that go back, is the gateway's
-//! matter. Proved: the entries are the events that the lines tell, in their order, and no line is wrong; a line that is
-//! refused is the first that is neither empty, nor a comment, nor an event; an entry's octets fit what a port gives at
-//! once; `read_octets` answers the octets that the digits spell, and nothing for any other text.
+//! reads octets in hexadecimal alone. `Trace` is the gateway's port over entries: it gives a tick at moment 0 and then
+//! these, stores the log of the run, and writes the line of each action to a writer. What the gateway does with the
+//! events, and with moments that go back, is its own matter. Proved: the entries are the events that the lines tell, in
+//! their order, and no line is wrong; a line that is refused is the first that is neither empty, nor a comment, nor an
+//! event; an entry's octets fit what a port gives at once; `read_octets` answers the octets that the digits spell, and
+//! nothing for any other text; the events of `Trace`'s log and those still to come are always the tick and all entries;
+//! and unless a write failed, its writer has got the lines of the log's actions in their order, and nothing else.
 #![tactic(auto)]
 
 mod actions;
