@@ -36,7 +36,7 @@ false_is_not_true h = search (rules, h)
 abbrev target : ℕ → ℕ → ℕ → Target
 target kind ca address = record { kind = kind; ca = ca; address = address }
 
-targets_equal : (a b : Target) → same_target a b ≡ true → a ≡ b
+pub targets_equal : (a b : Target) → same_target a b ≡ true → a ≡ b
 targets_equal a b e =
     let p : _ = and_parts (a.kind == b.kind && a.ca == b.ca) (a.address == b.address) e in
     let q : _ = and_parts (a.kind == b.kind) (a.ca == b.ca) p.0 in
@@ -56,7 +56,7 @@ pub all_append : {X : Type 0} (P : X → Type 0) (xs : List X) (x : X) → AllBy
 all_append P [] x h p = (p, tt)
 all_append P (y ∷ ys) x h p = (h.0, all_append P ys x h.1 p)
 
-same_target_itself : (t : Target) → same_target t t ≡ true
+pub same_target_itself : (t : Target) → same_target t t ≡ true
 same_target_itself t = rw (same t.kind, same t.ca, same t.address) refl
 
 module _ (sizes : Sizes) (stations : List StationInfo) (select_ms : ℕ) where

@@ -9,3 +9,5 @@ pub mod Mirroring
 pub mod Lines
 pub mod Runs
 pub mod Ruled
+pub mod Passing
+pub mod Full

@@ -19,7 +19,7 @@ use Rattle.command.specs.History.{Mirrored, History, Select, negates, confirms}
 use Rattle.command.proofs.Keeps.{Keeps, Same}
 use Rattle.command.proofs.Tied.{AtStage, station_at, select_of, Perhaps, all_kept, all_mapped, Tied, at}
 
-and_swap : (m a x : Bool) → (m && a && x) ≡ (m && x && a)
+pub and_swap : (m a x : Bool) → (m && a && x) ≡ (m && x && a)
 and_swap true true true = refl
 and_swap true true false = refl
 and_swap true false true = refl
@@ -41,7 +41,7 @@ abbrev pub left : ℕ → AsduValue → List Info → List Selection → List Se
 left ms v [] zs = zs
 left ms v (i ∷ is) zs = left ms v is (filter_map (advanced ms (sign.Over (target_at v i))) zs)
 
-left_is : (v : AsduValue) (is : List Info) (s : State) → mirrors.all_over v is s ≡ record s { selections = left s.select_ms v is s.selections }
+pub left_is : (v : AsduValue) (is : List Info) (s : State) → mirrors.all_over v is s ≡ record s { selections = left s.select_ms v is s.selections }
 left_is v [] s = refl
 left_is v (i ∷ is) s = left_is v is (state.told (sign.Over (target_at v i)) s)
 

@@ -1,5 +1,5 @@
 -- Lists of calls, and the history that they leave.
-use Rattle.std.specs.Prelude.{ℕ, List, [], ◌∷◌, Option, Some, None}
+use Rattle.std.specs.Prelude.{ℕ, ◌≤◌, List, [], ◌∷◌, Option, Some, None}
 use Rattle.asdu.specs.Asdu.{AsduValue}
 use Rattle.asdu.specs.declared.sizes.Sizes.{Sizes}
 use Rattle.command.specs.declared.station.StationInfo.{StationInfo}
@@ -56,3 +56,21 @@ after_call (Due now) r = record { state = state.timed now r.state; history = r.h
 abbrev pub run : List StationInfo → Sizes → ℕ → List Call → Run
 run stations sizes select_ms [] = record { state = state.new_state stations sizes select_ms; history = [] }
 run stations sizes select_ms (call ∷ earlier) = after_call call (run stations sizes select_ms earlier)
+
+-- ---- moments
+
+abbrev pub moment_of : Call → ℕ → ℕ
+moment_of (Judge xs now) before = now
+moment_of (Mirror v now) before = now
+moment_of (Due now) before = now
+moment_of _ before = before
+
+-- the latest moment that was handed in
+abbrev pub latest : List Call → ℕ
+latest [] = 0
+latest (call ∷ earlier) = moment_of call (latest earlier)
+
+-- moments never fall from call to call
+abbrev pub NeverFall : List Call → Type 0
+NeverFall [] = Unit {0}
+NeverFall (call ∷ earlier) = (latest earlier ≤ moment_of call (latest earlier)) × NeverFall earlier

@@ -3,14 +3,18 @@
 //! The history has what came from the control centre and what became of it, what went to the stations and what they
 //! answered, and the own answers. Each law says what the calls do by what the rules make of that history.
 
-ghost use Rattle.std.specs.Prelude.{◌≡◌, ◌++◌, ℕ, List, option_map};
+ghost use Rattle.std.specs.Prelude.{◌≡◌, ◌≤◌, ◌++◌, ℕ, List, true, option_map};
+ghost use Rattle.std.specs.List.{list_any};
 ghost use Rattle.asdu.specs.declared.sizes.Sizes.{Sizes};
 ghost use Rattle.command.specs.declared.station.StationInfo.{StationInfo};
+ghost use Rattle.command.specs.declared.content.Command.{Command};
 ghost use Rattle.command.specs.Octets.{answer};
+ghost use Rattle.command.specs.Selection.{lets_through};
+ghost use Rattle.command.specs.Calls.{Call, run, latest, NeverFall};
 ghost use Rattle.command.specs.State.{State, octets_waiting};
 ghost use Rattle.command.specs.Judging.{judged};
 ghost use Rattle.command.specs.Rules.{rules_for, first_cause};
-ghost use Rattle.command.specs.History.{ForwardsCommands, next_octets, ExecutesAreSelected, GivesOwnAnswers, own_kept, own_sent, KeepsOwnAnswers};
+ghost use Rattle.command.specs.History.{ForwardsCommands, next_octets, ExecutesAreSelected, IsSelected, GivesOwnAnswers, own_kept, own_sent, KeepsOwnAnswers};
 ghost use Rattle.command.specs.Laws.{AfterEachRun};
 
 /// The answer to an ASDU is the one that the first rule that applies gives; where none applies it is forwarded.
@@ -29,6 +33,11 @@ pub fn commands_are_forwarded()
 /// addresses, accepted on the line and confirmed in time, with nothing between that ends it.
 pub fn executes_are_selected()
     ensures { AfterEachRun (λ stations sizes select_ms s h. ExecutesAreSelected sizes stations select_ms h) }
+{}
+
+/// Where moments never fall, a selected execute is refused for no want of a selection: one that is live lets it through.
+pub fn selected_executes_pass()
+    ensures { (stations : List StationInfo) (sizes : Sizes) (select_ms : ℕ) (calls : List Call) → NeverFall calls → (x : Command) (now : ℕ) → latest calls ≤ now → IsSelected sizes stations select_ms x now (run stations sizes select_ms calls).history → list_any (lets_through select_ms x now) (run stations sizes select_ms calls).state.selections ≡ true }
 {}
 
 /// Each answer is the right one, and the own answers that are kept go out first in, first out: 16 of them at most

@@ -11,7 +11,8 @@
 //! Proved: each call is one small function on a record of plain fields. Above it, for every list of calls: an ASDU gets
 //! the answer of the first rule that applies; first sendings to a station are the commands forwarded to it, in order,
 //! each once, and only while their connection is open; before each forwarded execute to a station that asks for selects
-//! its select stands, accepted on the line and confirmed in time, with nothing between that ends it; each answer is the
+//! its select stands, accepted on the line and confirmed in time, with nothing between that ends it, and where that is so
+//! the execute is refused for no want of a selection (as long as moments never fall); each answer is the
 //! ASDU that came with its cause octet replaced; own answers go out first in, first out, 16 of them at most wait; and
 //! the settings stay. Only `new` takes memory.
 #![tactic(auto)]
@@ -31,7 +32,7 @@ pub use act::{Act, Answer};
 pub use commands::{Commands, NoMemory};
 pub use laws::{
     commands_are_forwarded, executes_are_selected, judgement_is_the_first_rule_that_applies,
-    own_answers_are_given, settings_stay,
+    own_answers_are_given, selected_executes_pass, settings_stay,
 };
 pub use station::StationInfo;
 
