@@ -63,8 +63,10 @@ pub trait Port {
     /// No event comes any more.
     ghost ended: { Self → Bool };
 
-    /// The events of a whole run, the oldest first, where they are fixed from the start; else none.
-    ghost script: { Self → List LogEntry };
+    /// What is fixed from the start: where it is a list of events, those of a whole run, the oldest first.
+    ghost Fixed: { Type 0 } = { List LogEntry };
+
+    ghost script: { Self → Fixed };
 
     /// The next event. Its octets, at most 1,024, are put at the front of the buffer.
     fn next(&mut self, buf: &mut [u8; 1024]) -> Next

@@ -3,7 +3,7 @@ ghost use Rattle.std.specs.Prelude.{◌≡◌};
 ghost use Rattle.traces.specs.Fields.{decimal_of};
 
 /// A number of 1 to 15 decimal digits.
-pub(crate) fn decimal(digits: &[u8]) -> Option<u64>
+pub fn decimal(digits: &[u8]) -> Option<u64>
     ensures { result ≡ decimal_of digits.now }
 {
     if digits.is_empty() || digits.len() > 15 {

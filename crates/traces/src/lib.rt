@@ -15,5 +15,7 @@ mod octets;
 mod tests;
 mod trace;
 
+pub use decimal::decimal as read_decimal;
+pub use lines::{is_skipped, pieces};
 pub use octets::read_octets;
 pub use trace::{TextFault, read_trace};

@@ -6,7 +6,7 @@ ghost use Rattle.traces.specs.Trace.{is_skipped};
 use std::alloc::{AllocError, Global};
 
 /// The pieces of a text between its separators.
-pub(crate) fn pieces<'a>(
+pub fn pieces<'a>(
     alloc: Global,
     text: &'a [u8],
     separator: u8,
@@ -17,7 +17,7 @@ pub(crate) fn pieces<'a>(
 }
 
 /// Whether a line is empty or a comment.
-pub(crate) fn is_skipped(line: &[u8]) -> bool
+pub fn is_skipped(line: &[u8]) -> bool
     ensures { result ≡ is_skipped line.now }
 {
     match line {

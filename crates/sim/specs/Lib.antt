@@ -1,0 +1,7 @@
+pub mod Directives
+pub mod Scripts
+pub mod Centres
+pub mod Losses
+pub mod Lives
+pub mod Calls
+pub mod Played

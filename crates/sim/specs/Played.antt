@@ -1,0 +1,48 @@
+-- Runs of a simulated line.
+use Rattle.std.specs.Prelude.{◌≡◌, ℕ, ◌≤◌, nat_le, Bool, List, Option, length}
+use Rattle.ft12.specs.declared.frame.Frame.{Frame}
+use Rattle.link.specs.Secondary.{Secondary}
+use Rattle.gateway.specs.Log.{Log, last_moment}
+use Rattle.sim.specs.declared.centre.Centre.{Centre}
+use Rattle.sim.specs.Centres.{centre_of}
+use Rattle.sim.specs.Losses.{turns_of, ack_of}
+use Rattle.sim.specs.Lives.{Plan, AreLived, waiting_in, requests_in}
+use Rattle.sim.specs.Calls.{calls_in, moment_of, FollowsPlan}
+
+-- The log is a run of the plan, in which the stations answered the requests so, the newest first, and which leaves them so.
+pub record IsPlayed (plan : Plan) (log : Log) (answers : List (Option Frame)) (stations : List Secondary) : Type 0 where
+  pub lived : AreLived plan log answers stations
+  pub follows : FollowsPlan plan log answers
+
+-- where a run stands: what waits, what the control centre knows, and how many calls and requests there were
+pub record Standing : Type 0 where
+  pub waiting : Option (List ℕ)
+  pub centre : Centre
+  pub call : ℕ
+  pub moment : ℕ
+  pub requests : ℕ
+
+-- The log is a run of the plan, and stands so.
+pub record Stands (plan : Plan) (log : Log) (stations : List Secondary) (at : Standing) : Type 0 where
+  pub answers : List (Option Frame)
+  pub played : IsPlayed plan log answers stations
+  pub waiting : at.waiting ≡ waiting_in plan log answers
+  pub centre : at.centre ≡ centre_of log
+  pub call : at.call ≡ calls_in log
+  pub moment : at.moment ≡ moment_of log
+  pub requests : at.requests ≡ requests_in log
+  pub in_time : at.moment ≤ last_moment
+  pub sent : at.centre.sent ≤ length log
+  pub received : at.centre.received ≤ length log
+  pub few : at.requests ≤ length log
+
+-- what a simulated line's port is to its callers
+pub record Simulated : Type 0 where
+  pub plan : Plan
+  pub log : Log
+  pub failed : ℕ
+  pub stations : List Secondary
+  pub standing : Standing
+
+abbrev pub has_ended : Simulated → Bool
+has_ended s = nat_le (turns_of s.plan.directives) s.standing.call
