@@ -1,5 +1,5 @@
 -- Lines of a script one by one.
-use Rattle.std.proofs.Common.{◌≡◌, ℕ, ◌+◌, ◌<◌, ◌≤◌, List, [], ◌∷◌, ◌++◌, length, drop, get_or, map, true, false, Bool, Bor, Option, Some, None, refl, sym, ap, ◌∙◌, arith, append_assoc}
+use Rattle.std.proofs.Common.{◌≡◌, ℕ, ◌+◌, ◌<◌, ◌≤◌, List, [], ◌∷◌, ◌++◌, length, drop, get_or, map, true, false, Bool, Bor, Option, Some, None, refl, sym, ap, subst, ◌∙◌, arith, append_assoc}
 use Rattle.std.proofs.lemmas.List.{drop_more, drop_all, append-nil, map-append}
 use Rattle.std.specs.List.{filter_map, list_any, AllByRecursion}
 use Rattle.ft12.specs.declared.frame.LinkSize.{LinkSize}
@@ -87,8 +87,12 @@ ended_some ([] ∷ (x ∷ ls)) b bs = ap (λ (l : List (List ℕ)). [] ∷ l) (e
 ended_some ((c ∷ cs) ∷ ls) b bs = ap (λ (l : List (List ℕ)). (c ∷ cs) ∷ l) (ended_some ls b bs)
 
 -- the last of some pieces is taken off, and is nothing
-pub ended_without : (old new : List (Bor (List ℕ))) (x : Bor (List ℕ)) → old ≡ new ++ x ∷ [] → x.now ≡ [] → map (λ l. l.now) new ≡ ended_lines (map (λ l. l.now) old)
-ended_without old new x e none = rw (e, map-append, none) (sym (ended_empty (map (λ l. l.now) new)))
+pub ended_without : (old new : List (Bor (List ℕ))) (x : Bor (List ℕ)) → old ≡ new ++ x ∷ [] → length x.now ≡ 0 → map (λ l. l.now) new ≡ ended_lines (map (λ l. l.now) old)
+ended_without old new x e none = go x.now refl
+  where
+    go : (l : List ℕ) → x.now ≡ l → map (λ l. l.now) new ≡ ended_lines (map (λ l. l.now) old)
+    go [] is = rw (e, map-append, is) (sym (ended_empty (map (λ l. l.now) new)))
+    go (b ∷ bs) is = let some : length x.now ≡ length (b ∷ bs) = ap length is in absurd (omega arith)
 
 -- it is something
 pub ended_with : (old new : List (Bor (List ℕ))) (x : Bor (List ℕ)) → old ≡ new ++ x ∷ [] → (length x.now ≡ 0 → ⊥) → map (λ l. l.now) (new ++ x ∷ []) ≡ ended_lines (map (λ l. l.now) old)
@@ -97,3 +101,31 @@ ended_with old new x e some = go x.now refl
     go : (l : List ℕ) → x.now ≡ l → map (λ l. l.now) (new ++ x ∷ []) ≡ ended_lines (map (λ l. l.now) old)
     go [] is = absurd (some (ap length is))
     go (b ∷ bs) is = rw (e, map-append, is) (sym (ended_some (map (λ l. l.now) new) b bs))
+
+-- What is read so far, and what the lines that are left say, are what all lines say; and the first wrong line is among those left.
+pub record ReadSoFar (size : LinkSize) (n : ℕ) (ls : List (Bor (List ℕ))) (i : ℕ) (ds : List Directive) : Type 0 where
+  pub said_so : with_said size n ds i ls ≡ filter_map (said size n) (map (λ l. l.now) ls)
+  pub wrong_so : first_wrong size n ds (i + 1) (lines_after i ls) ≡ first_wrong size n [] 1 (map (λ l. l.now) ls)
+  pub together : AreTogether ds
+  pub ranges : AllByRecursion IsWithinRanges ds
+  pub fits : AllByRecursion (FitsStations size n) ds
+
+pub read_skip : (size : LinkSize) (n : ℕ) (ds : List Directive) (ls : List (Bor (List ℕ))) (i : ℕ) (d : Bor (List ℕ)) → i < length ls → is_skipped (get_or ls i d).now ≡ true → ReadSoFar size n ls i ds → ReadSoFar size n ls (i + 1) ds
+read_skip size n ds ls i d lt e so = record {
+  said_so = sym (said_skip size n ds ls i d lt e) ∙ so.said_so;
+  wrong_so = sym (wrong_skip size n ds (i + 1) ls i d lt e) ∙ so.wrong_so;
+  together = so.together;
+  ranges = so.ranges;
+  fits = so.fits;
+}
+
+pub read_more : (size : LinkSize) (n : ℕ) (ds new : List Directive) (x : Directive) (ls : List (Bor (List ℕ))) (i : ℕ) (d : Bor (List ℕ)) → i < length ls → is_skipped (get_or ls i d).now ≡ false →
+    Some x ≡ directive_in size n (get_or ls i d).now → clashes_with ds x ≡ false → IsWithinRanges x → FitsStations size n x → new ≡ ds ++ x ∷ [] →
+    ReadSoFar size n ls i ds → ReadSoFar size n ls (i + 1) new
+read_more size n ds new x ls i d lt e some free range fit is so = subst (ReadSoFar size n ls (i + 1)) (sym is) (record {
+  said_so = sym (said_next size n ds x ls i d lt e some) ∙ so.said_so;
+  wrong_so = sym (wrong_next size n ds (i + 1) ls i d x lt e some free) ∙ so.wrong_so;
+  together = together_more ds x so.together free;
+  ranges = ranges_more ds x so.ranges range;
+  fits = fits_more size n ds x so.fits fit;
+})

@@ -124,14 +124,14 @@ fn of_four(
     ensures fits { IfOk result (λ said. IfSome said (FitsStations size stations)) }
     ensures ranges { IfOk result (λ said. IfSome said IsWithinRanges) }
 {
-    match word {
-        b"spoil" => Ok(spoiling(second, number(third), number(fourth))),
-        b"report" => {
-            let octets = read_octets(alloc, fourth)?;
-            Ok(reporting(size, stations, number(second), number(third), octets))
-        }
-        _ => Ok(None),
+    if word == b"spoil".as_slice() {
+        return Ok(spoiling(second, number(third), number(fourth)));
     }
+    if word == b"report".as_slice() {
+        let octets = read_octets(alloc, fourth)?;
+        return Ok(reporting(size, stations, number(second), number(third), octets));
+    }
+    Ok(None)
 }
 
 fn spoiling(what: &[u8], request: Option<u64>, place: Option<u64>) -> Option<Directive>
@@ -188,11 +188,7 @@ fn reporting(
     }
     let class = class(class_number)?;
     if 1 <= station && station <= stations as u64 {
-        Some(Directive::Report(
-            station as usize - 1,
-            class,
-            Asdu::new(octets.as_slice()),
-        ))
+        Some(Directive::Report(station as usize - 1, class, Asdu::new(octets.as_slice())))
     } else {
         None
     }

@@ -44,6 +44,7 @@ fn has_turns(directives: &[Directive]) -> bool
 }
 
 /// Reads lines, counted from 1, where there are so many stations and link addresses have this size.
+#[tactic(auto, using(crate::proofs::ScriptLemmas::read_skip, crate::proofs::ScriptLemmas::wrong_here, crate::proofs::ScriptLemmas::clash_here, crate::proofs::ScriptLemmas::said_end, crate::proofs::ScriptLemmas::wrong_end, crate::proofs::ScriptLemmas::no_turns_end))]
 fn read_lines(
     alloc: Global,
     size: LinkSize,

@@ -90,13 +90,17 @@ impl Script {
     fn loses_request(&self, request: u64) -> bool
         ensures { result ≡ list_any (loses_request request) self.now }
     {
-        self.directives.iter().any(|line| line.loses_request(request))
+        self.directives
+            .iter()
+            .any(|line| line.loses_request(request))
     }
 
     fn loses_answer(&self, request: u64) -> bool
         ensures { result ≡ list_any (loses_answer request) self.now }
     {
-        self.directives.iter().any(|line| line.loses_answer(request))
+        self.directives
+            .iter()
+            .any(|line| line.loses_answer(request))
     }
 
     /// What becomes of the request with this number.

@@ -49,7 +49,8 @@ fn config(alloc: Global, link: LinkSize) -> Result<Config, AllocError> {
 fn each_kind_of_line_is_read(rt: HostRuntime) -> Result<(), Fail> {
     let alloc = rt.alloc();
     let config = config(alloc, LinkSize::One)?;
-    let text = b"# a comment\n\nturns 000000008\nack 32767\nreport 2 1 0aFF\nlose request 0\nlose answer 3\nspoil answer 3 999999999\ncut 7\nsend 1 640106000100000014\nreport 1 2 00";
+    let text =
+        b"# a comment\n\nturns 000000008\nack 32767\nreport 2 1 0aFF\nlose request 0\nlose answer 3\nspoil answer 3 999999999\ncut 7\nsend 1 640106000100000014\nreport 1 2 00";
     let script = read_script(alloc, &config, text)?;
     let lines = script.directives();
     assert_eq!(rt; lines.len(), 9);
@@ -67,7 +68,10 @@ fn each_kind_of_line_is_read(rt: HostRuntime) -> Result<(), Fail> {
     assert!(rt; matches!(&lines[6], Directive::Cut(7)));
     match &lines[7] {
         Directive::Send(1, octets) => {
-            assert_eq!(rt; octets.octets(), &[0x64, 0x01, 0x06, 0x00, 0x01, 0x00, 0x00, 0x00, 0x14][..]);
+            assert_eq!(rt;
+                octets.octets(),
+                &[0x64, 0x01, 0x06, 0x00, 0x01, 0x00, 0x00, 0x00, 0x14][..]
+            );
         }
         _ => assert!(rt; false),
     }
@@ -103,7 +107,10 @@ fn the_first_wrong_line_is_told(rt: HostRuntime) -> Result<(), Fail> {
         ("turns 1\nturns 1\n", 2),
         ("turns 1\nack 1\nack 1\n", 3),
         ("spoil answer 1 1\n\nspoil answer 01 2\nturns 1", 3),
-        ("send 1 640106000100000014\nturns 1\nsend 1 640106000100000014", 3),
+        (
+            "send 1 640106000100000014\nturns 1\nsend 1 640106000100000014",
+            3,
+        ),
         // Ranges
         ("ack 0\nturns 1", 1),
         ("ack 32768\nturns 1", 1),
