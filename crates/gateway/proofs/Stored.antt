@@ -1,5 +1,5 @@
 -- What is stored, and the start of a run.
-use Rattle.std.proofs.Common.{◌≡◌, ℕ, suc, ◌<◌, ◌≤◌, ◌^◌, Bool, true, false, ◌&&◌, List, [], ◌∷◌, ◌++◌, length, map, refl, ap, sym, ◌∙◌, subst, arith, append_assoc}
+use Rattle.std.proofs.Common.{◌≡◌, ℕ, suc, ◌<◌, ◌≤◌, ◌^◌, Bool, true, false, ◌&&◌, List, [], ◌∷◌, ◌++◌, length, map, Option, Some, refl, ap, sym, ◌∙◌, subst, arith, append_assoc}
 use Rattle.std.specs.List.{AllByRecursion}
 use Rattle.std.proofs.lemmas.List.{append-nil}
 use Rattle.ft12.specs.Spelling.{address_len}
@@ -19,7 +19,7 @@ use Rattle.gateway.specs.Connections.{no_channel}
 use Rattle.gateway.specs.Reports.{Setup}
 use Rattle.gateway.specs.Setups.{holds, setup_of}
 use Rattle.gateway.specs.State.{State, first_address, first_state}
-use Rattle.gateway.specs.Agrees.{Agrees}
+use Rattle.gateway.specs.Agrees.{Agrees, Tracks, Rests}
 use Rattle.gateway.proofs.Agreement.{fresh}
 
 pub stored_push : (xs : List Told) (x : Told) (log : Log) → stored_log (xs ++ x ∷ []) log ≡ told_of x ∷ stored_log xs log
@@ -115,6 +115,14 @@ pub take_sound : (xs ys : List Told) (entry copy : Entry) (before left : List En
     Sound ys started left script
 take_sound xs ys entry copy before left script started on is h e same =
     (stored_entry xs ys entry copy before left script started on is h.0 e same, (subst (AllByRecursion FitsPort) is h.1).1)
+
+-- at the start, of a port that tells an empty log
+
+pub first_tracks : (c : Settings) (s : State) (told : Option Log) → AreStations c.line.link c.line.sizes.ca c.stations → length c.stations ≡ 1 → c.line.silence ≡ Hold → c.tcp.k < 32768 → s ≡ first_state c → told ≡ Some [] → Tracks (setup_of c) s told []
+first_tracks c s told rules one hold small is e = subst (λ o. Tracks (setup_of c) s o []) (sym e) (subst (λ x. Agrees (setup_of c) x [] []) (sym is) (at_first c rules one hold small))
+
+pub nothing_rests : (p : Setup) (told : Option Log) → told ≡ Some [] → Rests p told
+nothing_rests p told e = subst (Rests p) (sym e) tt
 
 -- at the start
 pub first_agrees : (c : Settings) (s : State) (r : Recorded) (entries : List Entry) → AreStations c.line.link c.line.sizes.ca c.stations → length c.stations ≡ 1 → c.line.silence ≡ Hold → c.tcp.k < 32768 → s ≡ first_state c →

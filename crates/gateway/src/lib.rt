@@ -30,7 +30,7 @@ pub use entries::{Entry, Told};
 pub use laws::one_reading;
 pub use ports::{Action, Event, Next, Port};
 pub use recording::engine_log;
-pub use runs::{End, drive_on};
+pub use runs::{End, drive, drive_on};
 pub use settings::{
     LineSettings, Silence, Station, TcpSettings, is_common_address, is_link_address,
 };

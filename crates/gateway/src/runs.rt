@@ -1,14 +1,18 @@
 //! Whole runs of a gateway over a port.
-ghost use Rattle.std.specs.Prelude.{◌≡◌, ℕ, ◌+◌, ◌<◌, true, false, List, [], ◌∷◌, IfSome, IfOk, IfErr, OnOk, OnErr};
+ghost use Rattle.std.specs.Prelude.{◌≡◌, ℕ, ◌+◌, ◌<◌, true, false, List, [], ◌∷◌, length, Some, IfSome, IfOk, IfErr, OnOk, OnErr};
+ghost use Rattle.gateway.specs.declared.settings.Silence.TheVariants.{Hold};
 ghost use Rattle.gateway.specs.Log.{Came};
 ghost use Rattle.gateway.specs.Ports.{told_by, input_of, FitsBuffer, faults_of};
 ghost use Rattle.gateway.specs.Reports.{Setup};
 ghost use Rattle.gateway.specs.Traffic.{IsFaithful, HasRested};
 ghost use Rattle.gateway.specs.Agrees.{Tracks, Rests};
 ghost use Rattle.gateway.specs.Runs.{UnlessDevice, MoreEvents, faults_at};
+ghost use Rattle.gateway.specs.Setups.{setup_of};
 
-use crate::engine::Gateway;
+use crate::config::Config;
+use crate::engine::{Gateway, NoMemory};
 use crate::ports::{Event, Next, Port};
+use std::alloc::Global;
 
 /// How a run ended: the port had no more events, the turns were used up, or the device failed.
 #[derive(Clone, Copy, Debug, PartialEq, Eq)]
@@ -43,6 +47,33 @@ pub fn drive_on<P: Port>(gateway: &mut Gateway, port: &mut P, turns: u64) -> End
         }
     }
     End::Turns
+}
+
+/// A whole run of a gateway with these settings: takes events from the port one after another, at most so many, and puts
+/// out what follows from each. Of the settings one station is asked for, whose service is held where it is silent. Only
+/// want of memory is answered by an `Err`, and then nothing was asked of the port.
+pub fn drive<P: Port>(
+    alloc: Global,
+    config: &Config,
+    port: &mut P,
+    turns: u64,
+) -> Result<End, NoMemory>
+    requires ready { P.failed port.old < u64.MAX }
+    requires one { length config.now.stations ≡ 1 }
+    requires holds { config.now.line.silence ≡ Hold }
+    // What the log shows of the line and of each connection keeps every promise of a gateway with these settings.
+    ensures faithful { P.log port.old ≡ Some [] → OnOk result (IfSome (P.log port.new) (IsFaithful (setup_of config.now))) }
+    // After the last step nothing that may be sent is left.
+    ensures rests { P.log port.old ≡ Some [] → IfOk result (λ end. UnlessDevice end (IfSome (P.log port.new) (HasRested (setup_of config.now)))) }
+    ensures turns { IfOk result (λ end. end ≡ End.Turns → MoreEvents turns (P.log port.old) (P.log port.new)) }
+    ensures finished { IfOk result (λ end. end ≡ End.Finished → P.ended port.new ≡ true) }
+    ensures device { IfOk result (λ end. P.failed port.new ≡ P.failed port.old + faults_at end) }
+    ensures script { P.script port.new ≡ P.script port.old }
+    ensures unasked { OnErr result (port.new ≡ port.old) }
+{
+    let _stations = config.stations();
+    let mut gateway = Gateway::new(alloc, config)?;
+    Ok(drive_on(&mut gateway, port, turns))
 }
 
 /// The event that a port's answer stands for, or the end of the run.

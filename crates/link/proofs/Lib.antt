@@ -18,3 +18,5 @@ pub mod Serving
 pub mod Outcomes
 pub mod Running
 pub mod Turning
+pub mod Leaving
+pub mod Resting

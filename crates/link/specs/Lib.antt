@@ -11,3 +11,4 @@ pub mod Delivery
 pub mod Secondary
 pub mod Life
 pub mod Runs
+pub mod Leave

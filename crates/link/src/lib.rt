@@ -22,6 +22,7 @@ mod answer;
 mod asdu;
 mod awaited;
 mod laws;
+mod leave;
 mod life;
 mod master;
 mod no_memory;
@@ -41,6 +42,7 @@ pub use laws::{
     master_tells_the_log, outcomes_bear_the_reports, requests_are_read_back,
     requests_wait_their_turn, services_need_a_station_that_is_up,
 };
+pub use leave::{polls_wait_for_leave, rests_mean};
 pub use life::station_is_an_outstation;
 pub use master::Master;
 pub use no_memory::NoMemory;

@@ -1,3 +1,5 @@
 pub mod Counters
 pub mod Keeps
 pub mod Standard
+pub mod Obeyed
+pub mod Ordered

@@ -3,3 +3,5 @@ pub mod Fields
 pub mod History
 pub mod Runs
 pub mod Laws
+pub mod Rules
+pub mod Ends

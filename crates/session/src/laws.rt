@@ -3,11 +3,15 @@
 //! The history of a connection has what came and what went out. Each law says what a session's calls answer by what the
 //! standard makes of that history.
 
-ghost use Rattle.std.specs.Prelude.{◌≡◌, ℕ, ◌%◌, ◌≤◌, ◌&&◌, ◌++◌, nat_lt, length, option_to_list};
+ghost use Rattle.std.specs.Prelude.{◌≡◌, ℕ, ◌%◌, ◌<◌, ◌≤◌, ◌&&◌, ◌++◌, List, true, None, nat_lt, length, option_to_list};
 ghost use Rattle.apci.specs.declared.apdu.Apdu.{Apdu};
-ghost use Rattle.session.specs.Session.{is_running, may_send, outcome_of, timed_out, confirmed, pulled};
+ghost use Rattle.session.specs.declared.kinds.Kind.{Kind};
+ghost use Rattle.session.specs.declared.kinds.Unacknowledged.{Unacknowledged};
+ghost use Rattle.session.specs.Session.{Session, is_running, may_send, outcome_of, timed_out, confirmed, pulled, sent, taken};
 ghost use Rattle.session.specs.History.{IsNumbered, sent_frames, received_count, reached, still_unacknowledged, is_started, verdict_on, confirmation_of, confirmation_owed, confirmations_due, confirmations_sent, has_timed_out, frame_due};
 ghost use Rattle.session.specs.Laws.{AfterEachRun, Acknowledges};
+ghost use Rattle.session.specs.Rules.{KeepsRules};
+ghost use Rattle.session.specs.Ends.{after_confirm, after_pull, IsConfirmed, IsInTime, AreInOrder};
 
 /// N(R) is judged by the least number that isn't below the acknowledged count and equals it modulo 32768.
 pub fn reached_is_least()
@@ -47,4 +51,31 @@ pub fn transfer_is_controlled()
 pub fn timers_are_kept()
     ensures t1 { AfterEachRun (λ p s h. (now : ℕ) → timed_out now s ≡ has_timed_out p.t1 now h) }
     ensures w_t2_t3 { AfterEachRun (λ p s h. (now : ℕ) → (pulled now s).0 ≡ frame_due p.w p.t2 p.t3 now h) }
+{}
+
+/// Each entry of a history keeps the rules with what came before it: a frame is heard once all confirmations are out,
+/// an I frame goes out where it may, and another frame where it was due (5.1 to 5.5).
+pub fn histories_keep_the_rules()
+    ensures rules { AfterEachRun (λ p s h. KeepsRules p h) }
+{}
+
+/// Calls that are made until they answer nothing come to an end: three confirmations and two frames of `pull` are the
+/// most that are due at a moment. What goes out makes no confirmation due, and lets no time run out.
+pub fn calls_come_to_an_end()
+    ensures confirmations { (s : Session) → IsConfirmed (after_confirm (after_confirm (after_confirm s))) }
+    ensures pulls { (now : ℕ) (s : Session) → (pulled now (after_pull now (after_pull now s))).0 ≡ None }
+    ensures confirmed_sent { (kind : Kind) (now : ℕ) (s : Session) → may_send s ≡ true → IsConfirmed s → IsConfirmed (sent kind now s) }
+    ensures confirmed_pull { (now : ℕ) (s : Session) → IsConfirmed s → IsConfirmed (after_pull now s) }
+    ensures in_time_sent { (kind : Kind) (now : ℕ) (s : Session) → 0 < s.t1 → IsInTime now s → IsInTime now (sent kind now s) }
+    ensures in_time_confirm { (now : ℕ) (s : Session) → IsInTime now s → IsInTime now (after_confirm s) }
+    ensures in_time_pull { (now : ℕ) (s : Session) → 0 < s.t1 → IsInTime now s → IsInTime now (after_pull now s) }
+    ensures in_time_take { (frame : Apdu) (now : ℕ) (s : Session) → AreInOrder 0 s.unacknowledged now → IsInTime now s → IsInTime now (taken frame now s) }
+    ensures may_send { (now : ℕ) (s : Session) → may_send (after_pull now s) ≡ may_send s }
+{}
+
+/// The unacknowledged frames stay in the order of their moments, where moments never fall.
+pub fn frames_stay_in_order()
+    ensures later { (frames : List Unacknowledged) (before now : ℕ) → before ≤ now → AreInOrder 0 frames before → AreInOrder 0 frames now }
+    ensures sent { (kind : Kind) (now : ℕ) (s : Session) → AreInOrder 0 s.unacknowledged now → AreInOrder 0 (sent kind now s).unacknowledged now }
+    ensures taken { (frame : Apdu) (now : ℕ) (s : Session) → AreInOrder 0 s.unacknowledged now → AreInOrder 0 (taken frame now s).unacknowledged now }
 {}

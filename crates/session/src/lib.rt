@@ -10,7 +10,8 @@
 //! frames sent and received, modulo 32768; at most k are unacknowledged; an N(R) is valid where the least number that
 //! isn't below the acknowledged count and equals it modulo 32768 is at most the sent count; S frames, TESTFR act and
 //! the close by t1 come exactly when due; data transfer runs where the latest of STARTDT act and STOPDT act is a STARTDT
-//! act. Only `new` takes memory.
+//! act. Each entry of a history keeps these rules with what came before it, and calls that are made until they answer
+//! nothing come to an end. Only `new` takes memory.
 #![tactic(auto)]
 
 mod connection;
@@ -20,8 +21,9 @@ mod laws;
 pub use connection::{NoMemory, Session};
 pub use kinds::{Close, Kind, Taken, Unacknowledged};
 pub use laws::{
-    frames_are_judged, frames_are_numbered, reached_is_least, timers_are_kept,
-    transfer_is_controlled, window_is_kept,
+    calls_come_to_an_end, frames_are_judged, frames_are_numbered, frames_stay_in_order,
+    histories_keep_the_rules, reached_is_least, timers_are_kept, transfer_is_controlled,
+    window_is_kept,
 };
 
 #[cfg(test)]

@@ -1,0 +1,85 @@
+-- What is left where nothing goes out.
+use Rattle.std.specs.Prelude.{◌||◌}
+use Rattle.std.proofs.Common.{◌≡◌, ℕ, zero, suc, ◌+◌, ◌-◌, ◌<◌, ◌≤◌, ◌⊎◌, Bool, true, false, not, List, length, Option, Some, None, refl, ap, subst, ◌∙◌, inl, inr, arith, if◌then◌else◌}
+use Rattle.std.proofs.lemmas.Bool.{cases_lt, lt-ltb, le-ltb}
+use Rattle.link.specs.Answers.{Class1, Class2, Command, Counted}
+use Rattle.link.specs.Procedure.{Link, Down, Available, Next, Held}
+use Rattle.link.specs.Turns.{StationState, Starting, Commanding, Polling, Class1Polling, station_at, is_poll, wants, polls_from, commands_from, wanted_by, place_after}
+use Rattle.link.specs.Primary.{Primary, sending}
+use Rattle.link.specs.Runs.{nth_after}
+use Rattle.link.specs.Leave.{IsLeftToPolls}
+use Rattle.link.proofs.Turning.{rests}
+
+-- ---- round the stations
+
+-- so many after a place, round them
+reaches : (count place n i : ℕ) → place < count → i < count → (place + n ≡ i) ⊎ (place + n ≡ count + i) → nth_after count place n ≡ i
+reaches count place zero i within below (inl e) = omega arith
+reaches count place zero i within below (inr e) = absurd (omega arith)
+reaches count place (suc n) i within below e = go (λ next lt sum. reaches count next n i lt below sum) (cases_lt (suc place) count) e
+  where
+    go : ((next : ℕ) → next < count → (next + n ≡ i) ⊎ (next + n ≡ count + i) → nth_after count next n ≡ i) →
+        (suc place < count) ⊎ (count ≤ suc place) → (place + suc n ≡ i) ⊎ (place + suc n ≡ count + i) → nth_after count (place_after count place) n ≡ i
+    go later (inl more) (inl here) =
+        ap (λ (b : Bool). nth_after count (if b then suc place else 0) n) (lt-ltb (suc place) count more) ∙ later (suc place) more (inl (omega arith))
+    go later (inl more) (inr round) =
+        ap (λ (b : Bool). nth_after count (if b then suc place else 0) n) (lt-ltb (suc place) count more) ∙ later (suc place) more (inr (omega arith))
+    go later (inr last) (inl here) = absurd (omega arith)
+    go later (inr last) (inr round) =
+        ap (λ (b : Bool). nth_after count (if b then suc place else 0) n) (le-ltb (suc place) count last) ∙ later 0 (omega arith) (inl (omega arith))
+
+-- once round, each place is looked at
+each_place : (count place : ℕ) (P : ℕ → Type 0) → place < count → ((n : ℕ) → n < count → P (nth_after count place (suc n))) → (i : ℕ) → i < count → P i
+each_place count place P within round i below = go (cases_lt place i)
+  where
+    go : (place < i) ⊎ (i ≤ place) → P i
+    go (inl before) = subst P (reaches count place (suc (i - suc place)) i within below (inl (omega arith))) (round (i - suc place) (omega arith))
+    go (inr after) =
+        subst P (reaches count place (suc ((count + i) - suc place)) i within below (inr (omega arith))) (round ((count + i) - suc place) (omega arith))
+
+-- ---- a station that has no request
+
+polls_none : (burst : ℕ) (may_poll fcb : Bool) (s : StationState) → polls_from burst may_poll fcb s Polling ≡ None → may_poll ≡ false
+polls_none burst false fcb s none = refl
+polls_none burst true fcb s none = go s.acd none
+  where
+    go : (acd : Bool) → (if acd then wants (Counted fcb Class1) (Class1Polling 1) else wants (Counted fcb Class2) (Class1Polling 0)) ≡ None → true ≡ false
+    go true e = cc
+    go false e = cc
+
+offered_none : (burst : ℕ) (may_poll fcb : Bool) (s : StationState) (offered : Option (List ℕ)) → s.offered ≡ offered → commands_from burst may_poll fcb s offered ≡ None →
+    (may_poll ≡ false) × ((s.offered ≡ None) ⊎ (s.dfc ≡ true))
+offered_none burst may_poll fcb s None e none = (polls_none burst may_poll fcb s none, inl e)
+offered_none burst may_poll fcb s (Some asdu) e none = go s.dfc refl none
+  where
+    go : (b : Bool) → s.dfc ≡ b → (if b then polls_from burst may_poll fcb s Polling else wants (Counted fcb (Command asdu)) Polling) ≡ None →
+        (may_poll ≡ false) × ((s.offered ≡ None) ⊎ (s.dfc ≡ true))
+    go true full h = (polls_none burst may_poll fcb s h, inr full)
+    go false open_ h = cc
+
+left : (burst : ℕ) (may_poll : Bool) (s : StationState) (link : Link) → wanted_by burst may_poll false s link Starting ≡ None →
+    (may_poll ≡ false) × IsLeftToPolls s link
+left burst may_poll s Down none = cc
+left burst may_poll s Available none = cc
+left burst may_poll s (Next fcb) none = offered_none burst may_poll fcb s s.offered refl none
+left burst may_poll s (Held fcb service missed) none = go may_poll (is_poll service) refl none
+  where
+    go : (leave poll : Bool) → is_poll service ≡ poll → (if leave || not poll then wants (Counted fcb service) Commanding else None) ≡ None →
+        (leave ≡ false) × (is_poll service ≡ true)
+    go true poll e h = cc
+    go false false e h = cc
+    go false true e h = (refl, e)
+
+each_left : (p : Primary) (may_poll : Bool) → p.turn < length p.stations → p.outstanding ≡ None → sending p may_poll ≡ None → (i : ℕ) → i < length p.stations →
+    (may_poll ≡ false) × IsLeftToPolls (station_at p.stations i) (station_at p.stations i).link
+each_left p may_poll within free none =
+    each_place (length p.stations) p.turn (λ i. (may_poll ≡ false) × IsLeftToPolls (station_at p.stations i) (station_at p.stations i).link) within
+    (λ n less. left p.settings.burst may_poll (station_at p.stations (nth_after (length p.stations) p.turn (suc n)))
+    (station_at p.stations (nth_after (length p.stations) p.turn (suc n))).link (rests p may_poll free none n less))
+
+pub leave : (p : Primary) (may_poll : Bool) → p.turn < length p.stations → p.outstanding ≡ None → sending p may_poll ≡ None → may_poll ≡ false
+leave p may_poll within free none = (each_left p may_poll within free none p.turn within).0
+
+pub stations : (p : Primary) (may_poll : Bool) → p.turn < length p.stations → p.outstanding ≡ None → sending p may_poll ≡ None → (i : ℕ) → i < length p.stations →
+    IsLeftToPolls (station_at p.stations i) (station_at p.stations i).link
+stations p may_poll within free none i below = (each_left p may_poll within free none i below).1
