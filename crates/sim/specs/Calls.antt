@@ -1,5 +1,5 @@
 -- What each call of a simulated line's port gives.
-use Rattle.std.specs.Prelude.{◌≡◌, ℕ, ◌+◌, min, nat_le, ◌&&◌, not, Bool, if◌then◌else◌, List, [], ◌∷◌, Option, Some, None}
+use Rattle.std.specs.Prelude.{◌≡◌, ℕ, ◌+◌, ◌-◌, min, nat_le, ◌&&◌, not, Bool, if◌then◌else◌, List, [], ◌∷◌, Option, Some, None}
 use Rattle.ft12.specs.declared.frame.Frame.{Frame}
 use Rattle.gateway.specs.Log.{Log, LogEntry, Came, Went, Input, LineIn, Opened, TcpIn, CutOff, Ticked, LineOut, last_moment}
 use Rattle.sim.specs.declared.centre.Centre.{Centre}
@@ -27,7 +27,7 @@ line_event None = Ticked
 
 -- the fifth: an acknowledgement, where so many I frames are received and not acknowledged
 abbrev pub quiet_event : (ack : ℕ) → Centre → Option (List ℕ) → Input
-quiet_event ack c waiting = if nat_le (c.acknowledged + ack) c.received then TcpIn (acknowledging_apdu c) else line_event waiting
+quiet_event ack c waiting = if nat_le ack (c.received - c.acknowledged) then TcpIn (acknowledging_apdu c) else line_event waiting
 
 -- the fourth: an I frame that is to be sent at this call
 abbrev pub sending_event : Option (List ℕ) → (ack : ℕ) → Centre → Option (List ℕ) → Input

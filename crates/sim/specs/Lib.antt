@@ -4,4 +4,5 @@ pub mod Centres
 pub mod Losses
 pub mod Lives
 pub mod Calls
+pub mod Dues
 pub mod Played

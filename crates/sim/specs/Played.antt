@@ -1,13 +1,14 @@
 -- Runs of a simulated line.
-use Rattle.std.specs.Prelude.{◌≡◌, ℕ, ◌≤◌, nat_le, Bool, List, Option, length}
+use Rattle.std.specs.Prelude.{◌≡◌, ℕ, ◌+◌, ◌≤◌, min, nat_le, Bool, true, false, if◌then◌else◌, List, ◌∷◌, Option, None, length}
+use Rattle.std.specs.List.{AllByRecursion}
 use Rattle.ft12.specs.declared.frame.Frame.{Frame}
 use Rattle.link.specs.Secondary.{Secondary}
-use Rattle.gateway.specs.Log.{Log, last_moment}
+use Rattle.gateway.specs.Log.{Log, LogEntry, Came, Went, LineIn, last_moment}
 use Rattle.sim.specs.declared.centre.Centre.{Centre}
-use Rattle.sim.specs.Centres.{centre_of}
+use Rattle.sim.specs.Centres.{centre_of, after_event}
 use Rattle.sim.specs.Losses.{turns_of, ack_of}
 use Rattle.sim.specs.Lives.{Plan, AreLived, waiting_in, requests_in}
-use Rattle.sim.specs.Calls.{calls_in, moment_of, FollowsPlan}
+use Rattle.sim.specs.Calls.{calls_in, moment_of, event_at, lasting, FollowsPlan}
 
 -- The log is a run of the plan, in which the stations answered the requests so, the newest first, and which leaves them so.
 pub record IsPlayed (plan : Plan) (log : Log) (answers : List (Option Frame)) (stations : List Secondary) : Type 0 where
@@ -35,6 +36,7 @@ pub record Stands (plan : Plan) (log : Log) (stations : List Secondary) (at : St
   pub sent : at.centre.sent ≤ length log
   pub received : at.centre.received ≤ length log
   pub few : at.requests ≤ length log
+  pub sizes : AllByRecursion (λ s. s.size ≡ plan.size) stations
 
 -- what a simulated line's port is to its callers
 pub record Simulated : Type 0 where
@@ -46,3 +48,32 @@ pub record Simulated : Type 0 where
 
 abbrev pub has_ended : Simulated → Bool
 has_ended s = nat_le (turns_of s.plan.directives) s.standing.call
+
+-- the next event of a simulated line, and its moment
+abbrev pub coming : Plan → Standing → LogEntry
+coming plan at =
+    let event = event_at plan.directives (at.call + 1) at.centre at.waiting in
+    Came (min (at.moment + lasting plan.answer_ms event) last_moment) event
+
+abbrev pub centre_after : LogEntry → Centre → Centre
+centre_after (Came now event) c = after_event event c
+centre_after (Went now action) c = c
+
+abbrev pub moment_at : LogEntry → ℕ
+moment_at (Came now event) = now
+moment_at (Went now action) = now
+
+-- an answer is given
+abbrev pub is_given : LogEntry → Bool
+is_given (Came now (LineIn octets)) = true
+is_given entry = false
+
+-- where a run stands after an event
+abbrev pub standing_after : LogEntry → Standing → Standing
+standing_after entry at = record {
+  waiting = if is_given entry then None else at.waiting;
+  centre = centre_after entry at.centre;
+  call = at.call + 1;
+  moment = moment_at entry;
+  requests = at.requests;
+}

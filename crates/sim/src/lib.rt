@@ -9,9 +9,12 @@
 
 mod centre;
 mod directive;
+mod due;
+mod hearing;
 mod line;
 mod reading;
 mod script;
+mod sim;
 
 pub use directive::{Class, Directive, Fate};
 pub use reading::read_script;
