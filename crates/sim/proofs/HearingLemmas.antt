@@ -73,12 +73,12 @@ heard_more octets initial stations i answer b joint s t lt so is hears fit e =
       done = so.done ++ t ∷ [];
       heard = subst (λ (l : List Secondary). HeardByAll octets l joint (so.done ++ t ∷ [])) (sym (take_more initial i s lt))
           (subst (λ (a : Option Frame). HeardByAll octets (take i initial ++ x ∷ []) a (so.done ++ t ∷ [])) (sym e)
-              (heard_snoc octets (take i initial) so.done answer b x t so.heard (subst (λ (u : Secondary). HearsOctets u octets b t) at hears)));
+          (heard_snoc octets (take i initial) so.done answer b x t so.heard (subst (λ (u : Secondary). HearsOctets u octets b t) at hears)));
       rest = ap (λ (l : List Secondary). slice_set l i t) whole ∙ set_at so.done x t (drop (i + 1) initial) i long;
       fits = λ size all.
           let same : s.size ≡ size = ap (λ (u : Secondary). u.size) at ∙ size_at size initial i s lt all in
           subst (λ (o : Option Frame). IfSome o (Fits size)) (sym e)
-              (fits_later size answer b (so.fits size all) (subst (λ (z : LinkSize). IfSome b (Fits z)) same fit));
+          (fits_later size answer b (so.fits size all) (subst (λ (z : LinkSize). IfSome b (Fits z)) same fit));
     }
 
 -- all have heard

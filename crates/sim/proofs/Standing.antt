@@ -61,8 +61,8 @@ came_with plan log stations at now event e f k = record {
     lived = k.played.lived;
     follows = (
       e ∙ ap (λ (n : ℕ). event_at plan.directives (n + 1) at.centre at.waiting) k.call
-        ∙ ap (λ (c : Centre). event_at plan.directives (calls_in log + 1) c at.waiting) k.centre
-        ∙ ap (λ (w : Option (List ℕ)). event_at plan.directives (calls_in log + 1) (centre_of log) w) k.waiting,
+          ∙ ap (λ (c : Centre). event_at plan.directives (calls_in log + 1) c at.waiting) k.centre
+          ∙ ap (λ (w : Option (List ℕ)). event_at plan.directives (calls_in log + 1) (centre_of log) w) k.waiting,
       f ∙ ap (λ (m : ℕ). min (m + lasting plan.answer_ms event) last_moment) k.moment,
       k.played.follows,
     );
@@ -85,7 +85,7 @@ pub stands_came : (plan : Plan) (log : Log) (stations : List Secondary) (at : St
 stands_came plan log stations at entry e k =
     let event : Input = event_at plan.directives (at.call + 1) at.centre at.waiting in
     subst (λ (x : LogEntry). Stands plan (x ∷ log) stations (standing_after x at)) (sym e)
-        (came_with plan log stations at (min (at.moment + lasting plan.answer_ms event) last_moment) event refl refl k)
+    (came_with plan log stations at (min (at.moment + lasting plan.answer_ms event) last_moment) event refl refl k)
 
 -- a request
 pub stands_asked : (plan : Plan) (log : Log) (stations new : List Secondary) (at : Standing) (now : ℕ) (octets : List ℕ) (answer : Option Frame) →

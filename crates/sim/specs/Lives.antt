@@ -84,3 +84,7 @@ waiting_in plan (Came now (LineIn octets) ∷ log) answers = None
 waiting_in plan (Went now (LineOut octets) ∷ log) [] = None
 waiting_in plan (Went now (LineOut octets) ∷ log) (answer ∷ answers) = arriving plan.size (fate_of plan.directives (requests_in log + 1)) answer
 waiting_in plan (entry ∷ log) answers = waiting_in plan log answers
+
+-- the station with these reports of each class after those that it has
+abbrev pub with_reports : Secondary → List (List ℕ) → List (List ℕ) → Secondary
+with_reports s class1 class2 = record s { class1 = s.class1 ++ class1; class2 = s.class2 ++ class2 }

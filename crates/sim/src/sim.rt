@@ -56,7 +56,7 @@ impl<'a> Model for Sim<'a> {
 
     // The log is a run of the plan, and the rest is as it stands after the log.
     ghost invariant = { λ a. (a.turns ≡ turns_of a.script.now)
-      × Stands (plan_of a.config.now a.script.now) (log_of a.log.items) a.stations.items (record { waiting = option_map (λ v. v.items) a.waiting; centre = a.centre; call = a.call; moment = a.moment; requests = a.requests }) };
+        × Stands (plan_of a.config.now a.script.now) (log_of a.log.items) a.stations.items (record { waiting = option_map (λ v. v.items) a.waiting; centre = a.centre; call = a.call; moment = a.moment; requests = a.requests }) };
 }
 
 /// Copies the octets to the front.

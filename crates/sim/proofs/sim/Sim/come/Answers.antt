@@ -12,8 +12,8 @@ centre_after-centre-requires c =
 
 pub invariant_of-self-2 : goal.invariant_of-self-2
 invariant_of-self-2 c = (
-    c.self.invariant.0,
-    come_kept _ c.self.inside.log.items _ _ _ c.args.entry _ _ _ c.in_ok-keep.ensures.ok (c.requires.event ∙ ap (λ (v : Simulated). coming v.plan v.standing) (sym c.self.view_is))
-        (c.forget.ensures ∙ ap (λ (b : Bool). if b then None else option_map (λ v. v.items) c.self.inside.waiting) c.is_given-is_given.ensures)
-        c.centre_after-centre.ensures c.moment_at-moment.ensures c.self.invariant.1,
+  c.self.invariant.0,
+  come_kept _ c.self.inside.log.items _ _ _ c.args.entry _ _ _ c.in_ok-keep.ensures.ok (c.requires.event ∙ ap (λ (v : Simulated). coming v.plan v.standing) (sym c.self.view_is))
+      (c.forget.ensures ∙ ap (λ (b : Bool). if b then None else option_map (λ v. v.items) c.self.inside.waiting) c.is_given-is_given.ensures)
+      c.centre_after-centre.ensures c.moment_at-moment.ensures c.self.invariant.1,
 )

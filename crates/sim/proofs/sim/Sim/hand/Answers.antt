@@ -11,6 +11,6 @@ after_receiving-self-inside-requires c =
 
 pub invariant_of-self-2 : goal.invariant_of-self-2
 invariant_of-self-2 c = (
-    c.self.invariant.0,
-    hand_kept _ c.self.inside.log.items _ _ _ c.args.now c.in_ok-copy.copy c.args.octets.now _ c.in_ok-keep.ensures.ok c.in_ok-copy.ensures.items c.after_receiving-self-inside.ensures c.self.invariant.1,
+  c.self.invariant.0,
+  hand_kept _ c.self.inside.log.items _ _ _ c.args.now c.in_ok-copy.copy c.args.octets.now _ c.in_ok-keep.ensures.ok c.in_ok-copy.ensures.items c.after_receiving-self-inside.ensures c.self.invariant.1,
 )
