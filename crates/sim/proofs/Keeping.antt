@@ -1,5 +1,5 @@
 -- The fields of the port after one event or one action.
-use Rattle.std.proofs.Common.{◌≡◌, ℕ, ◌+◌, min, Bool, true, false, List, [], ◌∷◌, ◌++◌, length, take, drop, Option, Some, None, option_map, if◌then◌else◌, refl, sym, ap, subst, ◌∙◌, arith, Vec, Global}
+use Rattle.std.proofs.Common.{◌≡◌, ℕ, ◌+◌, ◌<◌, min, Bool, true, false, List, [], ◌∷◌, ◌++◌, length, take, drop, Option, Some, None, option_map, if◌then◌else◌, refl, sym, ap, subst, ◌∙◌, arith, Vec, Global}
 use Rattle.std.specs.List.{AllByRecursion}
 use Rattle.std.proofs.lemmas.List.{take_at}
 use Rattle.ft12.specs.declared.frame.Frame.{Frame}
@@ -10,13 +10,13 @@ use Rattle.gateway.specs.declared.entries.Told.{Told}
 use Rattle.gateway.specs.declared.entries.Told.TheVariants as told
 use Rattle.gateway.specs.Entries.{log_of, told_of, event_of}
 use Rattle.sim.specs.declared.centre.Centre.{Centre}
-use Rattle.sim.specs.Centres.{after_receiving}
-use Rattle.sim.specs.Losses.{fate_of}
+use Rattle.sim.specs.Centres.{shut, after_receiving}
+use Rattle.sim.specs.Losses.{fate_of, turns_of}
 use Rattle.sim.specs.Lives.{Plan, IsPutOut, arriving}
 use Rattle.sim.specs.Calls.{event_at, lasting}
 use Rattle.sim.specs.Played.{Standing, Stands, Simulated, coming, standing_after, centre_after, moment_at, is_given}
 use Rattle.sim.proofs.Steps.{pushed}
-use Rattle.sim.proofs.Standing.{stands_came, stands_asked, stands_handed}
+use Rattle.sim.proofs.Standing.{stands_came, stands_asked, stands_handed, stands_fresh}
 use Rattle.sim.proofs.HearingLemmas.{sizes_out}
 
 pub entry_is : (s v : Simulated) (event : Input) (now : ℕ) → v ≡ s → event ≡ event_at v.plan.directives (v.standing.call + 1) v.standing.centre v.standing.waiting →
@@ -27,16 +27,16 @@ entry_is s v event now e ev at =
     ap (λ (n : ℕ). Came n event) at ∙ ap (λ (x : Input). Came (min (s.standing.moment + lasting s.plan.answer_ms x) last_moment) x) due
 
 pub come_kept : (plan : Plan) (items new : List Told) (stations : List Secondary) (at : Standing) (entry : Entry) (waiting : Option (List ℕ)) (centre : Centre) (moment : ℕ) →
-    new ≡ items ++ told.Came entry ∷ [] → event_of entry ≡ coming plan at → waiting ≡ (if is_given (event_of entry) then None else at.waiting) →
+    new ≡ items ++ told.Came entry ∷ [] → event_of entry ≡ coming plan at → at.call < turns_of plan.directives → waiting ≡ (if is_given (event_of entry) then None else at.waiting) →
     centre ≡ centre_after (event_of entry) at.centre → moment ≡ moment_at (event_of entry) → Stands plan (log_of items) stations at →
     Stands plan (log_of new) stations (record { waiting = waiting; centre = centre; call = at.call + 1; moment = moment; requests = at.requests })
-come_kept plan items new stations at entry waiting centre moment push due w c m k =
+come_kept plan items new stations at entry waiting centre moment push due few w c m k =
     subst (λ (l : Log). Stands plan l stations (record { waiting = waiting; centre = centre; call = at.call + 1; moment = moment; requests = at.requests }))
     (sym (pushed items new (told.Came entry) (event_of entry) push refl))
     (subst (λ (v : Option (List ℕ)). Stands plan (event_of entry ∷ log_of items) stations (record { waiting = v; centre = centre; call = at.call + 1; moment = moment; requests = at.requests })) (sym w)
     (subst (λ (d : Centre). Stands plan (event_of entry ∷ log_of items) stations (record { waiting = if is_given (event_of entry) then None else at.waiting; centre = d; call = at.call + 1; moment = moment; requests = at.requests })) (sym c)
     (subst (λ (n : ℕ). Stands plan (event_of entry ∷ log_of items) stations (record { waiting = if is_given (event_of entry) then None else at.waiting; centre = centre_after (event_of entry) at.centre; call = at.call + 1; moment = n; requests = at.requests })) (sym m)
-    (stands_came plan (log_of items) stations at (event_of entry) due k))))
+    (stands_came plan (log_of items) stations at (event_of entry) due few k))))
 
 pub hand_kept : (plan : Plan) (items new : List Told) (stations : List Secondary) (at : Standing) (now : ℕ) (copy : Vec ℕ Global) (octets : List ℕ) (centre : Centre) →
     new ≡ items ++ told.Tcp now copy ∷ [] → copy.items ≡ octets → centre ≡ after_receiving octets at.centre → Stands plan (log_of items) stations at →
@@ -62,3 +62,8 @@ ask_kept plan items new stations after written at now copy octets answer waiting
 -- the stations as they are written back
 pub written : (xs ws : List Secondary) (len : ℕ) → length ws ≡ len → take len (ws ++ drop (length ws) xs) ≡ ws
 written xs ws len e = take_at ws (drop (length ws) xs) len e
+
+pub stands_new : (plan : Plan) (items : List Told) (stations : List Secondary) (centre : Centre) → items ≡ [] → centre ≡ shut → stations ≡ plan.stations → AllByRecursion (λ s. s.size ≡ plan.size) plan.stations →
+    Stands plan (log_of items) stations (record { waiting = None; centre = centre; call = 0; moment = 0; requests = 0 })
+stands_new plan items stations centre none c e sizes =
+    subst (λ (l : List Told). Stands plan (log_of l) stations (record { waiting = None; centre = centre; call = 0; moment = 0; requests = 0 })) (sym none) (stands_fresh plan stations centre c e sizes)

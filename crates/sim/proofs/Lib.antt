@@ -5,3 +5,5 @@ pub mod Standing
 pub mod Spoils
 pub mod HearingLemmas
 pub mod Keeping
+pub mod BeginningLemmas
+pub mod TextLemmas

@@ -1,5 +1,5 @@
 -- A run goes on by one event or one action.
-use Rattle.std.proofs.Common.{◌≡◌, ℕ, ◌+◌, ◌-◌, ◌%◌, ◌≤◌, min, Bool, true, false, List, [], ◌∷◌, length, slice_index, Option, Some, None, refl, sym, ap, subst, ◌∙◌, inl, inr, arith}
+use Rattle.std.proofs.Common.{◌≡◌, ℕ, ◌+◌, ◌-◌, ◌%◌, ◌<◌, ◌≤◌, min, Bool, true, false, List, [], ◌∷◌, length, slice_index, Option, Some, None, refl, sym, ap, subst, ◌∙◌, inl, inr, arith}
 use Rattle.std.specs.Prelude.{◌==◌}
 use Rattle.std.specs.List.{AllByRecursion}
 use Rattle.ft12.specs.declared.frame.Frame.{Frame}
@@ -10,7 +10,7 @@ use Rattle.session.specs.declared.kinds.Close.{Close}
 use Rattle.sim.specs.declared.centre.Centre.{Centre}
 use Rattle.sim.specs.declared.directive.Fate.{Fate}
 use Rattle.sim.specs.Centres.{shut, is_data, first_control, after_sending, after_receiving, after_event, centre_of}
-use Rattle.sim.specs.Losses.{fate_of}
+use Rattle.sim.specs.Losses.{fate_of, turns_of}
 use Rattle.sim.specs.Lives.{Plan, IsPutOut, arriving, waiting_in, requests_in}
 use Rattle.sim.specs.Calls.{event_at, lasting, calls_in, moment_of, next_event, next_moment}
 use Rattle.sim.specs.Played.{Standing, Stands, coming, standing_after}
@@ -54,8 +54,8 @@ waiting_after plan log answers now CutOff at e = e
 waiting_after plan log answers now Ticked at e = e
 
 came_with : (plan : Plan) (log : Log) (stations : List Secondary) (at : Standing) (now : ℕ) (event : Input) → event ≡ event_at plan.directives (at.call + 1) at.centre at.waiting →
-    now ≡ min (at.moment + lasting plan.answer_ms event) last_moment → Stands plan log stations at → Stands plan (Came now event ∷ log) stations (standing_after (Came now event) at)
-came_with plan log stations at now event e f k = record {
+    now ≡ min (at.moment + lasting plan.answer_ms event) last_moment → at.call < turns_of plan.directives → Stands plan log stations at → Stands plan (Came now event ∷ log) stations (standing_after (Came now event) at)
+came_with plan log stations at now event e f few k = record {
   answers = k.answers;
   played = record {
     lived = k.played.lived;
@@ -76,16 +76,17 @@ came_with plan log stations at now event e f k = record {
   sent = let le : (after_event event at.centre).sent ≤ length log + 1 = sent_after event at.centre (length log) k.sent in omega arith;
   received = let le : (after_event event at.centre).received ≤ length log + 1 = received_after event at.centre (length log) k.received in omega arith;
   few = let le : at.requests ≤ length log = k.few in omega arith;
+  in_turns = let le : at.call + 1 ≤ turns_of plan.directives = omega arith in le;
   sizes = k.sizes;
 }
 
 -- the next event
-pub stands_came : (plan : Plan) (log : Log) (stations : List Secondary) (at : Standing) (entry : LogEntry) → entry ≡ coming plan at → Stands plan log stations at →
+pub stands_came : (plan : Plan) (log : Log) (stations : List Secondary) (at : Standing) (entry : LogEntry) → entry ≡ coming plan at → at.call < turns_of plan.directives → Stands plan log stations at →
     Stands plan (entry ∷ log) stations (standing_after entry at)
-stands_came plan log stations at entry e k =
+stands_came plan log stations at entry e few k =
     let event : Input = event_at plan.directives (at.call + 1) at.centre at.waiting in
     subst (λ (x : LogEntry). Stands plan (x ∷ log) stations (standing_after x at)) (sym e)
-    (came_with plan log stations at (min (at.moment + lasting plan.answer_ms event) last_moment) event refl refl k)
+    (came_with plan log stations at (min (at.moment + lasting plan.answer_ms event) last_moment) event refl refl few k)
 
 -- a request
 pub stands_asked : (plan : Plan) (log : Log) (stations new : List Secondary) (at : Standing) (now : ℕ) (octets : List ℕ) (answer : Option Frame) →
@@ -107,6 +108,7 @@ stands_asked plan log stations new at now octets answer out sizes k = record {
   sent = let le : at.centre.sent ≤ length log = k.sent in omega arith;
   received = let le : at.centre.received ≤ length log = k.received in omega arith;
   few = let le : at.requests ≤ length log = k.few in omega arith;
+  in_turns = k.in_turns;
   sizes = sizes;
 }
 
@@ -139,6 +141,7 @@ stands_handed plan log stations at now octets k = record {
   sent = let le : at.centre.sent ≤ length log = k.sent in omega (arith, sent_same octets at.centre);
   received = let le : (after_receiving octets at.centre).received ≤ length log + 1 = received_more octets at.centre (length log) k.received in omega arith;
   few = let le : at.requests ≤ length log = k.few in omega arith;
+  in_turns = k.in_turns;
   sizes = k.sizes;
 }
 
@@ -157,5 +160,25 @@ stands_closed plan log stations at now cause k = record {
   sent = omega arith;
   received = omega arith;
   few = let le : at.requests ≤ length log = k.few in omega arith;
+  in_turns = k.in_turns;
   sizes = k.sizes;
 }
+
+-- before the first call
+pub stands_fresh : (plan : Plan) (stations : List Secondary) (centre : Centre) → centre ≡ shut → stations ≡ plan.stations → AllByRecursion (λ s. s.size ≡ plan.size) plan.stations →
+    Stands plan [] stations (record { waiting = None; centre = centre; call = 0; moment = 0; requests = 0 })
+stands_fresh plan stations centre c e sizes = subst (λ (d : Centre). Stands plan [] stations (record { waiting = None; centre = d; call = 0; moment = 0; requests = 0 })) (sym c) (record {
+  answers = [];
+  played = record { lived = e; follows = tt };
+  waiting = refl;
+  centre = refl;
+  call = refl;
+  moment = refl;
+  requests = refl;
+  in_time = omega arith;
+  sent = omega arith;
+  received = omega arith;
+  few = omega arith;
+  in_turns = omega arith;
+  sizes = subst (λ (ss : List Secondary). AllByRecursion (λ s. s.size ≡ plan.size) ss) (sym e) sizes;
+})

@@ -6,3 +6,5 @@ pub mod Lives
 pub mod Calls
 pub mod Dues
 pub mod Played
+pub mod Texts
+pub mod Runs

@@ -1,12 +1,12 @@
 -- Runs of a simulated line.
-use Rattle.std.specs.Prelude.{◌≡◌, ℕ, ◌+◌, ◌≤◌, min, nat_le, Bool, true, false, if◌then◌else◌, List, ◌∷◌, Option, None, length}
+use Rattle.std.specs.Prelude.{◌≡◌, ℕ, ◌+◌, ◌≤◌, min, nat_le, Bool, true, false, if◌then◌else◌, List, [], ◌∷◌, Option, None, length}
 use Rattle.std.specs.List.{AllByRecursion}
 use Rattle.ft12.specs.declared.frame.Frame.{Frame}
 use Rattle.link.specs.Secondary.{Secondary}
 use Rattle.gateway.specs.Log.{Log, LogEntry, Came, Went, LineIn, last_moment}
 use Rattle.sim.specs.declared.centre.Centre.{Centre}
-use Rattle.sim.specs.Centres.{centre_of, after_event}
-use Rattle.sim.specs.Losses.{turns_of, ack_of}
+use Rattle.sim.specs.Centres.{shut, centre_of, after_event}
+use Rattle.sim.specs.Losses.{turns_of}
 use Rattle.sim.specs.Lives.{Plan, AreLived, waiting_in, requests_in}
 use Rattle.sim.specs.Calls.{calls_in, moment_of, event_at, lasting, FollowsPlan}
 
@@ -36,6 +36,7 @@ pub record Stands (plan : Plan) (log : Log) (stations : List Secondary) (at : St
   pub sent : at.centre.sent ≤ length log
   pub received : at.centre.received ≤ length log
   pub few : at.requests ≤ length log
+  pub in_turns : at.call ≤ turns_of plan.directives
   pub sizes : AllByRecursion (λ s. s.size ≡ plan.size) stations
 
 -- what a simulated line's port is to its callers
@@ -76,4 +77,14 @@ standing_after entry at = record {
   call = at.call + 1;
   moment = moment_at entry;
   requests = at.requests;
+}
+
+-- a run of the plan, before its first call
+abbrev pub fresh_run : Plan → Simulated
+fresh_run plan = record {
+  plan = plan;
+  log = [];
+  failed = 0;
+  stations = plan.stations;
+  standing = record { waiting = None; centre = shut; call = 0; moment = 0; requests = 0 };
 }

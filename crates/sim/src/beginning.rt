@@ -1,7 +1,6 @@
 //! The stations of a line as they begin.
 ghost use Rattle.std.specs.Prelude.{◌≡◌, ◌++◌, List, IfOk, OnOk, length};
-ghost use Rattle.std.specs.List.{AllByRecursion};
-ghost use Rattle.gateway.specs.Config.{AreStations};
+ghost use Rattle.std.specs.List.{AllByRecursion, flat_map};
 ghost use Rattle.sim.specs.declared.directive.Class.TheVariants.{One, Two};
 ghost use Rattle.sim.specs.Directives.{FitsStations};
 ghost use Rattle.sim.specs.Losses.{report_said};
@@ -15,6 +14,7 @@ use gateway::Config;
 use link::{NoMemory, Station};
 use std::alloc::Global;
 
+#[tactic(auto, using(crate::proofs::BeginningLemmas::with_first, crate::proofs::BeginningLemmas::with_second, crate::proofs::BeginningLemmas::with_none))]
 /// A line of a script may give the station with this index a report.
 fn report(
     station: &mut Station,
@@ -32,6 +32,7 @@ fn report(
     }
 }
 
+#[tactic(auto, using(crate::proofs::BeginningLemmas::reports_none, crate::proofs::BeginningLemmas::reports_more, crate::proofs::BeginningLemmas::reports_all, crate::proofs::BeginningLemmas::fits_at))]
 /// The station has its reports.
 fn report_all(
     station: &mut Station,
@@ -48,6 +49,7 @@ fn report_all(
     Ok(())
 }
 
+#[tactic(auto, using(crate::proofs::BeginningLemmas::begun_more, crate::proofs::BeginningLemmas::begun_end, crate::proofs::BeginningLemmas::address_at))]
 /// The stations of these settings, with the reports that the script gives them.
 pub(crate) fn begin(
     alloc: Global,

@@ -31,7 +31,8 @@ fn first_control(octets: &[u8]) -> u8
     if octets.len() > 2 { octets[2] } else { 0 }
 }
 
-fn is_data(octets: &[u8]) -> bool
+/// Whether an APDU is in I format.
+pub(crate) fn is_data(octets: &[u8]) -> bool
     ensures { result ≡ is_data octets.now }
 {
     first_control(octets) % 2 == 0

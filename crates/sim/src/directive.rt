@@ -3,7 +3,8 @@ ghost use Rattle.std.specs.Prelude.{◌≡◌, ◌≤◌, IfSome, length};
 ghost use Rattle.std.specs.Option.{option_copied};
 ghost use Rattle.sim.specs.Directives.{IsWithinRanges};
 ghost use Rattle.sim.specs.Scripts.{clashes, is_turns};
-ghost use Rattle.sim.specs.Losses.{turns_said, ack_said, spoil_said, send_said, loses_request, loses_answer, cuts, is_class};
+ghost use Rattle.sim.specs.Texts.{reports_for};
+ghost use Rattle.sim.specs.Losses.{turns_said, ack_said, spoil_said, send_said, loses_request, loses_answer, cuts};
 
 use link::Asdu;
 
@@ -78,17 +79,6 @@ impl Directive {
     }
 }
 
-impl Class {
-    pub(crate) fn is(self, other: Class) -> bool
-        ensures { result ≡ is_class self other }
-    {
-        match (self, other) {
-            (Class::One, Class::One) | (Class::Two, Class::Two) => true,
-            _ => false,
-        }
-    }
-}
-
 impl Directive {
     /// How many calls there are, if it says so.
     pub(crate) fn turns(&self) -> Option<u64>
@@ -145,6 +135,16 @@ impl Directive {
     {
         match self {
             Directive::LoseAnswer(n) => *n == request,
+            _ => false,
+        }
+    }
+
+    /// Whether it gives the station with this index a report.
+    pub(crate) fn reports_for(&self, station: usize) -> bool
+        ensures { result ≡ reports_for station self.now }
+    {
+        match self {
+            Directive::Report(i, _, _) => *i == station,
             _ => false,
         }
     }

@@ -7,6 +7,7 @@
 //! first that says nothing, or what no script can have beside the lines before it.
 #![tactic(auto)]
 
+mod beginning;
 mod centre;
 mod directive;
 mod due;
@@ -15,10 +16,14 @@ mod line;
 mod reading;
 mod script;
 mod sim;
+mod simulation;
+mod text;
 
 pub use directive::{Class, Directive, Fate};
 pub use reading::read_script;
 pub use script::Script;
+pub use sim::Sim;
+pub use simulation::{SimFault, simulate};
 pub use traces::TextFault;
 
 #[cfg(test)]

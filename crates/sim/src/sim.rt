@@ -2,17 +2,20 @@
 ghost use Rattle.std.specs.Prelude.{◌≡◌, ℕ, ◌+◌, ◌<◌, ◌≤◌, ◌^◌, min, Bool, true, false, List, [], ◌∷◌, ◌++◌, length, take, IfOk, OnOk, OnErr, Option, Some, None, if◌then◌else◌, option_map, nat_le};
 ghost use Rattle.gateway.specs.Log.{LogEntry, Came, Went, LineOut, TcpOut, Closed, Input, tell, last_moment};
 ghost use Rattle.gateway.specs.Ports.{told_by, output_of, FitsBuffer, faults_of};
-ghost use Rattle.gateway.specs.Entries.{FitsPort, event_of, number_of, told_of};
-ghost use Rattle.sim.specs.Lives.{Plan};
+ghost use Rattle.gateway.specs.Entries.{FitsPort, event_of, log_of, number_of, told_of};
+ghost use Rattle.sim.specs.Lives.{Plan, plan_of};
+ghost use Rattle.sim.specs.Losses.{turns_of};
+ghost use Rattle.sim.specs.Scripts.{FitsSettings};
 ghost use Rattle.sim.specs.Played.{centre_after, moment_at, is_given, coming};
 
+use crate::beginning::begin;
 use crate::centre::Centre;
 use crate::due::Due;
 use crate::hearing::{arriving, put_out};
 use crate::script::Script;
 use arrayvec::ArrayVec;
 use gateway::{Action, Config, Entry, Next, Port, Told};
-use link::Station;
+use link::{NoMemory, Station};
 use session::Close;
 use std::alloc::{AllocError, Global};
 use std::marker::Model;
@@ -147,7 +150,45 @@ fn forget(waiting: &mut Option<ArrayVec<u8, 261>>, is_given: bool)
 }
 
 impl<'a> Sim<'a> {
-    ghost use Rattle.sim.specs.Played.{Simulated, has_ended};
+    ghost use Rattle.sim.specs.Played.{Simulated, Stands, fresh_run, has_ended};
+
+    /// The port of a run with these settings and this script, which is to be one for them.
+    pub fn new(alloc: Global, config: &'a Config, script: &'a Script) -> Result<Sim<'a>, NoMemory>
+        requires { FitsSettings config.now script.now }
+        ensures { IfOk result (λ sim. sim ≡ fresh_run (plan_of config.now script.now)) }
+    {
+        let stations = begin(alloc, config, script)?;
+        Ok(Sim {
+            alloc,
+            config,
+            script,
+            turns: script.turns(),
+            stations,
+            waiting: None,
+            centre: Centre::shut(),
+            call: 0,
+            moment: 0,
+            requests: 0,
+            log: Vec::new(alloc),
+            failures: 0,
+        })
+    }
+
+    /// What is stored of the run, the oldest first.
+    pub fn told(&self) -> &[Told]
+        ensures log { log_of result.now ≡ self.now.log }
+        ensures small { length result.now < 2 ^ 63 }
+        ensures stands { Stands self.now.plan self.now.log self.now.stations self.now.standing }
+    {
+        &self.log
+    }
+
+    /// The stations, as they stand.
+    pub fn stations(&self) -> &[Station]
+        ensures { result.now ≡ self.now.stations }
+    {
+        &self.stations
+    }
 
     /// The moment of an event that lasts so long.
     fn after(&self, lasting: u64) -> u64
@@ -184,7 +225,8 @@ impl<'a> Sim<'a> {
     /// The next event comes.
     #[tactic(auto, using(crate::proofs::Steps::stored_push))]
     fn come(&mut self, entry: Entry) -> Result<(), AllocError>
-        requires open { self.old.standing.call < u64.MAX }
+        requires open { self.old.standing.call < turns_of self.old.plan.directives }
+        requires few { self.old.standing.call < u64.MAX }
         requires event { event_of entry ≡ coming self.old.plan self.old.standing }
         ensures ok { OnOk result (self.new.log ≡ event_of entry ∷ self.old.log) }
         ensures err { OnErr result (self.new.log ≡ self.old.log) }
@@ -248,7 +290,8 @@ impl<'a> Sim<'a> {
 
     /// The next event has come and stands at the front of the buffer.
     fn give(&mut self, buf: &mut [u8; 1024]) -> Result<Next, AllocError>
-        requires { self.old.standing.call < u64.MAX }
+        requires open { self.old.standing.call < turns_of self.old.plan.directives }
+        requires few { self.old.standing.call < u64.MAX }
         ensures told { IfOk result (λ next. self.new.log ≡ told_by next buf.new ++ self.old.log) }
         ensures fits { IfOk result FitsBuffer }
         ensures healthy { IfOk result (λ next. faults_of next ≡ 0) }

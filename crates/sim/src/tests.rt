@@ -1,11 +1,14 @@
 //! Scripts, good and wrong.
 ghost use Rattle.std.specs.Prelude.{◌≡◌, IfOk, length};
+ghost use Rattle.gateway.specs.declared.settings.Silence.TheVariants.{Hold};
 
-use crate::{Class, Directive, TextFault, read_script};
+use crate::{Class, Directive, SimFault, TextFault, read_script, simulate};
 use asdu::{CaSize, CauseSize, IoaSize, Sizes};
 use ft12::LinkSize;
 use gateway::{Config, LineSettings, Silence, Station, TcpSettings};
 use std::alloc::{AllocError, Global};
+use std::io;
+use std::io::Write;
 use std::test::Fail;
 
 /// Settings with two stations.
@@ -189,5 +192,132 @@ fn octets_fit_their_frames(rt: HostRuntime) -> Result<(), Fail> {
             Some(TextFault::Line(2))
         );
     }
+    Ok(())
+}
+
+/// Settings with one station.
+fn one_station(alloc: Global) -> Result<Config, AllocError>
+    ensures one { IfOk result (λ c. length c.stations ≡ 1) }
+    ensures holds { IfOk result (λ c. c.line.silence ≡ Hold) }
+{
+    let line = LineSettings {
+        link: LinkSize::One,
+        sizes: Sizes {
+            cause: CauseSize::One,
+            ca: CaSize::One,
+            ioa: IoaSize::Two,
+        },
+        answer_ms: 200,
+        retries: 3,
+        silence: Silence::Hold,
+        burst: 8,
+        queue: 100,
+    };
+    let tcp = TcpSettings {
+        k: 12,
+        w: 8,
+        t1_ms: 15000,
+        t2_ms: 10000,
+        t3_ms: 20000,
+        select_ms: 30000,
+    };
+    let station = Station {
+        address: 1,
+        ca: 1,
+        select: false,
+    };
+    let stations = Vec::from_slice(alloc, &[station])?;
+    Ok(Config::new(line, tcp, stations))
+}
+
+/// What is written of a run of this script.
+fn written(alloc: Global, text: &str) -> Result<Vec<u8>, Fail> {
+    let config = one_station(alloc)?;
+    let script = read_script(alloc, &config, text.as_bytes())?;
+    let mut out = Vec::new(alloc);
+    simulate(alloc, &config, &script, &mut out)?;
+    Ok(out)
+}
+
+const LOST_ANSWER: &str = "1 > S 1049014A16
+2 > T 68040B000000
+3 > S 1040014116
+4 > S 107B017C16
+204 > S 107B017C16
+205 > S 105B015C16
+205 > T 680E0000000001010300010064000001
+207 > S 107B017C16
+station 1 reports 1 given 1 accepted 0
+connection 1 objects 1
+";
+
+#[test]
+fn a_lost_answer_is_asked_for_again(rt: HostRuntime) -> Result<(), Fail> {
+    let out = written(
+        rt.alloc(),
+        "turns 8\nreport 1 2 01010301640001\nlose answer 3\n",
+    )?;
+    assert_eq!(rt; out.as_slice(), LOST_ANSWER.as_bytes());
+    Ok(())
+}
+
+#[test]
+fn a_spoilt_answer_is_as_good_as_lost(rt: HostRuntime) -> Result<(), Fail> {
+    // The exchange has octets, but no frame; what closes it is its time.
+    let out = written(
+        rt.alloc(),
+        "turns 9\nreport 1 2 01010301640001\nspoil answer 3 20\n",
+    )?;
+    let text = out.as_slice();
+    assert!(rt; text.ends_with(b"station 1 reports 1 given 1 accepted 0\nconnection 1 objects 1\n"));
+    Ok(())
+}
+
+#[test]
+fn no_calls_give_the_closing_lines(rt: HostRuntime) -> Result<(), Fail> {
+    let out = written(rt.alloc(), "turns 0\nreport 1 2 01010301640001\n")?;
+    assert_eq!(rt; out.as_slice(), b"station 1 reports 1 given 0 accepted 0\n".as_slice());
+    Ok(())
+}
+
+/// A writer that takes so many octets, and then none.
+#[derive(Drop)]
+struct Narrow {
+    room: usize,
+    is_failing: bool,
+}
+
+impl Write for Narrow {
+    fn write(&mut self, octets: &[u8]) -> io::Result<usize> {
+        let n = octets.len().min(self.room).min(7);
+        self.room -= n;
+        if n == 0 && self.is_failing {
+            return Err(io::Error::from(io::ErrorKind::Other));
+        }
+        Ok(n)
+    }
+
+    fn flush(&mut self) -> io::Result<()> {
+        Ok(())
+    }
+}
+
+#[test]
+fn a_failing_write_is_told(rt: HostRuntime) -> Result<(), Fail> {
+    let alloc = rt.alloc();
+    let config = one_station(alloc)?;
+    let script = read_script(alloc, &config, b"turns 8\nreport 1 2 01010301640001\n")?;
+    for is_failing in [false, true] {
+        let mut out = Narrow {
+            room: 100,
+            is_failing,
+        };
+        assert_eq!(rt; simulate(alloc, &config, &script, &mut out), Err(SimFault::Write));
+    }
+    let mut out = Narrow {
+        room: 1000,
+        is_failing: true,
+    };
+    assert_eq!(rt; simulate(alloc, &config, &script, &mut out), Ok(()));
     Ok(())
 }
