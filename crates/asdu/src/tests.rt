@@ -89,56 +89,49 @@ fn reads_sequences(rt: HostRuntime) {
     assert!(rt; objects.next().is_none());
 }
 
+/// Whether the octets are refused, for this reason.
+fn is_refused(sizes: Sizes, octets: &[u8], why: u8) -> bool {
+    read(sizes, octets) == Err(Refused(why))
+}
+
+/// Too short for a header and an address, whatever the type; in other sizes too.
 #[test]
-fn refuses_by_the_first_fault(rt: HostRuntime) {
-    // Too short for a header and an address, whatever the type; in other sizes too.
-    assert_eq!(rt; read(SMALL, &[]), Err(Refused(1)));
-    assert_eq!(rt; read(SMALL, &[0x02, 0x00, 0x03, 0x01]), Err(Refused(1)));
-    assert_eq!(rt;
-        read(Sizes::TCP, &[0x01, 0x01, 3, 0, 1, 0, 1, 0]),
-        Err(Refused(1))
-    );
-    // A type that isn't known, also with number 0.
-    assert_eq!(rt;
-        read(SMALL, &[0x02, 0x00, 0x03, 0x01, 0x64]),
-        Err(Refused(2))
-    );
+fn refuses_what_is_too_short(rt: HostRuntime) {
+    assert!(rt; is_refused(SMALL, &[], 1));
+    assert!(rt; is_refused(SMALL, &[0x02, 0x00, 0x03, 0x01], 1));
+    assert!(rt; is_refused(Sizes::TCP, &[0x01, 0x01, 3, 0, 1, 0, 1, 0], 1));
+}
+
+/// A type that isn't known, also with number 0.
+#[test]
+fn refuses_types_that_are_not_known(rt: HostRuntime) {
+    assert!(rt; is_refused(SMALL, &[0x02, 0x00, 0x03, 0x01, 0x64], 2));
     for octet in 58..=64u8 {
         let tagged = [
             octet, 0x01, 6, 1, 10, 0x81, 0xD5, 0xDD, 0x22, 0x0C, 0x9D, 0x02, 0x18,
         ];
-        assert_eq!(rt; read(SMALL, &tagged), Err(Refused(2)));
+        assert!(rt; is_refused(SMALL, &tagged, 2));
     }
+}
+
+#[test]
+fn refuses_wrong_numbers_and_lengths(rt: HostRuntime) {
     // Number 0, with SQ 0 and 1, also where the length is wrong.
-    assert_eq!(rt;
-        read(SMALL, &[0x01, 0x00, 0x03, 0x01, 0x64]),
-        Err(Refused(3))
-    );
-    assert_eq!(rt;
-        read(SMALL, &[0x01, 0x80, 0x03, 0x01, 0x64, 0x01]),
-        Err(Refused(3))
-    );
+    assert!(rt; is_refused(SMALL, &[0x01, 0x00, 0x03, 0x01, 0x64], 3));
+    assert!(rt; is_refused(SMALL, &[0x01, 0x80, 0x03, 0x01, 0x64, 0x01], 3));
     // An octet too few or too many, also where the last address is past the size.
-    assert_eq!(rt;
-        read(SMALL, &[0x01, 0x01, 0x03, 0x01, 0x64]),
-        Err(Refused(4))
-    );
-    assert_eq!(rt;
-        read(SMALL, &[0x01, 0x01, 0x03, 0x01, 0x64, 0x01, 0x00]),
-        Err(Refused(4))
-    );
-    assert_eq!(rt;
-        read(SMALL, &[0x01, 0x82, 0x03, 0x01, 0xFF, 0x01]),
-        Err(Refused(4))
-    );
-    // The last address past the size with SQ 1, and the greatest that isn't.
-    assert_eq!(rt;
-        read(SMALL, &[0x01, 0x82, 0x03, 0x01, 0xFF, 0x01, 0x00]),
-        Err(Refused(5))
-    );
+    assert!(rt; is_refused(SMALL, &[0x01, 0x01, 0x03, 0x01, 0x64], 4));
+    assert!(rt; is_refused(SMALL, &[0x01, 0x01, 0x03, 0x01, 0x64, 0x01, 0x00], 4));
+    assert!(rt; is_refused(SMALL, &[0x01, 0x82, 0x03, 0x01, 0xFF, 0x01], 4));
+}
+
+/// The last address past the size with SQ 1, and the greatest that isn't.
+#[test]
+fn refuses_addresses_past_the_size(rt: HostRuntime) {
+    assert!(rt; is_refused(SMALL, &[0x01, 0x82, 0x03, 0x01, 0xFF, 0x01, 0x00], 5));
     assert!(rt; read(SMALL, &[0x01, 0x82, 0x03, 0x01, 0xFE, 0x01, 0x00]).is_ok());
     let last = [0x01, 0x82, 3, 0, 1, 0, 0xFF, 0xFF, 0xFF, 1, 1];
-    assert_eq!(rt; read(Sizes::TCP, &last), Err(Refused(5)));
+    assert!(rt; is_refused(Sizes::TCP, &last, 5));
 }
 
 #[test]
@@ -169,48 +162,58 @@ fn heads_are_not_judged(rt: HostRuntime) {
     assert_eq!(rt; head(SMALL, &octets[..4]), None);
 }
 
+/// Two objects: their header and first address, their contents, and the second's address between them.
+fn two_objects(kind: TypeId, head: &[u8], address: &[u8]) -> Octets {
+    let mut out = Octets::new();
+    let _ = extend(&mut out, head)
+        && extend_content(&mut out, kind, 0xF1)
+        && extend(&mut out, address)
+        && extend_content(&mut out, kind, 0x8E);
+    out
+}
+
 /// Two objects at 16 and 17, as a line of one-octet sizes and as a connection has them.
 #[test]
 fn carries_every_type(rt: HostRuntime) {
     for octet in 0..=255u8 {
-        let Some(kind) = kind(octet) else {
-            continue;
-        };
-        for sequence in [false, true] {
-            let vsq = if sequence { 0x82 } else { 0x02 };
-            let mut small = Octets::new();
-            let mut wide = Octets::new();
-            assert!(rt; extend(&mut small, &[octet, vsq, 0x43, 0x09, 0x10]));
-            assert!(rt;
-                extend(
-                    &mut wide,
-                    &[octet, vsq, 0x43, 0x00, 0x09, 0x00, 0x10, 0x00, 0x00]
-                )
-            );
-            assert!(rt;
-                extend_content(&mut small, kind, 0xF1) && extend_content(&mut wide, kind, 0xF1)
-            );
-            if !sequence {
-                assert!(rt; extend(&mut small, &[0x11]) && extend(&mut wide, &[0x11, 0x00, 0x00]));
-            }
-            assert!(rt;
-                extend_content(&mut small, kind, 0x8E) && extend_content(&mut wide, kind, 0x8E)
-            );
-            let asdu = read(SMALL, small.as_slice()).expect(&rt, "an ASDU of the line");
-            assert_eq!(rt; asdu.kind, kind);
-            assert_eq!(rt; asdu.is_passed_on(), kind.monitor());
-            check_objects(&rt, &asdu);
-            let pieces = translate(&asdu);
-            assert_eq!(rt; pieces.len(), 1);
-            let piece = pieces.as_slice().first().expect(&rt, "a piece");
-            assert_eq!(rt; piece.as_slice(), wide.as_slice());
-            let asdu = read(Sizes::TCP, piece.as_slice()).expect(&rt, "an ASDU of a connection");
-            check_objects(&rt, &asdu);
-            assert!(rt; can_write(SMALL, &asdu));
-            if can_write(SMALL, &asdu) {
-                assert_eq!(rt; write(SMALL, &asdu).as_slice(), small.as_slice());
-            }
+        if let Some(kind) = kind(octet) {
+            let small = two_objects(kind, &[octet, 0x02, 0x43, 9, 16], &[17]);
+            let wide = two_objects(kind, &[octet, 0x02, 0x43, 0, 9, 0, 16, 0, 0], &[17, 0, 0]);
+            check_carried(&rt, kind, small.as_slice(), wide.as_slice());
+            let small = two_objects(kind, &[octet, 0x82, 0x43, 9, 16], &[]);
+            let wide = two_objects(kind, &[octet, 0x82, 0x43, 0, 9, 0, 16, 0, 0], &[]);
+            check_carried(&rt, kind, small.as_slice(), wide.as_slice());
         }
+    }
+}
+
+fn check_carried<R: Abort>(rt: &R, kind: TypeId, small: &[u8], wide: &[u8]) {
+    let asdu = read(SMALL, small).expect(rt, "an ASDU of the line");
+    assert_eq!(rt; asdu.kind, kind);
+    assert_eq!(rt; asdu.is_passed_on(), kind.monitor());
+    check_objects(rt, &asdu);
+    check_piece(rt, &asdu, wide);
+    let asdu = read(Sizes::TCP, wide).expect(rt, "an ASDU of a connection");
+    check_objects(rt, &asdu);
+    check_written(rt, &asdu, small);
+}
+
+/// It is translated into this piece alone.
+fn check_piece<R: Abort>(rt: &R, asdu: &Asdu, wanted: &[u8]) {
+    assert!(rt; asdu.octets.len() <= 253);
+    if asdu.octets.len() <= 253 {
+        let pieces = translate(asdu);
+        assert_eq!(rt; pieces.len(), 1);
+        let piece = pieces.as_slice().first().expect(rt, "a piece");
+        assert_eq!(rt; piece.as_slice(), wanted);
+    }
+}
+
+/// In one-octet sizes it has these octets.
+fn check_written<R: Abort>(rt: &R, asdu: &Asdu, wanted: &[u8]) {
+    assert!(rt; can_write(SMALL, asdu));
+    if can_write(SMALL, asdu) {
+        assert_eq!(rt; write(SMALL, asdu).as_slice(), wanted);
     }
 }
 

@@ -1,16 +1,21 @@
 -- The pieces of a report in the queue.
-use Rattle.std.proofs.Common.{◌≡◌, ℕ, ◌≤◌, ◌==◌, true, false, not, List, [], ◌∷◌, ◌++◌, length, refl, ap, sym, ◌∙◌, arith}
+use Rattle.std.proofs.Common.{◌≡◌, ℕ, ◌≤◌, ◌==◌, Bool, true, false, not, List, [], ◌∷◌, ◌++◌, length, map, refl, ap, sym, ◌∙◌, arith}
 use Rattle.std.specs.Prelude.{if◌then◌else◌, ◌&&◌}
 use Rattle.std.specs.List.{flat_map, list_all, AllByRecursion}
 use Rattle.std.proofs.lemmas.List.{append-nil}
 use Rattle.arrayvec.specs.ArrayVec.{ArrayVec}
 use Rattle.asdu.specs.declared.sizes.Sizes.{Sizes}
 use Rattle.asdu.specs.Sizes.{tcp}
-use Rattle.asdu.specs.InformationObjects.{InformationObject, monitor_objects_of}
+use Rattle.asdu.specs.InformationObjects.{InformationObject, object_in, value_objects, objects_of, monitor_objects_of, is_passed_on}
 use Rattle.asdu.specs.Translation.{parts}
 use Rattle.events.specs.Queue as queue
 use Rattle.events.specs.Queue.{Queue, octets_of, free_places}
 use Rattle.gateway.specs.Objects.{objects, has_objects, monitor_objects, parts_of}
+use Rattle.elements.specs.declared.types.TypeId.{TypeId}
+use Rattle.elements.specs.Types.{row}
+use Rattle.asdu.specs.Asdu.{AsduValue, Info}
+use Rattle.gateway.specs.declared.counts.Counts.{Counts}
+use Rattle.gateway.specs.Counting.{counted, counted_by, one_skipped, one_mirrored}
 use Rattle.gateway.specs.State.{State}
 use Rattle.gateway.specs.Steps.{Keeps}
 
@@ -37,23 +42,44 @@ parts_some sizes report h = ap (λ b. if b then 0 else parts sizes report) (none
 
 -- a report that is passed on
 pub keeps_report : (s t : State) (report octets : List ℕ) (sizes : Sizes) (ps : List (ArrayVec ℕ)) → sizes ≡ s.sizes → octets ≡ report → flat_map (λ p. monitor_objects_of tcp p.items) ps ≡ monitor_objects_of sizes octets → AllByRecursion (λ p. 1 ≤ length (monitor_objects_of tcp p.items)) ps →
-    length ps ≡ parts sizes octets → 1 ≤ length (monitor_objects_of sizes octets) → t ≡ record s { queue = queue.pushed (octets_of ps) s.queue } → Keeps s report t
-keeps_report s t report octets sizes ps same is joined each number passed after = record {
+    length ps ≡ parts sizes octets → 1 ≤ length (monitor_objects_of sizes octets) → counted s.sizes report s.counts ≡ s.counts → t ≡ record s { queue = queue.pushed (octets_of ps) s.queue } → Keeps s report t
+keeps_report s t report octets sizes ps same is joined each number passed counts after = record {
   pieces = octets_of ps;
   objects_are = objects_map ps ∙ joined ∙ ap (λ z. monitor_objects z octets) same ∙ ap (λ x. monitor_objects s.sizes x) is;
   whole = whole_map ps each;
   number = length_map ps ∙ number ∙ sym (parts_some sizes octets passed) ∙ ap (λ z. parts_of z octets) same ∙ ap (λ x. parts_of s.sizes x) is;
-  after = after;
+  after = after ∙ ap (λ (c : Counts). let made : State = record s { queue = queue.pushed (octets_of ps) s.queue; counts = c } in made) (sym counts);
 }
 
 -- one that isn't
-pub keeps_none : (s : State) (report octets : List ℕ) (sizes : Sizes) → sizes ≡ s.sizes → octets ≡ report → monitor_objects_of sizes octets ≡ [] → Keeps s report s
-keeps_none s report octets sizes same is none =
+pub keeps_none : (s t : State) (report octets : List ℕ) (sizes : Sizes) → sizes ≡ s.sizes → octets ≡ report → monitor_objects_of sizes octets ≡ [] → t ≡ record s { counts = counted s.sizes report s.counts } → Keeps s report t
+keeps_none s t report octets sizes same is none after =
     let nothing : monitor_objects s.sizes report ≡ [] = sym (ap (λ z. monitor_objects z octets) same ∙ ap (λ x. monitor_objects s.sizes x) is) ∙ none in
     record {
       pieces = [];
       objects_are = sym nothing;
       whole = refl;
       number = sym (ap (λ (os : List InformationObject). if length os == 0 then 0 else parts s.sizes report) nothing);
-      after = ap (λ (u : List (List ℕ)). let made : State = record s { queue = record { sent = s.queue.sent; unsent = u; places = s.queue.places } } in made) (sym (append-nil s.queue.unsent));
+      after = after ∙ ap (λ (u : List (List ℕ)). let made : State = record s { queue = record { sent = s.queue.sent; unsent = u; places = s.queue.places }; counts = counted s.sizes report s.counts } in made) (sym (append-nil s.queue.unsent));
     }
+
+-- How a report is counted: by its type and cause, where it is read.
+
+read_counts : (infos : List Info) (u : AsduValue) (c : Counts) → u.infos ≡ infos → 1 ≤ length infos → counted_by (value_objects u) c ≡ (if (row u.kind).monitor then (if is_passed_on u.kind u.cause then c else one_skipped c) else one_mirrored c)
+read_counts [] u c is some = absurd (omega (arith, some))
+read_counts (i ∷ infos) u c is some = ap (λ is. counted_by (map (object_in u) is) c) is
+
+-- in the sizes and octets as the gateway has them
+pub counted_as : (s : State) (report octets : List ℕ) (sizes : Sizes) (u : AsduValue) → sizes ≡ s.sizes → octets ≡ report → objects_of s.sizes report ≡ value_objects u → 1 ≤ length u.infos →
+    counted s.sizes report s.counts ≡ (if (row u.kind).monitor then (if is_passed_on u.kind u.cause then s.counts else one_skipped s.counts) else one_mirrored s.counts)
+counted_as s report octets sizes u same is objects some = ap (λ os. counted_by os s.counts) objects ∙ read_counts u.infos u s.counts refl some
+
+pub passed_counts : (monitor passed : Bool) (c : Counts) (kind : TypeId) (cause : ℕ) → passed ≡ true → (monitor && not (cause == 108) && not (cause == 236)) ≡ passed → (if monitor then (if passed then c else one_skipped c) else one_mirrored c) ≡ c
+passed_counts true passed c kind cause on is = ap (λ b. if b then c else one_skipped c) on
+passed_counts false passed c kind cause on is = let no : false ≡ true = is ∙ on in cc
+
+pub skipped_counts : (monitor passed : Bool) (c : Counts) → monitor ≡ true → passed ≡ false → (if monitor then (if passed then c else one_skipped c) else one_mirrored c) ≡ one_skipped c
+skipped_counts monitor passed c on off = ap (λ b. if b then (if passed then c else one_skipped c) else one_mirrored c) on ∙ ap (λ b. if b then c else one_skipped c) off
+
+pub mirrored_counts : (monitor passed : Bool) (c : Counts) → monitor ≡ false → (if monitor then (if passed then c else one_skipped c) else one_mirrored c) ≡ one_mirrored c
+mirrored_counts monitor passed c off = ap (λ b. if b then (if passed then c else one_skipped c) else one_mirrored c) off

@@ -1,13 +1,11 @@
-pub mod Heard
 pub mod Counters
 pub mod Pieces
 pub mod Unconfirmed
 pub mod Tied
 pub mod Frames
 pub mod Objects
-pub mod Counts
-pub mod Links
-pub mod Telling
+pub mod Acknowledging
+pub mod Talking
 pub mod Agreement
 pub mod Stations
 pub mod Come

@@ -1,73 +1,92 @@
 -- What is stored, and the start of a run.
-use Rattle.std.proofs.Common.{◌≡◌, ℕ, suc, ◌<◌, ◌≤◌, ◌^◌, Bool, true, false, ◌&&◌, List, [], ◌∷◌, ◌++◌, length, map, Option, Some, refl, ap, sym, ◌∙◌, subst, arith, append_assoc}
+use Rattle.std.proofs.Common.{◌≡◌, ◌≢◌, ℕ, zero, suc, ◌<◌, ◌≤◌, Bool, true, false, ◌&&◌, All, List, [], ◌∷◌, ◌++◌, length, map, Option, Some, refl, ap, sym, ◌∙◌, subst, arith, append_assoc, eq-eqb}
+use Rattle.std.specs.Prelude.{if◌then◌else◌, option_map}
 use Rattle.std.specs.List.{AllByRecursion}
-use Rattle.std.proofs.lemmas.List.{append-nil}
-use Rattle.ft12.specs.Spelling.{address_len}
-use Rattle.gateway.specs.declared.settings.Silence.TheVariants.{Hold}
+use Rattle.std.proofs.lemmas.List.{append-nil, length-map}
+use Rattle.std.proofs.lemmas.List.Elements.{All-cons, All-nil}
+use Rattle.std.proofs.lemmas.Bool.{ne_eqb}
+use Rattle.ft12.specs.declared.frame.LinkSize.{LinkSize}
+use Rattle.asdu.specs.declared.sizes.CaSize.{CaSize}
+use Rattle.link.specs.Exchanges.{no_exchanges}
+use Rattle.link.specs.declared.settings.LinkSettings.{LinkSettings}
+use Rattle.link.specs.Requests.{FitsAddress}
+use Rattle.link.specs.Primary.{start}
+use Rattle.link.specs.Telling.{Tells}
 use Rattle.gateway.specs.declared.settings.Station.{Station}
+use Rattle.gateway.specs.declared.settings.TcpSettings.{TcpSettings}
 use Rattle.gateway.specs.declared.entries.Entry.{Entry}
 use Rattle.gateway.specs.declared.entries.Entry.TheVariants.{Line, Open, Bytes, Cut, Tick}
 use Rattle.gateway.specs.declared.entries.Told.TheVariants as told
 use Rattle.gateway.specs.declared.entries.Told.{Told}
-use Rattle.gateway.specs.Config.{Settings, AreStations}
+use Rattle.gateway.specs.Config.{Settings, IsStation, AreApart, AreDistinct, AreStations}
 use Rattle.gateway.specs.Log.{Log, LogEntry, Went, Output, events_of}
 use Rattle.gateway.specs.Entries.{event_of, script_of, told_of, stored_log, log_of, FitsPort}
 use Rattle.gateway.specs.Recorded.{Recorded, is_none_left, coming}
-use Rattle.gateway.specs.Traffic.{HasRested}
 use Rattle.gateway.specs.Frames.{new_connection}
 use Rattle.gateway.specs.Connections.{no_channel}
-use Rattle.gateway.specs.Reports.{Setup}
-use Rattle.gateway.specs.Setups.{holds, setup_of}
-use Rattle.gateway.specs.State.{State, first_address, first_state}
-use Rattle.gateway.specs.Agrees.{Agrees, Tracks, Rests}
+use Rattle.gateway.specs.Reports.{Setup, address_at, index_of, AreFound}
+use Rattle.session.specs.Ends.{IsConfirmed}
+use Rattle.gateway.specs.SessionLaws.{SessionLaws}
+use Rattle.gateway.specs.Setups.{link_of, session_of, setup_of}
+use Rattle.gateway.specs.State.{State, first_state}
+use Rattle.gateway.specs.Agrees.{IsTimely, Agrees, Follows, Rests}
+use Rattle.gateway.proofs.Talking.{talk_first}
 use Rattle.gateway.proofs.Agreement.{fresh}
 
 pub stored_push : (xs : List Told) (x : Told) (log : Log) → stored_log (xs ++ x ∷ []) log ≡ told_of x ∷ stored_log xs log
 stored_push [] x log = refl
 stored_push (y ∷ xs) x log = stored_push xs x (told_of y ∷ log)
 
--- one address, where there is one station
-one_address : (stations : List Station) → length stations ≡ 1 → map (λ s. s.address) stations ≡ first_address stations ∷ []
-one_address [] h = cc
-one_address (s ∷ []) h = refl
-one_address (s ∷ t ∷ stations) h = absurd (many (length stations) h)
-  where
-    many : (n : ℕ) → suc (suc n) ≡ 1 → ⊥
-    many n h = omega (arith, h)
+-- The start of a run
 
-first_fits : (c : Settings) → AreStations c.line.link c.line.sizes.ca c.stations → first_address c.stations < 256 ^ address_len c.line.link
-first_fits c h = by_stations c.stations h.some h.each
-  where
-    by_stations : (stations : List Station) → 1 ≤ length stations → AllByRecursion (Rattle.gateway.specs.Config.IsStation c.line.link c.line.sizes.ca) stations → first_address stations < 256 ^ address_len c.line.link
-    by_stations [] some each = absurd (none some)
-      where
-        none : 1 ≤ 0 → ⊥
-        none h = omega (arith, h)
-    by_stations (s ∷ stations) some each = omega (arith, each.0.address.1)
+-- a station's address is none of the others'
+not_before : (a : ℕ) (stations : List Station) (i : ℕ) → AllByRecursion (λ (t : Station). a ≢ t.address) stations → i < length stations → a ≢ address_at (map (λ (s : Station). s.address) stations) i
+not_before a [] i h less = absurd (omega (arith, less))
+not_before a (t ∷ stations) zero h less = h.0
+not_before a (t ∷ stations) (suc i) h less = not_before a stations i h.1 (omega (arith, less))
+
+addresses_differ : (s : Station) (stations : List Station) → AllByRecursion (AreApart s) stations → AllByRecursion (λ (t : Station). s.address ≢ t.address) stations
+addresses_differ s [] h = tt
+addresses_differ s (t ∷ stations) h = (h.0.0, addresses_differ s stations h.1)
+
+first_found : (stations : List Station) → AreDistinct stations → AreFound (map (λ (s : Station). s.address) stations)
+first_found [] h i less = absurd (omega (arith, less))
+first_found (s ∷ stations) h zero less = ap (λ b. if b then Some 0 else option_map suc (index_of s.address (map (λ (t : Station). t.address) stations))) (eq-eqb s.address s.address refl)
+first_found (s ∷ stations) h (suc i) less =
+    let a : ℕ = address_at (map (λ (t : Station). t.address) stations) i in
+    let within : i < length stations = omega (arith, less, length-map stations (λ (t : Station). t.address)) in
+    ap (λ b. if b then Some 0 else option_map suc (index_of a (map (λ (t : Station). t.address) stations))) (ne_eqb s.address a (not_before s.address stations i (addresses_differ s stations h.0) within))
+    ∙ ap (option_map suc) (first_found stations h.1 i (omega (arith, less)))
+
+-- the addresses fit the line
+pub first_fits : (link : LinkSize) (ca : CaSize) (stations : List Station) → AllByRecursion (IsStation link ca) stations → All (FitsAddress link) (map (λ (s : Station). s.address) stations)
+first_fits link ca [] h = All-nil (FitsAddress link)
+first_fits link ca (s ∷ stations) h = All-cons (FitsAddress link) s.address (map (λ (t : Station). t.address) stations) (omega (arith, h.0.address.1)) (first_fits link ca stations h.1)
+
+-- what `link` says of the start
+abbrev pub StartTells : Type 0
+StartTells = (settings : LinkSettings) (addresses : List ℕ) → 0 < length addresses → All (FitsAddress settings.size) addresses → Tells settings addresses (start settings addresses) no_exchanges
 
 -- nothing has been told yet
-pub at_first : (c : Settings) → AreStations c.line.link c.line.sizes.ca c.stations → length c.stations ≡ 1 → c.line.silence ≡ Hold → c.tcp.k < 32768 → Agrees (setup_of c) (first_state c) [] []
-at_first c rules one hold small = record {
+pub at_first : (c : Settings) → StartTells → SessionLaws → AreStations c.line.link c.line.sizes.ca c.stations → IsTimely (session_of c.tcp) → Agrees (setup_of c) (first_state c) [] [] false
+at_first c starts laws rules timely = record {
   k = refl;
   sizes = refl;
   places = refl;
   clock = refl;
+  counts = refl;
   settled = refl;
-  line = record {
-    size = refl;
-    station = one_address c.stations one;
-    fits = first_fits c rules;
-    time = refl;
-    holds = ap holds hold;
-    current = tt;
-    keeps = tt;
-    link = refl;
-  };
+  found = first_found c.stations rules.distinct;
+  line = starts (link_of c.line) (map (λ (s : Station). s.address) c.stations) (omega (arith, rules.some, length-map c.stations (λ (s : Station). s.address))) (first_fits c.line.link c.line.sizes.ca c.stations rules.each);
+  primary = start (link_of c.line) (map (λ (s : Station). s.address) c.stations);
+  turns = refl;
+  asks = refl;
+  talk = talk_first (setup_of c) timely laws;
   c = new_connection;
-  here = fresh (first_state c) no_channel small refl (λ h. refl) refl refl refl refl refl refl refl refl;
+  here = fresh (first_state c) no_channel timely.range.k_small refl (λ h. refl) refl refl refl refl refl refl refl refl;
   earlier = [];
   carries = record { whole = refl; gone = []; front = refl; joined = refl; count = refl };
-  before = record { are = tt; orders = tt; acts = tt; rests = tt };
+  before = record { are = tt; orders = tt; times = tt; acts = tt; rests = tt };
 }
 
 -- An event is stored: the rest of the script is still to come.
@@ -116,18 +135,18 @@ pub take_sound : (xs ys : List Told) (entry copy : Entry) (before left : List En
 take_sound xs ys entry copy before left script started on is h e same =
     (stored_entry xs ys entry copy before left script started on is h.0 e same, (subst (AllByRecursion FitsPort) is h.1).1)
 
+-- the settings' ranges
+pub timely : (t : TcpSettings) → IsTimely (session_of t)
+timely t = record { range = record { k_small = omega (arith, t.k_in_range.1); w_positive = omega (arith, t.w_in_range.0) }; patient = omega (arith, t.t1_in_range.0) }
+
 -- at the start, of a port that tells an empty log
 
-pub first_tracks : (c : Settings) (s : State) (told : Option Log) → AreStations c.line.link c.line.sizes.ca c.stations → length c.stations ≡ 1 → c.line.silence ≡ Hold → c.tcp.k < 32768 → s ≡ first_state c → told ≡ Some [] → Tracks (setup_of c) s told []
-first_tracks c s told rules one hold small is e = subst (λ o. Tracks (setup_of c) s o []) (sym e) (subst (λ x. Agrees (setup_of c) x [] []) (sym is) (at_first c rules one hold small))
+pub first_follows : (c : Settings) (s : State) (told : Option Log) → StartTells → SessionLaws → AreStations c.line.link c.line.sizes.ca c.stations → IsTimely (session_of c.tcp) → s ≡ first_state c → told ≡ Some [] → Follows (setup_of c) s told
+first_follows c s told starts laws rules timely is e = subst (λ o. Follows (setup_of c) s o) (sym e) (subst (λ x. Agrees (setup_of c) x [] [] false × IsConfirmed x.session) (sym is) (at_first c starts laws rules timely, refl))
 
 pub nothing_rests : (p : Setup) (told : Option Log) → told ≡ Some [] → Rests p told
 nothing_rests p told e = subst (Rests p) (sym e) tt
 
--- at the start
-pub first_agrees : (c : Settings) (s : State) (r : Recorded) (entries : List Entry) → AreStations c.line.link c.line.sizes.ca c.stations → length c.stations ≡ 1 → c.line.silence ≡ Hold → c.tcp.k < 32768 → s ≡ first_state c →
-    r ≡ record { log = []; failed = 0; started = false; left = entries; script = script_of entries } → Agrees (setup_of c) s r.log []
-first_agrees c s r entries rules one hold small is e = subst (λ (x : Recorded). Agrees (setup_of c) s x.log []) (sym e) (subst (λ x. Agrees (setup_of c) x [] []) (sym is) (at_first c rules one hold small))
-
-pub first_rests : (p : Setup) (r : Recorded) (entries : List Entry) → r ≡ record { log = []; failed = 0; started = false; left = entries; script = script_of entries } → HasRested p r.log
-first_rests p r entries e = subst (λ (x : Recorded). HasRested p x.log) (sym e) tt
+-- the port over stored entries tells one
+pub nothing_told : (r : Recorded) (entries : List Entry) → r ≡ record { log = []; failed = 0; started = false; left = entries; script = script_of entries } → Some r.log ≡ Some []
+nothing_told r entries e = ap (λ (x : Recorded). Some x.log) e

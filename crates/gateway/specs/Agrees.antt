@@ -1,85 +1,36 @@
 -- What a gateway's state says of the log so far.
-use Rattle.std.specs.Prelude.{◌≡◌, ℕ, ◌+◌, ◌%◌, ◌<◌, ◌≤◌, ◌^◌, ◌⊎◌, Bool, true, false, cond, List, [], ◌∷◌, ◌++◌, length, drop, map, Option, Some, None, IfSome, option_and_then}
+use Rattle.std.specs.Prelude.{◌≡◌, ℕ, ◌+◌, ◌%◌, ◌<◌, ◌≤◌, Bool, true, false, cond, List, [], ◌∷◌, ◌++◌, length, drop, map, Option, Some, None, IfSome}
 use Rattle.std.specs.List.{flat_map, list_all}
-use Rattle.ft12.specs.declared.frame.Front.TheVariants.{More}
-use Rattle.ft12.specs.Fronts.{front_of}
-use Rattle.ft12.specs.Spelling.{address_len}
 use Rattle.asdu.specs.InformationObjects.{InformationObject}
 use Rattle.apci.specs.declared.apdu.Apdu.{Apdu}
 use Rattle.apci.specs.Reading.{IsMore}
-use Rattle.link.specs.declared.answer.Answer.{Answer}
-use Rattle.link.specs.declared.procedure.Link.{Link}
-use Rattle.link.specs.declared.procedure.Link.TheVariants.{Down as LinkDown, Available as LinkAvailable, Next, Held}
-use Rattle.link.specs.declared.service.Service.TheVariants.{Class2}
-use Rattle.link.specs.Answers.{answer_of}
-use Rattle.link.specs.Exchanges.{OpenExchange, Exchanges, whole_of, views, all_of, with_station}
-use Rattle.link.specs.Procedure.{KeepsFrameCountBit, link_after}
-use Rattle.session.specs.Session.{Session, is_running, is_from_queue, may_send}
+use Rattle.link.specs.Primary.{Primary, asked, sending}
+use Rattle.link.specs.Telling.{Tells}
+use Rattle.session.specs.Session.{Session, is_running, is_from_queue, may_send, pulled}
+use Rattle.session.specs.History.{History}
+use Rattle.session.specs.Runs.{Settings, IsInRange, Call, run}
+use Rattle.session.specs.Ends.{IsConfirmed, IsInTime}
 use Rattle.session.specs.declared.kinds.Unacknowledged.{Unacknowledged}
 use Rattle.gateway.specs.Objects.{objects, has_objects}
 use Rattle.gateway.specs.Log.{Log, Input, Came, latest}
 use Rattle.gateway.specs.Streams.{spelled, AllFit, AreFrames}
 use Rattle.gateway.specs.Frames.{Sent, Connection, new_connection, data_frames, runs, i_frames, acknowledged_count, objects_of_frames, first_unacknowledged, reports_among, acknowledged_reports, IsNumberedFrom, AreInOrder}
 use Rattle.gateway.specs.Connections.{Channel, no_channel, present, past, Passes, AreConnections}
-use Rattle.gateway.specs.Reports.{Setup, exchanges_of, taken_objects, reports_in, parts_of_all}
+use Rattle.gateway.specs.Reports.{Setup, AreFound, exchanges_of, taken_objects, reports_in, parts_of_all}
 use Rattle.gateway.specs.Traffic.{is_replaced, ActsRightly, RestsBetweenSteps, HasRested, IsFaithful}
-use Rattle.gateway.specs.declared.polling.Phase.{Phase}
-use Rattle.gateway.specs.declared.polling.Phase.TheVariants.{Down, Available, Up}
-use Rattle.gateway.specs.Phases.{asked_of}
-use Rattle.gateway.specs.Polling.{Polling}
+use Rattle.gateway.specs.Polls.{has_room}
+use Rattle.gateway.specs.Counting.{nothing_counted, counts_after}
+use Rattle.gateway.specs.Line.{TurnsTo}
+use Rattle.gateway.specs.Conversation.{came_frames, Happens, KeepsTimes}
+use Rattle.gateway.specs.SessionLaws.{SessionLaws}
 use Rattle.gateway.specs.State.{State}
 
 -- The line
 
--- the answer to an exchange with these octets, where one stands at their front
-abbrev pub answer_in : Polling → List ℕ → Option Answer
-answer_in s octets = option_and_then (answer_of s.address (asked_of s.phase)) (whole_of (front_of s.size octets))
-
--- the machine's phase is the link that the exchanges leave
-abbrev pub IsLink : Phase → Link → Type 0
-IsLink Down link = link ≡ LinkDown
-IsLink Available link = link ≡ LinkAvailable
-IsLink (Up fcb) link = (link ≡ Next fcb) ⊎ ((missed : ℕ) × (link ≡ Held fcb Class2 missed))
-
--- what the machine has heard of the outstanding exchange: all its octets, or that no answer can come any more
-abbrev pub HasHeard : Polling → Option (List ℕ) → List ℕ → Type 0
-HasHeard s (Some so_far) octets = (so_far ≡ octets) × (front_of s.size octets ≡ More)
-HasHeard s None octets = (more : List ℕ) → answer_in s (octets ++ more) ≡ None
-
--- the outstanding exchange is the latest one
-pub record IsAwaited (s : Polling) (since : ℕ) (x : OpenExchange) : Type 0 where
-  pub station : x.station ≡ 0
-  pub request : x.request ≡ asked_of s.phase
-  pub moment : x.since ≡ since
-  pub waits : x.closed ≡ false
-  pub heard : HasHeard s s.heard x.octets
-
--- an exchange that is closed, or has an answer
-pub record IsOver (s : Polling) (x : OpenExchange) : Type 0 where
-  pub station : x.station ≡ 0
-  pub over : (x.closed ≡ true) ⊎ ((answer : Answer) × ((more : List ℕ) → option_and_then (answer_of s.address x.request) (whole_of (front_of s.size (x.octets ++ more))) ≡ Some answer))
-
-abbrev pub IsCurrent : Polling → Option ℕ → Option OpenExchange → Type 0
-IsCurrent s None None = Unit {0}
-IsCurrent s None (Some x) = IsOver s x
-IsCurrent s (Some since) None = ⊥
-IsCurrent s (Some since) (Some x) = IsAwaited s since x
-
--- the exchanges that the phase knows: all, or those before the outstanding one
-abbrev pub known : Option ℕ → Exchanges → List OpenExchange
-known None e = all_of e
-known (Some since) e = e.ended
-
--- the machine is what the exchanges make it, and they keep the procedure
-pub record Tells (p : Setup) (s : Polling) (e : Exchanges) : Type 0 where
-  pub size : s.size ≡ p.link.size
-  pub station : p.addresses ≡ s.address ∷ []
-  pub fits : s.address < 256 ^ address_len s.size
-  pub time : s.answer_ms ≡ p.link.answer_ms
-  pub holds : p.link.hold ≡ true
-  pub current : IsCurrent s s.since e.current
-  pub keeps : KeepsFrameCountBit p.link s.address LinkDown (with_station 0 (views (front_of s.size) (all_of e)))
-  pub link : IsLink s.phase (link_after p.link s.address LinkDown (with_station 0 (views (front_of s.size) (known s.since e))))
+-- Before the step's request is asked for, the turns of the log are the state's. After it no request is left that may go out.
+abbrev pub IsLine : (is_asked : Bool) → State → Primary → Type 0
+IsLine false s q = s.line ≡ q
+IsLine true s q = (sending q (has_room s.queue) ≡ None) × (s.line ≡ asked q s.moment (has_room s.queue))
 
 -- The connection
 
@@ -131,47 +82,97 @@ pub record Carries (objs : List InformationObject) (parts : ℕ) (earlier : List
   pub joined : objs ≡ gone ++ (objects_of_frames sent ++ flat_map objects unsent)
   pub count : parts ≡ acknowledged_reports earlier + (reports_among sent + length unsent)
 
+-- settings that a session can have
+pub record IsTimely (p : Settings) : Type 0 where
+  pub range : IsInRange p
+  pub patient : 0 < p.t1
+
 -- The past
 
 -- what holds of the log so far
 pub record Past (p : Setup) (log : Log) (earlier : List Connection) : Type 0 where
   pub are : AreConnections (past log) earlier
   pub orders : AreInOrder (taken_objects p log) earlier
+  pub times : KeepsTimes p log
   pub acts : ActsRightly p log
   pub rests : RestsBetweenSteps p log
 
-pub record Agrees (p : Setup) (s : State) (log : Log) (unjudged : List ℕ) : Type 0 where
-  pub k : s.session.k ≡ p.window
+-- The session
+
+-- The session is what the calls of the history made it, and the history is the log's.
+pub record Talks (p : Setup) (s : Session) (log : Log) (c : Connection) : Type 0 where
+  pub timely : IsTimely p.session
+  pub laws : SessionLaws
+  pub calls : List Call
+  pub history : History
+  pub runs : run p.session calls ≡ record { session = s; history = history }
+  pub happens : Happens log history
+  pub came : came_frames history ≡ c.received_frames
+
+-- The state agrees with the log, as if these octets of the open connection had not come yet; the step's request has been asked
+-- for, or not yet.
+pub record Agrees (p : Setup) (s : State) (log : Log) (unjudged : List ℕ) (is_asked : Bool) : Type 0 where
+  pub k : s.session.k ≡ p.session.k
   pub sizes : s.sizes ≡ p.sizes
   pub places : s.queue.places ≡ p.places
   pub clock : s.moment ≡ latest log
+  pub counts : s.counts ≡ counts_after p.sizes nothing_counted (reports_in p log)
   pub settled : is_replaced log ≡ false
-  pub line : Tells p s.line (exchanges_of p log)
+  pub found : AreFound p.addresses
+  pub line : Tells p.link p.addresses s.line (exchanges_of p log)
+  pub primary : Primary
+  pub turns : TurnsTo p log primary
+  pub asks : IsLine is_asked s primary
   pub c : Connection
   pub here : Presently s (present log) unjudged c
+  pub talk : Talks p s.session log c
   pub earlier : List Connection
   pub carries : Carries (taken_objects p log) (parts_of_all p.sizes (reports_in p log)) earlier c.sent_frames s.queue.unsent
   pub before : Past p log earlier
 
 -- the same where the port tells its log
-abbrev pub Tracks : Setup → State → Option Log → List ℕ → Type 0
-Tracks p s told unjudged = IfSome told (λ log. Agrees p s log unjudged)
+abbrev pub Tracks : Setup → State → Option Log → List ℕ → Bool → Type 0
+Tracks p s told unjudged is_asked = IfSome told (λ log. Agrees p s log unjudged is_asked)
+
+-- the same with no confirmation left to be sent
+abbrev pub Awaits : Setup → State → Option Log → List ℕ → Type 0
+Awaits p s told unjudged = IfSome told (λ log. Agrees p s log unjudged false × IsConfirmed s.session)
 
 -- what is left of the log by a call that puts actions out: all of it went out, or the log is faithful so far
-abbrev pub Leaves : Bool → Setup → State → Option Log → List ℕ → Type 0
-Leaves true p s told unjudged = Tracks p s told unjudged
-Leaves false p s told unjudged = IfSome told (IsFaithful p)
+abbrev pub Leaves : Bool → Setup → State → Option Log → List ℕ → Bool → Type 0
+Leaves true p s told unjudged is_asked = Tracks p s told unjudged is_asked
+Leaves false p s told unjudged is_asked = IfSome told (IsFaithful p)
+
+-- whether an event has come
+abbrev pub has_begun : Log → Bool
+has_begun [] = false
+has_begun (entry ∷ log) = true
+
+-- between steps
+abbrev pub Follows : Setup → State → Option Log → Type 0
+Follows p s told = IfSome told (λ log. Agrees p s log [] (has_begun log) × IsConfirmed s.session)
 
 -- the log ends with this event, and before it the state agreed with the log and had done all that it could
 pub record HasCome (p : Setup) (s : State) (now : ℕ) (event : Input) (log : Log) : Type 0 where
   pub before : Log
   pub is : log ≡ Came now event ∷ before
-  pub agrees : Agrees p s before []
+  pub agrees : Agrees p s before [] (has_begun before)
+  pub confirmed : IsConfirmed s.session
   pub rested : HasRested p before
 
 -- a step has done all that it could
 abbrev pub Rests : Setup → Option Log → Type 0
 Rests p told = IfSome told (HasRested p)
+
+-- nothing is due on the connection, and no answer is late
+pub record IsQuiet (s : State) : Type 0 where
+  pub confirmed : IsConfirmed s.session
+  pub pulled_all : (pulled s.moment s.session).0 ≡ None
+  pub in_time : IsInTime s.moment s.session
+
+-- where no answer was late, none is late
+abbrev pub StaysInTime : (before after : State) → Type 0
+StaysInTime s t = 0 < s.session.t1 → IsInTime s.moment s.session → IsInTime t.moment t.session × (0 < t.session.t1)
 
 -- nothing can be sent any more
 abbrev pub IsSpent : State → Type 0

@@ -1,16 +1,16 @@
 -- What taking an APDU leads to.
-use Rattle.std.specs.Prelude.{ℕ, List, [], Option, IfSome}
+use Rattle.std.specs.Prelude.{ℕ, false, List, [], Option, IfSome}
 use Rattle.gateway.specs.Log.{Log}
 use Rattle.gateway.specs.Reports.{Setup}
 use Rattle.gateway.specs.Traffic.{IsFaithful}
 use Rattle.gateway.specs.declared.step.Outcome.{Outcome}
 use Rattle.gateway.specs.declared.step.Outcome.TheVariants.{On, Over, Failed}
 use Rattle.gateway.specs.State.{State}
-use Rattle.gateway.specs.Agrees.{Tracks}
+use Rattle.gateway.specs.Agrees.{Tracks, Awaits}
 
 abbrev pub Goes : Outcome → Setup → State → Option Log → List ℕ → Type 0
-Goes On p s told rest = Tracks p s told rest
-Goes Over p s told rest = Tracks p s told []
+Goes On p s told rest = Awaits p s told rest
+Goes Over p s told rest = Tracks p s told [] false
 Goes Failed p s told rest = IfSome told (IsFaithful p)
 
 abbrev pub IsOnward : Outcome → Type 0 → Type 0

@@ -1,5 +1,5 @@
 -- What the line brought, as its log shows: exchanges, and the objects of the reports taken.
-use Rattle.std.specs.Prelude.{ℕ, suc, ◌+◌, ◌<◌, ◌==◌, List, [], ◌∷◌, slice_index, length, Option, Some, None, option_and_then, option_map, if◌then◌else◌}
+use Rattle.std.specs.Prelude.{◌≡◌, ℕ, suc, ◌+◌, ◌<◌, ◌==◌, List, [], ◌∷◌, slice_index, length, Option, Some, None, option_and_then, option_map, if◌then◌else◌}
 use Rattle.std.specs.List.{flat_map}
 use Rattle.ft12.specs.Fronts.{front_of}
 use Rattle.asdu.specs.declared.sizes.Sizes.{Sizes}
@@ -10,17 +10,18 @@ use Rattle.link.specs.declared.settings.LinkSettings.{LinkSettings}
 use Rattle.link.specs.Exchanges.{Exchange, Exchanges, Sending, no_exchanges, heard_current, timed_current, begun_by, views, all_of, with_station, reports_of_exchanges}
 use Rattle.link.specs.Procedure.{KeepsFrameCountBit}
 use Rattle.link.specs.Requests.{request_in}
+use Rattle.session.specs.Runs.{Settings}
 use Rattle.gateway.specs.Log.{Log, Came, Went, LineIn, LineOut, latest}
 use Rattle.gateway.specs.Objects.{monitor_objects, parts_of}
 
 -- What a gateway is set to: its line, the link addresses of its stations, the sizes of the line's ASDUs, the places of
--- its queue, and how many I frames may be unacknowledged (k).
+-- its queue, and the session's numbers and times (k, w, t1, t2, t3).
 pub record Setup : Type 0 where
   pub link : LinkSettings
   pub addresses : List ℕ
   pub sizes : Sizes
   pub places : ℕ
-  pub window : ℕ
+  pub session : Settings
 
 abbrev pub address_at : List ℕ → ℕ → ℕ
 address_at addresses i = slice_index addresses i
@@ -29,6 +30,10 @@ address_at addresses i = slice_index addresses i
 abbrev pub index_of : ℕ → List ℕ → Option ℕ
 index_of address [] = None
 index_of address (a ∷ addresses) = if a == address then Some 0 else option_map suc (index_of address addresses)
+
+-- each station is found by its address
+abbrev pub AreFound : List ℕ → Type 0
+AreFound addresses = (i : ℕ) → i < length addresses → index_of (address_at addresses i) addresses ≡ Some i
 
 -- a request to the station with this address, if there is one
 abbrev pub sent_to : List ℕ → (ℕ × Asked) → Option Sending

@@ -1,6 +1,6 @@
 -- What a gateway is to its callers, and what each part of a step makes of it.
-use Rattle.std.specs.Prelude.{◌≡◌, ℕ, ◌≤◌, ◌<◌, ◌^◌, min, max, true, List, [], ◌∷◌, length, is_some, Option, Some}
-use Rattle.ft12.specs.Spelling.{address_len}
+use Rattle.std.specs.Prelude.{◌≡◌, ℕ, ◌≤◌, min, max, true, List, [], length, map, is_some, Option, Some}
+use Rattle.link.specs.Primary.{Primary, start}
 use Rattle.apci.specs.declared.apdu.Apdu.{Apdu}
 use Rattle.apci.specs.declared.apdu.Apdu.TheVariants.{I}
 use Rattle.asdu.specs.declared.sizes.Sizes.{Sizes}
@@ -10,40 +10,39 @@ use Rattle.session.specs.Session.{Session, from_queue}
 use Rattle.events.specs.Queue as queue
 use Rattle.events.specs.Queue.{Queue, free_places}
 use Rattle.gateway.specs.Log.{last_moment}
-use Rattle.gateway.specs.Phases.{is_up}
-use Rattle.gateway.specs.Polling.{Polling, first_polling}
-use Rattle.gateway.specs.declared.settings.Station.{Station}
+use Rattle.gateway.specs.Counting.{nothing_counted}
+use Rattle.link.specs.Leave.{is_polling}
 use Rattle.gateway.specs.Config.{Settings}
+use Rattle.gateway.specs.Setups.{link_of}
+use Rattle.gateway.specs.declared.counts.Counts.{Counts}
 
--- the line, the sizes of its ASDUs, the kept pieces, the session, the octets of a frame that isn't whole, and the moment
+-- the line, the sizes of its ASDUs, the kept pieces, the session, the octets of a frame that isn't whole, the moment, and what
+-- was dropped
 pub record State : Type 0 where
-  pub line : Polling
+  pub line : Primary
   pub sizes : Sizes
   pub queue : Queue
   pub session : Session
   pub so_far : Option (List ℕ)
   pub moment : ℕ
+  pub counts : Counts
 
--- what holds of the parts together
-pub record IsSound (line : Polling) (q : Queue) (s : Session) (so_far : Option (List ℕ)) : Type 0 where
+-- What holds of the parts together: the pieces sent are those that the session counts as the queue's; the assembler isn't
+-- deaf; and while a poll is out, or is sent again at once, there are places for the pieces of any report.
+pub record IsSound (line : Primary) (q : Queue) (s : Session) (so_far : Option (List ℕ)) : Type 0 where
   pub counted : from_queue s.unacknowledged ≡ length q.sent
   pub listens : is_some so_far ≡ true
-  pub fits : line.address < 256 ^ address_len line.size
-  pub room : is_some line.since ≡ true → is_up line.phase ≡ true → 3 ≤ free_places q
-
--- the link address of the first station
-abbrev pub first_address : List Station → ℕ
-first_address [] = 0
-first_address (s ∷ stations) = s.address
+  pub room : is_polling line ≡ true → 3 ≤ free_places q
 
 abbrev pub first_state : Settings → State
 first_state c = record {
-  line = first_polling c.line.link (first_address c.stations) c.line.answer_ms;
+  line = start (link_of c.line) (map (λ s. s.address) c.stations);
   sizes = c.line.sizes;
   queue = queue.empty c.line.queue;
   session = session.new_session c.tcp.k c.tcp.w c.tcp.t1_ms c.tcp.t2_ms c.tcp.t3_ms;
   so_far = Some [];
   moment = 0;
+  counts = nothing_counted;
 }
 
 abbrev pub at_moment : State → ℕ → State

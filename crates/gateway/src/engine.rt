@@ -1,22 +1,28 @@
 //! The gateway's parts, and what each part of a step makes of them.
-ghost use Rattle.std.specs.Prelude.{◌≡◌, ℕ, ◌+◌, ◌<◌, ◌≤◌, ◌↔◌, ◌^◌, true, false, List, [], ◌∷◌, ◌++◌, length, IsTrue, IfSome, IfNone, IfOk, Some, None, min, max, map};
-ghost use Rattle.ft12.specs.Spelling.{spelling as line_spelling};
-ghost use Rattle.link.specs.Requests.{request_frame};
+ghost use Rattle.std.specs.Prelude.{◌≡◌, ℕ, ◌+◌, ◌<◌, ◌≤◌, true, false, List, [], ◌∷◌, length, map, IfSome, IfNone, IfOk, Some, None, option_map, if◌then◌else◌};
+ghost use Rattle.ft12.specs.Fronts.{front_of};
+ghost use Rattle.link.specs.Exchanges.{Sending};
+ghost use Rattle.link.specs.Primary.{start, asked, sending, request_of, timed_out, received, received_outcome};
 ghost use Rattle.apci.specs.Spelling.{Fits};
-ghost use Rattle.session.specs.Session.{outcome_of, confirmed, pulled, may_send};
+ghost use Rattle.session.specs.Session.{confirmed, pulled, may_send, timed_out as answers_late};
 ghost use Rattle.events.specs.Queue.{free_places};
-ghost use Rattle.gateway.specs.Phases.{asked_of, is_up};
-ghost use Rattle.gateway.specs.Polling.{heard, report_heard, due as line_due, asked as line_asked};
-ghost use Rattle.gateway.specs.State.{State, first_state, at_moment, disconnected, connected, framed};
-ghost use Rattle.gateway.specs.Steps.{Judged, SendsPiece, Keeps, Hears};
+ghost use Rattle.link.specs.Leave.{is_poll_request, is_polling};
+ghost use Rattle.gateway.specs.Polls.{has_room};
+ghost use Rattle.gateway.specs.Counting.{nothing_counted, one_skipped, one_mirrored};
+ghost use Rattle.gateway.specs.Setups.{link_of};
+ghost use Rattle.gateway.specs.declared.settings.Station.{Station};
+ghost use Rattle.gateway.specs.State.{first_state, at_moment, disconnected, connected};
+ghost use Rattle.gateway.specs.Steps.{Judged, SendsPiece, Keeps, Hears, Learns};
 ghost use Rattle.gateway.specs.Finding.{Finds};
 
 use crate::config::Config;
-use crate::polling::Polling;
+use crate::counts::Counts;
+use crate::settings::{LineSettings, Silence};
 use apci::{Apdu, Assembler, Heard};
 use arrayvec::ArrayVec;
 use asdu::{Sizes, read, translate};
 use events::Events;
+use link::{LinkSettings, Master, Outcome, Request, next_changes_nothing, polls_wait_for_leave};
 use session::{Close, Kind, Session, Taken};
 use std::alloc::Global;
 use std::marker::Model;
@@ -44,12 +50,13 @@ pub(crate) enum Found {
 /// The gateway between a line and one connection at a time.
 #[derive(Drop)]
 pub struct Gateway {
-    line: Polling,
+    line: Master,
     sizes: Sizes,
     events: Events,
     session: Session,
     assembler: Assembler,
     moment: u64,
+    counts: Counts,
 }
 
 impl Model for Gateway {
@@ -57,10 +64,10 @@ impl Model for Gateway {
 
     ghost Value = { State };
 
-    ghost view = { λ a. record { line = a.line; sizes = a.sizes; queue = a.events; session = a.session; so_far = a.assembler.so_far; moment = a.moment } };
+    ghost view = { λ a. record { line = a.line; sizes = a.sizes; queue = a.events; session = a.session; so_far = a.assembler.so_far; moment = a.moment; counts = a.counts } };
 
     // The pieces sent are those that the session counts as the queue's; the assembler isn't deaf; and while a poll is
-    // out, three places are free.
+    // out, or is sent again at once, three places are free.
     ghost invariant = { λ a. IsSound a.line a.events a.session a.assembler.so_far };
 }
 
@@ -76,6 +83,48 @@ fn data_frame(ns: u16, nr: u16, asdu: &[u8]) -> Apdu
     Apdu::I { ns, nr, asdu }
 }
 
+/// What the line is set to.
+fn link_settings(line: &LineSettings) -> LinkSettings
+    ensures { result ≡ link_of line.now }
+{
+    LinkSettings {
+        size: line.link,
+        answer_ms: line.answer_ms,
+        retries: line.retries,
+        hold: line.silence == Silence::Hold,
+        burst: line.burst,
+    }
+}
+
+/// The primary station of the line.
+fn master(alloc: Global, config: &Config) -> Result<Master, NoMemory>
+    ensures { IfOk result (λ m. m ≡ start (link_of config.now.line) (map (λ (s : Station). s.address) config.now.stations)) }
+{
+    let addresses: Vec<u16> = config
+        .stations()
+        .iter()
+        .map(|s| s.address)
+        .collect(alloc)
+        .map_err(|_| NoMemory)?;
+    Master::new(alloc, link_settings(config.line()), &addresses).map_err(|_| NoMemory)
+}
+
+impl Counts {
+    /// One more report that isn't passed on.
+    fn skip(&mut self)
+        ensures { self.new ≡ one_skipped self.old }
+    {
+        self.skipped = self.skipped.saturating_add(1);
+    }
+
+    /// One more report of a command type.
+    fn mirror(&mut self)
+        ensures { self.new ≡ one_mirrored self.old }
+    {
+        self.mirrors = self.mirrors.saturating_add(1);
+    }
+}
+
 impl Gateway {
     /// A gateway at moment 0, without a connection. Only want of memory is answered by an `Err`.
     pub fn new(alloc: Global, config: &Config) -> Result<Gateway, NoMemory>
@@ -87,15 +136,26 @@ impl Gateway {
         let session = Session::new(alloc, tcp.k, tcp.w, tcp.t1_ms, tcp.t2_ms, tcp.t3_ms).map_err(
             |_| NoMemory,
         )?;
-        let address = config.stations()[0].address;
         Ok(Gateway {
-            line: Polling::new(line.link, address, line.answer_ms),
+            line: master(alloc, config)?,
             sizes: line.sizes,
             events,
             session,
             assembler: Assembler::new(),
             moment: 0,
+            counts: Counts {
+                skipped: 0,
+                mirrors: 0,
+                lost: 0,
+            },
         })
+    }
+
+    /// What was dropped since the gateway was made.
+    pub fn counts(&self) -> Counts
+        ensures { result ≡ self.now.counts }
+    {
+        self.counts
     }
 
     /// Moments that go back count as the greatest so far, and one past the last as the last.
@@ -116,38 +176,54 @@ impl Gateway {
     pub(crate) fn hear(&mut self, octets: &[u8])
         ensures { Hears self.old octets.now self.new }
     {
-        if let Some(report) = self.line.octets(octets) {
-            self.keep(report.octets());
+        polls_wait_for_leave();
+        next_changes_nothing();
+        match self.line.octets(octets) {
+            Outcome::Report(_, report) => self.keep(&report),
+            Outcome::None => {}
+            Outcome::Started(_) => {}
+            Outcome::Empty(_) => {}
+            Outcome::Accepted(_) => {}
+            Outcome::Busy(_) => {}
+            Outcome::Down(_) => {}
         }
     }
 
-    /// Keeps the pieces of a report that is passed on.
+    /// Keeps the pieces of a report that is passed on. Any other is counted.
     fn keep(&mut self, report: &[u8])
         requires short { length report.now ≤ 253 }
         requires room { 3 ≤ free_places self.old.queue }
-        requires done { self.old.line.since ≡ None }
+        requires done { is_polling self.old.line ≡ false }
         ensures { Keeps self.old report.now self.new }
     {
         let Ok(asdu) = read(self.sizes, report) else {
+            self.counts.skip();
             return;
         };
         if asdu.is_passed_on() {
             self.events.push(translate(&asdu));
+        } else if asdu.kind.monitor() {
+            self.counts.skip();
+        } else {
+            self.counts.mirror();
         }
     }
 
     /// Ends the line's exchange where its time is over.
     pub(crate) fn time(&mut self)
-        ensures { self.new ≡ record self.old { line = line_due self.old.line self.old.moment } }
+        ensures { self.new ≡ record self.old { line = timed_out self.old.line self.old.moment } }
     {
-        self.line.due(self.moment);
+        polls_wait_for_leave();
+        let _outcome = self.line.due(self.moment);
     }
 
-    /// The line's next request. It is a poll only where the queue has room.
-    pub(crate) fn next_request(&mut self) -> Option<ArrayVec<u8, 261>>
-        ensures some { IfSome result (λ octets. (octets.items ≡ line_spelling self.old.line.size (request_frame self.old.line.address (asked_of self.old.line.phase))) × (self.old.line.since ≡ None) × (is_up self.old.line.phase ≡ true → 3 ≤ free_places self.old.queue) × (self.new ≡ record self.old { line = line_asked self.old.line self.old.moment })) }
-        ensures none { IfNone result (self.new ≡ self.old) }
+    /// The line's next request. It is a poll only where the queue has room, or where it is sent again at once.
+    pub(crate) fn next_request(&mut self) -> Option<Request>
+        ensures state { self.new ≡ record self.old { line = asked self.old.line self.old.moment (has_room self.old.queue) } }
+        ensures request { result ≡ option_map (request_of self.old.line) (sending self.old.line (has_room self.old.queue)) }
+        ensures room { (s : Sending) → sending self.old.line (has_room self.old.queue) ≡ Some s → is_poll_request s.request ≡ true → 3 ≤ free_places self.old.queue }
     {
+        polls_wait_for_leave();
         let may_poll = !self.events.is_full();
         self.line.next(self.moment, may_poll)
     }
@@ -224,6 +300,13 @@ impl Gateway {
         ensures fits { IfSome result Fits }
     {
         self.session.pull(self.moment)
+    }
+
+    /// The cause to close the connection where a frame has been without an answer for t1.
+    pub(crate) fn late(&self) -> Option<Close>
+        ensures { result ≡ (if answers_late self.now.moment self.now.session then Some Close.Timeout else None) }
+    {
+        self.session.due(self.moment)
     }
 
     /// The frame of the oldest piece that isn't sent.

@@ -2,22 +2,22 @@
 //! connection at a time, of which it is the controlled station.
 //!
 //! A [`Gateway`] takes one event after another from a [`Port`] and puts out what follows from each: [`Gateway::step`],
-//! [`drive_on`]. [`engine_log`] is a whole run over stored entries, whose log is stored. So far the line has one station,
-//! of which class 2 data alone is polled, and ASDUs from the control centre are counted and dropped; no connection is
-//! closed for want of an answer in time.
+//! [`drive`], [`drive_on`]. [`engine_log`] is a whole run over stored entries, whose log is stored. So far ASDUs from the
+//! control centre are dropped, and no connection is closed for want of an answer in time.
 //!
 //! Proved, of the log of a run, for any octets and moments: its events are those that came; each station is asked as its link
-//! allows, with the frame count bit that is due; nothing is polled while the queue is full; to TCP goes one whole APDU at
+//! allows, with the frame count bit that is due, and each request is the one that the stations' turns give; nothing is polled
+//! while the queue is full, and nothing else is kept back; to TCP goes one whole APDU at
 //! a time, only while a connection is open, numbered without a gap; the monitor objects sent on each connection are a
 //! contiguous run of those taken from the line, from the first on that no connection before acknowledged; and a connection
 //! is closed exactly by its cause. A port whose device fails breaks none of this for the log so far.
 #![tactic(auto)]
 
 mod config;
+mod counts;
 mod engine;
 mod entries;
 mod laws;
-mod polling;
 mod ports;
 mod recording;
 mod runs;
@@ -25,6 +25,7 @@ mod settings;
 mod step;
 
 pub use config::Config;
+pub use counts::Counts;
 pub use engine::{Gateway, NoMemory};
 pub use entries::{Entry, Told};
 pub use laws::one_reading;

@@ -1,7 +1,6 @@
 //! Runs over stored entries, whose log is stored.
 ghost use Rattle.std.specs.Prelude.{◌≡◌, ℕ, ◌+◌, ◌<◌, ◌≤◌, true, false, List, [], ◌∷◌, ◌++◌, length, take, IfOk, OnOk, OnErr, Option, Some, None, if◌then◌else◌, ◌&&◌};
 ghost use Rattle.std.specs.List.{AllByRecursion};
-ghost use Rattle.gateway.specs.declared.settings.Silence.TheVariants.{Hold};
 ghost use Rattle.gateway.specs.Log.{LogEntry, Came, Went, Ticked, tell, events_of};
 ghost use Rattle.gateway.specs.Ports.{told_by, output_of, FitsBuffer, faults_of};
 ghost use Rattle.gateway.specs.Entries.{FitsPort, event_of, script_of, told_of, log_of, number_of};
@@ -11,8 +10,10 @@ ghost use Rattle.gateway.specs.Traffic.{IsFaithful, HasRested};
 use crate::config::Config;
 use crate::engine::{Gateway, NoMemory};
 use crate::entries::{Entry, Told};
+use crate::laws::session_is_told;
 use crate::ports::{Action, Next, Port};
 use crate::runs::{End, drive_on};
+use link::master_tells_the_log;
 use session::Close;
 use std::alloc::{AllocError, Global};
 use std::marker::Model;
@@ -239,12 +240,10 @@ impl<'a> Port for Recording<'a> {
 }
 
 /// The log of a run whose events are a tick at moment 0 and then these entries, each with its moment: every event, and
-/// after it what went out at it. Of the octets of an entry at most 1,024 are asked for, and of the settings one station,
-/// whose service is held where it is silent. Only want of memory is answered by an `Err`.
+/// after it what went out at it. Of the octets of an entry at most 1,024 are asked for. Only want of memory is answered by
+/// an `Err`.
 pub fn engine_log(alloc: Global, config: &Config, entries: &[Entry]) -> Result<Vec<Told>, NoMemory>
     requires fits { AllByRecursion FitsPort entries.now }
-    requires one { length config.now.stations ≡ 1 }
-    requires holds { config.now.line.silence ≡ Hold }
     // The events of the log are these, and no others.
     ensures events { IfOk result (λ told. events_of (log_of told.items) ≡ script_of entries.now) }
     // What the log shows of the line and of each connection keeps every promise of a gateway with these settings.
@@ -252,6 +251,8 @@ pub fn engine_log(alloc: Global, config: &Config, entries: &[Entry]) -> Result<V
     // After the last step nothing that may be sent is left.
     ensures rests { IfOk result (λ told. HasRested (setup_of config.now) (log_of told.items)) }
 {
+    master_tells_the_log();
+    session_is_told();
     let _stations = config.stations();
     let mut gateway = Gateway::new(alloc, config)?;
     let mut port = Recording::new(alloc, entries);

@@ -1,17 +1,18 @@
 //! Whole runs of a gateway over a port.
-ghost use Rattle.std.specs.Prelude.{◌≡◌, ℕ, ◌+◌, ◌<◌, true, false, List, [], ◌∷◌, length, Some, IfSome, IfOk, IfErr, OnOk, OnErr};
-ghost use Rattle.gateway.specs.declared.settings.Silence.TheVariants.{Hold};
+ghost use Rattle.std.specs.Prelude.{◌≡◌, ℕ, ◌+◌, ◌<◌, true, false, List, [], ◌∷◌, Some, IfSome, IfOk, IfErr, OnOk, OnErr};
 ghost use Rattle.gateway.specs.Log.{Came};
 ghost use Rattle.gateway.specs.Ports.{told_by, input_of, FitsBuffer, faults_of};
 ghost use Rattle.gateway.specs.Reports.{Setup};
 ghost use Rattle.gateway.specs.Traffic.{IsFaithful, HasRested};
-ghost use Rattle.gateway.specs.Agrees.{Tracks, Rests};
+ghost use Rattle.gateway.specs.Agrees.{Follows, Rests};
 ghost use Rattle.gateway.specs.Runs.{UnlessDevice, MoreEvents, faults_at};
 ghost use Rattle.gateway.specs.Setups.{setup_of};
 
 use crate::config::Config;
 use crate::engine::{Gateway, NoMemory};
+use crate::laws::session_is_told;
 use crate::ports::{Event, Next, Port};
+use link::master_tells_the_log;
 use std::alloc::Global;
 
 /// How a run ended: the port had no more events, the turns were used up, or the device failed.
@@ -26,9 +27,9 @@ pub enum End {
 /// the gateway is given up.
 pub fn drive_on<P: Port>(gateway: &mut Gateway, port: &mut P, turns: u64) -> End
     requires { P.failed port.old < u64.MAX }
-    ensures faithful { (p : Setup) → Tracks p gateway.old (P.log port.old) [] → Rests p (P.log port.old) → IfSome (P.log port.new) (IsFaithful p) }
-    ensures rests { (p : Setup) → Tracks p gateway.old (P.log port.old) [] → Rests p (P.log port.old) → UnlessDevice result (IfSome (P.log port.new) (HasRested p)) }
-    ensures kept { (p : Setup) → Tracks p gateway.old (P.log port.old) [] → Rests p (P.log port.old) → UnlessDevice result (Tracks p gateway.new (P.log port.new) []) }
+    ensures faithful { (p : Setup) → Follows p gateway.old (P.log port.old) → Rests p (P.log port.old) → IfSome (P.log port.new) (IsFaithful p) }
+    ensures rests { (p : Setup) → Follows p gateway.old (P.log port.old) → Rests p (P.log port.old) → UnlessDevice result (IfSome (P.log port.new) (HasRested p)) }
+    ensures kept { (p : Setup) → Follows p gateway.old (P.log port.old) → Rests p (P.log port.old) → UnlessDevice result (Follows p gateway.new (P.log port.new)) }
     ensures turns { result ≡ End.Turns → MoreEvents turns (P.log port.old) (P.log port.new) }
     ensures finished { result ≡ End.Finished → P.ended port.new ≡ true }
     ensures script { P.script port.new ≡ P.script port.old }
@@ -50,8 +51,7 @@ pub fn drive_on<P: Port>(gateway: &mut Gateway, port: &mut P, turns: u64) -> End
 }
 
 /// A whole run of a gateway with these settings: takes events from the port one after another, at most so many, and puts
-/// out what follows from each. Of the settings one station is asked for, whose service is held where it is silent. Only
-/// want of memory is answered by an `Err`, and then nothing was asked of the port.
+/// out what follows from each. Only want of memory is answered by an `Err`, and then nothing was asked of the port.
 pub fn drive<P: Port>(
     alloc: Global,
     config: &Config,
@@ -59,8 +59,6 @@ pub fn drive<P: Port>(
     turns: u64,
 ) -> Result<End, NoMemory>
     requires ready { P.failed port.old < u64.MAX }
-    requires one { length config.now.stations ≡ 1 }
-    requires holds { config.now.line.silence ≡ Hold }
     // What the log shows of the line and of each connection keeps every promise of a gateway with these settings.
     ensures faithful { P.log port.old ≡ Some [] → OnOk result (IfSome (P.log port.new) (IsFaithful (setup_of config.now))) }
     // After the last step nothing that may be sent is left.
@@ -71,6 +69,8 @@ pub fn drive<P: Port>(
     ensures script { P.script port.new ≡ P.script port.old }
     ensures unasked { OnErr result (port.new ≡ port.old) }
 {
+    master_tells_the_log();
+    session_is_told();
     let _stations = config.stations();
     let mut gateway = Gateway::new(alloc, config)?;
     Ok(drive_on(&mut gateway, port, turns))

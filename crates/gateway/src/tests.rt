@@ -1,10 +1,14 @@
 //! Runs with the logs that the standard's rules and this gateway's profile give, worked out by hand.
-ghost use Rattle.std.specs.Prelude.{◌≡◌, ◌<◌, ◌≤◌, true, length, IfOk};
+ghost use Rattle.std.specs.Prelude.{◌≡◌, ◌<◌, ◌≤◌, true};
 ghost use Rattle.std.specs.List.{AllByRecursion};
-ghost use Rattle.gateway.specs.declared.settings.Silence.TheVariants.{Hold};
+ghost use Rattle.ft12.specs.declared.frame.LinkSize.TheVariants.{One};
+ghost use Rattle.asdu.specs.declared.sizes.CaSize.TheVariants as ca;
+ghost use Rattle.gateway.specs.Config.{AreStations};
 ghost use Rattle.gateway.specs.Entries.{FitsPort};
 
-use crate::{Config, Entry, LineSettings, Silence, Station, TcpSettings, Told, engine_log};
+use crate::{
+    Config, Counts, Entry, Gateway, LineSettings, Silence, Station, TcpSettings, Told, engine_log,
+};
 use asdu::{CaSize, CauseSize, IoaSize, Sizes};
 use ft12::LinkSize;
 use std::alloc::{AllocError, Global};
@@ -13,11 +17,31 @@ use std::test::Fail;
 /// An event or an action: its moment, what it is, and its octets in hexadecimal, or the number of a cause.
 type Row<'a> = (u64, char, &'a str);
 
-/// One station with the addresses 1 and 1, and a queue of so many places.
-fn config_with(alloc: Global, ioa: IoaSize, queue: u16) -> Result<Config, AllocError>
-    requires { 3 ≤ queue }
-    ensures one { IfOk result (λ c. length c.stations ≡ 1) }
-    ensures holds { IfOk result (λ c. c.line.silence ≡ Hold) }
+/// A station whose addresses are these.
+const FIRST: Station = Station {
+    address: 1,
+    ca: 1,
+    select: false,
+};
+
+const SECOND: Station = Station {
+    address: 2,
+    ca: 2,
+    select: false,
+};
+
+/// These stations, one-octet addresses, and a queue of so many places.
+fn config_of(
+    alloc: Global,
+    ioa: IoaSize,
+    queue: u16,
+    retries: u8,
+    silence: Silence,
+    stations: &[Station],
+) -> Result<Config, AllocError>
+    requires queue { 3 ≤ queue }
+    requires retries { retries ≤ 10 }
+    requires stations { AreStations One ca.One stations.now }
 {
     let line = LineSettings {
         link: LinkSize::One,
@@ -27,8 +51,8 @@ fn config_with(alloc: Global, ioa: IoaSize, queue: u16) -> Result<Config, AllocE
             ioa,
         },
         answer_ms: 200,
-        retries: 3,
-        silence: Silence::Hold,
+        retries,
+        silence,
         burst: 8,
         queue,
     };
@@ -40,13 +64,14 @@ fn config_with(alloc: Global, ioa: IoaSize, queue: u16) -> Result<Config, AllocE
         t3_ms: 20000,
         select_ms: 30000,
     };
-    let station = Station {
-        address: 1,
-        ca: 1,
-        select: false,
-    };
-    let stations = Vec::from_slice(alloc, &[station])?;
-    Ok(Config::new(line, tcp, stations))
+    Ok(Config::new(line, tcp, Vec::from_slice(alloc, stations)?))
+}
+
+/// One station with the addresses 1 and 1, and a queue of so many places.
+fn config_with(alloc: Global, ioa: IoaSize, queue: u16) -> Result<Config, AllocError>
+    requires { 3 ≤ queue }
+{
+    config_of(alloc, ioa, queue, 3, Silence::Hold, &[FIRST])
 }
 
 fn digit(code: u8) -> u8
@@ -195,10 +220,7 @@ fn runs<'a>(
     then: &[Row<'_>],
     opened: &'a [Row<'a>],
     out: &'a [Row<'a>],
-) -> Result<bool, AllocError>
-    requires one { length config.now.stations ≡ 1 }
-    requires holds { config.now.line.silence ≡ Hold }
-{
+) -> Result<bool, AllocError> {
     let mut entries = Vec::new(alloc);
     add(alloc, &mut entries, first)?;
     add(alloc, &mut entries, then)?;
@@ -318,6 +340,71 @@ fn nothing_is_polled_while_the_queue_is_full(rt: HostRuntime) -> Result<(), Fail
 }
 
 #[test]
+fn stations_take_turns(rt: HostRuntime) -> Result<(), Fail> {
+    let alloc = rt.alloc();
+    let config = config_of(alloc, IoaSize::Two, 100, 3, Silence::Hold, &[FIRST, SECOND])?;
+    let events = [
+        (10, 'S', "100B010C16"),
+        (20, 'S', "E5"),
+        (30, 'S', "100B020D16"),
+        (40, 'S', "E5"),
+        (50, 'S', POINT),
+        (60, 'S', "E5"),
+    ];
+    let out = [
+        (0, 'S', "1049014A16"),
+        (10, 'S', "1040014116"),
+        (20, 'S', "1049024B16"),
+        (30, 'S', "1040024216"),
+        (40, 'S', "107B017C16"),
+        (50, 'S', "107B027D16"),
+        (60, 'S', "105B015C16"),
+    ];
+    assert!(rt; runs(alloc, &config, &events, &[], &out, &[])?);
+    Ok(())
+}
+
+#[test]
+fn waiting_class_1_data_are_polled(rt: HostRuntime) -> Result<(), Fail> {
+    let alloc = rt.alloc();
+    assert!(rt;
+        leads(
+            alloc,
+            &[(50, 'S', "680909682801010103016400019416")],
+            &[(50, 'S', "105A015B16"), (50, 'T', SENT)]
+        )?
+    );
+    Ok(())
+}
+
+#[test]
+fn a_silent_station_is_reset(rt: HostRuntime) -> Result<(), Fail> {
+    let alloc = rt.alloc();
+    let config = config_of(alloc, IoaSize::Two, 100, 1, Silence::Reset, &[FIRST])?;
+    let silence = [(220, 'T', ""), (420, 'T', "")];
+    let out = [(220, 'S', "107B017C16"), (420, 'S', "1049014A16")];
+    assert!(rt; runs(alloc, &config, &OPENING, &silence, &OPENED, &out)?);
+    Ok(())
+}
+
+#[test]
+fn what_is_dropped_is_counted(rt: HostRuntime) -> Result<(), Fail> {
+    let alloc = rt.alloc();
+    let config = config_with(alloc, IoaSize::Two, 100)?;
+    let gateway = match Gateway::new(alloc, &config) {
+        Ok(gateway) => gateway,
+        Err(_) => return Err(Fail::from(AllocError)),
+    };
+    let none = Counts {
+        skipped: 0,
+        mirrors: 0,
+        lost: 0,
+    };
+    assert!(rt; gateway.counts() == none);
+    Ok(())
+}
+
+#[test]
 fn connections_close_by_their_cause(rt: HostRuntime) -> Result<(), Fail> {
     let alloc = rt.alloc();
     assert!(rt; leads(alloc, &[(50, 'R', "680401000200")], &[(50, 'X', "3")])?);
@@ -344,6 +431,73 @@ fn connections_close_by_their_cause(rt: HostRuntime) -> Result<(), Fail> {
         (40, 'R', "680E0000000064010600010000000014"),
     ];
     assert!(rt; runs(alloc, &config, &events, &[], &opened, &[])?);
+    Ok(())
+}
+
+#[test]
+fn timers_run_out(rt: HostRuntime) -> Result<(), Fail> {
+    let alloc = rt.alloc();
+    // A received I frame is acknowledged after t2.
+    assert!(rt;
+        leads(
+            alloc,
+            &[
+                (50, 'R', "680E0000000064010600010000000014"),
+                (10050, 'T', "")
+            ],
+            &[(10050, 'S', "107B017C16"), (10050, 'T', "680401000200")]
+        )?
+    );
+    // A connection without a frame for t3 is tested, and closed where the test has no answer for t1.
+    assert!(rt;
+        leads(
+            alloc,
+            &[(20040, 'T', ""), (35040, 'T', "")],
+            &[
+                (20040, 'S', "107B017C16"),
+                (20040, 'T', "680443000000"),
+                (35040, 'X', "5"),
+                (35040, 'S', "107B017C16")
+            ]
+        )?
+    );
+    Ok(())
+}
+
+#[test]
+fn each_act_is_confirmed(rt: HostRuntime) -> Result<(), Fail> {
+    let alloc = rt.alloc();
+    // TESTFR act in a flood, and STOPDT act.
+    assert!(rt;
+        leads(
+            alloc,
+            &[(50, 'R', "680443000000680443000000680413000000")],
+            &[
+                (50, 'T', "680483000000"),
+                (50, 'T', "680483000000"),
+                (50, 'T', "680423000000")
+            ]
+        )?
+    );
+    // STOPDT con waits until each sent I frame is acknowledged.
+    assert!(rt;
+        leads(
+            alloc,
+            &[
+                (50, 'S', POINT),
+                (60, 'R', "680413000000"),
+                (70, 'R', "680401000200")
+            ],
+            &[
+                (50, 'S', "105B015C16"),
+                (50, 'T', SENT),
+                (70, 'T', "680423000000")
+            ]
+        )?
+    );
+    // Frames that the grammar refuses.
+    assert!(rt; leads(alloc, &[(50, 'R', "680401010000")], &[(50, 'X', "1")])?);
+    assert!(rt; leads(alloc, &[(50, 'R', "680507")], &[(50, 'X', "1")])?);
     Ok(())
 }
 

@@ -1,15 +1,14 @@
 -- Polls wait for leave: no call begins one, but `next` with leave.
 use Rattle.std.specs.Prelude.{◌==◌, ◌||◌}
-use Rattle.std.proofs.Common.{◌≡◌, ℕ, zero, suc, ◌<◌, ◌≤◌, ◌⊎◌, ◌&&◌, ◌%◌, nat_lt, Bool, true, false, not, List, [], ◌∷◌, ◌++◌, map, length, slice_set, Option, Some, None, refl, sym, ap, ◌∙◌, inl, inr, if◌then◌else◌}
+use Rattle.std.proofs.Common.{◌≡◌, ℕ, zero, suc, ◌<◌, ◌≤◌, ◌⊎◌, ◌&&◌, ◌%◌, nat_lt, Bool, true, false, not, List, [], ◌∷◌, ◌++◌, map, subst, length, slice_set, Option, Some, None, refl, sym, ap, subst, ◌∙◌, inl, inr, if◌then◌else◌}
 use Rattle.std.proofs.lemmas.Bool.{cases_lt}
 use Rattle.std.proofs.lemmas.List.{get_or-set_same, get_or_past, set_past}
 use Rattle.ft12.specs.declared.frame.Front.{Front}
-use Rattle.link.specs.Answers.{Frame, Single, Fixed, Data, Class1, Class2, Command, Asked, Status, Reset, Counted, Answer, Ready, Confirmed, Busy, Report, NoData, Unable, unable_answer, code_answer, single_answer, data_answer, comes_from, answer_of}
+use Rattle.link.specs.Answers.{Service, Frame, Single, Fixed, Data, Class1, Class2, Command, Asked, Status, Reset, Counted, Answer, Ready, Confirmed, Busy, Report, NoData, Unable, unable_answer, code_answer, single_answer, data_answer, comes_from, answer_of}
 use Rattle.link.specs.Exchanges.{Sending, whole_of}
-use Rattle.link.specs.Procedure.{LinkSettings, Link, Down, Available, Next, Held, missed_so_far, after_answer, after_silence, has_repeats, MaySend}
+use Rattle.link.specs.Procedure.{LinkSettings, Link, Down, Available, Next, Held, missed_so_far, after_answer, after_silence, has_repeats}
 use Rattle.link.specs.Turns.{StationState, Phase, Starting, Commanding, Polling, Class1Polling, Over, no_station, station_at, is_poll, wants, polls_from, commands_from, next_of, wanted_by, Wanted, Chosen}
 use Rattle.link.specs.Primary.{Outstanding, Primary, choice, after_choice, asked_from, asked, sending_by, sending_from, sending, station_answered, answered, answer_at, said_by, open_octets, took, received_after, received_from, received, outcome_by, outcome_of, outcome_at, outcome_after, outcome_from, received_outcome, station_unanswered, unanswered, is_late, due_from, timed_out, may_offer, with_offer, offered_to, without_offer, withdrawn}
-use Rattle.link.specs.Telling.{IsAllowed}
 use Rattle.link.specs.Leave.{is_poll_request, holds_poll, is_polling_by, is_polling, is_report}
 use Rattle.link.proofs.Links.{set_view}
 use Rattle.link.proofs.Turning.{present, goes_on, passes_on}
@@ -127,74 +126,74 @@ and_none : (a b : Bool) → b ≡ false → (a && b) ≡ false
 and_none true b e = e
 and_none false b e = refl
 
-answered_holds : (request : Asked) (answer : Answer) (link : Link) → MaySend link request → is_poll_request request ≡ false → holds_poll link ≡ false
-answered_holds request answer Down may e = refl
-answered_holds request answer Available may e = refl
-answered_holds request answer (Next fcb) may e = refl
-answered_holds Status answer (Held fcb service missed) may e = absurd may
-answered_holds Reset answer (Held fcb service missed) may e = absurd may
-answered_holds (Counted sent again) answer (Held fcb service missed) may e = ap is_poll (sym may.1) ∙ e
+-- no service is held after this answer, if it is one
+abbrev Ends : Asked → Link → Option Answer → Type 0
+Ends request link m = (answer : Answer) → m ≡ Some answer → holds_poll (after_answer request answer link) ≡ false
 
--- after an answer no poll is held
-ended : (request : Asked) (answer : Answer) (link : Link) → holds_poll link ≡ false → holds_poll (after_answer request answer link) ≡ false
-ended Status Ready link e = refl
-ended Status Confirmed link e = e
-ended Status Busy link e = e
-ended Status (Report asdu) link e = e
-ended Status NoData link e = e
-ended Status Unable link e = refl
-ended Reset Ready link e = e
-ended Reset Confirmed link e = refl
-ended Reset Busy link e = e
-ended Reset (Report asdu) link e = e
-ended Reset NoData link e = e
-ended Reset Unable link e = e
-ended (Counted fcb service) Ready link e = refl
-ended (Counted fcb service) Confirmed link e = refl
-ended (Counted fcb service) Busy link e = refl
-ended (Counted fcb service) (Report asdu) link e = refl
-ended (Counted fcb service) NoData link e = refl
-ended (Counted fcb service) Unable link e = refl
+no_answer : (request : Asked) (link : Link) → Ends request link None
+no_answer request link answer e = cc
+
+one_answer : (request : Asked) (link : Link) (a : Answer) → holds_poll (after_answer request a link) ≡ false → Ends request link (Some a)
+one_answer request link a h answer e = (let same : a ≡ answer = cc in subst (λ (x : Answer). holds_poll (after_answer request x link) ≡ false) same h)
+
+either : (request : Asked) (link : Link) (b : Bool) (x y : Option Answer) → Ends request link x → Ends request link y → Ends request link (if b then x else y)
+either request link true x y h k = h
+either request link false x y h k = k
+
+service_ends : (fcb : Bool) (service : Service) (link : Link) (answer : Answer) → holds_poll (after_answer (Counted fcb service) answer link) ≡ false
+service_ends fcb service link Ready = refl
+service_ends fcb service link Confirmed = refl
+service_ends fcb service link Busy = refl
+service_ends fcb service link (Report asdu) = refl
+service_ends fcb service link NoData = refl
+service_ends fcb service link Unable = refl
+
+-- the answers to a status are that it is ready or unable, to a reset that it is confirmed
+answer_ends : (address : ℕ) (request : Asked) (link : Link) (frame : Frame) → Ends request link (answer_of address request frame)
+answer_ends address Status link Single = no_answer Status link
+answer_ends address Status link (Fixed c a) =
+    either Status link (comes_from address c a) _ None
+    (either Status link (c % 16 == 11) (Some Ready) (unable_answer (c % 16)) (one_answer Status link Ready refl)
+    (either Status link ((c % 16 == 14) || (c % 16 == 15)) (Some Unable) None (one_answer Status link Unable refl) (no_answer Status link)))
+    (no_answer Status link)
+answer_ends address Status link (Data c a body) = either Status link (comes_from address c a && (c % 16 == 8)) None None (no_answer Status link) (no_answer Status link)
+answer_ends address Reset link Single = one_answer Reset link Confirmed refl
+answer_ends address Reset link (Fixed c a) =
+    either Reset link (comes_from address c a) _ None (either Reset link (c % 16 == 0) (Some Confirmed) None (one_answer Reset link Confirmed refl) (no_answer Reset link))
+    (no_answer Reset link)
+answer_ends address Reset link (Data c a body) = either Reset link (comes_from address c a && (c % 16 == 8)) None None (no_answer Reset link) (no_answer Reset link)
+answer_ends address (Counted fcb service) link frame = λ answer e. service_ends fcb service link answer
 
 answered_none : (p : Primary) (request : Asked) (frame : Frame) (answer : Answer) →
     holds_poll (after_answer request answer (station_at p.stations p.turn).link) ≡ false → is_polling (answered p request frame answer) ≡ false
 answered_none p request frame answer e =
     and_none p.again _ (set_none (λ (s : StationState). holds_poll s.link) p.stations p.turn (station_answered (station_at p.stations p.turn) request frame answer) e refl)
 
-pub octets : (front : List ℕ → Front) (p : Primary) (octets : List ℕ) → IsAllowed p.stations p.turn p.outstanding → is_polling (received front p octets) ≡ true →
-    is_polling p ≡ true
-octets front p came allowed poll = go p.outstanding refl allowed poll
+pub octets : (front : List ℕ → Front) (p : Primary) (octets : List ℕ) → is_polling (received front p octets) ≡ true → is_polling p ≡ true
+octets front p came poll = go p.outstanding refl poll
   where
     back : (o : Outstanding) → p.outstanding ≡ Some o → is_poll_request o.request ≡ true → is_polling p ≡ true
     back o e h = ap (λ (x : Option Outstanding). is_polling_by p x) e ∙ h
 
-    is_answered : (o : Outstanding) → p.outstanding ≡ Some o → MaySend (station_at p.stations p.turn).link o.request → (frame : Frame) (answer : Answer) →
-        is_polling (answered p o.request frame answer) ≡ true → (b : Bool) → is_poll_request o.request ≡ b → is_polling p ≡ true
-    is_answered o e may frame answer h true is = back o e is
-    is_answered o e may frame answer h false is =
+    said : (o : Outstanding) → p.outstanding ≡ Some o → (frame : Frame) (m : Option Answer) → answer_at p o frame ≡ m → is_polling (said_by p o frame m) ≡ true →
+        is_polling p ≡ true
+    said o e frame None is h = back o e h
+    said o e frame (Some answer) is h =
         let none : is_polling (answered p o.request frame answer) ≡ false =
-        answered_none p o.request frame answer
-        (ended o.request answer (station_at p.stations p.turn).link (answered_holds o.request answer (station_at p.stations p.turn).link may is)) in
+        answered_none p o.request frame answer (answer_ends (station_at p.stations p.turn).address o.request (station_at p.stations p.turn).link frame answer is) in
         let both : false ≡ true = sym none ∙ h in cc
 
-    said : (o : Outstanding) → p.outstanding ≡ Some o → MaySend (station_at p.stations p.turn).link o.request → (frame : Frame) (m : Option Answer) →
-        is_polling (said_by p o frame m) ≡ true → is_polling p ≡ true
-    said o e may frame None h = back o e h
-    said o e may frame (Some answer) h = is_answered o e may frame answer h (is_poll_request o.request) refl
+    is_taken : (o : Outstanding) → p.outstanding ≡ Some o → (so_far : Option (List ℕ)) (m : Option Frame) → is_polling (took p o so_far m) ≡ true → is_polling p ≡ true
+    is_taken o e so_far None h = back o e h
+    is_taken o e so_far (Some frame) h = said o e frame (answer_at p o frame) refl h
 
-    is_taken : (o : Outstanding) → p.outstanding ≡ Some o → MaySend (station_at p.stations p.turn).link o.request → (so_far : Option (List ℕ)) (m : Option Frame) →
-        is_polling (took p o so_far m) ≡ true → is_polling p ≡ true
-    is_taken o e may so_far None h = back o e h
-    is_taken o e may so_far (Some frame) h = said o e may frame (answer_at p o frame) h
+    heard : (o : Outstanding) → p.outstanding ≡ Some o → (before : Option (List ℕ)) → is_polling (received_after front p o before came) ≡ true → is_polling p ≡ true
+    heard o e None h = h
+    heard o e (Some before) h = is_taken o e (open_octets (before ++ came) (front (before ++ came))) (whole_of (front (before ++ came))) h
 
-    heard : (o : Outstanding) → p.outstanding ≡ Some o → MaySend (station_at p.stations p.turn).link o.request → (before : Option (List ℕ)) →
-        is_polling (received_after front p o before came) ≡ true → is_polling p ≡ true
-    heard o e may None h = h
-    heard o e may (Some before) h = is_taken o e may (open_octets (before ++ came) (front (before ++ came))) (whole_of (front (before ++ came))) h
-
-    go : (o : Option Outstanding) → p.outstanding ≡ o → IsAllowed p.stations p.turn o → is_polling (received_from front p o came) ≡ true → is_polling p ≡ true
-    go None e may h = h
-    go (Some o) e may h = heard o e may o.heard h
+    go : (o : Option Outstanding) → p.outstanding ≡ o → is_polling (received_from front p o came) ≡ true → is_polling p ≡ true
+    go None e h = h
+    go (Some o) e h = heard o e o.heard h
 
 -- after silence a poll is held only where it was sent
 silent : (settings : LinkSettings) (request : Asked) (link : Link) → is_poll_request request ≡ false → holds_poll (after_silence settings request true link) ≡ false
@@ -326,11 +325,6 @@ reported station (Counted fcb service) Busy h = cc
 reported station (Counted fcb service) NoData h = cc
 reported station (Counted fcb service) Unable h = cc
 
-poll_ended : (request : Asked) (asdu : List ℕ) (link : Link) → is_poll_request request ≡ true → holds_poll (after_answer request (Report asdu) link) ≡ false
-poll_ended Status asdu link e = cc
-poll_ended Reset asdu link e = cc
-poll_ended (Counted fcb service) asdu link e = refl
-
 pub report : (front : List ℕ → Front) (p : Primary) (octets : List ℕ) → is_report (received_outcome front p octets) ≡ true →
     (is_polling p ≡ true) × (is_polling (received front p octets) ≡ false)
 report front p octets is = go p.outstanding refl is
@@ -342,8 +336,7 @@ report front p octets is = go p.outstanding refl is
         let r = reported p.turn o.request answer h in
         let poll : is_poll_request o.request ≡ true = polled (station_at p.stations p.turn).address o.request frame r.0 (answers ∙ ap (λ (a : Answer). Some a) r.1) in (
           ap (λ (x : Option Outstanding). is_polling_by p x) e ∙ poll,
-          answered_none p o.request frame answer
-              (ap (λ (a : Answer). holds_poll (after_answer o.request a (station_at p.stations p.turn).link)) r.1 ∙ poll_ended o.request r.0 (station_at p.stations p.turn).link poll),
+          answered_none p o.request frame answer (answer_ends (station_at p.stations p.turn).address o.request (station_at p.stations p.turn).link frame answer answers),
         )
 
     is_taken : (o : Outstanding) → p.outstanding ≡ Some o → (so_far : Option (List ℕ)) (m : Option Frame) → is_report (outcome_at p o m) ≡ true →

@@ -1,11 +1,12 @@
 -- What is left where nothing goes out.
 use Rattle.std.specs.Prelude.{◌||◌}
-use Rattle.std.proofs.Common.{◌≡◌, ℕ, zero, suc, ◌+◌, ◌-◌, ◌<◌, ◌≤◌, ◌⊎◌, Bool, true, false, not, List, length, Option, Some, None, refl, ap, subst, ◌∙◌, inl, inr, arith, if◌then◌else◌}
+use Rattle.std.proofs.Common.{◌≡◌, ℕ, zero, suc, ◌+◌, ◌-◌, ◌<◌, ◌≤◌, ◌⊎◌, Bool, true, false, not, List, [], ◌∷◌, length, Option, Some, None, refl, ap, sym, subst, ◌∙◌, inl, inr, arith, if◌then◌else◌}
 use Rattle.std.proofs.lemmas.Bool.{cases_lt, lt-ltb, le-ltb}
 use Rattle.link.specs.Answers.{Class1, Class2, Command, Counted}
-use Rattle.link.specs.Procedure.{Link, Down, Available, Next, Held}
-use Rattle.link.specs.Turns.{StationState, Starting, Commanding, Polling, Class1Polling, station_at, is_poll, wants, polls_from, commands_from, wanted_by, place_after}
-use Rattle.link.specs.Primary.{Primary, sending}
+use Rattle.link.specs.Exchanges.{Sending}
+use Rattle.link.specs.Procedure.{LinkSettings, Link, Down, Available, Next, Held, is_up, holds_command}
+use Rattle.link.specs.Turns.{StationState, Starting, Commanding, Polling, Class1Polling, station_at, is_poll, wants, polls_from, commands_from, wanted_by, place_after, Over, Wanted, Chosen, chosen_or, first_after}
+use Rattle.link.specs.Primary.{Outstanding, Primary, start, choice, after_choice, asked_from, asked, sending_by, sending_from, sending}
 use Rattle.link.specs.Runs.{nth_after}
 use Rattle.link.specs.Leave.{IsLeftToPolls}
 use Rattle.link.proofs.Turning.{rests}
@@ -83,3 +84,86 @@ leave p may_poll within free none = (each_left p may_poll within free none p.tur
 pub stations : (p : Primary) (may_poll : Bool) → p.turn < length p.stations → p.outstanding ≡ None → sending p may_poll ≡ None → (i : ℕ) → i < length p.stations →
     IsLeftToPolls (station_at p.stations i) (station_at p.stations i).link
 stations p may_poll within free none i below = (each_left p may_poll within free none i below).1
+
+-- who is left to polls is up, and holds no command
+left_up : (s : StationState) (link : Link) → IsLeftToPolls s link → is_up link ≡ true
+left_up s Down rest = absurd rest
+left_up s Available rest = absurd rest
+left_up s (Next fcb) rest = refl
+left_up s (Held fcb service missed) rest = refl
+
+left_free : (s : StationState) (link : Link) → IsLeftToPolls s link → holds_command link ≡ false
+left_free s Down rest = refl
+left_free s Available rest = refl
+left_free s (Next fcb) rest = refl
+left_free s (Held fcb Class1 missed) rest = refl
+left_free s (Held fcb Class2 missed) rest = refl
+left_free s (Held fcb (Command asdu) missed) rest = cc
+
+pub up : (p : Primary) (may_poll : Bool) → p.turn < length p.stations → p.outstanding ≡ None → sending p may_poll ≡ None → (i : ℕ) → i < length p.stations →
+    is_up (station_at p.stations i).link ≡ true
+up p may_poll within free none i below = left_up (station_at p.stations i) (station_at p.stations i).link (stations p may_poll within free none i below)
+
+pub no_command : (p : Primary) (may_poll : Bool) → p.turn < length p.stations → p.outstanding ≡ None → sending p may_poll ≡ None → (i : ℕ) → i < length p.stations →
+    holds_command (station_at p.stations i).link ≡ false
+no_command p may_poll within free none i below = left_free (station_at p.stations i) (station_at p.stations i).link (stations p may_poll within free none i below)
+
+-- a primary that has just been made has a request
+pub begins : (settings : LinkSettings) (addresses : List ℕ) (may_poll : Bool) → 0 < length addresses → sending (start settings addresses) may_poll ≡ None → ⊥
+begins settings [] may_poll some none = absurd (omega arith)
+begins settings (a ∷ addresses) may_poll some none = cc
+
+-- ---- `next` again
+
+out_stays : (p : Primary) (o : Outstanding) → p.outstanding ≡ Some o → (now : ℕ) (may_poll : Bool) → (sending p may_poll ≡ None) × (asked p now may_poll ≡ p)
+out_stays p o e now may_poll = (ap (λ (x : Option Outstanding). sending_from p x may_poll) e, ap (λ (x : Option Outstanding). asked_from p x now may_poll) e)
+
+sent_stays : (p : Primary) (now : ℕ) (may_poll : Bool) (s : Sending) → sending p may_poll ≡ Some s → (at : ℕ) (later : Bool) →
+    (sending (asked p now may_poll) later ≡ None) × (asked (asked p now may_poll) at later ≡ asked p now may_poll)
+sent_stays p now may_poll s sent at later = go p.outstanding sent
+  where
+    by : (c : Option Chosen) → sending_by c ≡ Some s → (sending (after_choice p now c) later ≡ None) × (asked (after_choice p now c) at later ≡ after_choice p now c)
+    by None e = cc
+    by (Some c) e = out_stays (after_choice p now (Some c)) _ refl at later
+
+    go : (o : Option Outstanding) → sending_from p o may_poll ≡ Some s →
+        (sending (asked_from p o now may_poll) later ≡ None) × (asked (asked_from p o now may_poll) at later ≡ asked_from p o now may_poll)
+    go (Some o) e = cc
+    go None e = by (choice p may_poll) e
+
+pub out : (p : Primary) (now : ℕ) (may_poll : Bool) (s : Sending) → sending p may_poll ≡ Some s → (later : Bool) → sending (asked p now may_poll) later ≡ None
+out p now may_poll s sent later = (sent_stays p now may_poll s sent 0 later).0
+
+pub same : (p : Primary) (now : ℕ) (may_poll : Bool) (s : Sending) → sending p may_poll ≡ Some s → (at : ℕ) (later : Bool) →
+    asked (asked p now may_poll) at later ≡ asked p now may_poll
+same p now may_poll s sent at later = (sent_stays p now may_poll s sent at later).1
+
+-- a turn that is over has no request
+over_none : (burst : ℕ) (may_poll : Bool) (s : StationState) (link : Link) → wanted_by burst may_poll false s link Over ≡ None
+over_none burst may_poll s Down = refl
+over_none burst may_poll s Available = refl
+over_none burst may_poll s (Next fcb) = refl
+over_none burst may_poll s (Held fcb service missed) = refl
+
+others_none : (w : Option Wanted) (place : ℕ) (others : Option Chosen) → chosen_or w place others ≡ None → others ≡ None
+others_none None place others e = e
+others_none (Some w) place others e = cc
+
+pub over : (p : Primary) (now : ℕ) (may_poll : Bool) → sending p may_poll ≡ None → sending (asked p now may_poll) may_poll ≡ None
+over p now may_poll none = go p.outstanding refl
+  where
+    ended : Primary
+    ended = after_choice p now None
+
+    by : (c : Option Chosen) → p.outstanding ≡ None → choice p may_poll ≡ c → sending_by c ≡ None → sending (after_choice p now c) may_poll ≡ None
+    by (Some c) free is e = cc
+    by None free is e =
+        ap (λ (o : Option Outstanding). sending_from ended o may_poll) free
+        ∙ ap sending_by
+        (ap (λ (w : Option Wanted). chosen_or w p.turn (first_after p.settings.burst may_poll p.stations (length p.stations) p.turn))
+        (over_none p.settings.burst may_poll (station_at p.stations p.turn) (station_at p.stations p.turn).link)
+        ∙ others_none _ p.turn _ is)
+
+    go : (o : Option Outstanding) → p.outstanding ≡ o → sending (asked_from p o now may_poll) may_poll ≡ None
+    go (Some o) e = none
+    go None e = by (choice p may_poll) e refl (ap (λ (o : Option Outstanding). sending_from p o may_poll) (sym e) ∙ none)

@@ -5,7 +5,6 @@ ghost use Rattle.link.specs.Exchanges.{Sending};
 ghost use Rattle.link.specs.Turns.{station_at};
 ghost use Rattle.link.specs.Primary.{Primary, asked, sending, received, received_outcome, timed_out, offered_to, withdrawn};
 ghost use Rattle.link.specs.Holding.{IsFitting};
-ghost use Rattle.link.specs.Telling.{IsAllowed};
 ghost use Rattle.link.specs.Leave.{is_poll_request, is_polling, is_report, IsLeftToPolls};
 
 /// A report comes only while a poll is going on, and ends it. Without leave no poll is begun, by any call: one goes out only to
@@ -13,8 +12,8 @@ ghost use Rattle.link.specs.Leave.{is_poll_request, is_polling, is_report, IsLef
 pub fn polls_wait_for_leave()
     ensures without { (p : Primary) (s : Sending) → sending p false ≡ Some s → is_poll_request s.request ≡ true → is_polling p ≡ true }
     ensures next { (p : Primary) (now : ℕ) (may_poll : Bool) → is_polling (asked p now may_poll) ≡ true → (is_polling p ≡ true) ⊎ (may_poll ≡ true) }
-    ensures octets { (front : List ℕ → Front) (p : Primary) (octets : List ℕ) → IsAllowed p.stations p.turn p.outstanding →
-        is_polling (received front p octets) ≡ true → is_polling p ≡ true }
+    ensures octets { (front : List ℕ → Front) (p : Primary) (octets : List ℕ) → is_polling (received front p octets) ≡ true →
+        is_polling p ≡ true }
     ensures due { (p : Primary) (at : ℕ) → is_polling (timed_out p at) ≡ true → is_polling p ≡ true }
     ensures offer { (p : Primary) (station : ℕ) (asdu : List ℕ) → is_polling (offered_to p station asdu) ≡ is_polling p }
     ensures withdraw { (p : Primary) → is_polling (withdrawn p) ≡ is_polling p }

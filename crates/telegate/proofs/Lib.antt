@@ -1,1 +1,1 @@
-pub mod ActionLemmas
+pub mod RunLemmas

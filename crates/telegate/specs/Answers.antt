@@ -1,6 +1,5 @@
 -- What the commands answer (this gateway's own profile).
-use Rattle.std.specs.Prelude.{◌≡◌, ◌⊎◌, ◌==◌, ℕ, Bool, true, false, not, if◌then◌else◌, length, codes, List, [], ◌∷◌, ◌++◌, Option, Some, None, Result, Ok, Err, MatchResult, Vec, string_bytes}
-use Rattle.std.specs.List.{flat_map}
+use Rattle.std.specs.Prelude.{◌≡◌, ◌⊎◌, ℕ, codes, List, [], ◌∷◌, ◌++◌, Option, Some, None, Result, Ok, Err, MatchResult, Vec}
 use Rattle.std.specs.Io.KnownBytes.{Appends, Keeps}
 use Rattle.std.specs.declared.alloc.Global.{Global}
 use Rattle.show.specs.Sizes.{sizes_of}
@@ -10,31 +9,23 @@ use Rattle.show.specs.declared.sizes.LineSizes.{LineSizes}
 use Rattle.show.specs.declared.outcome.Outcome.{Outcome}
 use Rattle.show.specs.declared.outcome.Outcome.TheVariants.{Good, Faulty}
 use Rattle.traces.specs.Fields.{octets_of}
+use Rattle.traces.specs.Actions.{lines_of_actions}
 use Rattle.traces.specs.Trace.{IsTraceOf}
-use Rattle.traces.specs.declared.trace.TextFault.TheVariants.{Line as WrongLine}
+use Rattle.traces.specs.declared.reading.TextFault.TheVariants.{Line as WrongLine}
 use Rattle.gateway.specs.Config.{Settings}
-use Rattle.gateway.specs.Entries.{log_of, script_of}
-use Rattle.gateway.specs.Log.{events_of}
+use Rattle.gateway.specs.Entries.{script_of}
+use Rattle.gateway.specs.Log.{Log, events_of}
 use Rattle.gateway.specs.Setups.{setup_of}
 use Rattle.gateway.specs.Traffic.{IsFaithful, HasRested}
-use Rattle.gateway.specs.declared.settings.Silence.{Silence}
-use Rattle.gateway.specs.declared.settings.Silence.TheVariants.{Hold, Reset}
+use Rattle.delivery.specs.Delivery.{Delivers}
 use Rattle.gateway.specs.declared.entries.Entry.{Entry}
-use Rattle.gateway.specs.declared.entries.Told.{Told}
 use Rattle.settings.specs.Settings.{IsReadOfText}
-use Rattle.settings.specs.declared.fault.ConfigFault.{ConfigFault}
-use Rattle.settings.specs.declared.fault.ConfigFault.TheVariants.{NotToml, Key, Unknown, NoMemory as NoMemoryThere}
-use Rattle.telegate.specs.Actions.{action_line}
 use Rattle.telegate.specs.Faults.{status_of}
 use Rattle.telegate.specs.declared.answer.Answer.{Answer}
 use Rattle.telegate.specs.declared.fault.Fault.{Fault}
 use Rattle.telegate.specs.declared.fault.Fault.TheVariants.{Config, Trace, Sizes, Octets, Device, NoMemory}
 use Rattle.telegate.specs.declared.job.Job.{Job}
 use Rattle.telegate.specs.declared.job.Job.TheVariants.{Show101, Show104, Check, Replay}
-
-abbrev pub is_hold : Silence → Bool
-is_hold Hold = true
-is_hold Reset = false
 
 -- octets that are as they should be, 0, or not, 1
 abbrev pub status_by : Outcome → ℕ
@@ -57,7 +48,7 @@ pub record IsLineAnswer (sizes hex : List ℕ) (answer : Answer) : Type 0 where
   pub outcome : Outcome
   pub read_sizes : sizes_of sizes ≡ Some line_sizes
   pub read_octets : octets_of hex ≡ Some octets
-  pub shown : IsLineShown line_sizes octets (string_bytes answer.text) outcome
+  pub shown : IsLineShown line_sizes octets (answer.text.items) outcome
   pub status : answer.status ≡ status_by outcome
 
 -- sizes are judged before octets
@@ -74,7 +65,7 @@ pub record IsTcpAnswer (hex : List ℕ) (answer : Answer) : Type 0 where
   pub octets : List ℕ
   pub outcome : Outcome
   pub read_octets : octets_of hex ≡ Some octets
-  pub shown : IsTcpShown octets (string_bytes answer.text) outcome
+  pub shown : IsTcpShown octets (answer.text.items) outcome
   pub status : answer.status ≡ status_by outcome
 
 abbrev pub IsShown104 : List ℕ → Result Answer Fault → Type 0
@@ -93,40 +84,41 @@ IsReadConfig config result = MatchResult result (λ c. IsReadOfText config (Ok c
 pub record IsCheckAnswer (config : List ℕ) (answer : Answer) : Type 0 where
   pub settings : Settings
   pub read_config : IsReadOfText config (Ok settings)
-  pub text : string_bytes answer.text ≡ codes "ok" ++ 10 ∷ []
+  pub text : answer.text.items ≡ codes "ok" ++ 10 ∷ []
   pub status : answer.status ≡ 0
 
 abbrev pub IsChecked : List ℕ → Result Answer Fault → Type 0
 IsChecked config result = MatchResult result (IsCheckAnswer config) (IsConfigFault config)
 
--- the first key of good settings that a run can't have yet: silence must hold the service, and there is one station
-abbrev pub unsupported : Settings → Option (List ℕ)
-unsupported s =
-    if not (is_hold s.line.silence) then Some (codes "line.silence")
-    else (if length s.stations == 1 then None else Some (codes "station"))
-
--- the lines of the actions of the log of a run: the events of the log are the trace's, and the log keeps every promise of a
--- gateway with these settings
-pub record IsRunAnswer (config trace : List ℕ) (answer : Answer) : Type 0 where
-  pub settings : Settings
-  pub supported : unsupported settings ≡ None
-  pub entries : Vec Entry Global
-  pub log : List Told
-  pub read_config : IsReadOfText config (Ok settings)
-  pub read_trace : IsTraceOf trace (Ok entries)
-  pub events : events_of (log_of log) ≡ script_of entries.items
-  pub faithful : IsFaithful (setup_of settings) (log_of log)
-  pub rests : HasRested (setup_of settings) (log_of log)
-  pub text : string_bytes answer.text ≡ flat_map action_line log
+-- The lines of the actions of the log of a run over these entries: the events of the log are a tick at moment 0 and the
+-- entries, the log keeps every promise of a gateway with these settings, and so delivers what the outstations reported.
+pub record IsRun (settings : Settings) (entries : List Entry) (answer : Answer) : Type 0 where
+  pub log : Log
+  pub events : events_of log ≡ script_of entries
+  pub faithful : IsFaithful (setup_of settings) log
+  pub rests : HasRested (setup_of settings) log
+  pub delivers : Delivers (setup_of settings) log
+  pub text : answer.text.items ≡ lines_of_actions log
   pub status : answer.status ≡ 0
 
-abbrev pub IsUnsupported : List ℕ → ConfigFault → Type 0
-IsUnsupported config (Key path) = (s : Settings) × IsReadOfText config (Ok s) × (unsupported s ≡ Some path.now)
-IsUnsupported config _ = ⊥
+pub record IsRunAnswer (config trace : List ℕ) (answer : Answer) : Type 0 where
+  pub settings : Settings
+  pub entries : Vec Entry Global
+  pub read_config : IsReadOfText config (Ok settings)
+  pub read_trace : IsTraceOf trace (Ok entries)
+  pub run : IsRun settings entries.items answer
+
+-- a run that is started stops by want of memory alone
+abbrev pub IsMemory : Fault → Type 0
+IsMemory NoMemory = Unit {0}
+IsMemory _ = ⊥
+
+abbrev pub IsRunOf : Settings → List Entry → Result Answer Fault → Type 0
+IsRunOf settings entries result = MatchResult result (IsRun settings entries) IsMemory
 
 -- settings are judged before the trace
 abbrev pub IsRunFault : List ℕ → List ℕ → Fault → Type 0
-IsRunFault config trace (Config why) = IsReadOfText config (Err why) ⊎ IsUnsupported config why
+IsRunFault config trace (Config why) = IsReadOfText config (Err why)
 IsRunFault config trace (Trace n) = ((s : Settings) × IsReadOfText config (Ok s)) × IsTraceOf trace (Err (WrongLine n))
 IsRunFault config trace NoMemory = Unit {0}
 IsRunFault config trace _ = ⊥
@@ -145,7 +137,7 @@ IsAnsweredBy (Replay config trace) result = IsReplayed config.now trace.now resu
 pub record IsDone (job : Job) (old new : Option (List ℕ)) (exit : ℕ) : Type 0 where
   pub answer : Answer
   pub answered : IsAnsweredBy job (Ok answer)
-  pub printed : Appends old new (string_bytes answer.text)
+  pub printed : Appends old new (answer.text.items)
   pub status : exit ≡ answer.status
 
 -- the command stopped at a fault (which may be want of memory) before anything was printed

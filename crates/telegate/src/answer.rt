@@ -12,7 +12,7 @@ use std::alloc::Global;
 /// What a command prints on standard output, and its exit status.
 #[derive(Debug, PartialEq, Eq, Drop)]
 pub(crate) struct Answer {
-    pub(crate) text: String,
+    pub(crate) text: Vec<u8>,
     pub(crate) status: u8,
 }
 

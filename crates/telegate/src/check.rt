@@ -14,7 +14,10 @@ pub(crate) fn check(alloc: Global, config: &[u8]) -> Result<Answer, Fault>
 {
     let _settings = read_config(alloc, config)?;
     match String::from_str(alloc, "ok\n") {
-        Ok(text) => Ok(Answer { text, status: DONE }),
+        Ok(text) => Ok(Answer {
+            text: text.into_bytes(),
+            status: DONE,
+        }),
         Err(_) => Err(Fault::NoMemory),
     }
 }

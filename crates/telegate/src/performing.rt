@@ -17,7 +17,7 @@ pub fn perform<W: Write, E: Write>(alloc: Global, job: &Job<'_>, out: &mut W, er
     ensures { Performs job.now (W.contents out.old) (W.contents out.new) result }
 {
     match answer_to(alloc, job) {
-        Ok(answer) => match print(answer.text.as_bytes(), out) {
+        Ok(answer) => match print(answer.text.as_slice(), out) {
             Ok(()) => answer.status,
             Err(_) => tell(&Fault::Device, err),
         },

@@ -1,5 +1,5 @@
 //! The commands that show a frame.
-ghost use Rattle.std.specs.Prelude.{◌≡◌};
+ghost use Rattle.std.specs.Prelude.{◌≡◌, string_bytes};
 ghost use Rattle.telegate.specs.Answers.{IsReadOctets, IsShown101, IsShown104, status_by};
 
 use crate::answer::Answer;
@@ -45,11 +45,11 @@ fn read_octets(alloc: Global, hex: &str) -> Result<Vec<u8>, Fault>
 
 /// The lines, and the exit status that tells a fault in the octets.
 fn answer_of(shown: Shown) -> Answer
-    ensures text { result.text ≡ shown.lines }
+    ensures text { result.text.items ≡ string_bytes shown.lines }
     ensures status { result.status ≡ status_by shown.outcome }
 {
     Answer {
-        text: shown.lines,
+        text: shown.lines.into_bytes(),
         status: match shown.outcome {
             Outcome::Good => DONE,
             Outcome::Faulty => BAD_CONTENT,

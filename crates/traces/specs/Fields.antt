@@ -1,5 +1,6 @@
 -- The fields of a line (texts of this gateway's own profile): moments and octets.
-use Rattle.std.specs.Prelude.{ℕ, ◌+◌, ◌*◌, ◌-◌, nat_le, ◌&&◌, if◌then◌else◌, List, [], ◌∷◌, length, Option, Some, None, Result, Ok, Err}
+use Rattle.std.specs.Prelude.{ℕ, ◌+◌, ◌*◌, ◌-◌, ◌==◌, nat_le, ◌&&◌, if◌then◌else◌, List, [], ◌∷◌, length, Option, Some, None, Result, Ok, Err}
+use Rattle.std.specs.List.{slice_split}
 use Rattle.hex.specs.Hex.{decode_of}
 use Rattle.hex.specs.declared.error.FromHexError.{FromHexError}
 
@@ -20,3 +21,8 @@ some_octets (Err e) = None
 -- 1 to 1,024 octets in hexadecimal, each two digits of either case
 abbrev pub octets_of : List ℕ → Option (List ℕ)
 octets_of text = some_octets (decode_of text)
+
+-- the pieces of what follows a separator, where there is one
+abbrev pub pieces_after : ℕ → Option (List ℕ) → List (List ℕ)
+pieces_after separator None = []
+pieces_after separator (Some text) = slice_split (λ b. b == separator) text

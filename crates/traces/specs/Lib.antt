@@ -1,3 +1,5 @@
 pub mod Fields
 pub mod Event
 pub mod Trace
+pub mod Actions
+pub mod Traced

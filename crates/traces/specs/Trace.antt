@@ -4,8 +4,8 @@ use Rattle.std.specs.List.{slice_split, filter_map}
 use Rattle.std.specs.Option.{is_none}
 use Rattle.std.specs.declared.alloc.Global.{Global}
 use Rattle.gateway.specs.declared.entries.Entry.{Entry}
-use Rattle.traces.specs.declared.trace.TextFault.{TextFault}
-use Rattle.traces.specs.declared.trace.TextFault.TheVariants.{Line, NoMemory}
+use Rattle.traces.specs.declared.reading.TextFault.{TextFault}
+use Rattle.traces.specs.declared.reading.TextFault.TheVariants.{Line, NoMemory}
 use Rattle.traces.specs.Event.{Event, event_of, event_in}
 
 -- the lines of a text, which line feeds (10) end; what follows the last line feed is a line too

@@ -4,23 +4,27 @@ ghost use Rattle.gateway.specs.Entries.{FitsPort};
 ghost use Rattle.traces.specs.Event.{event_of, bare_in, octets_in, event_in};
 
 use crate::decimal::decimal;
-use crate::lines::pieces;
+use crate::lines::cut;
 use crate::octets::read_octets;
 use gateway::Entry;
 use std::alloc::{AllocError, Global};
-
-const SPACE: u8 = b' ';
 
 /// The event of one line, if it is one.
 pub(crate) fn event(alloc: Global, line: &[u8]) -> Result<Option<Entry>, AllocError>
     ensures event { IfOk result (λ e. option_map event_of e ≡ event_in line.now) }
     ensures fits { IfOk result (λ e. IfSome e FitsPort) }
 {
-    let fields = pieces(alloc, line, SPACE)?;
-    match fields.as_slice() {
-        [moment, kind] => Ok(bare(*moment, *kind)),
-        [moment, kind, text] => with_octets(alloc, *moment, *kind, *text),
-        _ => Ok(None),
+    let (moment, Some(rest)) = cut(line, b' ') else {
+        return Ok(None);
+    };
+    let (kind, rest) = cut(rest, b' ');
+    let Some(rest) = rest else {
+        return Ok(bare(moment, kind));
+    };
+    let (text, rest) = cut(rest, b' ');
+    match rest {
+        None => with_octets(alloc, moment, kind, text),
+        Some(_) => Ok(None),
     }
 }
 

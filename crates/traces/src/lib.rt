@@ -7,15 +7,19 @@
 //! once; `read_octets` answers the octets that the digits spell, and nothing for any other text.
 #![tactic(auto)]
 
+mod actions;
 mod decimal;
 mod event;
+mod health;
 mod lines;
 mod octets;
+mod port;
+mod reading;
 #[cfg(test)]
 mod tests;
-mod trace;
 
 pub use decimal::decimal as read_decimal;
 pub use lines::{is_skipped, pieces};
 pub use octets::read_octets;
-pub use trace::{TextFault, read_trace};
+pub use port::{Beginning, Trace};
+pub use reading::{TextFault, read_trace};

@@ -1,19 +1,36 @@
 //! Lines and their fields.
 ghost use Rattle.std.specs.List.{slice_split};
-ghost use Rattle.std.specs.Prelude.{◌≡◌, ◌==◌, IfOk, map};
+ghost use Rattle.std.specs.Option.{option_copied};
+ghost use Rattle.std.specs.Prelude.{◌≡◌, ◌==◌, ◌∷◌, ◌<◌, length, position, map, IfOk, IfSome};
+ghost use Rattle.traces.specs.Fields.{pieces_after};
 ghost use Rattle.traces.specs.Trace.{is_skipped};
 
 use std::alloc::{AllocError, Global};
 
 /// The pieces of a text between its separators.
-pub fn pieces<'a>(
-    alloc: Global,
-    text: &'a [u8],
-    separator: u8,
-) -> Result<Vec<&'a [u8]>, AllocError>
+pub fn pieces<'a>(alloc: Global, text: &'a [u8], separator: u8) -> Result<Vec<&'a [u8]>, AllocError>
     ensures { IfOk result (λ v. map (λ piece. piece.now) v.items ≡ slice_split (λ b. b == separator) text.entry.now) }
 {
     text.split(|b| *b == separator).collect(alloc)
+}
+
+/// The place of the first separator.
+fn place(text: &[u8], separator: u8) -> Option<usize>
+    ensures first { result ≡ position (λ b. b == separator) text.now }
+    ensures within { IfSome result (λ i. i < length text.now) }
+{
+    text.iter().position(|b| *b == separator)
+}
+
+/// The piece of a text before its first separator, and what follows that, where there is one.
+#[tactic(auto, using(crate::proofs::LineLemmas::cut_here, crate::proofs::LineLemmas::cut_nowhere))]
+pub(crate) fn cut(text: &[u8], separator: u8) -> (&[u8], Option<&[u8]>)
+    ensures { slice_split (λ b. b == separator) text.entry.now ≡ result.0.now ∷ pieces_after separator (option_copied result.1) }
+{
+    match place(text, separator) {
+        Some(i) => (&text[..i], Some(&text[i + 1..])),
+        None => (text, None),
+    }
 }
 
 /// Whether a line is empty or a comment.

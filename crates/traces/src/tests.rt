@@ -1,7 +1,10 @@
 //! Traces, good and wrong.
-use crate::{TextFault, read_octets, read_trace};
-use gateway::Entry;
+use crate::{TextFault, Trace, read_octets, read_trace};
+use gateway::{Action, Entry, Next, Port};
+use session::Close;
 use std::alloc::Global;
+use std::io;
+use std::io::{ErrorKind, Write};
 use std::test::Fail;
 
 /// The entries of some octets from the line, and their moment.
@@ -160,5 +163,82 @@ fn faults_are_printed(rt: HostRuntime) -> Result<(), Fail> {
     let (wrong, memory) = (TextFault::Line(12), TextFault::NoMemory);
     assert_eq!(rt; format!(in alloc; "{wrong}")?.as_str(), "line 12");
     assert_eq!(rt; format!(in alloc; "{memory}")?.as_str(), "no memory");
+    Ok(())
+}
+
+/// The two ends of a run over a trace: its actions, by hand, and what is written.
+#[test]
+fn a_trace_gives_its_entries_and_writes_its_actions(rt: HostRuntime) -> Result<(), Fail> {
+    let alloc = rt.alloc();
+    let entries = read_trace(alloc, b"7 S E568\n9 O\n")?;
+    let mut port = Trace::<Vec<u8>>::new(alloc, entries, Vec::new(alloc));
+    let mut buf = [0; 1024];
+    assert!(rt; matches!(port.next(&mut buf), Next::Tick(0)));
+    assert!(rt; matches!(port.next(&mut buf), Next::Line(7, 2)));
+    assert_eq!(rt; &buf[..2], &[0xE5, 0x68][..]);
+    assert!(rt; port.put(7, &Action::Line(&[0x10, 0xAB])));
+    assert!(rt; matches!(port.next(&mut buf), Next::Open(9)));
+    assert!(rt; port.put(9, &Action::Tcp(&[0x68])));
+    assert!(rt; port.put(9, &Action::Close(Close::Replaced)));
+    assert!(rt; matches!(port.next(&mut buf), Next::Done));
+    assert_eq!(rt; port.failures(), 0);
+    assert!(rt; !port.refused());
+    assert_eq!(rt;
+        port.into_writer().as_slice(),
+        b"7 > S 10AB\n9 > T 68\n9 > X 7\n".as_slice()
+    );
+    Ok(())
+}
+
+/// Takes so many octets, one a write, and then fails.
+#[derive(Drop)]
+struct Failing {
+    octets: u64,
+}
+
+impl Write for Failing {
+    fn write(&mut self, buf: &[u8]) -> io::Result<usize> {
+        if self.octets == 0 {
+            return Err(io::Error::from(ErrorKind::BrokenPipe));
+        }
+        if buf.is_empty() {
+            return Ok(0);
+        }
+        self.octets -= 1;
+        Ok(1)
+    }
+
+    fn flush(&mut self) -> io::Result<()> {
+        Ok(())
+    }
+}
+
+#[test]
+fn a_write_that_fails_is_a_fault_of_the_port(rt: HostRuntime) -> Result<(), Fail> {
+    let alloc = rt.alloc();
+    // A line is 9 octets long.
+    for octets in 0..20u64 {
+        let mut port = Trace::<Failing>::new(
+            alloc,
+            read_trace(alloc, b"7 T\n")?,
+            Failing { octets },
+        );
+        let mut buf = [0; 1024];
+        assert!(rt; matches!(port.next(&mut buf), Next::Tick(0)));
+        assert_eq!(rt;
+            port.put(7, &Action::Line(&[0xE5])),
+            octets >= 9,
+            "{octets}"
+        );
+        assert_eq!(rt; port.failures(), if octets >= 9 { 0 } else { 1 });
+        // A port that failed gives nothing more.
+        if octets < 9 {
+            assert!(rt; matches!(port.next(&mut buf), Next::Fault));
+            assert!(rt; !port.put(7, &Action::Tcp(&[0x68])));
+            assert_eq!(rt; port.failures(), 3);
+        }
+        assert!(rt; !port.refused());
+        let _ = port.into_writer();
+    }
     Ok(())
 }

@@ -1,6 +1,7 @@
 //! Whole runs: traces, and what the gateway puts out.
 use super::{CONFIG_A, performed};
 use crate::job::Job;
+use std::alloc::AllocError;
 use std::test::Fail;
 
 /// The station is started, and a connection too.
@@ -10,7 +11,7 @@ const OPENED: &str =
     "0 > S 1049014A16\n10 > S 1040014116\n20 > S 107B017C16\n40 > T 68040B000000\n";
 
 /// What follows the opening, and what it gives. `N` is the report of one single point.
-static AFTER_OPENING: [(&str, &str); 7] = [
+static AFTER_OPENING: [(&str, &str); 11] = [
     // One report: the next poll, and an I frame.
     (
         "50 S 680909680801010103016400017416\n",
@@ -36,6 +37,23 @@ static AFTER_OPENING: [(&str, &str); 7] = [
     ),
     // A receive number that acknowledges nothing that was sent.
     ("50 R 680401000200\n", "50 > X 3\n"),
+    // A second connection takes the place of the first.
+    ("50 O\n", "50 > X 7\n"),
+    // The station has more data of class 1.
+    (
+        "50 S 680909682801010103016400019416\n",
+        "50 > S 105A015B16\n50 > T 680E0000000001010300010064000001\n",
+    ),
+    // A negative 'unknown type' isn't passed on.
+    (
+        "50 S 68090968080101016C01640001DD16\n",
+        "50 > S 105B015C16\n",
+    ),
+    // A time tag passes as it is, here one with a wrong weekday.
+    (
+        "50 S 6810106808011E010301640001D5DD220C9D02172716\n",
+        "50 > S 105B015C16\n50 > T 6815000000001E010300010064000001D5DD220C9D0217\n",
+    ),
 ];
 
 #[test]
@@ -147,5 +165,123 @@ fn twelve_i_frames_go_out_unacknowledged(rt: HostRuntime) -> Result<(), Fail> {
     };
     let done = performed(alloc, &job);
     assert_eq!(rt; done.out.as_slice(), want.as_bytes());
+    Ok(())
+}
+
+#[test]
+fn a_connection_is_closed_by_what_it_sends(rt: HostRuntime) -> Result<(), Fail> {
+    let alloc = rt.alloc();
+    // The opening without the start of data transfer.
+    let opening = "10 S 100B010C16\n20 S E5\n30 O\n";
+    let opened = "0 > S 1049014A16\n10 > S 1040014116\n20 > S 107B017C16\n";
+    for (more, lines) in [
+        // An I frame while stopped.
+        ("40 R 680E0000000064010600010000000014\n", "40 > X 4\n"),
+        // Octets that begin no APDU.
+        ("40 R 68FE\n", "40 > X 1\n"),
+    ] {
+        let trace = format!(in alloc; "{opening}{more}")?;
+        let want = format!(in alloc; "{opened}{lines}")?;
+        let job = Job::Replay {
+            config: CONFIG_A,
+            trace: trace.as_bytes(),
+        };
+        let done = performed(alloc, &job);
+        assert_eq!(rt; done.out.as_slice(), want.as_bytes(), "{more}");
+        assert_eq!(rt; done.status, 0);
+    }
+    Ok(())
+}
+
+/// Appends single points at these addresses and the next ones, with object addresses of so many octets.
+fn push_points(
+    text: &mut String,
+    first: u8,
+    points: u8,
+    address_octets: u8,
+) -> Result<(), AllocError> {
+    for n in 0..points {
+        let address = first.saturating_add(n);
+        write!(text, "{address:02X}")?;
+        for _ in 1..address_octets {
+            text.push_str("00")?;
+        }
+        text.push_str("00")?;
+    }
+    Ok(())
+}
+
+/// Appends the line of an I frame with these single points.
+fn push_piece(
+    text: &mut String,
+    now: u64,
+    head: &str,
+    first: u8,
+    points: u8,
+) -> Result<(), AllocError> {
+    write!(text, "{now} > T {head}")?;
+    push_points(text, first, points, 3)?;
+    text.push_str("\n")
+}
+
+#[test]
+fn a_long_report_goes_out_in_pieces_and_again_what_was_not_acknowledged(
+    rt: HostRuntime,
+) -> Result<(), Fail> {
+    let alloc = rt.alloc();
+    let config =
+        "[line]\nlink = 1\ncause = 1\nca = 1\nioa = 1\nqueue = 100\n[[station]]\naddress = 1\nca = 1\n";
+    let mut trace = format!(in alloc; "{OPENING}50 S 68FEFE680801017C0301")?;
+    push_points(&mut trace, 1, 124, 1)?;
+    trace.push_str("D016\n60 R 680401000200\n70 C\n80 O\n90 R 680407000000\n")?;
+    let mut want = format!(in alloc; "{OPENED}50 > S 105B015C16\n")?;
+    push_piece(&mut want, 50, "68FA00000000013C03000100", 1, 60)?;
+    push_piece(&mut want, 50, "68FA02000000013C03000100", 61, 60)?;
+    push_piece(&mut want, 50, "681A04000000010403000100", 121, 4)?;
+    want.push_str("90 > T 68040B000000\n")?;
+    push_piece(&mut want, 90, "68FA00000000013C03000100", 61, 60)?;
+    push_piece(&mut want, 90, "681A02000000010403000100", 121, 4)?;
+    let job = Job::Replay {
+        config: config.as_bytes(),
+        trace: trace.as_bytes(),
+    };
+    let done = performed(alloc, &job);
+    assert_eq!(rt; done.out.as_slice(), want.as_bytes());
+    assert_eq!(rt; done.status, 0);
+    Ok(())
+}
+
+#[test]
+fn two_stations_take_turns(rt: HostRuntime) -> Result<(), Fail> {
+    let alloc = rt.alloc();
+    let config =
+        "[line]\nlink = 1\ncause = 1\nca = 1\nioa = 2\n[[station]]\naddress = 1\nca = 1\n[[station]]\naddress = 2\nca = 2\n";
+    let trace = "10 S 100B010C16\n20 S E5\n30 S 100B020D16\n40 S E5\n50 S E5\n";
+    let want =
+        "0 > S 1049014A16\n10 > S 1040014116\n20 > S 1049024B16\n30 > S 1040024216\n40 > S 107B017C16\n50 > S 107B027D16\n";
+    let job = Job::Replay {
+        config: config.as_bytes(),
+        trace: trace.as_bytes(),
+    };
+    let done = performed(alloc, &job);
+    assert_eq!(rt; done.out.as_slice(), want.as_bytes());
+    assert_eq!(rt; done.status, 0);
+    Ok(())
+}
+
+#[test]
+fn a_silent_link_is_reset_where_the_settings_say_so(rt: HostRuntime) -> Result<(), Fail> {
+    let alloc = rt.alloc();
+    let config =
+        "[line]\nlink = 1\ncause = 1\nca = 1\nioa = 2\nqueue = 100\nretries = 1\nsilence = \"reset\"\n[[station]]\naddress = 1\nca = 1\n";
+    let trace = format!(in alloc; "{OPENING}220 T\n420 T\n")?;
+    let want = format!(in alloc; "{OPENED}220 > S 107B017C16\n420 > S 1049014A16\n")?;
+    let job = Job::Replay {
+        config: config.as_bytes(),
+        trace: trace.as_bytes(),
+    };
+    let done = performed(alloc, &job);
+    assert_eq!(rt; done.out.as_slice(), want.as_bytes());
+    assert_eq!(rt; done.status, 0);
     Ok(())
 }

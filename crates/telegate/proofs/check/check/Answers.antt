@@ -5,6 +5,6 @@ pub returns-in-Ok : goal.returns-in-Ok
 returns-in-Ok c = record {
   settings = c.in_ok-_settings._settings;
   read_config = c.in_ok-_settings.ensures;
-  text = c.in-Ok.ensures.ok;
+  text = rw c.into_bytes.ensures.value c.in-Ok.ensures.ok;
   status = refl;
 }

@@ -8,7 +8,7 @@ keeps_same (Some octets) = refl
 
 pub returns-in-Ok-print : goal.returns-in-Ok-print
 returns-in-Ok-print g c =
-    let same = c.as_bytes.ensures.value in
+    let same = c.as_slice.ensures.value in
     inl (record {
       answer = c.in-Ok.answer;
       answered = c.in-Ok.ensures;

@@ -1,7 +1,7 @@
 use Rattle.std.proofs.Common.{arith, ap, length, length-drop}
 use Rattle.session.specs.Session.{Session, from_queue}
 use Rattle.events.specs.Queue.{Queue}
-use Rattle.gateway.proofs.Counts.{taken_counts}
+use Rattle.gateway.proofs.Acknowledging.{taken_counts}
 use Rattle.gateway.proofs.Sound.{less_kept}
 use Rattle.gateway.proofs.engine.Gateway.judge.Goals as goal
 
@@ -20,6 +20,5 @@ invariant_of-self c =
         c.self.invariant.counted,
       );
       listens = c.self.invariant.listens;
-      fits = c.self.invariant.fits;
-      room = λ out up. less_kept c.acked-pieces.result.0 old.events c.acknowledge.new.self c.acknowledge.ensures (c.self.invariant.room out up);
+      room = λ out. less_kept c.acked-pieces.result.0 old.events c.acknowledge.new.self c.acknowledge.ensures (c.self.invariant.room out);
     }

@@ -1,22 +1,16 @@
 use Rattle.std.proofs.Common.{◌≡◌, ◌∷◌, [], sym, subst}
 use Rattle.std.specs.Prelude.{IfSome}
-use Rattle.ft12.specs.declared.frame.LinkSize.{LinkSize}
 use Rattle.session.specs.declared.kinds.Close.TheVariants.{Replaced}
 use Rattle.gateway.specs.Log.{tell, Went, Closed}
 use Rattle.gateway.specs.Traffic.{IsFaithful}
-use Rattle.gateway.proofs.Telling.{IsStable}
-use Rattle.gateway.proofs.Events.{stable_by, told_replaced, told_unreplaced}
+use Rattle.gateway.proofs.Events.{told_replaced, told_unreplaced}
 use Rattle.gateway.proofs.engine.Gateway.replace.Goals as goal
 
 pub returns-then-not-put-clause-kept : goal.returns-then-not-put-clause-kept
 returns-then-not-put-clause-kept g c = λ p s now b h.
-    let law = c.front_is_computed.ensures in
-    let stable : (size : LinkSize) → IsStable size = λ size. stable_by size (law.nothing size) (law.whole size) (law.never size) in
-    subst (λ told. IfSome told (IsFaithful p)) (sym c.if-not-put.ensures.told) (told_unreplaced p _ s c.args.self.now now stable b h)
+    subst (λ told. IfSome told (IsFaithful p)) (sym c.if-not-put.ensures.told) (told_unreplaced p _ s c.args.self.now now c.line_is_told.ensures b h)
 
 pub returns-clause-kept : goal.returns-clause-kept
 returns-clause-kept g c = λ p s now b h.
-    let law = c.front_is_computed.ensures in
-    let stable : (size : LinkSize) → IsStable size = λ size. stable_by size (law.nothing size) (law.whole size) (law.never size) in
     let put : g.P.Port.log c.put.new.self ≡ tell (g.P.Port.log c.args.port.now) (Went c.moment.result (Closed Replaced) ∷ []) = c.if-not-put.ensures.told in
-    told_replaced p _ _ s c.args.self.now c.renew.new.self now _ stable b c.requires.open c.renew.ensures put c.moment.ensures h
+    told_replaced p _ _ s c.args.self.now c.renew.new.self now _ c.line_is_told.ensures b c.requires.open c.renew.ensures put c.moment.ensures h

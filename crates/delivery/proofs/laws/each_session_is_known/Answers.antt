@@ -1,0 +1,19 @@
+use Rattle.std.proofs.Common.{ap, sym, ◌∙◌}
+use Rattle.link.specs.Delivery.{learnt, reports, sessions}
+use Rattle.gateway.specs.Reports.{address_at, exchanges_with}
+use Rattle.delivery.proofs.Learnt.{from_learnt, reports_flat}
+use Rattle.delivery.proofs.laws.each_session_is_known.Goals as goal
+
+pub returns-clause-reports : goal.returns-clause-reports
+returns-clause-reports c = λ p log i turns f within honest.
+    c.reports_are_learnt.ensures p.link (address_at p.addresses i) (exchanges_with p i log) turns (f.links i within) honest
+
+pub returns-clause-joined : goal.returns-clause-joined
+returns-clause-joined c = λ p log i turns f within honest.
+    reports_flat (λ s. learnt (address_at p.addresses i) s.exchanges) (sessions (address_at p.addresses i) (exchanges_with p i log) turns)
+    ∙ ap reports (c.sessions_are_known.ensures.learnt_there p.link (address_at p.addresses i) (exchanges_with p i log) turns (f.links i within) honest)
+    ∙ sym (from_learnt p log i)
+
+pub returns-clause-commands : goal.returns-clause-commands
+returns-clause-commands c = λ p log i turns f within honest.
+    c.commands_are_accepted.ensures.each p.link (address_at p.addresses i) (exchanges_with p i log) turns (f.links i within) honest

@@ -1,0 +1,62 @@
+-- What the control centre is sent, seen from the outstations: the end that the frame count bit (IEC 60870-5-2, unbalanced
+-- transmission procedures) and the window (IEC 60870-5-104, 5.1) serve.
+use Rattle.std.specs.Prelude.{◌≡◌, ℕ, ◌<◌, List, ◌∷◌, length, None}
+use Rattle.std.specs.List.{flat_map}
+use Rattle.asdu.specs.declared.sizes.Sizes.{Sizes}
+use Rattle.asdu.specs.InformationObjects.{InformationObject}
+use Rattle.link.specs.Procedure as link
+use Rattle.link.specs.declared.procedure.Link.TheVariants.{Down}
+use Rattle.link.specs.Outstation.{Turn, all_done}
+use Rattle.link.specs.Delivery as outstation
+use Rattle.link.specs.Delivery.{IsAllOrButLast, IsLatestAnswered, reports, commands, sendings_not_busy}
+use Rattle.gateway.specs.Log.{Log}
+use Rattle.gateway.specs.Objects.{monitor_objects}
+use Rattle.gateway.specs.Reports.{Setup, address_at, exchanges_with, reports_in, taken_objects}
+use Rattle.gateway.specs.Frames.{Connection, AreInOrder}
+use Rattle.gateway.specs.Connections.{present, past, AreConnections, IsBegun}
+use Rattle.delivery.specs.Merges.{values_of, IsMerge}
+
+-- The premises, of the station at this place in the settings
+
+-- An outstation took these turns at the requests to it, each heard or not; and a frame at the front of an exchange is its answer to
+-- that request. So no answer was late, and none was altered unseen.
+abbrev pub IsHonest : Setup → Log → ℕ → List Turn → Type 0
+IsHonest p log i turns = outstation.IsHonest (address_at p.addresses i) (exchanges_with p i log) turns
+
+-- From its first answered reset on, the station is always up: no reset of the link was caused.
+abbrev pub IsSteady : Setup → Log → ℕ → Type 0
+IsSteady p log i = link.IsSteady p.link (address_at p.addresses i) Down (exchanges_with p i log)
+
+-- What was taken
+
+-- the reports taken from it, in order
+abbrev pub reports_from : Setup → Log → ℕ → List (List ℕ)
+reports_from p log i = values_of i (reports_in p log)
+
+-- the monitor objects of reports, in order
+abbrev pub objects_in : Sizes → List (List ℕ) → List InformationObject
+objects_in sizes reports = flat_map (λ report. monitor_objects sizes report) reports
+
+-- the monitor objects taken from it, in order
+abbrev pub taken_from : Setup → Log → ℕ → List InformationObject
+taken_from p log i = objects_in p.sizes (reports_from p log i)
+
+-- What was taken from an outstation that took these turns is what it reported, or all but the last report; and all of it where its
+-- latest exchange was answered. The commands that it accepted are those put on the line for it (a repeat of an unanswered one not
+-- counted) that weren't answered busy, in that order, or all but the last.
+pub record IsRelayed (p : Setup) (log : Log) (i : ℕ) (turns : List Turn) : Type 0 where
+  pub most : IsAllOrButLast (reports (all_done turns)) (reports_from p log i)
+  pub all : IsLatestAnswered (address_at p.addresses i) (exchanges_with p i log) → reports_from p log i ≡ reports (all_done turns)
+  pub downwards : IsAllOrButLast (sendings_not_busy (address_at p.addresses i) None (exchanges_with p i log)) (commands (all_done turns))
+
+-- Nothing is lost, and nothing told twice: the monitor objects sent on each connection are a contiguous run of the objects taken, from
+-- the first that no earlier connection acknowledged; the objects taken are a merge of those taken from the stations; and from an
+-- honest outstation whose link stays up, what was taken is what it reported, or all but its last report.
+pub record Delivers (p : Setup) (log : Log) : Type 0 where
+  pub here : Connection
+  pub begun : IsBegun (present log) here
+  pub earlier : List Connection
+  pub are : AreConnections (past log) earlier
+  pub run : AreInOrder (taken_objects p log) (here ∷ earlier)
+  pub merged : IsMerge (length p.addresses) (taken_from p log) (taken_objects p log)
+  pub relayed : (i : ℕ) (turns : List Turn) → i < length p.addresses → IsHonest p log i turns → IsSteady p log i → IsRelayed p log i turns

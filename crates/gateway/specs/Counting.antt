@@ -1,0 +1,33 @@
+-- What is counted of the reports that aren't passed on (profile).
+use Rattle.std.specs.Prelude.{ℕ, ◌+◌, min, List, [], ◌∷◌, if◌then◌else◌}
+use Rattle.elements.specs.Types.{row}
+use Rattle.asdu.specs.declared.sizes.Sizes.{Sizes}
+use Rattle.asdu.specs.InformationObjects.{InformationObject, objects_of, is_passed_on}
+use Rattle.gateway.specs.declared.counts.Counts.{Counts}
+
+abbrev pub nothing_counted : Counts
+nothing_counted = record { skipped = 0; mirrors = 0; lost = 0 }
+
+-- a number of 64 bits that stays at its greatest
+abbrev pub one_more : ℕ → ℕ
+one_more n = min (n + 1) 18446744073709551615
+
+abbrev pub one_skipped : Counts → Counts
+one_skipped c = record { skipped = one_more c.skipped; mirrors = c.mirrors; lost = c.lost }
+
+abbrev pub one_mirrored : Counts → Counts
+one_mirrored c = record { skipped = c.skipped; mirrors = one_more c.mirrors; lost = c.lost }
+
+-- By the first object of the report: one that can't be read has none. Those of monitor types are passed on, save for a
+-- negative 'unknown type', and those of command types aren't.
+abbrev pub counted_by : List InformationObject → Counts → Counts
+counted_by [] c = one_skipped c
+counted_by (o ∷ objects) c = if (row o.kind).monitor then (if is_passed_on o.kind o.cause then c else one_skipped c) else one_mirrored c
+
+abbrev pub counted : Sizes → List ℕ → Counts → Counts
+counted sizes report c = counted_by (objects_of sizes report) c
+
+-- the counts after these reports, the oldest first
+abbrev pub counts_after : Sizes → Counts → List (ℕ × List ℕ) → Counts
+counts_after sizes c [] = c
+counts_after sizes c (report ∷ reports) = counts_after sizes (counted sizes report.1 c) reports

@@ -1,0 +1,33 @@
+-- When the queue is full, as the log shows.
+use Rattle.std.specs.Prelude.{◌+◌, ◌<◌, Bool, true, false, List, ◌∷◌, None}
+use Rattle.gateway.specs.Log.{Log}
+use Rattle.gateway.specs.Frames.{Connection, acknowledged_reports}
+use Rattle.gateway.specs.Connections.{present, past, IsConnection, AreConnections}
+use Rattle.gateway.specs.Reports.{Setup, reports_in, parts_of_all}
+
+-- the connections of a log, the newest first: the one that is open, or an empty one where there is none, and those before it
+pub record AreConnectionsOf (log : Log) (c : Connection) (before : List Connection) : Type 0 where
+  pub open_one : IsConnection (present log) c None
+  pub earlier : AreConnections (past log) before
+
+-- Of the configured places fewer than three are free: each piece of a report taken has one until it is acknowledged.
+abbrev pub IsFull : Setup → Log → List Connection → Type 0
+IsFull p log connections = p.places + acknowledged_reports connections < parts_of_all p.sizes (reports_in p log) + 3
+
+-- there are places for the pieces of any report
+pub record HasRoom (p : Setup) (log : Log) : Type 0 where
+  pub here : Connection
+  pub before : List Connection
+  pub are : AreConnectionsOf log here before
+  pub room : IsFull p log (here ∷ before) → ⊥
+
+pub record LacksRoom (p : Setup) (log : Log) : Type 0 where
+  pub here : Connection
+  pub before : List Connection
+  pub are : AreConnectionsOf log here before
+  pub full : IsFull p log (here ∷ before)
+
+-- whether there is room, as the log shows
+abbrev pub ShowsRoom : Bool → Setup → Log → Type 0
+ShowsRoom true p log = HasRoom p log
+ShowsRoom false p log = LacksRoom p log

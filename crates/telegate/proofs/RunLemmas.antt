@@ -1,0 +1,53 @@
+-- The end of a run over the entries of a trace.
+use Rattle.std.proofs.Common.{◌≡◌, ℕ, ◌+◌, Bool, true, false, ◌&&◌, List, [], ◌∷◌, ◌++◌, length, map, Option, Some, IfOk, sym, subst, ◌∙◌, ap, arith, length-append}
+use Rattle.std.proofs.lemmas.List.{append-nil, length-map}
+use Rattle.gateway.specs.Log.{Log, LogEntry, events_of}
+use Rattle.gateway.specs.Entries.{event_of, script_of}
+use Rattle.gateway.specs.Runs.{MoreEvents}
+use Rattle.gateway.specs.declared.entries.Entry.{Entry}
+use Rattle.traces.specs.Traced.{Traced, coming, is_none_left, whole_script}
+use Rattle.traces.specs.Trace.{IsTraceOf}
+use Rattle.traces.specs.declared.health.Health.TheVariants.{Good}
+use Rattle.std.specs.Prelude.{Result, Ok, Err, Vec}
+use Rattle.std.specs.declared.alloc.Global.{Global}
+use Rattle.gateway.specs.Config.{Settings}
+use Rattle.gateway.specs.declared.runs.End.{End}
+use Rattle.gateway.specs.declared.runs.End.TheVariants.{Turns}
+use Rattle.settings.specs.Settings.{IsReadOfText}
+use Rattle.telegate.specs.Answers.{IsRunOf, IsReplayed}
+use Rattle.telegate.specs.declared.answer.Answer.{Answer}
+use Rattle.telegate.specs.declared.fault.Fault.{Fault}
+use Rattle.telegate.specs.declared.fault.Fault.TheVariants.{Config, Trace, Sizes, Octets, Device, NoMemory}
+
+same_number : (m n : ℕ) → Some m ≡ Some n → m ≡ n
+same_number m n e = cc
+
+-- a turn for each entry and two more aren't used up
+pub turns_suffice : (log : Log) (started : Bool) (left entries : List Entry) (turns : ℕ) → turns ≡ length entries + 2 → events_of log ++ coming started left ≡ script_of entries → MoreEvents turns (Some []) (Some log) → ⊥
+turns_suffice log started left entries turns enough whole more =
+    let came : length (events_of log) ≡ 0 + turns = same_number (length (events_of log)) (0 + turns) more in
+    let split : length (events_of log ++ coming started left) ≡ length (events_of log) + length (coming started left) = length-append (events_of log) (coming started left) in
+    let all : length (events_of log ++ coming started left) ≡ length (script_of entries) = ap length whole in
+    let each : length (map event_of entries) ≡ length entries = length-map entries event_of in
+    omega (arith, came, split, all, each, enough)
+
+-- so a run over entries, from its beginning on, doesn't end by its turns
+pub turns_are_left : (entries : List Entry) (turns : ℕ) (old new : Traced) (written : Option (List ℕ)) → old ≡ record { log = []; failed = 0; health = Good; started = false; left = entries; written = written } → turns ≡ length entries + 2 →
+    whole_script new ≡ whole_script old → MoreEvents turns (Some old.log) (Some new.log) → ⊥
+turns_are_left entries turns old new written is enough whole more =
+    turns_suffice new.log new.started new.left entries turns enough (whole ∙ ap whole_script is) (subst (λ (t : Traced). MoreEvents turns (Some t.log) (Some new.log)) is more)
+
+-- what an answer promises of this end
+pub at_end : {E : Type 0} (r : Result End E) (end : End) (P : Type 0) → IfOk r (λ e. e ≡ Turns → P) → r ≡ Ok end → end ≡ Turns → P
+at_end (Ok x) end P h is turns = let same : x ≡ end = cc in h (same ∙ turns)
+at_end (Err x) end P h is turns = cc
+
+-- the answer to the command, where its files were read
+pub replayed : (config trace : List ℕ) (settings : Settings) (entries : Vec Entry Global) (r : Result Answer Fault) → IsReadOfText config (Ok settings) → IsTraceOf trace (Ok entries) → IsRunOf settings entries.items r → IsReplayed config trace r
+replayed config trace settings entries (Ok answer) read told run = record { settings = settings; entries = entries; read_config = read; read_trace = told; run = run }
+replayed config trace settings entries (Err NoMemory) read told run = tt
+replayed config trace settings entries (Err (Config why)) read told run = absurd run
+replayed config trace settings entries (Err (Trace n)) read told run = absurd run
+replayed config trace settings entries (Err Sizes) read told run = absurd run
+replayed config trace settings entries (Err Octets) read told run = absurd run
+replayed config trace settings entries (Err Device) read told run = absurd run

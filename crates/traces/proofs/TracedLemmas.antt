@@ -1,0 +1,57 @@
+-- A port over the entries of a trace, call by call.
+use Rattle.std.proofs.Common.{◌≡◌, ℕ, ◌+◌, Bool, true, false, List, [], ◌∷◌, ◌++◌, map, reverse, Option, Some, None, refl, ap, sym, ◌∙◌, subst, append_assoc}
+use Rattle.std.proofs.lemmas.List.{reverse-append, append-nil}
+use Rattle.std.specs.List.{AllByRecursion}
+use Rattle.std.specs.Io.KnownBytes.{Appends}
+use Rattle.std.specs.Prelude.{is_err, Result, Ok, Err, OnOk}
+use Rattle.std.proofs.KnownBytes.{Appends-trans}
+use Rattle.gateway.specs.Log.{Log, LogEntry, Came, Went, Output, events_of}
+use Rattle.gateway.specs.Entries.{FitsPort, event_of, script_of, told_of, stored_log, log_of}
+use Rattle.gateway.specs.declared.entries.Entry.{Entry}
+use Rattle.gateway.specs.declared.entries.Entry.TheVariants.{Line, Open, Bytes, Cut, Tick}
+use Rattle.gateway.specs.declared.entries.Told.{Told}
+use Rattle.traces.specs.Actions.{line_of, lines_of_actions}
+use Rattle.traces.specs.Traced.{coming}
+
+-- what is stored last is the newest
+stored_next : (xs : List Told) (x : Told) (log : Log) → stored_log (xs ++ x ∷ []) log ≡ told_of x ∷ stored_log xs log
+stored_next [] x log = refl
+stored_next (y ∷ xs) x log = stored_next xs x (told_of y ∷ log)
+
+pub log_next : (xs : List Told) (x : Told) → log_of (xs ++ x ∷ []) ≡ told_of x ∷ log_of xs
+log_next xs x = stored_next xs x []
+
+-- the last of the entries kept is the next one
+pub first_left : (xs : List Entry) (x : Entry) → reverse (xs ++ x ∷ []) ≡ x ∷ reverse xs
+first_left xs x = reverse-append xs (x ∷ [])
+
+-- an event of an entry has no line
+pub no_line : (entry : Entry) (log : Log) → lines_of_actions (event_of entry ∷ log) ≡ lines_of_actions log
+no_line (Line now octets) log = refl
+no_line (Open now) log = refl
+no_line (Bytes now octets) log = refl
+no_line (Cut now) log = refl
+no_line (Tick now) log = refl
+
+-- an entry that came is no longer to come
+pub script_next : (entry : Entry) (log : Log) (left : List Entry) → events_of (event_of entry ∷ log) ++ map event_of left ≡ events_of log ++ map event_of (entry ∷ left)
+script_next (Line now octets) log left = append_assoc (events_of log) (event_of (Line now octets) ∷ []) (map event_of left)
+script_next (Open now) log left = append_assoc (events_of log) (event_of (Open now) ∷ []) (map event_of left)
+script_next (Bytes now octets) log left = append_assoc (events_of log) (event_of (Bytes now octets) ∷ []) (map event_of left)
+script_next (Cut now) log left = append_assoc (events_of log) (event_of (Cut now) ∷ []) (map event_of left)
+script_next (Tick now) log left = append_assoc (events_of log) (event_of (Tick now) ∷ []) (map event_of left)
+
+-- An action that was put: its line went out, and it is stored.
+
+pub log_put : (xs ys zs : List Told) (told : Told) (entry : LogEntry) → told_of told ≡ entry → ys ≡ xs → zs ≡ ys ++ told ∷ [] → log_of zs ≡ entry ∷ log_of xs
+log_put xs ys zs told entry is same put = ap log_of put ∙ log_next ys told ∙ ap (λ e. e ∷ log_of ys) is ∙ ap (λ l. entry ∷ log_of l) same
+
+pub lines_put : (before old new : Option (List ℕ)) (xs ys zs : List Told) (told : Told) (line : List ℕ) (now : ℕ) (action : Output) →
+    Appends before old (lines_of_actions (log_of xs)) → Appends old new line → line ≡ line_of now action → told_of told ≡ Went now action → ys ≡ xs → zs ≡ ys ++ told ∷ [] → Appends before new (lines_of_actions (log_of zs))
+lines_put before old new xs ys zs told line now action had got text is same put =
+    subst (λ log. Appends before new (lines_of_actions log)) (sym (log_put xs ys zs told (Went now action) is same put)) (Appends-trans before old new _ (line_of now action) had (subst (Appends old new) text got))
+
+-- what a call that didn't fail promises of its success
+pub on_success : {T E : Type 0} (r : Result T E) (P : Type 0) → is_err r ≡ false → OnOk r P → P
+on_success (Ok v) P good h = h
+on_success (Err e) P good h = cc

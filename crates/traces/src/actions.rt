@@ -1,0 +1,53 @@
+//! The lines of actions.
+ghost use Rattle.std.specs.Prelude.{◌≡◌, ◌++◌, ◌∷◌, IfOk, OnOk, string_bytes};
+ghost use Rattle.gateway.specs.Log.{Went};
+ghost use Rattle.gateway.specs.Ports.{output_of};
+ghost use Rattle.gateway.specs.Entries.{told_of, number_of};
+ghost use Rattle.traces.specs.Actions.{line_of};
+
+use gateway::{Action, Told};
+use session::Close;
+use std::alloc::{AllocError, Global};
+
+/// The number of a cause.
+fn number(cause: Close) -> u8
+    ensures { result ≡ number_of cause }
+{
+    cause as u8
+}
+
+/// An action as it is stored.
+pub(crate) fn stored(alloc: Global, now: u64, action: &Action<'_>) -> Result<Told, AllocError>
+    ensures { IfOk result (λ told. told_of told ≡ Went now (output_of action.now)) }
+{
+    match action {
+        Action::Line(octets) => Ok(Told::Line(now, Vec::from_slice(alloc, octets)?)),
+        Action::Tcp(octets) => Ok(Told::Tcp(now, Vec::from_slice(alloc, octets)?)),
+        Action::Close(cause) => Ok(Told::Close(now, number(*cause))),
+    }
+}
+
+/// Appends the line of an action.
+pub(crate) fn append_line(
+    alloc: Global,
+    lines: &mut String,
+    now: u64,
+    action: &Action<'_>,
+) -> Result<(), AllocError>
+    ensures { OnOk result (string_bytes lines.new ≡ string_bytes lines.old ++ line_of now (output_of action.now)) }
+{
+    match action {
+        Action::Line(octets) => {
+            let digits = hex::encode_upper(alloc, *octets)?;
+            writeln!(lines, "{now} > S {digits}")
+        }
+        Action::Tcp(octets) => {
+            let digits = hex::encode_upper(alloc, *octets)?;
+            writeln!(lines, "{now} > T {digits}")
+        }
+        Action::Close(cause) => {
+            let number = number(*cause);
+            writeln!(lines, "{now} > X {number}")
+        }
+    }
+}

@@ -1,0 +1,11 @@
+//! Why a port gave up.
+
+/// How a port over stored entries is.
+#[derive(Clone, Copy, Debug, PartialEq, Eq)]
+pub(crate) enum Health {
+    Good,
+    /// Memory was refused.
+    Refused,
+    /// A write failed.
+    Broken,
+}

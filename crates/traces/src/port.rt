@@ -1,0 +1,257 @@
+//! The port over the entries of a trace.
+ghost use Rattle.std.specs.Prelude.{◌≡◌, ℕ, ◌+◌, ◌<◌, ◌≤◌, Bool, true, false, List, [], ◌∷◌, ◌++◌, length, take, vec_len, vec_capacity, string_bytes, IfOk, OnOk, OnErr, Option, Some, None, if◌then◌else◌};
+ghost use Rattle.std.specs.List.{AllByRecursion};
+ghost use Rattle.gateway.specs.Log.{Came, Went, Ticked, tell, events_of};
+ghost use Rattle.gateway.specs.Ports.{told_by, output_of, FitsBuffer, faults_of};
+ghost use Rattle.gateway.specs.Entries.{FitsPort, event_of, script_of, told_of};
+ghost use Rattle.traces.specs.Actions.{line_of};
+ghost use Rattle.traces.specs.Traced.{IsAnnounced};
+
+use crate::actions::{append_line, stored};
+use crate::health::Health;
+use gateway::{Action, Entry, Next, Port, Told};
+use std::alloc::{AllocError, Global};
+use std::io::Write;
+use std::marker::{Brand, Model, PhantomData};
+
+/// What a writer holds before a run: known to proofs alone, so that they can say what the run has added.
+pub trait Beginning {
+    ghost use Rattle.std.specs.Prelude.{ℕ, List, Option};
+
+    /// The octets, where they are known.
+    ghost held: { Option (List ℕ) };
+}
+
+impl Beginning for Brand {
+    ghost use Rattle.std.specs.Prelude.{None};
+
+    ghost held = { None };
+}
+
+/// A port that gives a tick at moment 0 and then its entries. It stores the log of the run, and writes the line of each
+/// action as it is put: `MS > S HEX` (to the line), `MS > T HEX` (to TCP) or `MS > X CAUSE` (a close), in upper case.
+/// Room in the log is made before a line is written. After a fault it takes and gives nothing more.
+pub struct Trace<W: Write, B: Beginning = Brand> {
+    alloc: Global,
+    /// Those that are still to come, the last first.
+    entries: Vec<Entry>,
+    is_started: bool,
+    log: Vec<Told>,
+    /// The line that is being written.
+    line: String,
+    out: W,
+    failures: u64,
+    health: Health,
+    beginning: PhantomData<B>,
+}
+
+impl<W: Write, B: Beginning> Model for Trace<W, B> {
+    ghost use Rattle.std.specs.Prelude.{reverse};
+    ghost use Rattle.gateway.specs.Entries.{log_of};
+    ghost use Rattle.traces.specs.Traced.{Traced, IsTraced};
+
+    ghost Value = { Traced };
+
+    ghost view = { λ a. record { log = log_of a.log.items; failed = a.failures; health = a.health; started = a.is_started; left = reverse a.entries.items; written = W.contents a.out } };
+
+    ghost invariant = { λ a. IsTraced B.held (record { log = log_of a.log.items; failed = a.failures; health = a.health; started = a.is_started; left = reverse a.entries.items; written = W.contents a.out }) };
+}
+
+/// Copies the octets to the front.
+fn fill(buf: &mut [u8; 1024], octets: &[u8])
+    requires { length octets.now ≤ 1024 }
+    ensures { take (length octets.now) buf.new ≡ octets.now }
+{
+    buf[..octets.len()].copy_from_slice(octets);
+}
+
+/// Copies the octets of an entry to the front of the buffer.
+fn announce(entry: &Entry, buf: &mut [u8; 1024]) -> Next
+    requires { FitsPort entry.now }
+    ensures { IsAnnounced entry.now result buf.new }
+{
+    match entry {
+        Entry::Line(now, octets) => {
+            fill(buf, octets);
+            Next::Line(*now, octets.len())
+        }
+        Entry::Open(now) => Next::Open(*now),
+        Entry::Bytes(now, octets) => {
+            fill(buf, octets);
+            Next::Bytes(*now, octets.len())
+        }
+        Entry::Cut(now) => Next::Cut(*now),
+        Entry::Tick(now) => Next::Tick(*now),
+    }
+}
+
+impl<W: Write, B: Beginning> Trace<W, B> {
+    ghost use Rattle.traces.specs.Traced.{Traced, Takes, HasLines, is_refused, refused};
+    ghost use Rattle.std.specs.Io.KnownBytes.{Keeps};
+    ghost use Rattle.traces.specs.declared.health.Health.TheVariants.{Good, Refused, Broken};
+
+    /// A port over these entries, of 1 to 1,024 octets each, that writes to `out`.
+    pub fn new(alloc: Global, entries: Vec<Entry>, out: W) -> Trace<W, B>
+        requires fits { AllByRecursion FitsPort entries.items }
+        requires held { Keeps B.held (W.contents out) }
+        ensures { result ≡ record { log = []; failed = 0; health = Good; started = false; left = entries.items; written = W.contents out } }
+    {
+        let mut entries = entries;
+        entries.reverse();
+        Trace {
+            alloc,
+            entries,
+            is_started: false,
+            log: Vec::new(alloc),
+            line: String::new(alloc),
+            out,
+            failures: 0,
+            health: Health::Good,
+            beginning: PhantomData,
+        }
+    }
+
+    /// The tick at moment 0 comes.
+    #[tactic(auto, using(crate::proofs::TracedLemmas::log_next))]
+    fn start(&mut self) -> Result<Next, AllocError>
+        requires { self.old.started ≡ false }
+        ensures tick { IfOk result (λ next. next ≡ Next.Tick 0) }
+        ensures ok { OnOk result (self.new ≡ record self.old { log = Came 0 Ticked ∷ self.old.log; started = true }) }
+        ensures err { OnErr result (self.new ≡ self.old) }
+    {
+        self.log.push(Told::Came(Entry::Tick(0)))?;
+        self.is_started = true;
+        Ok(Next::Tick(0))
+    }
+
+    /// The next entry comes, whose octets are put at the front of the buffer.
+    #[tactic(auto, using(crate::proofs::TracedLemmas::log_next, crate::proofs::TracedLemmas::first_left))]
+    fn take(&mut self, buf: &mut [u8; 1024]) -> Result<Next, AllocError>
+        ensures ok { IfOk result (Takes self.old self.new buf.new) }
+        ensures err { OnErr result (self.new ≡ self.old) }
+    {
+        self.log.try_reserve(1)?;
+        let Some(entry) = self.entries.pop() else {
+            return Ok(Next::Done);
+        };
+        let next = announce(&entry, buf);
+        self.log.push_reserved(Told::Came(entry));
+        Ok(next)
+    }
+
+    /// One more failure, at first for want of memory.
+    fn fail(&mut self)
+        requires { self.old.failed < u64.MAX }
+        ensures { self.new ≡ record self.old { failed = self.old.failed + 1; health = refused self.old.health } }
+    {
+        self.failures += 1;
+        if let Health::Good = self.health {
+            self.health = Health::Refused;
+        }
+    }
+
+    /// Whether it gave up for want of memory; if it gave up and this is false, a write failed.
+    pub fn refused(&self) -> bool
+        ensures { result ≡ is_refused self.now.health }
+    {
+        matches!(self.health, Health::Refused)
+    }
+
+    /// The writer.
+    pub fn into_writer(self) -> W
+        ensures held { W.contents result ≡ self.written }
+        // It has got the lines of the log's actions, if no write failed.
+        ensures lines { HasLines B.held self }
+        ensures sound { self.failed ≡ 0 → self.health ≡ Good }
+    {
+        let Trace {
+            alloc: _,
+            entries: _,
+            is_started: _,
+            log: _,
+            line: _,
+            out,
+            failures: _,
+            health: _,
+            beginning: _,
+        } = self;
+        out
+    }
+}
+
+/// An action as it is stored, with its line in `line` and room for it in the log.
+fn prepare(
+    alloc: Global,
+    line: &mut String,
+    log: &mut Vec<Told>,
+    now: u64,
+    action: &Action<'_>,
+) -> Result<Told, AllocError>
+    ensures told { IfOk result (λ told. told_of told ≡ Went now (output_of action.now)) }
+    ensures line { OnOk result (string_bytes line.new ≡ line_of now (output_of action.now)) }
+    ensures room { OnOk result (vec_len log.new < vec_capacity log.new) }
+    ensures log { log.new.items ≡ log.old.items }
+{
+    let told = stored(alloc, now, action)?;
+    line.clear();
+    append_line(alloc, line, now, action)?;
+    log.try_reserve(1)?;
+    Ok(told)
+}
+
+impl<W: Write, B: Beginning> Port for Trace<W, B> {
+    ghost use Rattle.std.specs.Prelude.{Some};
+    ghost use Rattle.traces.specs.Traced.{has_ended, whole_script};
+
+    ghost log = { λ t. Some t.log };
+
+    ghost failed = { λ t. t.failed };
+
+    ghost ended = { has_ended };
+
+    ghost script = { whole_script };
+
+    fn next(&mut self, buf: &mut [u8; 1024]) -> Next {
+        if self.is_started && self.entries.is_empty() {
+            return Next::Done;
+        }
+        if self.health != Health::Good {
+            self.fail();
+            return Next::Fault;
+        }
+        let came = if self.is_started {
+            self.take(buf)
+        } else {
+            self.start()
+        };
+        match came {
+            Ok(next) => next,
+            Err(_) => {
+                self.fail();
+                Next::Fault
+            }
+        }
+    }
+
+    fn put(&mut self, now: u64, action: &Action<'_>) -> bool {
+        if self.health != Health::Good {
+            self.fail();
+            return false;
+        }
+        let Ok(told) = prepare(self.alloc, &mut self.line, &mut self.log, now, action) else {
+            self.fail();
+            return false;
+        };
+        if self.out.write_all(self.line.as_bytes()).is_err() {
+            self.failures += 1;
+            self.health = Health::Broken;
+            return false;
+        }
+        self.log.push_reserved(told);
+        true
+    }
+
+    fn failures(&self) -> u64 {
+        self.failures
+    }
+}
