@@ -7,3 +7,4 @@ pub mod HearingLemmas
 pub mod Keeping
 pub mod BeginningLemmas
 pub mod TextLemmas
+pub mod RunLemmas

@@ -1,7 +1,9 @@
 -- Text goes on.
-use Rattle.std.proofs.Common.{◌≡◌, ℕ, zero, suc, ◌+◌, ◌-◌, ◌^◌, ◌<◌, ◌≤◌, min, Bool, true, false, if◌then◌else◌, List, [], ◌∷◌, ◌++◌, length, take, drop, get_or, Option, Some, None, refl, sym, ap, subst, ◌∙◌, append_assoc, arith}
+use Rattle.std.proofs.Common.{◌≡◌, ℕ, zero, suc, ◌+◌, ◌-◌, ◌^◌, ◌<◌, ◌≤◌, min, Bool, true, false, if◌then◌else◌, List, [], ◌∷◌, ◌++◌, length, take, drop, get_or, map, Option, Some, None, refl, sym, ap, subst, ◌∙◌, append_assoc, arith}
 use Rattle.std.proofs.lemmas.List.{append-nil, take_more, take_all, drop_more, drop_all, length-drop}
 use Rattle.std.specs.List.{flat_map}
+use Rattle.asdu.specs.Asdu.{AsduValue, Info}
+use Rattle.asdu.specs.InformationObjects.{InformationObject, object_in, only_if, is_passed_on, value_objects}
 use Rattle.std.specs.Io.KnownBytes.{Appends}
 use Rattle.gateway.specs.declared.entries.Told.{Told}
 use Rattle.link.specs.Secondary.{Secondary}
@@ -84,3 +86,13 @@ pub written_more : (a b c : Option (List ℕ)) (xs : List ℕ) (done n : ℕ) �
 written_more a b c xs done n p q =
     let all : take (length xs - done) (drop done xs) ≡ drop done xs = take_all (length xs - done) (drop done xs) (omega (arith, length-drop done xs)) in
     subst (Appends a c) (sym (take_add done n (done + n) xs refl)) (appends_more a b c (take done xs) (take n (drop done xs)) p (subst (λ (l : List ℕ). Appends b c (take n l)) all q))
+
+length-objects : (u : AsduValue) (infos : List Info) → length (map (object_in u) infos) ≡ length infos
+length-objects u [] = refl
+length-objects u (i ∷ infos) = omega (arith, length-objects u infos)
+
+-- all objects of an ASDU that is passed on
+pub counted_objects : (u : AsduValue) (xs : List InformationObject) (n : ℕ) → n ≡ length u.infos → xs ≡ only_if (is_passed_on u.kind u.cause) (value_objects u) → is_passed_on u.kind u.cause ≡ true → n ≡ length xs
+counted_objects u xs n e f is =
+    let whole : xs ≡ value_objects u = f ∙ ap (λ (b : Bool). only_if b (value_objects u)) is in
+    e ∙ sym (ap length whole ∙ length-objects u u.infos)

@@ -3,8 +3,8 @@ use Rattle.std.specs.Prelude.{◌≡◌, ℕ, ◌+◌, ◌==◌, ◌&&◌, not, 
 use Rattle.std.specs.List.{slice_split, filter_map, list_any, AllByRecursion}
 use Rattle.ft12.specs.declared.frame.LinkSize.{LinkSize}
 use Rattle.gateway.specs.Config.{Settings}
-use Rattle.traces.specs.declared.trace.TextFault.{TextFault}
-use Rattle.traces.specs.declared.trace.TextFault.TheVariants.{Line, NoMemory}
+use Rattle.traces.specs.declared.reading.TextFault.{TextFault}
+use Rattle.traces.specs.declared.reading.TextFault.TheVariants.{Line, NoMemory}
 use Rattle.traces.specs.Trace.{is_skipped}
 use Rattle.sim.specs.declared.directive.Directive.{Directive}
 use Rattle.sim.specs.declared.directive.Directive.TheVariants.{Turns, Ack, Report, LoseRequest, LoseAnswer, SpoilAnswer, Cut, Send}

@@ -59,7 +59,7 @@ objects_until_next (t ∷ told) = if opens t then 0 else objects_sent t + object
 
 -- `connection C objects N`
 abbrev pub connection_line : (connection objects : ℕ) → List ℕ
-connection_line connection objects = codes "connection " ++ decimal connection ++ codes " objects " ++ decimal objects ++ 10 ∷ []
+connection_line connection objects = codes "connection " ++ (decimal connection ++ (codes " objects " ++ (decimal objects ++ 10 ∷ [])))
 
 -- the lines of the connections, which are counted from n (no number goes past 64 bits)
 abbrev pub connection_lines : (n : ℕ) → List Told → List ℕ

@@ -1,7 +1,4 @@
 //! Scripts, good and wrong.
-ghost use Rattle.std.specs.Prelude.{◌≡◌, IfOk, length};
-ghost use Rattle.gateway.specs.declared.settings.Silence.TheVariants.{Hold};
-
 use crate::{Class, Directive, SimFault, TextFault, read_script, simulate};
 use asdu::{CaSize, CauseSize, IoaSize, Sizes};
 use ft12::LinkSize;
@@ -196,10 +193,7 @@ fn octets_fit_their_frames(rt: HostRuntime) -> Result<(), Fail> {
 }
 
 /// Settings with one station.
-fn one_station(alloc: Global) -> Result<Config, AllocError>
-    ensures one { IfOk result (λ c. length c.stations ≡ 1) }
-    ensures holds { IfOk result (λ c. c.line.silence ≡ Hold) }
-{
+fn one_station(alloc: Global) -> Result<Config, AllocError> {
     let line = LineSettings {
         link: LinkSize::One,
         sizes: Sizes {
@@ -258,6 +252,29 @@ fn a_lost_answer_is_asked_for_again(rt: HostRuntime) -> Result<(), Fail> {
         "turns 8\nreport 1 2 01010301640001\nlose answer 3\n",
     )?;
     assert_eq!(rt; out.as_slice(), LOST_ANSWER.as_bytes());
+    Ok(())
+}
+
+/// The same with a report of class 1: the requests at 4 and 204 ask for it.
+const LOST_ANSWER_OF_CLASS_1: &str = "1 > S 1049014A16
+2 > T 68040B000000
+3 > S 1040014116
+4 > S 107A017B16
+204 > S 107A017B16
+205 > S 105B015C16
+205 > T 680E0000000001010300010064000001
+207 > S 107B017C16
+station 1 reports 1 given 1 accepted 0
+connection 1 objects 1
+";
+
+#[test]
+fn a_lost_answer_of_class_1_is_asked_for_again(rt: HostRuntime) -> Result<(), Fail> {
+    let out = written(
+        rt.alloc(),
+        "turns 8\nreport 1 1 01010301640001\nlose answer 3\n",
+    )?;
+    assert_eq!(rt; out.as_slice(), LOST_ANSWER_OF_CLASS_1.as_bytes());
     Ok(())
 }
 
