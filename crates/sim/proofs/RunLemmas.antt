@@ -59,7 +59,7 @@ simulated c ds before after s told stations octets plan calls faithful log same 
   stations = stations;
   played = subst (λ (ss : List Secondary). IsPlayed (plan_of c ds) (log_of told) k.answers ss) (sym same)
       (subst (λ (l : Log). IsPlayed (plan_of c ds) l k.answers s.stations) (sym log)
-          (subst (λ (q : Plan). IsPlayed q s.log k.answers s.stations) plan k.played));
+      (subst (λ (q : Plan). IsPlayed q s.log k.answers s.stations) plan k.played));
   calls = ap calls_in log ∙ calls;
   faithful = subst (IsFaithful (setup_of c)) (sym log) faithful;
   text = subst (Appends before after) is wrote;

@@ -286,14 +286,19 @@ fn a_spoilt_answer_is_as_good_as_lost(rt: HostRuntime) -> Result<(), Fail> {
         "turns 9\nreport 1 2 01010301640001\nspoil answer 3 20\n",
     )?;
     let text = out.as_slice();
-    assert!(rt; text.ends_with(b"station 1 reports 1 given 1 accepted 0\nconnection 1 objects 1\n"));
+    assert!(rt;
+        text.ends_with(b"station 1 reports 1 given 1 accepted 0\nconnection 1 objects 1\n")
+    );
     Ok(())
 }
 
 #[test]
 fn no_calls_give_the_closing_lines(rt: HostRuntime) -> Result<(), Fail> {
     let out = written(rt.alloc(), "turns 0\nreport 1 2 01010301640001\n")?;
-    assert_eq!(rt; out.as_slice(), b"station 1 reports 1 given 0 accepted 0\n".as_slice());
+    assert_eq!(rt;
+        out.as_slice(),
+        b"station 1 reports 1 given 0 accepted 0\n".as_slice()
+    );
     Ok(())
 }
 
@@ -329,7 +334,10 @@ fn a_failing_write_is_told(rt: HostRuntime) -> Result<(), Fail> {
             room: 100,
             is_failing,
         };
-        assert_eq!(rt; simulate(alloc, &config, &script, &mut out), Err(SimFault::Write));
+        assert_eq!(rt;
+            simulate(alloc, &config, &script, &mut out),
+            Err(SimFault::Write)
+        );
     }
     let mut out = Narrow {
         room: 1000,

@@ -7,7 +7,7 @@ pub returns-then-opens : goal.returns-then-opens
 returns-then-opens c =
     let small : c.loop-told.objects < 2 ^ 64 = omega (arith, c.loop-told.invariant.few) in
     until_open c.args.log.now c.loop-told.told-index c.told-item.result c.loop-told.objects _ c.loop-told-test.true
-        (sym (ap opens c.told-item.is) ∙ sym c.opens.ensures ∙ c.if-opens.true) small c.loop-told.invariant.same
+    (sym (ap opens c.told-item.is) ∙ sym c.opens.ensures ∙ c.if-opens.true) small c.loop-told.invariant.same
 
 pub returns : goal.returns
 returns c =
