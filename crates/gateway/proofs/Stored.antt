@@ -146,7 +146,3 @@ first_follows c s told starts laws rules timely is e = subst (λ o. Follows (set
 
 pub nothing_rests : (p : Setup) (told : Option Log) → told ≡ Some [] → Rests p told
 nothing_rests p told e = subst (Rests p) (sym e) tt
-
--- the port over stored entries tells one
-pub nothing_told : (r : Recorded) (entries : List Entry) → r ≡ record { log = []; failed = 0; started = false; left = entries; script = script_of entries } → Some r.log ≡ Some []
-nothing_told r entries e = ap (λ (x : Recorded). Some x.log) e
