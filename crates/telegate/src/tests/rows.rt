@@ -11,7 +11,7 @@ const OPENED: &str =
     "0 > S 1049014A16\n10 > S 1040014116\n20 > S 107B017C16\n40 > T 68040B000000\n";
 
 /// What follows the opening, and what it gives. `N` is the report of one single point.
-static AFTER_OPENING: [(&str, &str); 11] = [
+static AFTER_OPENING: [(&str, &str); 20] = [
     // One report: the next poll, and an I frame.
     (
         "50 S 680909680801010103016400017416\n",
@@ -37,6 +37,33 @@ static AFTER_OPENING: [(&str, &str); 11] = [
     ),
     // A receive number that acknowledges nothing that was sent.
     ("50 R 680401000200\n", "50 > X 3\n"),
+    // The rest of a piece that closes the connection is dropped.
+    ("50 R 680401000200680443000000\n", "50 > X 3\n"),
+    // Octets that begin no APDU.
+    ("50 R 680401010000\n", "50 > X 1\n"),
+    ("50 R 680507\n", "50 > X 1\n"),
+    ("50 R 680C00\n", "50 > X 1\n"),
+    // A send number that isn't the next.
+    ("50 R 680E0200000064010600010000000014\n", "50 > X 2\n"),
+    // Stopped once all is acknowledged, and not before.
+    (
+        "50 S 680909680801010103016400017416\n60 R 680413000000\n70 R 680401000200\n",
+        "50 > S 105B015C16\n50 > T 680E0000000001010300010064000001\n70 > T 680423000000\n",
+    ),
+    (
+        "50 S 680909680801010103016400017416\n60 R 680413000000\n70 R 680E0000000064010600010000000014\n",
+        "50 > S 105B015C16\n50 > T 680E0000000001010300010064000001\n70 > X 4\n",
+    ),
+    // An I frame is acknowledged in time.
+    (
+        "50 R 680E0000000064010600010000000014\n10050 T\n",
+        "10050 > S 107B017C16\n10050 > T 680401000200\n",
+    ),
+    // A silent connection is tested, and closed where the test isn't answered.
+    (
+        "20040 T\n35040 T\n",
+        "20040 > S 107B017C16\n20040 > T 680443000000\n35040 > X 5\n35040 > S 107B017C16\n",
+    ),
     // A second connection takes the place of the first.
     ("50 O\n", "50 > X 7\n"),
     // The station has more data of class 1.
@@ -278,6 +305,28 @@ fn a_silent_link_is_reset_where_the_settings_say_so(rt: HostRuntime) -> Result<(
     let want = format!(in alloc; "{OPENED}220 > S 107B017C16\n420 > S 1049014A16\n")?;
     let job = Job::Replay {
         config: config.as_bytes(),
+        trace: trace.as_bytes(),
+    };
+    let done = performed(alloc, &job);
+    assert_eq!(rt; done.out.as_slice(), want.as_bytes());
+    assert_eq!(rt; done.status, 0);
+    Ok(())
+}
+
+#[test]
+fn each_test_of_a_flood_is_confirmed(rt: HostRuntime) -> Result<(), Fail> {
+    let alloc = rt.alloc();
+    // 1,024 octets: 170 tests, and the first four octets of one more.
+    let mut trace = format!(in alloc; "{OPENING}50 R ")?;
+    let mut want = String::from_str(alloc, OPENED)?;
+    for _ in 0..170u64 {
+        trace.push_str("680443000000")?;
+        want.push_str("50 > T 680483000000\n")?;
+    }
+    trace.push_str("68044300\n51 R 0000\n")?;
+    want.push_str("51 > T 680483000000\n")?;
+    let job = Job::Replay {
+        config: CONFIG_A,
         trace: trace.as_bytes(),
     };
     let done = performed(alloc, &job);
