@@ -35,37 +35,73 @@ fn extend_content(out: &mut Octets, kind: TypeId, octet: u8) -> bool {
     (0..kind.size()).all(|_| out.try_push(octet).is_ok()) && extend(out, tag)
 }
 
+/// Two single points with SQ 0, sent as a test, of cause 3.
+const POINTS: [u8; 8] = [0x01, 0x02, 0x83, 0x01, 0x64, 0x01, 0x65, 0xF0];
+
+/// Two normalised values with SQ 1, of originator 7.
+const VALUES: [u8; 15] = [
+    0x09, 0x82, 0x03, 0x07, 0x01, 0x00, 0x0A, 0x00, 0x00, 0x00, 0x80, 0x00, 0xFF, 0xFF, 0x80,
+];
+
+/// Whether its untagged objects have these addresses and elements, in this order, and whether there are no others.
+fn has_objects(asdu: &Asdu, wanted: &[(u32, &[u8])]) -> bool {
+    let mut objects = asdu.objects();
+    for (address, element) in wanted {
+        let Some(object) = objects.next() else {
+            return false;
+        };
+        if object.address != *address || object.element != *element || object.tag.is_some() {
+            return false;
+        }
+    }
+    objects.next().is_none() && objects.next().is_none()
+}
+
+/// Whether these are the values that its objects show.
+fn shows(asdu: &Asdu, wanted: &[i64]) -> bool {
+    let mut objects = asdu.objects();
+    wanted.iter().all(|value| match objects.next() {
+        Some(object) => object.kind.value(object.element) == *value,
+        None => false,
+    })
+}
+
 #[test]
 fn reads_objects(rt: HostRuntime) {
-    let octets = [0x01, 0x02, 0x83, 0x01, 0x64, 0x01, 0x65, 0xF0];
-    let asdu = read(SMALL, &octets).expect(&rt, "two single points");
+    let asdu = read(SMALL, &POINTS).expect(&rt, "two single points");
+    assert!(rt; has_objects(&asdu, &[(100, &[0x01]), (101, &[0xF0])]));
+}
+
+#[test]
+fn reads_sequences(rt: HostRuntime) {
+    let asdu = read(Sizes::TCP, &VALUES).expect(&rt, "two normalised values");
+    let wanted: [(u32, &[u8]); 2] = [(10, &[0x00, 0x80, 0x00]), (11, &[0xFF, 0xFF, 0x80])];
+    assert!(rt; has_objects(&asdu, &wanted));
+    assert!(rt; shows(&asdu, &[-32_768, -1]));
+}
+
+#[test]
+fn keeps_the_octets(rt: HostRuntime) {
+    let asdu = read(SMALL, &POINTS).expect(&rt, "two single points");
     assert_eq!(rt; asdu.sizes, SMALL);
     assert_eq!(rt; asdu.kind, TypeId::MSpNa1);
-    assert_eq!(rt; asdu.octets, octets.as_slice());
+    assert_eq!(rt; asdu.octets, POINTS.as_slice());
+}
+
+#[test]
+fn reads_headers(rt: HostRuntime) {
+    let asdu = read(SMALL, &POINTS).expect(&rt, "two single points");
     assert_eq!(rt; asdu.number(), 2);
     assert!(rt; !asdu.is_sequence());
     assert_eq!(rt; asdu.cause(), 0x83);
     assert_eq!(rt; asdu.originator(), 0);
     assert_eq!(rt; asdu.ca(), 1);
     assert!(rt; asdu.is_passed_on());
-    let mut objects = asdu.objects();
-    let first = objects.next().expect(&rt, "the first");
-    assert_eq!(rt; first.address, 100);
-    assert_eq!(rt; first.element, [0x01].as_slice());
-    assert_eq!(rt; first.tag, None);
-    let second = objects.next().expect(&rt, "the second");
-    assert_eq!(rt; second.address, 101);
-    assert_eq!(rt; second.element, [0xF0].as_slice());
-    assert!(rt; objects.next().is_none());
-    assert!(rt; objects.next().is_none());
 }
 
 #[test]
-fn reads_sequences(rt: HostRuntime) {
-    let octets = [
-        0x09, 0x82, 0x03, 0x07, 0x01, 0x00, 0x0A, 0x00, 0x00, 0x00, 0x80, 0x00, 0xFF, 0xFF, 0x80,
-    ];
-    let asdu = read(Sizes::TCP, &octets).expect(&rt, "two normalised values");
+fn reads_headers_of_a_connection(rt: HostRuntime) {
+    let asdu = read(Sizes::TCP, &VALUES).expect(&rt, "two normalised values");
     assert_eq!(rt; asdu.number(), 2);
     assert!(rt; asdu.is_sequence());
     assert_eq!(rt; asdu.originator(), 7);
@@ -78,15 +114,6 @@ fn reads_sequences(rt: HostRuntime) {
         ioa: 10,
     };
     assert_eq!(rt; asdu.head(), wanted);
-    let mut objects = asdu.objects();
-    let first = objects.next().expect(&rt, "the first");
-    assert_eq!(rt; first.address, 10);
-    assert_eq!(rt; first.kind.value(first.element), -32_768);
-    let second = objects.next().expect(&rt, "the second");
-    assert_eq!(rt; second.address, 11);
-    assert_eq!(rt; second.element, [0xFF, 0xFF, 0x80].as_slice());
-    assert_eq!(rt; second.kind.value(second.element), -1);
-    assert!(rt; objects.next().is_none());
 }
 
 /// Whether the octets are refused, for this reason.
