@@ -35,37 +35,73 @@ fn extend_content(out: &mut Octets, kind: TypeId, octet: u8) -> bool {
     (0..kind.size()).all(|_| out.try_push(octet).is_ok()) && extend(out, tag)
 }
 
+/// Two single points with SQ 0, sent as a test, of cause 3.
+const POINTS: [u8; 8] = [0x01, 0x02, 0x83, 0x01, 0x64, 0x01, 0x65, 0xF0];
+
+/// Two normalised values with SQ 1, of originator 7.
+const VALUES: [u8; 15] = [
+    0x09, 0x82, 0x03, 0x07, 0x01, 0x00, 0x0A, 0x00, 0x00, 0x00, 0x80, 0x00, 0xFF, 0xFF, 0x80,
+];
+
+/// Whether its untagged objects have these addresses and elements, in this order, and whether there are no others.
+fn has_objects(asdu: &Asdu, wanted: &[(u32, &[u8])]) -> bool {
+    let mut objects = asdu.objects();
+    for (address, element) in wanted {
+        let Some(object) = objects.next() else {
+            return false;
+        };
+        if object.address != *address || object.element != *element || object.tag.is_some() {
+            return false;
+        }
+    }
+    objects.next().is_none() && objects.next().is_none()
+}
+
+/// Whether these are the values that its objects show.
+fn shows(asdu: &Asdu, wanted: &[i64]) -> bool {
+    let mut objects = asdu.objects();
+    wanted.iter().all(|value| match objects.next() {
+        Some(object) => object.kind.value(object.element) == *value,
+        None => false,
+    })
+}
+
 #[test]
 fn reads_objects(rt: HostRuntime) {
-    let octets = [0x01, 0x02, 0x83, 0x01, 0x64, 0x01, 0x65, 0xF0];
-    let asdu = read(SMALL, &octets).expect(&rt, "two single points");
+    let asdu = read(SMALL, &POINTS).expect(&rt, "two single points");
+    assert!(rt; has_objects(&asdu, &[(100, &[0x01]), (101, &[0xF0])]));
+}
+
+#[test]
+fn reads_sequences(rt: HostRuntime) {
+    let asdu = read(Sizes::TCP, &VALUES).expect(&rt, "two normalised values");
+    let wanted: [(u32, &[u8]); 2] = [(10, &[0x00, 0x80, 0x00]), (11, &[0xFF, 0xFF, 0x80])];
+    assert!(rt; has_objects(&asdu, &wanted));
+    assert!(rt; shows(&asdu, &[-32_768, -1]));
+}
+
+#[test]
+fn keeps_the_octets(rt: HostRuntime) {
+    let asdu = read(SMALL, &POINTS).expect(&rt, "two single points");
     assert_eq!(rt; asdu.sizes, SMALL);
     assert_eq!(rt; asdu.kind, TypeId::MSpNa1);
-    assert_eq!(rt; asdu.octets, octets.as_slice());
+    assert_eq!(rt; asdu.octets, POINTS.as_slice());
+}
+
+#[test]
+fn reads_headers(rt: HostRuntime) {
+    let asdu = read(SMALL, &POINTS).expect(&rt, "two single points");
     assert_eq!(rt; asdu.number(), 2);
     assert!(rt; !asdu.is_sequence());
     assert_eq!(rt; asdu.cause(), 0x83);
     assert_eq!(rt; asdu.originator(), 0);
     assert_eq!(rt; asdu.ca(), 1);
     assert!(rt; asdu.is_passed_on());
-    let mut objects = asdu.objects();
-    let first = objects.next().expect(&rt, "the first");
-    assert_eq!(rt; first.address, 100);
-    assert_eq!(rt; first.element, [0x01].as_slice());
-    assert_eq!(rt; first.tag, None);
-    let second = objects.next().expect(&rt, "the second");
-    assert_eq!(rt; second.address, 101);
-    assert_eq!(rt; second.element, [0xF0].as_slice());
-    assert!(rt; objects.next().is_none());
-    assert!(rt; objects.next().is_none());
 }
 
 #[test]
-fn reads_sequences(rt: HostRuntime) {
-    let octets = [
-        0x09, 0x82, 0x03, 0x07, 0x01, 0x00, 0x0A, 0x00, 0x00, 0x00, 0x80, 0x00, 0xFF, 0xFF, 0x80,
-    ];
-    let asdu = read(Sizes::TCP, &octets).expect(&rt, "two normalised values");
+fn reads_headers_of_a_connection(rt: HostRuntime) {
+    let asdu = read(Sizes::TCP, &VALUES).expect(&rt, "two normalised values");
     assert_eq!(rt; asdu.number(), 2);
     assert!(rt; asdu.is_sequence());
     assert_eq!(rt; asdu.originator(), 7);
@@ -78,67 +114,51 @@ fn reads_sequences(rt: HostRuntime) {
         ioa: 10,
     };
     assert_eq!(rt; asdu.head(), wanted);
-    let mut objects = asdu.objects();
-    let first = objects.next().expect(&rt, "the first");
-    assert_eq!(rt; first.address, 10);
-    assert_eq!(rt; first.kind.value(first.element), -32_768);
-    let second = objects.next().expect(&rt, "the second");
-    assert_eq!(rt; second.address, 11);
-    assert_eq!(rt; second.element, [0xFF, 0xFF, 0x80].as_slice());
-    assert_eq!(rt; second.kind.value(second.element), -1);
-    assert!(rt; objects.next().is_none());
 }
 
+/// Whether the octets are refused, for this reason.
+fn is_refused(sizes: Sizes, octets: &[u8], why: u8) -> bool {
+    read(sizes, octets) == Err(Refused(why))
+}
+
+/// Too short for a header and an address, whatever the type; in other sizes too.
 #[test]
-fn refuses_by_the_first_fault(rt: HostRuntime) {
-    // Too short for a header and an address, whatever the type; in other sizes too.
-    assert_eq!(rt; read(SMALL, &[]), Err(Refused(1)));
-    assert_eq!(rt; read(SMALL, &[0x02, 0x00, 0x03, 0x01]), Err(Refused(1)));
-    assert_eq!(rt;
-        read(Sizes::TCP, &[0x01, 0x01, 3, 0, 1, 0, 1, 0]),
-        Err(Refused(1))
-    );
-    // A type that isn't known, also with number 0.
-    assert_eq!(rt;
-        read(SMALL, &[0x02, 0x00, 0x03, 0x01, 0x64]),
-        Err(Refused(2))
-    );
+fn refuses_what_is_too_short(rt: HostRuntime) {
+    assert!(rt; is_refused(SMALL, &[], 1));
+    assert!(rt; is_refused(SMALL, &[0x02, 0x00, 0x03, 0x01], 1));
+    assert!(rt; is_refused(Sizes::TCP, &[0x01, 0x01, 3, 0, 1, 0, 1, 0], 1));
+}
+
+/// A type that isn't known, also with number 0.
+#[test]
+fn refuses_types_that_are_not_known(rt: HostRuntime) {
+    assert!(rt; is_refused(SMALL, &[0x02, 0x00, 0x03, 0x01, 0x64], 2));
     for octet in 58..=64u8 {
         let tagged = [
             octet, 0x01, 6, 1, 10, 0x81, 0xD5, 0xDD, 0x22, 0x0C, 0x9D, 0x02, 0x18,
         ];
-        assert_eq!(rt; read(SMALL, &tagged), Err(Refused(2)));
+        assert!(rt; is_refused(SMALL, &tagged, 2));
     }
+}
+
+#[test]
+fn refuses_wrong_numbers_and_lengths(rt: HostRuntime) {
     // Number 0, with SQ 0 and 1, also where the length is wrong.
-    assert_eq!(rt;
-        read(SMALL, &[0x01, 0x00, 0x03, 0x01, 0x64]),
-        Err(Refused(3))
-    );
-    assert_eq!(rt;
-        read(SMALL, &[0x01, 0x80, 0x03, 0x01, 0x64, 0x01]),
-        Err(Refused(3))
-    );
+    assert!(rt; is_refused(SMALL, &[0x01, 0x00, 0x03, 0x01, 0x64], 3));
+    assert!(rt; is_refused(SMALL, &[0x01, 0x80, 0x03, 0x01, 0x64, 0x01], 3));
     // An octet too few or too many, also where the last address is past the size.
-    assert_eq!(rt;
-        read(SMALL, &[0x01, 0x01, 0x03, 0x01, 0x64]),
-        Err(Refused(4))
-    );
-    assert_eq!(rt;
-        read(SMALL, &[0x01, 0x01, 0x03, 0x01, 0x64, 0x01, 0x00]),
-        Err(Refused(4))
-    );
-    assert_eq!(rt;
-        read(SMALL, &[0x01, 0x82, 0x03, 0x01, 0xFF, 0x01]),
-        Err(Refused(4))
-    );
-    // The last address past the size with SQ 1, and the greatest that isn't.
-    assert_eq!(rt;
-        read(SMALL, &[0x01, 0x82, 0x03, 0x01, 0xFF, 0x01, 0x00]),
-        Err(Refused(5))
-    );
+    assert!(rt; is_refused(SMALL, &[0x01, 0x01, 0x03, 0x01, 0x64], 4));
+    assert!(rt; is_refused(SMALL, &[0x01, 0x01, 0x03, 0x01, 0x64, 0x01, 0x00], 4));
+    assert!(rt; is_refused(SMALL, &[0x01, 0x82, 0x03, 0x01, 0xFF, 0x01], 4));
+}
+
+/// The last address past the size with SQ 1, and the greatest that isn't.
+#[test]
+fn refuses_addresses_past_the_size(rt: HostRuntime) {
+    assert!(rt; is_refused(SMALL, &[0x01, 0x82, 0x03, 0x01, 0xFF, 0x01, 0x00], 5));
     assert!(rt; read(SMALL, &[0x01, 0x82, 0x03, 0x01, 0xFE, 0x01, 0x00]).is_ok());
     let last = [0x01, 0x82, 3, 0, 1, 0, 0xFF, 0xFF, 0xFF, 1, 1];
-    assert_eq!(rt; read(Sizes::TCP, &last), Err(Refused(5)));
+    assert!(rt; is_refused(Sizes::TCP, &last, 5));
 }
 
 #[test]
@@ -169,48 +189,58 @@ fn heads_are_not_judged(rt: HostRuntime) {
     assert_eq!(rt; head(SMALL, &octets[..4]), None);
 }
 
+/// Two objects: their header and first address, their contents, and the second's address between them.
+fn two_objects(kind: TypeId, head: &[u8], address: &[u8]) -> Octets {
+    let mut out = Octets::new();
+    let _ = extend(&mut out, head)
+        && extend_content(&mut out, kind, 0xF1)
+        && extend(&mut out, address)
+        && extend_content(&mut out, kind, 0x8E);
+    out
+}
+
 /// Two objects at 16 and 17, as a line of one-octet sizes and as a connection has them.
 #[test]
 fn carries_every_type(rt: HostRuntime) {
     for octet in 0..=255u8 {
-        let Some(kind) = kind(octet) else {
-            continue;
-        };
-        for sequence in [false, true] {
-            let vsq = if sequence { 0x82 } else { 0x02 };
-            let mut small = Octets::new();
-            let mut wide = Octets::new();
-            assert!(rt; extend(&mut small, &[octet, vsq, 0x43, 0x09, 0x10]));
-            assert!(rt;
-                extend(
-                    &mut wide,
-                    &[octet, vsq, 0x43, 0x00, 0x09, 0x00, 0x10, 0x00, 0x00]
-                )
-            );
-            assert!(rt;
-                extend_content(&mut small, kind, 0xF1) && extend_content(&mut wide, kind, 0xF1)
-            );
-            if !sequence {
-                assert!(rt; extend(&mut small, &[0x11]) && extend(&mut wide, &[0x11, 0x00, 0x00]));
-            }
-            assert!(rt;
-                extend_content(&mut small, kind, 0x8E) && extend_content(&mut wide, kind, 0x8E)
-            );
-            let asdu = read(SMALL, small.as_slice()).expect(&rt, "an ASDU of the line");
-            assert_eq!(rt; asdu.kind, kind);
-            assert_eq!(rt; asdu.is_passed_on(), kind.monitor());
-            check_objects(&rt, &asdu);
-            let pieces = translate(&asdu);
-            assert_eq!(rt; pieces.len(), 1);
-            let piece = pieces.as_slice().first().expect(&rt, "a piece");
-            assert_eq!(rt; piece.as_slice(), wide.as_slice());
-            let asdu = read(Sizes::TCP, piece.as_slice()).expect(&rt, "an ASDU of a connection");
-            check_objects(&rt, &asdu);
-            assert!(rt; can_write(SMALL, &asdu));
-            if can_write(SMALL, &asdu) {
-                assert_eq!(rt; write(SMALL, &asdu).as_slice(), small.as_slice());
-            }
+        if let Some(kind) = kind(octet) {
+            let small = two_objects(kind, &[octet, 0x02, 0x43, 9, 16], &[17]);
+            let wide = two_objects(kind, &[octet, 0x02, 0x43, 0, 9, 0, 16, 0, 0], &[17, 0, 0]);
+            check_carried(&rt, kind, small.as_slice(), wide.as_slice());
+            let small = two_objects(kind, &[octet, 0x82, 0x43, 9, 16], &[]);
+            let wide = two_objects(kind, &[octet, 0x82, 0x43, 0, 9, 0, 16, 0, 0], &[]);
+            check_carried(&rt, kind, small.as_slice(), wide.as_slice());
         }
+    }
+}
+
+fn check_carried<R: Abort>(rt: &R, kind: TypeId, small: &[u8], wide: &[u8]) {
+    let asdu = read(SMALL, small).expect(rt, "an ASDU of the line");
+    assert_eq!(rt; asdu.kind, kind);
+    assert_eq!(rt; asdu.is_passed_on(), kind.monitor());
+    check_objects(rt, &asdu);
+    check_piece(rt, &asdu, wide);
+    let asdu = read(Sizes::TCP, wide).expect(rt, "an ASDU of a connection");
+    check_objects(rt, &asdu);
+    check_written(rt, &asdu, small);
+}
+
+/// It is translated into this piece alone.
+fn check_piece<R: Abort>(rt: &R, asdu: &Asdu, wanted: &[u8]) {
+    assert!(rt; asdu.octets.len() <= 253);
+    if asdu.octets.len() <= 253 {
+        let pieces = translate(asdu);
+        assert_eq!(rt; pieces.len(), 1);
+        let piece = pieces.as_slice().first().expect(rt, "a piece");
+        assert_eq!(rt; piece.as_slice(), wanted);
+    }
+}
+
+/// In one-octet sizes it has these octets.
+fn check_written<R: Abort>(rt: &R, asdu: &Asdu, wanted: &[u8]) {
+    assert!(rt; can_write(SMALL, asdu));
+    if can_write(SMALL, asdu) {
+        assert_eq!(rt; write(SMALL, asdu).as_slice(), wanted);
     }
 }
 

@@ -25,9 +25,14 @@ use Rattle.gateway.specs.Connections.{Channel, no_channel, sending, ends, presen
 use Rattle.gateway.specs.Reports.{Setup, taken_objects, reports_in, parts_of_all}
 use Rattle.gateway.specs.Polls.{has_room}
 use Rattle.gateway.specs.Room.{IsFull}
-use Rattle.gateway.specs.Traffic.{is_replaced, replaces, IsAtRest, IsFaithful}
+use Rattle.gateway.specs.Traffic.{is_replaced, replaces, HasCause, IsAtRest, IsFaithful}
 use Rattle.gateway.specs.State.{State, disconnected, framed, next_frame, piece_sent}
-use Rattle.gateway.specs.Agrees.{Presently, Carries, Past, Agrees, IsLine, Tied, IsSpent, pieces_of}
+use Rattle.session.specs.History.{History, frame_due, has_timed_out}
+use Rattle.session.specs.Runs.{Call, Send, after_call}
+use Rattle.session.specs.Ends.{IsConfirmed}
+use Rattle.gateway.specs.Conversation.{with_sent, NothingOr, Happens, KeepsTalk}
+use Rattle.gateway.specs.Agrees.{Presently, Carries, Past, Talks, Agrees, IsLine, Tied, IsSpent, IsQuiet, pieces_of}
+use Rattle.gateway.proofs.Talking.{at, HasNoData, sends, kept_talk, talk_out, talk_heard, talk_cut, all_taken, confirmed_by, due_by, late_by}
 use Rattle.gateway.proofs.Unconfirmed.{numbered_more}
 use Rattle.gateway.proofs.Tied.{tied_taken, tied_piece, heard_more, sent_more, SameWindow, tied_same, fault_cases}
 use Rattle.gateway.proofs.Frames.{pass_grows, taken_stays, nothing_waits}
@@ -49,6 +54,7 @@ faithful p s log unjudged is_asked a = record {
   links = keeps_links p s.line log a.line;
   primary = a.primary;
   turns = a.turns;
+  times = a.before.times;
   acts = a.before.acts;
   rests = a.before.rests;
 }
@@ -95,10 +101,11 @@ went_out s t octets unjudged c fs f h fits on same so bears more tied numbered =
 }
 
 -- what goes out changes no connection but the open one
-past_put : (p : Setup) (log : Log) (earlier : List Connection) (now : ℕ) (f : Apdu) → now ≡ latest log → is_replaced log ≡ false → (present log).is_open ≡ true → Fits f → Past p log earlier → Past p (Went now (TcpOut (spelling f)) ∷ log) earlier
-past_put p log earlier now f e settled on fits b = record {
+past_put : (p : Setup) (log : Log) (earlier : List Connection) (now : ℕ) (f : Apdu) → now ≡ latest log → is_replaced log ≡ false → (present log).is_open ≡ true → Fits f → KeepsTalk p (Went now (TcpOut (spelling f)) ∷ log) → Past p log earlier → Past p (Went now (TcpOut (spelling f)) ∷ log) earlier
+past_put p log earlier now f e settled on fits talk b = record {
   are = b.are;
   orders = b.orders;
+  times = (talk, b.times);
   acts = (record { moment = e; replaced = sym settled; may = (on, record { frame = f; fits = fits; spelled_so = refl }) }, b.acts);
   rests = b.rests;
 }
@@ -108,6 +115,8 @@ pub after_piece : (p : Setup) (s : State) (log : Log) (unjudged asdu : List ℕ)
 after_piece p s log unjudged asdu rest is_asked a may on unsent fits =
     let f : Sent = record { ns = s.session.next_sent; nr = s.session.next_received; asdu = asdu } in
     let has : has_objects asdu ≡ true = first_whole (taken_objects p log) (parts_of_all p.sizes (reports_in p log)) a.earlier a.c.sent_frames s.queue.unsent rest asdu unsent a.carries in
+    let talk : Talks p (session.sent FromQueue s.moment s.session) (Went s.moment (TcpOut (spelling (next_frame s.session asdu))) ∷ log) (sent_more f a.c) =
+    talk_out p s.session (session.sent FromQueue s.moment s.session) log a.c s.moment s.moment (a.c.sent_frames ++ f ∷ []) (next_frame s.session asdu) (Send FromQueue s.moment) a.talk fits a.clock (sends s.session a.talk.history asdu s.moment may has) (a.here.so_far ++ unjudged, a.here.joined) in
     record {
       k = a.k;
       sizes = a.sizes;
@@ -119,6 +128,7 @@ after_piece p s log unjudged asdu rest is_asked a may on unsent fits =
       line = a.line;
       primary = a.primary;
       turns = a.turns;
+      talk = talk;
       asks = stays_asked is_asked s (piece_sent s) a.primary refl refl (piece_room s.queue) a.asks;
       c = record { sent_frames = a.c.sent_frames ++ f ∷ []; received_frames = a.c.received_frames };
       here = went_out s (piece_sent s) (present log) unjudged a.c (a.c.sent_frames ++ f ∷ []) (next_frame s.session asdu) a.here fits on refl refl
@@ -127,16 +137,17 @@ after_piece p s log unjudged asdu rest is_asked a may on unsent fits =
           (numbered_more 0 a.c.sent_frames f (a.here.tied.next ∙ ap (λ n. n % 32768) (sym (zero-add (length a.c.sent_frames)))) a.here.numbered);
       earlier = a.earlier;
       carries = carries_piece (taken_objects p log) (parts_of_all p.sizes (reports_in p log)) a.earlier a.c.sent_frames s.queue.unsent rest f unsent has a.carries;
-      before = past_put p log a.earlier s.moment (next_frame s.session asdu) a.clock a.settled (sym a.here.link ∙ on) fits a.before;
+      before = past_put p log a.earlier s.moment (next_frame s.session asdu) a.clock a.settled (sym a.here.link ∙ on) fits (kept_talk p _ _ _ talk) a.before;
     }
 
--- a frame that bears no ASDU
-abbrev pub HasNoData : Apdu → Type 0
-HasNoData f = (put : List Apdu) → data_frames (f ∷ put) ≡ data_frames put
+-- A call of the session leads from this session to that, and this frame goes out.
+pub record GoesOut (s t : Session) (moment : ℕ) (f : Apdu) : Type 0 where
+  pub call : Call
+  pub made : (h : History) → after_call call (at s h) ≡ at t (with_sent f moment h)
 
-pub after_due : (p : Setup) (s : State) (t : Session) (log : Log) (unjudged : List ℕ) (f : Apdu) (is_asked : Bool) → Agrees p s log unjudged is_asked → s.session.connected ≡ true → Fits f → HasNoData f → SameWindow s.session t →
+pub after_due : (p : Setup) (s : State) (t : Session) (log : Log) (unjudged : List ℕ) (f : Apdu) (is_asked : Bool) → Agrees p s log unjudged is_asked → s.session.connected ≡ true → Fits f → HasNoData f → GoesOut s.session t s.moment f → SameWindow s.session t →
     Agrees p (record s { session = t }) (Went s.moment (TcpOut (spelling f)) ∷ log) unjudged is_asked
-after_due p s t log unjudged f is_asked a on fits none same = record {
+after_due p s t log unjudged f is_asked a on fits none goes same = record {
   k = same.same_k ∙ a.k;
   sizes = a.sizes;
   places = a.places;
@@ -147,19 +158,24 @@ after_due p s t log unjudged f is_asked a on fits none same = record {
   line = a.line;
   primary = a.primary;
   turns = a.turns;
+  talk = talk_due;
   asks = stays_asked is_asked s (record s { session = t }) a.primary refl refl refl a.asks;
   c = a.c;
   here = went_out s (record s { session = t }) (present log) unjudged a.c a.c.sent_frames f a.here fits on same.same_connected refl (a.here.sent ∙ sym (none a.here.put)) (omega arith)
       (tied_same a.c s.session t s.queue.sent same a.here.tied) a.here.numbered;
   earlier = a.earlier;
   carries = a.carries;
-  before = past_put p log a.earlier s.moment f a.clock a.settled (sym a.here.link ∙ on) fits a.before;
+  before = past_put p log a.earlier s.moment f a.clock a.settled (sym a.here.link ∙ on) fits (kept_talk p _ _ _ talk_due) a.before;
 }
+  where
+    talk_due : Talks p t (Went s.moment (TcpOut (spelling f)) ∷ log) a.c
+    talk_due = talk_out p s.session t log a.c s.moment s.moment a.c.sent_frames f goes.call a.talk fits a.clock (goes.made a.talk.history) (a.here.so_far ++ unjudged, a.here.joined)
 
 -- a whole frame without fault is taken
-pub after_heard : (p : Setup) (s : State) (log : Log) (unjudged rest : List ℕ) (f : Apdu) (a : Agrees p s log unjudged false) → s.session.connected ≡ true → s.so_far ≡ Some [] → Fits f → a.here.so_far ++ unjudged ≡ spelling f ++ rest → refuses s.session f ≡ false → fault_of (length a.c.sent_frames) a.c.received_frames f ≡ None →
+pub after_heard : (p : Setup) (s : State) (log : Log) (unjudged rest : List ℕ) (f : Apdu) (a : Agrees p s log unjudged false) → s.session.connected ≡ true → IsConfirmed s.session → s.so_far ≡ Some [] → Fits f → a.here.so_far ++ unjudged ≡ spelling f ++ rest → refuses s.session f ≡ false → fault_of (length a.c.sent_frames) a.c.received_frames f ≡ None →
     Agrees p (framed f s) log rest false
-after_heard p s log unjudged rest f a on so fits whole passes faultless =
+after_heard p s log unjudged rest f a on ready so fits whole passes faultless =
+    let joined : (present log).received ≡ spelled (f ∷ a.c.received_frames) ++ rest = a.here.joined ∙ ap (λ x. spelled a.c.received_frames ++ x) whole ∙ sym (append_assoc (spelled a.c.received_frames) (spelling f) rest) in
     let stays = taken_stays f s.moment s.session in
     record {
       k = stays.k ∙ a.k;
@@ -173,6 +189,7 @@ after_heard p s log unjudged rest f a on so fits whole passes faultless =
       primary = a.primary;
       turns = a.turns;
       asks = a.asks;
+      talk = talk_heard p s.session log a.c s.moment f rest a.talk a.clock on ready passes joined;
       c = heard_more f a.c;
       here = record {
         link = stays.connected ∙ a.here.link;
@@ -183,7 +200,7 @@ after_heard p s log unjudged rest f a on so fits whole passes faultless =
         so_far = [];
         assembler = so;
         waits = nothing_waits;
-        joined = a.here.joined ∙ ap (λ x. spelled a.c.received_frames ++ x) whole ∙ sym (append_assoc (spelled a.c.received_frames) (spelling f) rest);
+        joined = joined;
         fit = (fits, a.here.fit);
         pass = (faultless, a.here.pass);
         tied = tied_taken f s.moment a.c s.session s.queue.sent on a.here.tied passes;
@@ -208,6 +225,7 @@ after_more p s t log unjudged a waits e = subst (λ x. Agrees p x log [] false) 
   primary = a.primary;
   turns = a.turns;
   asks = a.asks;
+  talk = a.talk;
   c = a.c;
   here = record {
     link = a.here.link;
@@ -314,10 +332,11 @@ fresh s octets small link none sent received stopped first next us queued so = r
   numbered = tt;
 }
 
-pub after_close : (p : Setup) (s : State) (log : Log) (unjudged : List ℕ) (cause : Close) (a : Agrees p s log unjudged false) → s.session.connected ≡ true → ends cause ≡ true → IsConnection (present log) a.c (Some cause) →
+pub after_close : (p : Setup) (s : State) (log : Log) (unjudged : List ℕ) (cause : Close) (fault : Option Close) (a : Agrees p s log unjudged false) → s.session.connected ≡ true → ends cause ≡ true → IsConnection (present log) a.c fault → HasCause p cause log →
     Agrees p (disconnected s) (Went s.moment (Closed cause) ∷ log) [] false
-after_close p s log unjudged cause a on last stands =
-    let end = ended p s log unjudged false a (Some cause) stands in
+after_close p s log unjudged cause fault a on last stands why =
+    let end = ended p s log unjudged false a fault stands in
+    let talk : Talks p (session.closed s.session) (Went s.moment (Closed cause) ∷ log) new_connection = talk_cut p s.session s.session log (Went s.moment (Closed cause) ∷ log) a.c a.talk refl (subst (λ b. NothingOr b [] (Happens log [])) (sym last) refl) in
     let shut : present (Went s.moment (Closed cause) ∷ log) ≡ no_channel = ap (λ b. if b then no_channel else present log) last in
     let gone : past (Went s.moment (Closed cause) ∷ log) ≡ over (present log) (past log) = ap (λ b. if b then over (present log) (past log) else past log) last in
     record {
@@ -332,6 +351,7 @@ after_close p s log unjudged cause a on last stands =
       primary = a.primary;
       turns = a.turns;
       asks = a.asks;
+      talk = talk;
       c = new_connection;
       here = subst (λ octets. Presently (disconnected s) octets [] new_connection) (sym shut) (fresh (disconnected s) no_channel a.here.tied.small refl (λ h. refl) refl refl refl refl refl refl refl refl);
       earlier = end.earlier;
@@ -339,7 +359,8 @@ after_close p s log unjudged cause a on last stands =
       before = record {
         are = subst (λ cs. AreConnections cs end.earlier) (sym gone) end.are;
         orders = end.orders;
-        acts = (record { moment = a.clock; replaced = no_replaced cause last ∙ sym a.settled; may = λ h. (sym a.here.link ∙ on, (a.c, stands)) }, a.before.acts);
+        times = (kept_talk p _ _ _ talk, a.before.times);
+        acts = (record { moment = a.clock; replaced = no_replaced cause last ∙ sym a.settled; may = why }, a.before.acts);
         rests = a.before.rests;
       };
     }
@@ -354,8 +375,8 @@ after_close p s log unjudged cause a on last stands =
     no_replaced Replaced h = cc
 
 -- where nothing can be sent any more, the step has done all that it could
-pub rested : (laws : LineLaws) (p : Setup) (s : State) (log : Log) (a : Agrees p s log [] true) → IsSpent s → IsAtRest p log
-rested laws p s log a spent = record {
+pub rested : (laws : LineLaws) (p : Setup) (s : State) (log : Log) (a : Agrees p s log [] true) → IsSpent s → IsQuiet s → IsAtRest p log
+rested laws p s log a spent quiet = record {
   here = a.c;
   before = a.earlier;
   are = record { open_one = stands_now p s log true a; earlier = a.before.are };
@@ -366,6 +387,14 @@ rested laws p s log a spent = record {
       omega (arith, a.carries.front, ap length a.carries.joined, length-append a.carries.gone (objects_of_frames a.c.sent_frames ++ flat_map objects s.queue.unsent), length-append (objects_of_frames a.c.sent_frames) (flat_map objects s.queue.unsent), ap (λ xs. length (flat_map objects xs)) all);
   line = line_rests laws p s.line log (has_room s.queue) a.line
       (subst (λ l. primary.sending l (has_room s.queue) ≡ None) (sym a.asks.1) (laws.over a.primary s.moment (has_room s.queue) a.asks.0)) (a.c ∷ a.earlier) (λ none. is_full p s log [] true a (no_room_means s.queue none));
+  talk = record {
+    history = a.talk.history;
+    happens = a.talk.happens;
+    all = all_taken p s.session log a.c a.here.so_far a.talk a.here.joined a.here.waits;
+    confirmed = sym (confirmed_by p s.session log a.c a.talk) ∙ quiet.confirmed;
+    none_due = subst (λ m. frame_due p.session.w p.session.t2 p.session.t3 m a.talk.history ≡ None) a.clock (sym (due_by p s.session log a.c a.talk s.moment) ∙ quiet.pulled_all);
+    in_time = subst (λ m. has_timed_out p.session.t1 m a.talk.history ≡ false) a.clock (sym (late_by p s.session log a.c a.talk s.moment) ∙ quiet.in_time);
+  };
 }
   where
     can : (b : Bool) → b ≡ true → length s.session.unacknowledged < s.session.k → (b && nat_lt (length s.session.unacknowledged) s.session.k) ≡ true

@@ -22,7 +22,7 @@ setup = record {
   addresses = 1 ∷ [];
   sizes = record { cause = causes.One; ca = cas.One; ioa = ioas.Two };
   places = 100;
-  window = 12;
+  session = record { k = 12; w = 8; t1 = 15000; t2 = 10000; t3 = 20000 };
 }
 
 -- newest first

@@ -26,7 +26,12 @@ use Rattle.gateway.specs.Room.{ShowsRoom}
 use Rattle.gateway.specs.Line.{heard_by, after_event, IsLeft, TurnsTo}
 use Rattle.gateway.specs.LineLaws.{LineLaws}
 use Rattle.gateway.specs.Steps.{Learns, HearsEvent, Begins}
-use Rattle.gateway.specs.Agrees.{Presently, Carries, Agrees, Tied, has_begun}
+use Rattle.session.specs.History as happened
+use Rattle.session.specs.History.{History}
+use Rattle.session.specs.Ends.{IsConfirmed}
+use Rattle.gateway.specs.Conversation.{TakesFrames, HasTakenAll, Happens, KeepsTimes}
+use Rattle.gateway.specs.Agrees.{Presently, Carries, Talks, Agrees, Tied, has_begun}
+use Rattle.gateway.proofs.Talking.{kept_talk, talk_on, talk_cut, talk_open, all_taken}
 use Rattle.gateway.proofs.Objects.{orders_grow, carries_more}
 use Rattle.gateway.proofs.Agreement.{ended, fresh, stands_now, in_order, has_places, is_full}
 use Rattle.gateway.proofs.Sound.{room_means, no_room_means}
@@ -203,10 +208,10 @@ heard_event laws p s t log now Ticked a b = only_time laws p s t log now Ticked 
 
 -- the state after the line's part, with a connection's part that is right
 with_connection : (p : Setup) (s t u : State) (old new : Log) (unjudged : List ℕ) (c : Connection) (earlier : List Connection) → Agrees p s old [] (has_begun old) → Heard p s t old new → is_replaced new ≡ false →
-    u.line ≡ t.line → u.sizes ≡ t.sizes → u.queue.places ≡ t.queue.places → u.moment ≡ t.moment → u.counts ≡ t.counts → u.session.k ≡ s.session.k → Presently u (present new) unjudged c →
+    u.line ≡ t.line → u.sizes ≡ t.sizes → u.queue.places ≡ t.queue.places → u.moment ≡ t.moment → u.counts ≡ t.counts → u.session.k ≡ s.session.k → Presently u (present new) unjudged c → Talks p u.session new c → KeepsTimes p new →
     AreConnections (past new) earlier → AreInOrder (taken_objects p old) earlier → Carries (taken_objects p new) (parts_of_all p.sizes (reports_in p new)) earlier c.sent_frames u.queue.unsent →
     ActsRightly p new → RestsBetweenSteps p new → Agrees p u new unjudged false
-with_connection p s t u old new unjudged c earlier a h settled line sizes places moment counts k here are orders carries acts rests = record {
+with_connection p s t u old new unjudged c earlier a h settled line sizes places moment counts k here talk times are orders carries acts rests = record {
   k = k ∙ a.k;
   sizes = sizes ∙ h.sizes ∙ a.sizes;
   places = places ∙ h.places ∙ a.places;
@@ -218,11 +223,12 @@ with_connection p s t u old new unjudged c earlier a h settled line sizes places
   primary = t.line;
   turns = h.turns;
   asks = line;
+  talk = talk;
   c = c;
   here = here;
   earlier = earlier;
   carries = carries;
-  before = record { are = are; orders = subst (λ objs. AreInOrder objs earlier) (sym h.taken) (orders_grow (taken_objects p old) h.more earlier orders); acts = acts; rests = rests };
+  before = record { are = are; orders = subst (λ objs. AreInOrder objs earlier) (sym h.taken) (orders_grow (taken_objects p old) h.more earlier orders); times = times; acts = acts; rests = rests };
 }
 
 -- the pieces kept are carried
@@ -252,12 +258,22 @@ goes_on p s t old new octets unjudged c h w = record {
   numbered = w.numbered;
 }
 
+-- an event that neither begins nor ends a connection goes on with its history
+abbrev pub GoesOn : ℕ → Input → Log → Type 0
+GoesOn now event log = (h : History) → Happens log h → HasTakenAll (present log) h → TakesFrames (present (Came now event ∷ log)) (latest (Came now event ∷ log)) h h → Happens (Came now event ∷ log) h
+
+goes_talk : (p : Setup) (s t : State) (log : Log) (now : ℕ) (event : Input) (rest : List ℕ) → GoesOn now event log → (a : Agrees p s log [] (has_begun log)) → t.session ≡ s.session → (present (Came now event ∷ log)).received ≡ spelled a.c.received_frames ++ rest → Talks p t.session (Came now event ∷ log) a.c
+goes_talk p s t log now event rest on a same joined =
+    talk_on p s.session t.session log (Came now event ∷ log) a.c a.c a.talk same refl
+    (on a.talk.history a.talk.happens (all_taken p s.session log a.c a.here.so_far a.talk a.here.joined a.here.waits) (record { frames = []; taken = refl; rest = rest; joined = joined ∙ ap (λ xs. spelled xs ++ rest) (sym a.talk.came) }))
+
 -- an event that isn't the connection's
-pub come_other : (p : Setup) (s t : State) (log : Log) (now : ℕ) (event : Input) → present (Came now event ∷ log) ≡ present log → past (Came now event ∷ log) ≡ past log → is_replaced (Came now event ∷ log) ≡ false → HasRested p log → Agrees p s log [] (has_begun log) → Heard p s t log (Came now event ∷ log) →
+pub come_other : (p : Setup) (s t : State) (log : Log) (now : ℕ) (event : Input) → present (Came now event ∷ log) ≡ present log → past (Came now event ∷ log) ≡ past log → is_replaced (Came now event ∷ log) ≡ false → GoesOn now event log → HasRested p log → Agrees p s log [] (has_begun log) → Heard p s t log (Came now event ∷ log) →
     Agrees p t (Came now event ∷ log) [] false
-come_other p s t log now event same gone settled rest a h =
+come_other p s t log now event same gone settled on rest a h =
+    let talk = goes_talk p s t log now event (a.here.so_far ++ []) on a h.session (ap (λ x. x.received) same ∙ a.here.joined) in
     with_connection p s t t log (Came now event ∷ log) [] a.c a.earlier a h settled refl refl refl refl refl (ap (λ x. x.k) h.session)
-    (subst (λ x. Presently t x [] a.c) (sym same) (goes_on p s t log (Came now event ∷ log) (present log) [] a.c h a.here))
+    (subst (λ x. Presently t x [] a.c) (sym same) (goes_on p s t log (Came now event ∷ log) (present log) [] a.c h a.here)) talk (kept_talk p _ _ _ talk, a.before.times)
     (subst (λ cs. AreConnections cs a.earlier) (sym gone) a.before.are) a.before.orders (carried p s t log (Came now event ∷ log) a.earlier a.c.sent_frames h a.carries) a.before.acts (rest, a.before.rests)
 
 -- what the ended connection leaves in the queue, with the pieces kept since
@@ -276,17 +292,21 @@ small p s t log new a h = subst (λ x. x.k < 32768) (sym h.session) a.here.tied.
 
 pub come_cut : (p : Setup) (s t : State) (log : Log) (now : ℕ) → HasRested p log → Agrees p s log [] (has_begun log) → Heard p s t log (Came now CutOff ∷ log) → Agrees p (disconnected t) (Came now CutOff ∷ log) [] false
 come_cut p s t log now rest a h =
+    let talk = talk_cut p s.session t.session log (Came now CutOff ∷ log) a.c a.talk h.session refl in
     let end = ended p s log [] (has_begun log) a None (stands_now p s log (has_begun log) a) in
     with_connection p s t (disconnected t) log (Came now CutOff ∷ log) [] new_connection end.earlier a h refl refl refl refl refl refl (ap (λ x. x.k) h.session)
-    (fresh (disconnected t) no_channel (small p s t log _ a h) refl (λ h. refl) refl refl refl refl refl refl refl refl)
+    (fresh (disconnected t) no_channel (small p s t log _ a h) refl (λ h. refl) refl refl refl refl refl refl refl refl) talk (kept_talk p _ _ _ talk, a.before.times)
     end.are end.orders (left_over p s t log (Came now CutOff ∷ log) end.earlier h end.carries) a.before.acts (rest, a.before.rests)
+
+talk_opened : (p : Setup) (s t : State) (log : Log) (now : ℕ) (a : Agrees p s log [] (has_begun log)) → Heard p s t log (Came now Opened ∷ log) → Talks p (connected (disconnected t)).session (Came now Opened ∷ log) new_connection
+talk_opened p s t log now a h = talk_open p s.session t.session log (Came now Opened ∷ log) a.c t.moment a.talk h.session (ap (λ m. happened.Opened m ∷ []) h.clock)
 
 -- a connection opens: as it is once the close of the one before it, if any, has gone out
 opened_with : (p : Setup) (s t : State) (log : Log) (now : ℕ) → HasRested p log → Agrees p s log [] (has_begun log) → Heard p s t log (Came now Opened ∷ log) → is_replaced (Came now Opened ∷ log) ≡ false → Agrees p (connected (disconnected t)) (Came now Opened ∷ log) [] false
 opened_with p s t log now rest a h settled =
     let end = ended p s log [] (has_begun log) a None (stands_now p s log (has_begun log) a) in
     with_connection p s t (connected (disconnected t)) log (Came now Opened ∷ log) [] new_connection end.earlier a h settled refl refl refl refl refl (ap (λ x. x.k) h.session)
-    (fresh (connected (disconnected t)) new_channel (small p s t log _ a h) refl (λ h. cc) refl refl refl refl refl refl refl refl)
+    (fresh (connected (disconnected t)) new_channel (small p s t log _ a h) refl (λ h. cc) refl refl refl refl refl refl refl refl) (talk_opened p s t log now a h) (kept_talk p _ _ _ (talk_opened p s t log now a h), a.before.times)
     end.are end.orders (left_over p s t log (Came now Opened ∷ log) end.earlier h end.carries) a.before.acts (rest, a.before.rests)
 
 pub come_open : (p : Setup) (s t : State) (log : Log) (now : ℕ) → HasRested p log → Agrees p s log [] (has_begun log) → Heard p s t log (Came now Opened ∷ log) → t.session.connected ≡ false → Agrees p (connected (disconnected t)) (Came now Opened ∷ log) [] false
@@ -297,6 +317,8 @@ pub come_replaced : (p : Setup) (s t : State) (log : Log) (now : ℕ) → HasRes
 come_replaced p s t log now rest a h on =
     let end = ended p s log [] (has_begun log) a None (stands_now p s log (has_begun log) a) in
     let new : Log = Came now Opened ∷ log in
+    let opened = talk_opened p s t log now a h in
+    let talk = talk_on p (connected (disconnected t)).session (connected (disconnected t)).session new (Went t.moment (Closed Replaced) ∷ new) new_connection new_connection opened refl refl opened.happens in
     let was : is_replaced new ≡ true = sym a.here.link ∙ sym (ap (λ x. x.connected) h.session) ∙ on in
     record {
       k = ap (λ x. x.k) h.session ∙ a.k;
@@ -310,6 +332,7 @@ come_replaced p s t log now rest a h on =
       primary = t.line;
       turns = h.turns;
       asks = refl;
+      talk = talk;
       c = new_connection;
       here = fresh (connected (disconnected t)) new_channel (small p s t log _ a h) refl (λ h. cc) refl refl refl refl refl refl refl refl;
       earlier = end.earlier;
@@ -317,6 +340,7 @@ come_replaced p s t log now rest a h on =
       before = record {
         are = end.are;
         orders = subst (λ objs. AreInOrder objs end.earlier) (sym h.taken) (orders_grow (taken_objects p log) h.more end.earlier end.orders);
+        times = (kept_talk p _ _ _ talk, (kept_talk p _ _ _ opened, a.before.times));
         acts = (record { moment = h.clock; replaced = sym was; may = λ no'. cc }, a.before.acts);
         rests = (rest, a.before.rests);
       };
@@ -339,31 +363,34 @@ opened_faithful p s t log now rest a h =
       links = keeps_links p t.line new h.line;
       primary = t.line;
       turns = h.turns;
+      times = (kept_talk p _ _ _ (talk_opened p s t log now a h), a.before.times);
       acts = a.before.acts;
       rests = (rest, a.before.rests);
     }
 
 -- octets of no connection count for nothing; else none is judged yet
-pub come_bytes : (p : Setup) (s t : State) (log : Log) (now : ℕ) (octets : List ℕ) → HasRested p log → Agrees p s log [] (has_begun log) → Heard p s t log (Came now (TcpIn octets) ∷ log) → Agrees p t (Came now (TcpIn octets) ∷ log) (if t.session.connected then octets else []) false
-come_bytes p s t log now octets rest a h =
-    subst (λ b. Agrees p t (Came now (TcpIn octets) ∷ log) (if b then octets else []) false) (sym (ap (λ x. x.connected) h.session)) (
-    with_connection p s t t log (Came now (TcpIn octets) ∷ log) more a.c a.earlier a h refl refl refl refl refl refl (ap (λ x. x.k) h.session)
-    (subst (λ x. Presently t x more a.c) (sym (bytes_at s.session.connected (present log) (sym a.here.link))) (record {
-      link = w.link;
-      none = λ off. (closed s.session.connected (a.here.link ∙ off) (a.here.none off).0, (a.here.none off).1);
-      put = w.put;
-      handed = w.handed;
-      sent = w.sent;
-      so_far = w.so_far;
-      assembler = w.assembler;
-      waits = w.waits;
-      joined = ap (λ x. x ++ more) w.joined ∙ append_assoc (spelled a.c.received_frames) (w.so_far ++ []) more ∙ ap (λ x. spelled a.c.received_frames ++ (x ++ more)) (append-nil w.so_far);
-      fit = w.fit;
-      pass = w.pass;
-      tied = w.tied;
-      numbered = w.numbered;
-    }))
-    a.before.are a.before.orders (carried p s t log (Came now (TcpIn octets) ∷ log) a.earlier a.c.sent_frames h a.carries) a.before.acts (rest, a.before.rests))
+pub come_bytes : (p : Setup) (s t : State) (log : Log) (now : ℕ) (octets : List ℕ) → HasRested p log → Agrees p s log [] (has_begun log) → Heard p s t log (Came now (TcpIn octets) ∷ log) → IsConfirmed s.session → Agrees p t (Came now (TcpIn octets) ∷ log) (if t.session.connected then octets else []) false × IsConfirmed t.session
+come_bytes p s t log now octets rest a h ready = (
+  subst (λ b. Agrees p t (Came now (TcpIn octets) ∷ log) (if b then octets else []) false) (sym (ap (λ x. x.connected) h.session)) (
+      with_connection p s t t log (Came now (TcpIn octets) ∷ log) more a.c a.earlier a h refl refl refl refl refl refl (ap (λ x. x.k) h.session)
+      (subst (λ x. Presently t x more a.c) (sym (bytes_at s.session.connected (present log) (sym a.here.link))) (record {
+        link = w.link;
+        none = λ off. (closed s.session.connected (a.here.link ∙ off) (a.here.none off).0, (a.here.none off).1);
+        put = w.put;
+        handed = w.handed;
+        sent = w.sent;
+        so_far = w.so_far;
+        assembler = w.assembler;
+        waits = w.waits;
+        joined = joined_now;
+        fit = w.fit;
+        pass = w.pass;
+        tied = w.tied;
+        numbered = w.numbered;
+      })) talk_now (kept_talk p _ _ _ talk_now, a.before.times)
+      a.before.are a.before.orders (carried p s t log (Came now (TcpIn octets) ∷ log) a.earlier a.c.sent_frames h a.carries) a.before.acts (rest, a.before.rests)),
+  subst IsConfirmed (sym h.session) ready,
+)
   where
     more : List ℕ
     more = if s.session.connected then octets else []
@@ -378,3 +405,9 @@ come_bytes p s t log now octets rest a h =
     closed : (b : Bool) → b ≡ false → present log ≡ no_channel → record { is_open = (present log).is_open; sent = (present log).sent; received = (present log).received ++ (if b then octets else []) } ≡ no_channel
     closed true h none = cc
     closed false h none = ap (λ (c : Channel). record { is_open = c.is_open; sent = c.sent; received = c.received ++ [] }) none
+
+    joined_now : (present log).received ++ more ≡ spelled a.c.received_frames ++ (w.so_far ++ more)
+    joined_now = ap (λ x. x ++ more) w.joined ∙ append_assoc (spelled a.c.received_frames) (w.so_far ++ []) more ∙ ap (λ x. spelled a.c.received_frames ++ (x ++ more)) (append-nil w.so_far)
+
+    talk_now : Talks p t.session (Came now (TcpIn octets) ∷ log) a.c
+    talk_now = goes_talk p s t log now (TcpIn octets) (w.so_far ++ more) (λ h x y z. (h, x, y, z)) a h.session (ap (λ (x : Channel). x.received) (bytes_at s.session.connected (present log) (sym a.here.link)) ∙ joined_now)

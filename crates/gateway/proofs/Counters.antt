@@ -1,6 +1,6 @@
 -- The counters of 15 bits against the counts.
 use Rattle.std.proofs.Common.{◌≡◌, ℕ, ◌+◌, ◌-◌, ◌%◌, ◌<◌, ◌≤◌, arith}
-use Rattle.gateway.specs.Frames.{reached}
+use Rattle.session.specs.History.{reached}
 
 -- so many frames of count stay unacknowledged by nr
 abbrev pub left_of : ℕ → ℕ → ℕ

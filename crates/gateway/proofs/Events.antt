@@ -9,6 +9,8 @@ use Rattle.link.specs.declared.request.Request.{Request}
 use Rattle.link.specs.Telling.{Tells}
 use Rattle.session.specs.declared.kinds.Close.TheVariants.{Replaced}
 use Rattle.events.specs.Queue.{free_places}
+use Rattle.session.specs.Ends.{IsConfirmed}
+use Rattle.gateway.proofs.Talking.{kept_talk, talk_on}
 use Rattle.gateway.specs.Log.{Log, LogEntry, events_of, Input, Opened, TcpIn, CutOff, Ticked, LineIn, Came, Went, LineOut, Closed, tell}
 use Rattle.gateway.specs.Frames.{AreInOrder}
 use Rattle.gateway.specs.Reports.{Setup, exchanges_of, taken_objects, reports_in, parts_of_all}
@@ -21,7 +23,7 @@ use Rattle.gateway.specs.Traffic.{IsFaithful}
 use Rattle.gateway.specs.Runs.{events_told, MoreEvents}
 use Rattle.gateway.specs.State.{State, at_moment, disconnected, connected}
 use Rattle.gateway.specs.Steps.{HearsEvent, Begins}
-use Rattle.gateway.specs.Agrees.{Agrees, Tracks, Leaves, Follows, HasCome, Rests, Carries}
+use Rattle.gateway.specs.Agrees.{Agrees, Tracks, Awaits, Leaves, Follows, HasCome, Rests, Carries}
 use Rattle.gateway.proofs.Agreement.{stands_now, has_places}
 use Rattle.gateway.proofs.Put.{told_faithful}
 use Rattle.gateway.proofs.Stations.{octets_of, taken_grows, parts_grow, counts_grow, after_request}
@@ -49,6 +51,7 @@ after_asked laws p s log x is poll a =
       line = goes.tells;
       primary = asked s.line s.moment may;
       turns = (s.line, subst (TurnsTo p log) (sym a.asks) a.turns, record { room = may; shows = shows p s log false a may refl; request = x; next = is; spelled = refl; after_is = refl });
+      talk = talk_on p s.session s.session log new a.c a.c a.talk refl refl a.talk.happens;
       asks = (laws.out s.line s.moment may x is may, sym (laws.same s.line s.moment may x is s.moment may));
       c = a.c;
       here = record {
@@ -72,6 +75,7 @@ after_asked laws p s log x is poll a =
       before = record {
         are = a.before.are;
         orders = subst (λ objs. AreInOrder objs a.earlier) (sym same) a.before.orders;
+        times = (kept_talk p _ _ _ (talk_on p s.session s.session log new a.c a.c a.talk refl refl a.talk.happens), a.before.times);
         acts = (
           record {
             moment = a.clock;
@@ -113,6 +117,7 @@ none_asked laws p s log none a =
       primary = s.line;
       turns = subst (TurnsTo p log) (sym a.asks) a.turns;
       asks = (none, refl);
+      talk = a.talk;
       c = a.c;
       here = record {
         link = a.here.link;
@@ -175,11 +180,11 @@ as_log p t now event log before unjudged is a = subst (λ l. Agrees p t l unjudg
 
 pub told_line : (p : Setup) (told : Option Log) (s t : State) (now : ℕ) (octets : List ℕ) → LineLaws → Begins s now (LineIn octets) t → IfSome told (HasCome p s now (LineIn octets)) → Tracks p t told [] false
 told_line p None s t now octets laws b h = tt
-told_line p (Some log) s t now octets laws b h = as_log p t now (LineIn octets) log h.before [] h.is (come_other p s t h.before now (LineIn octets) refl refl refl h.rested h.agrees (heard_in laws p s t now (LineIn octets) log b h))
+told_line p (Some log) s t now octets laws b h = as_log p t now (LineIn octets) log h.before [] h.is (come_other p s t h.before now (LineIn octets) refl refl refl (λ x y z u. (x, y, z, u)) h.rested h.agrees (heard_in laws p s t now (LineIn octets) log b h))
 
 pub told_tick : (p : Setup) (told : Option Log) (s t : State) (now : ℕ) → LineLaws → Begins s now Ticked t → IfSome told (HasCome p s now Ticked) → Tracks p t told [] false
 told_tick p None s t now laws b h = tt
-told_tick p (Some log) s t now laws b h = as_log p t now Ticked log h.before [] h.is (come_other p s t h.before now Ticked refl refl refl h.rested h.agrees (heard_in laws p s t now Ticked log b h))
+told_tick p (Some log) s t now laws b h = as_log p t now Ticked log h.before [] h.is (come_other p s t h.before now Ticked refl refl refl (λ x y z u. (x, y, z, u)) h.rested h.agrees (heard_in laws p s t now Ticked log b h))
 
 pub told_cut : (p : Setup) (told : Option Log) (s t u : State) (now : ℕ) → LineLaws → Begins s now CutOff t → u ≡ disconnected t → IfSome told (HasCome p s now CutOff) → Tracks p u told [] false
 told_cut p None s t u now laws b is h = tt
@@ -201,29 +206,30 @@ pub told_unreplaced : (p : Setup) (told : Option Log) (s t : State) (now : ℕ) 
 told_unreplaced p None s t now laws b h = tt
 told_unreplaced p (Some log) s t now laws b h = subst (IsFaithful p) (sym h.is) (opened_faithful p s t h.before now h.rested h.agrees (heard_in laws p s t now Opened log b h))
 
-pub told_bytes : (b : Bool) (p : Setup) (told : Option Log) (s t : State) (now : ℕ) (octets : List ℕ) → LineLaws → Begins s now (TcpIn octets) t → t.session.connected ≡ b → IfSome told (HasCome p s now (TcpIn octets)) → Tracks p t told (if b then octets else []) false
+pub told_bytes : (b : Bool) (p : Setup) (told : Option Log) (s t : State) (now : ℕ) (octets : List ℕ) → LineLaws → Begins s now (TcpIn octets) t → t.session.connected ≡ b → IfSome told (HasCome p s now (TcpIn octets)) → Awaits p t told (if b then octets else [])
 told_bytes b p None s t now octets laws begins is h = tt
 told_bytes b p (Some log) s t now octets laws begins is h =
-    subst (λ b. Agrees p t log (if b then octets else []) false) is (as_log p t now (TcpIn octets) log h.before (if t.session.connected then octets else []) h.is (come_bytes p s t h.before now octets h.rested h.agrees (heard_in laws p s t now (TcpIn octets) log begins h)))
+    let both = come_bytes p s t h.before now octets h.rested h.agrees (heard_in laws p s t now (TcpIn octets) log begins h) h.confirmed in
+    (subst (λ b. Agrees p t log (if b then octets else []) false) is (as_log p t now (TcpIn octets) log h.before (if t.session.connected then octets else []) h.is both.0), both.1)
 
 -- Runs
 
 -- after a step some event has come
-pub follows : (laws : LineLaws) (p : Setup) (told : Option Log) (s : State) → Tracks p s told [] true → Follows p s told
-follows laws p None s h = tt
-follows laws p (Some []) s a =
+pub follows : (laws : LineLaws) (p : Setup) (told : Option Log) (s : State) → IsConfirmed s.session → Tracks p s told [] true → Follows p s told
+follows laws p None s ready h = tt
+follows laws p (Some []) s ready a =
     let primary : a.primary ≡ start p.link p.addresses = a.turns in
     absurd (laws.begins p.link p.addresses (has_room s.queue) (omega (arith, a.line.fits.turn, a.line.count)) (subst (λ q. sending q (has_room s.queue) ≡ None) primary a.asks.0))
-follows laws p (Some (entry ∷ log)) s a = a
+follows laws p (Some (entry ∷ log)) s ready a = (a, ready)
 
-pub step_follows : (laws : LineLaws) (p : Setup) (result : Bool) (told : Option Log) (s : State) → Leaves result p s told [] true → OnTrue result (Follows p s told)
-step_follows laws p true told s h = follows laws p told s h
-step_follows laws p false told s h = tt
+pub step_follows : (laws : LineLaws) (p : Setup) (result : Bool) (told : Option Log) (s : State) → OnTrue result (IsConfirmed s.session) → Leaves result p s told [] true → OnTrue result (Follows p s told)
+step_follows laws p true told s ready h = follows laws p told s ready h
+step_follows laws p false told s ready h = tt
 
 -- an event that a port told has come
 pub come : (p : Setup) (told after : Option Log) (s : State) (now : ℕ) (event : Input) (news : List LogEntry) → after ≡ tell told news → news ≡ Came now event ∷ [] → Follows p s told → Rests p told → IfSome after (HasCome p s now event)
 come p None after s now event news e is h rest = subst (λ l. IfSome l (HasCome p s now event)) (sym e) tt
-come p (Some log) after s now event news e is h rest = subst (λ l. IfSome l (HasCome p s now event)) (sym (e ∙ ap (λ n. tell (Some log) n) is)) (record { before = log; is = refl; agrees = h; rested = rest })
+come p (Some log) after s now event news e is h rest = subst (λ l. IfSome l (HasCome p s now event)) (sym (e ∙ ap (λ n. tell (Some log) n) is)) (record { before = log; is = refl; agrees = h.0; confirmed = h.1; rested = rest })
 
 -- and is one event more
 pub more_events : (n now : ℕ) (event : Input) (news : List LogEntry) (first told after last : Option Log) → MoreEvents n first told → after ≡ tell told news → news ≡ Came now event ∷ [] → events_told last ≡ events_told after → MoreEvents (n + 1) first last

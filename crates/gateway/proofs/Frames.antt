@@ -9,7 +9,8 @@ use Rattle.session.specs.declared.kinds.Close.{Close}
 use Rattle.session.specs.declared.kinds.Close.TheVariants.{SendNumber, ReceiveNumber, Stopped}
 use Rattle.session.specs.Session as session
 use Rattle.session.specs.Session.{Session, after_frame, newly_by, refuses, taken}
-use Rattle.gateway.specs.Frames.{runs, i_frames, acknowledged_count, reached, fault_of}
+use Rattle.session.specs.History.{reached}
+use Rattle.gateway.specs.Frames.{runs, i_frames, acknowledged_count, fault_of}
 use Rattle.gateway.specs.Connections.{Passes}
 
 less_test : (n m r : ℕ) → n ≤ m → nat_lt n r ≡ false → nat_lt m r ≡ false

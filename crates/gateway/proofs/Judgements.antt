@@ -18,10 +18,14 @@ use Rattle.gateway.specs.Log.{Log}
 use Rattle.gateway.specs.Streams.{spelled, IsRefused}
 use Rattle.gateway.specs.Reports.{Setup}
 use Rattle.gateway.specs.State.{State, disconnected, framed}
-use Rattle.gateway.specs.Agrees.{Agrees, Tracks}
+use Rattle.session.specs.Ends.{IsConfirmed}
+use Rattle.gateway.specs.Frames.{Connection, fault_of}
+use Rattle.gateway.specs.Connections.{present, IsConnection}
+use Rattle.gateway.specs.Traffic.{HasCause}
+use Rattle.gateway.specs.Agrees.{Agrees, Tracks, Awaits}
 use Rattle.gateway.specs.Steps.{Judged, MayClose}
 use Rattle.gateway.proofs.Frames.{taken_stays, nothing_waits}
-use Rattle.gateway.proofs.Tied.{no_close, fault_closes}
+use Rattle.gateway.proofs.Tied.{no_close, fault_closes, fault_cases}
 use Rattle.gateway.proofs.Agreement.{after_heard, after_more, stands_garbled, stands_faulty, fault_ends}
 
 unfolded : (s : State) (so_far other : List ℕ) → s.so_far ≡ Some so_far → s.so_far ≡ Some other → so_far ≡ other
@@ -35,14 +39,14 @@ nothing_so_far : (p : Setup) (s : State) (log : Log) (unjudged : List ℕ) (a : 
 nothing_so_far p s log unjudged a e = unfolded s a.here.so_far [] a.here.assembler e
 
 -- the frame is taken
-frame_taken : (p : Setup) (s : State) (log : Log) (rest : List ℕ) (f : Apdu) (a : Agrees p s log (spelling f ++ rest) false) → s.session.connected ≡ true → Fits f → s.so_far ≡ Some [] → is_close (outcome_of s.session f) ≡ false → Agrees p (framed f s) log rest false
-frame_taken p s log rest f a on fits so goes =
+frame_taken : (p : Setup) (s : State) (log : Log) (rest : List ℕ) (f : Apdu) (a : Agrees p s log (spelling f ++ rest) false) → s.session.connected ≡ true → IsConfirmed s.session → Fits f → s.so_far ≡ Some [] → is_close (outcome_of s.session f) ≡ false → Agrees p (framed f s) log rest false
+frame_taken p s log rest f a on ready fits so goes =
     let both = no_close f a.c s.session s.queue.sent (outcome_of s.session f) goes a.here.tied refl in
-    after_heard p s log (spelling f ++ rest) rest f a on so fits (ap (λ x. x ++ (spelling f ++ rest)) (nothing_so_far p s log _ a so)) both.0 both.1
+    after_heard p s log (spelling f ++ rest) rest f a on ready so fits (ap (λ x. x ++ (spelling f ++ rest)) (nothing_so_far p s log _ a so)) both.0 both.1
 
-pub judged_on : (p : Setup) (told : Option Log) (s t : State) (f : Apdu) (rest : List ℕ) → s.session.connected ≡ true → Fits f → s.so_far ≡ Some [] → Judged s f None t → Tracks p s told (spelling f ++ rest) false → Tracks p t told rest false
+pub judged_on : (p : Setup) (told : Option Log) (s t : State) (f : Apdu) (rest : List ℕ) → s.session.connected ≡ true → Fits f → s.so_far ≡ Some [] → Judged s f None t → Awaits p s told (spelling f ++ rest) → Tracks p t told rest false
 judged_on p None s t f rest on fits so j a = tt
-judged_on p (Some log) s t f rest on fits so j a = subst (λ x. Agrees p x log rest false) (sym j.1) (frame_taken p s log rest f a on fits so j.0)
+judged_on p (Some log) s t f rest on fits so j a = subst (λ x. Agrees p x log rest false) (sym j.1) (frame_taken p s log rest f a.0 on a.1 fits so j.0)
 
 pub judged_open : (s t : State) (f : Apdu) → s.session.connected ≡ true → Judged s f None t → t.session.connected ≡ true
 judged_open s t f on j = ap (λ (x : State). x.session.connected) j.1 ∙ (taken_stays f s.moment s.session).connected ∙ on
@@ -54,9 +58,15 @@ fault_dropped s f cause e =
     let is : session.taken f s.moment s.session ≡ session.acknowledged 0 (record s.session { last_frame = s.moment }) = cond-true (refuses s.session f) _ _ refused in
     ap (λ (x : Session). disconnected (let made : State = record s { queue = queue.acknowledged x.acked_queue s.queue; session = x } in made)) is
 
-pub judged_closes : (p : Setup) (told : Option Log) (s t : State) (f : Apdu) (cause : Close) (rest : List ℕ) → s.session.connected ≡ true → Fits f → s.so_far ≡ Some [] → Judged s f (Some cause) t → Tracks p s told (spelling f ++ rest) false → IfSome told (MayClose p t cause)
+-- a frame's fault is the cause
+frame_cause : (p : Setup) (log : Log) (c : Connection) (sent : ℕ) (older : List Apdu) (f : Apdu) (cause : Close) → fault_of sent older f ≡ Some cause → (present log).is_open ≡ true → IsConnection (present log) c (Some cause) → HasCause p cause log
+frame_cause p log c sent older f cause fault on stands =
+    fault_cases (λ cause. IsConnection (present log) c (Some cause) → HasCause p cause log) (λ st h. (on, (c, st))) (λ st h. (on, (c, st))) (λ st h. (on, (c, st))) sent older f cause fault stands
+
+pub judged_closes : (p : Setup) (told : Option Log) (s t : State) (f : Apdu) (cause : Close) (rest : List ℕ) → s.session.connected ≡ true → Fits f → s.so_far ≡ Some [] → Judged s f (Some cause) t → Awaits p s told (spelling f ++ rest) → IfSome told (MayClose p t cause)
 judged_closes p None s t f cause rest on fits so j a = tt
-judged_closes p (Some log) s t f cause rest on fits so j a =
+judged_closes p (Some log) s t f cause rest on fits so j both =
+    let a = both.0 in
     let fault = fault_closes f a.c s.session s.queue.sent cause a.here.tied j.0 in
     record {
       last = fault_ends (length a.c.sent_frames) a.c.received_frames f cause fault;
@@ -65,7 +75,9 @@ judged_closes p (Some log) s t f cause rest on fits so j a =
       open_is = on;
       unjudged = spelling f ++ rest;
       agrees = a;
+      fault = Some cause;
       stands = stands_faulty p s log (spelling f ++ rest) rest f cause a fits (ap (λ x. x ++ (spelling f ++ rest)) (nothing_so_far p s log _ a so)) fault;
+      why = frame_cause p log a.c (length a.c.sent_frames) a.c.received_frames f cause fault (sym a.here.link ∙ on) (stands_faulty p s log (spelling f ++ rest) rest f cause a fits (ap (λ x. x ++ (spelling f ++ rest)) (nothing_so_far p s log _ a so)) fault);
     }
 
 -- the octets of the frame so far count as not judged
@@ -82,6 +94,7 @@ fed p s log piece unjudged so_far so e a = record {
   primary = a.primary;
   turns = a.turns;
   asks = a.asks;
+  talk = a.talk;
   c = a.c;
   here = record {
     link = a.here.link;
@@ -103,19 +116,21 @@ fed p s log piece unjudged so_far so e a = record {
   before = a.before;
 }
 
-pub told_fed : (p : Setup) (told : Option Log) (s t : State) (piece unjudged so_far : List ℕ) → s.so_far ≡ Some so_far → so_far ++ piece ≡ unjudged → t ≡ record s { so_far = Some [] } → Tracks p s told piece false → Tracks p t told unjudged false
+pub told_fed : (p : Setup) (told : Option Log) (s t : State) (piece unjudged so_far : List ℕ) → s.so_far ≡ Some so_far → so_far ++ piece ≡ unjudged → t ≡ record s { so_far = Some [] } → Awaits p s told piece → Awaits p t told unjudged
 told_fed p None s t piece unjudged so_far so e is h = tt
-told_fed p (Some log) s t piece unjudged so_far so e is a = subst (λ x. Agrees p x log unjudged false) (sym is) (fed p s log piece unjudged so_far so e a)
+told_fed p (Some log) s t piece unjudged so_far so e is a = subst (λ x. Agrees p x log unjudged false × IsConfirmed x.session) (sym is) (fed p s log piece unjudged so_far so e a.0, a.1)
 
-pub told_more : (p : Setup) (told : Option Log) (s t : State) (piece so_far : List ℕ) → s.so_far ≡ Some so_far → IsMore (so_far ++ piece) → t ≡ record s { so_far = Some (so_far ++ piece) } → Tracks p s told piece false → Tracks p t told [] false
+pub told_more : (p : Setup) (told : Option Log) (s t : State) (piece so_far : List ℕ) → s.so_far ≡ Some so_far → IsMore (so_far ++ piece) → t ≡ record s { so_far = Some (so_far ++ piece) } → Awaits p s told piece → Tracks p t told [] false
 told_more p None s t piece so_far so more is h = tt
-told_more p (Some log) s t piece so_far so more is a =
+told_more p (Some log) s t piece so_far so more is both =
+    let a = both.0 in
     let same : a.here.so_far ≡ so_far = unfolded s a.here.so_far so_far a.here.assembler so in
     after_more p s t log piece a (subst (λ x. IsMore (x ++ piece)) (sym same) more) (is ∙ ap (λ x. let made : State = record s { so_far = Some (x ++ piece) } in made) (sym same))
 
-pub garbled_closes : (p : Setup) (told : Option Log) (s t : State) (piece so_far : List ℕ) → s.session.connected ≡ true → s.so_far ≡ Some so_far → IsRefused (so_far ++ piece) → t ≡ record s { so_far = Some [] } → Tracks p s told piece false → IfSome told (MayClose p t Grammar)
+pub garbled_closes : (p : Setup) (told : Option Log) (s t : State) (piece so_far : List ℕ) → s.session.connected ≡ true → s.so_far ≡ Some so_far → IsRefused (so_far ++ piece) → t ≡ record s { so_far = Some [] } → Awaits p s told piece → IfSome told (MayClose p t Grammar)
 garbled_closes p None s t piece so_far on so refused is h = tt
-garbled_closes p (Some log) s t piece so_far on so refused is a =
+garbled_closes p (Some log) s t piece so_far on so refused is both =
+    let a = both.0 in
     let same : a.here.so_far ≡ so_far = unfolded s a.here.so_far so_far a.here.assembler so in
     record {
       last = refl;
@@ -124,7 +139,9 @@ garbled_closes p (Some log) s t piece so_far on so refused is a =
       open_is = on;
       unjudged = piece;
       agrees = a;
+      fault = Some Grammar;
       stands = stands_garbled p s log piece a (subst (λ x. IsRefused (x ++ piece)) (sym same) refused);
+      why = λ h. (sym a.here.link ∙ on, (a.c, stands_garbled p s log piece a (subst (λ x. IsRefused (x ++ piece)) (sym same) refused)));
     }
 
 pub found_apdu : (o : Option (List ℕ)) (piece : List ℕ) (n : ℕ) (f : Apdu) (after : Option (List ℕ)) → is_some o ≡ true → IfSome o (λ x. Hears x piece n (hears.Apdu f) after) →

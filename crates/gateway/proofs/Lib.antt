@@ -5,6 +5,7 @@ pub mod Tied
 pub mod Frames
 pub mod Objects
 pub mod Acknowledging
+pub mod Talking
 pub mod Agreement
 pub mod Stations
 pub mod Come

@@ -1,5 +1,5 @@
 -- The lemmas of Agreement where a port may tell no log, in the form that answers cite.
-use Rattle.std.proofs.Common.{◌≡◌, ℕ, ◌&&◌, Bool, true, false, not, cond, List, [], ◌∷◌, length, refl, ap, sym, ◌∙◌, subst, Option, Some, None}
+use Rattle.std.proofs.Common.{◌≡◌, ℕ, ◌<◌, ◌&&◌, ◌||◌, Bool, true, false, not, cond, List, [], ◌∷◌, length, refl, ap, sym, ◌∙◌, subst, Option, Some, None}
 use Rattle.std.specs.Prelude.{IfSome, IfNone, nat_lt, if◌then◌else◌, ◌==◌}
 use Rattle.std.specs.Bool.{OnTrue}
 use Rattle.std.proofs.lemmas.Bool.{and_parts, not-false}
@@ -9,16 +9,23 @@ use Rattle.apci.specs.Spelling.{spelling, Fits}
 use Rattle.session.specs.declared.kinds.Close.{Close}
 use Rattle.session.specs.Session as session
 use Rattle.session.specs.Session.{Session, may_send, is_running}
-use Rattle.gateway.specs.Log.{Log, Went, Output, TcpOut, Closed, tell}
+use Rattle.gateway.specs.Log.{Log, events_of, Went, Output, TcpOut, Closed, tell}
 use Rattle.gateway.specs.Reports.{Setup}
 use Rattle.gateway.specs.Traffic.{IsFaithful}
 use Rattle.gateway.specs.Runs.{events_told}
 use Rattle.gateway.specs.LineLaws.{LineLaws}
-use Rattle.gateway.specs.State.{State, disconnected}
-use Rattle.gateway.specs.Agrees.{Agrees, Tracks, Leaves, Rests, IsSpent}
+use Rattle.session.specs.declared.kinds.Kind.{Kind}
+use Rattle.session.specs.declared.kinds.Kind.TheVariants.{Queue as FromQueue}
+use Rattle.gateway.specs.State.{State, disconnected, piece_sent}
+use Rattle.session.specs.declared.kinds.Close.TheVariants.{Timeout}
+use Rattle.session.specs.History.{has_timed_out}
+use Rattle.session.specs.Runs.{Confirm, Pull}
+use Rattle.session.specs.Ends.{after_confirm, after_pull, IsConfirmed, IsInTime}
+use Rattle.gateway.specs.Agrees.{Agrees, Tracks, Awaits, Leaves, Rests, IsSpent, IsQuiet, StaysInTime}
 use Rattle.gateway.specs.Steps.{SendsPiece, MayClose}
 use Rattle.gateway.proofs.Tied.{SameWindow}
-use Rattle.gateway.proofs.Agreement.{HasNoData, faithful, after_piece, after_due, after_close, rested}
+use Rattle.gateway.proofs.Talking.{HasNoData, confirms, pulls, patient, all_taken, late_by, confirm_t1, pull_t1}
+use Rattle.gateway.proofs.Agreement.{GoesOut, faithful, stands_now, after_piece, after_due, after_close, rested}
 
 -- The events of a log stay as actions go out.
 pub events_went : (told : Option Log) (now : ℕ) (action : Output) → events_told (tell told (Went now action ∷ [])) ≡ events_told told
@@ -105,14 +112,14 @@ pulled_leaves now s =
     (λ k. record { same = record { same_connected = refl; same_running = refl; same_received = refl; same_next = refl; same_k = refl; same_frames = refl }; sends = (not-false _ h, λ put. refl); none = tt })
     (λ k. nothing_leaves s)))
 
-sends_due : (s : State) (f : Apdu) (t : Session) → Fits f → LeavesWindow s.session (Some f, t) → Sends s f (record s { session = t })
-sends_due s f t fits h p log unjudged is_asked a = after_due p s t log unjudged f is_asked a h.sends.0 fits h.sends.1 h.same
+sends_due : (s : State) (f : Apdu) (t : Session) → Fits f → GoesOut s.session t s.moment f → LeavesWindow s.session (Some f, t) → Sends s f (record s { session = t })
+sends_due s f t fits goes h p log unjudged is_asked a = after_due p s t log unjudged f is_asked a h.sends.0 fits h.sends.1 goes h.same
 
 pub sends_confirmation : (s t : State) (f : Apdu) → Fits f → ◌≡◌ {A = Option Apdu × Session} (Some f, t.session) (session.confirmed s.session) → t ≡ record s { session = t.session } → Sends s f t
-sends_confirmation s t f fits e rest p log unjudged is_asked a = rw rest (sends_due s f t.session fits (subst (LeavesWindow s.session) (sym e) (confirmed_leaves s.session)) p log unjudged is_asked a)
+sends_confirmation s t f fits e rest p log unjudged is_asked a = rw rest (sends_due s f t.session fits (record { call = Confirm s.moment; made = λ h. confirms s.session t.session h f s.moment (subst (LeavesWindow s.session) (sym e) (confirmed_leaves s.session)).sends.1 e }) (subst (LeavesWindow s.session) (sym e) (confirmed_leaves s.session)) p log unjudged is_asked a)
 
 pub sends_pulled : (s t : State) (f : Apdu) → Fits f → ◌≡◌ {A = Option Apdu × Session} (Some f, t.session) (session.pulled s.moment s.session) → t ≡ record s { session = t.session } → Sends s f t
-sends_pulled s t f fits e rest p log unjudged is_asked a = rw rest (sends_due s f t.session fits (subst (LeavesWindow s.session) (sym e) (pulled_leaves s.moment s.session)) p log unjudged is_asked a)
+sends_pulled s t f fits e rest p log unjudged is_asked a = rw rest (sends_due s f t.session fits (record { call = Pull s.moment; made = λ h. pulls s.session t.session h f s.moment (subst (LeavesWindow s.session) (sym e) (pulled_leaves s.moment s.session)).sends.1 e }) (subst (LeavesWindow s.session) (sym e) (pulled_leaves s.moment s.session)) p log unjudged is_asked a)
 
 -- where nothing is due, nothing changes
 pub no_confirmation : (s t : State) → ◌≡◌ {A = Option Apdu × Session} (None, t.session) (session.confirmed s.session) → t ≡ record s { session = t.session } → t ≡ s
@@ -144,17 +151,132 @@ told_closed p told after s t cause now e same is h = rw (e, same, is) (by_log to
     by_log None h = tt
     by_log (Some log) h =
         let moment : s.moment ≡ h.state.moment = ap (λ (x : State). x.moment) h.same in
-        rw (h.same, moment) (after_close p h.state log h.unjudged cause h.agrees h.open_is h.last h.stands)
+        rw (h.same, moment) (after_close p h.state log h.unjudged cause h.fault h.agrees h.open_is h.last h.stands h.why)
 
 pub may_close_faithful : (p : Setup) (told : Option Log) (s : State) (cause : Close) → IfSome told (MayClose p s cause) → IfSome told (IsFaithful p)
 may_close_faithful p None s cause h = tt
 may_close_faithful p (Some log) s cause h = faithful p h.state log h.unjudged false h.agrees
 
-pub told_rested : (laws : LineLaws) (p : Setup) (told : Option Log) (s : State) → IsSpent s → Tracks p s told [] true → Rests p told
-told_rested laws p None s spent h = tt
-told_rested laws p (Some []) s spent a = tt
-told_rested laws p (Some (t ∷ log)) s spent a = rested laws p s (t ∷ log) a spent
+-- A step is done
 
-pub told_done : (laws : LineLaws) (p : Setup) (result : Bool) (told : Option Log) (s : State) → OnTrue result (IsSpent s) → Leaves result p s told [] true → OnTrue result (Rests p told)
-told_done laws p true told s spent h = told_rested laws p told s spent h
-told_done laws p false told s spent h = tt
+pub told_rested : (laws : LineLaws) (p : Setup) (told : Option Log) (s : State) → IsSpent s → IsQuiet s → Tracks p s told [] true → Rests p told
+told_rested laws p None s spent quiet h = tt
+told_rested laws p (Some []) s spent quiet a = tt
+told_rested laws p (Some (t ∷ log)) s spent quiet a = rested laws p s (t ∷ log) a spent quiet
+
+-- t1 is some time
+told_patient : (p : Setup) (told after : Option Log) (log : Log) (s : State) → events_told after ≡ events_told told → after ≡ Some log → Tracks p s told [] true → 0 < s.session.t1
+told_patient p None after log s same is a = let e : Some (events_of log) ≡ None = sym (ap events_told is) ∙ same in cc
+told_patient p (Some first) after log s same is a = patient p s.session first a.c a.talk
+
+pub told_done : (laws : LineLaws) (p : Setup) (result : Bool) (told after : Option Log) (s t : State) → events_told after ≡ events_told told → IsInTime s.moment s.session → Tracks p s told [] true →
+    OnTrue result (IsSpent t) → OnTrue result (IsConfirmed t.session) → OnTrue result ((session.pulled t.moment t.session).0 ≡ None) → OnTrue result (StaysInTime s t) → Leaves result p t after [] true → OnTrue result (Rests p after)
+told_done laws p true told None s t same early a spent confirmed pulled stays h = tt
+told_done laws p true told (Some log) s t same early a spent confirmed pulled stays h =
+    told_rested laws p (Some log) t spent (record { confirmed = confirmed; pulled_all = pulled; in_time = (stays (told_patient p told (Some log) log s same refl a) early).0 }) h
+told_done laws p false told after s t same early a spent confirmed pulled stays h = tt
+
+-- a step's answer is late
+
+pub late_none : (b : Bool) → None ≡ (if b then Some Timeout else None) → b ≡ false
+late_none true e = cc
+late_none false e = refl
+
+late_some : (b : Bool) (cause : Close) → Some cause ≡ (if b then Some Timeout else None) → (cause ≡ Timeout) × (b ≡ true)
+late_some true cause e = let is : cause ≡ Timeout = cc in (is, refl)
+late_some false cause e = cc
+
+late_closes : (p : Setup) (s : State) (log : Log) → session.timed_out s.moment s.session ≡ true → Agrees p s log [] false → MayClose p s Timeout log
+late_closes p s log late a =
+    let on : s.session.connected ≡ true = (and_parts s.session.connected (session.is_late s.moment s.session s.session.unacknowledged || session.is_test_late s.moment s.session s.session.test_sent) late).0 in
+    record {
+      last = refl;
+      state = s;
+      same = refl;
+      open_is = on;
+      unjudged = [];
+      agrees = a;
+      fault = None;
+      stands = stands_now p s log false a;
+      why = record {
+        open_is = sym a.here.link ∙ on;
+        history = a.talk.history;
+        happens = a.talk.happens;
+        all = all_taken p s.session log a.c a.here.so_far a.talk a.here.joined a.here.waits;
+        late = subst (λ m. has_timed_out p.session.t1 m a.talk.history ≡ true) a.clock (sym (late_by p s.session log a.c a.talk s.moment) ∙ late);
+      };
+    }
+
+pub told_late : (p : Setup) (told : Option Log) (s : State) (cause : Close) → Some cause ≡ (if session.timed_out s.moment s.session then Some Timeout else None) → Tracks p s told [] false → IfSome told (MayClose p s cause)
+told_late p None s cause e h = tt
+told_late p (Some log) s cause e a =
+    let late = late_some (session.timed_out s.moment s.session) cause e in
+    subst (λ x. MayClose p s x log) (sym late.0) (late_closes p s log late.1 a)
+
+-- Confirmations
+
+pub awaits : (p : Setup) (told : Option Log) (s : State) (unjudged : List ℕ) → IsConfirmed s.session → Tracks p s told unjudged false → Awaits p s told unjudged
+awaits p None s unjudged ready h = tt
+awaits p (Some log) s unjudged ready a = (a, ready)
+
+-- no time runs out meanwhile
+
+pub in_time_same : (s t : State) → t.session ≡ s.session → t.moment ≡ s.moment → IsInTime s.moment s.session → IsInTime t.moment t.session
+in_time_same s t same moment h = subst (λ (x : Session). session.timed_out t.moment x ≡ false) (sym same) (subst (λ m. session.timed_out m s.session ≡ false) (sym moment) h)
+
+pub stays_after : (s t u : State) → StaysInTime s t → StaysInTime t u → StaysInTime s u
+stays_after s t u first second some h = let k = first some h in second k.1 k.0
+
+pub stays_by : (s : State) (t : Session) (u : State) → u ≡ record s { session = t } → (0 < s.session.t1 → IsInTime s.moment s.session → IsInTime s.moment t) → t.t1 ≡ s.session.t1 → StaysInTime s u
+stays_by s t u is early same some h = subst (λ (x : State). IsInTime x.moment x.session × (0 < x.session.t1)) (sym is) (early some h, subst (λ n. 0 < n) (sym same) some)
+
+-- where the frame goes out, and where the device fails
+pub told_put : (result : Bool) (p : Setup) (told after : Option Log) (s t : State) (f : Apdu) (now : ℕ) (unjudged : List ℕ) (is_asked : Bool) → after ≡ (if result then tell told (Went now (TcpOut (spelling f)) ∷ []) else told) → now ≡ s.moment → Sends s f t → Tracks p s told unjudged is_asked →
+    Leaves result p t after unjudged is_asked
+told_put true p told after s t f now unjudged is_asked e same sends h = told_sent p told after s t f now unjudged is_asked e same sends h
+told_put false p told after s t f now unjudged is_asked e same sends h = subst (λ l. IfSome l (IsFaithful p)) (sym e) (told_faithful p told s unjudged is_asked h)
+
+pub unsent_faithful : (p : Setup) (told after : Option Log) (s : State) (unjudged : List ℕ) (is_asked : Bool) → after ≡ told → Tracks p s told unjudged is_asked → IfSome after (IsFaithful p)
+unsent_faithful p told after s unjudged is_asked e h = subst (λ l. IfSome l (IsFaithful p)) (sym e) (told_faithful p told s unjudged is_asked h)
+
+pub on_true : (b : Bool) (P : Type 0) → P → OnTrue b P
+on_true true P h = h
+on_true false P h = tt
+
+pub on_map : (b : Bool) (P Q : Type 0) → (P → Q) → OnTrue b P → OnTrue b Q
+on_map true P Q f h = f h
+on_map false P Q f h = tt
+
+pub confirmed_next : (s t : State) (r : Option Apdu) → ◌≡◌ {A = Option Apdu × Session} (r, t.session) (session.confirmed s.session) → t ≡ record s { session = t.session } → t ≡ record s { session = after_confirm s.session }
+confirmed_next s t r e rest = rest ∙ ap (λ (x : Session). let made : State = record s { session = x } in made) (ap (λ (d : Option Apdu × Session). d.1) e)
+
+pub pulled_next : (s t : State) (r : Option Apdu) → ◌≡◌ {A = Option Apdu × Session} (r, t.session) (session.pulled s.moment s.session) → t ≡ record s { session = t.session } → t ≡ record s { session = after_pull s.moment s.session }
+pulled_next s t r e rest = rest ∙ ap (λ (x : Session). let made : State = record s { session = x } in made) (ap (λ (d : Option Apdu × Session). d.1) e)
+
+-- what the laws of calls say of two and three of them
+pub three_confirm : ((s : Session) → IsConfirmed (after_confirm (after_confirm (after_confirm s)))) → (s t u v : State) → t ≡ record s { session = after_confirm s.session } → u ≡ record t { session = after_confirm t.session } → v ≡ record u { session = after_confirm u.session } → IsConfirmed v.session
+three_confirm law s t u v a b c =
+    subst IsConfirmed (sym (ap (λ (x : State). x.session) c ∙ ap (λ (x : State). after_confirm x.session) b ∙ ap (λ (x : State). after_confirm (after_confirm x.session)) a)) (law s.session)
+
+pub two_pulls : ((now : ℕ) (s : Session) → (session.pulled now (after_pull now (after_pull now s))).0 ≡ None) → (s t u : State) → t ≡ record s { session = after_pull s.moment s.session } → u ≡ record t { session = after_pull t.moment t.session } → (session.pulled u.moment u.session).0 ≡ None
+two_pulls law s t u a b =
+    let same : u ≡ record s { session = after_pull s.moment (after_pull s.moment s.session) } = b ∙ ap (λ (x : State). let made : State = record x { session = after_pull x.moment x.session } in made) a in
+    subst (λ (x : State). (session.pulled x.moment x.session).0 ≡ None) (sym same) (law s.moment s.session)
+
+pub confirm_in_time : ((now : ℕ) (s : Session) → IsInTime now s → IsInTime now (after_confirm s)) → (s t : State) → t ≡ record s { session = after_confirm s.session } → StaysInTime s t
+confirm_in_time law s t is = stays_by s (after_confirm s.session) t is (λ some h. law s.moment s.session h) (confirm_t1 s.session)
+
+pub pull_in_time : ((now : ℕ) (s : Session) → 0 < s.t1 → IsInTime now s → IsInTime now (after_pull now s)) → (s t : State) → t ≡ record s { session = after_pull s.moment s.session } → StaysInTime s t
+pull_in_time law s t is = stays_by s (after_pull s.moment s.session) t is (λ some h. law s.moment s.session some h) (pull_t1 s.moment s.session)
+
+pub pull_confirmed : ((now : ℕ) (s : Session) → IsConfirmed s → IsConfirmed (after_pull now s)) → (s t : State) → t ≡ record s { session = after_pull s.moment s.session } → IsConfirmed s.session → IsConfirmed t.session
+pull_confirmed law s t is h = subst (λ (x : State). IsConfirmed x.session) (sym is) (law s.moment s.session h)
+
+pub pull_spent : (s t : State) → t ≡ record s { session = after_pull s.moment s.session } → IsSpent s → IsSpent t
+pull_spent s t is spent = subst IsSpent (sym is) (pulled_spent (session.pulled s.moment s.session).0 s (record s { session = after_pull s.moment s.session }) refl refl spent)
+
+pub piece_confirmed : ((kind : Kind) (now : ℕ) (s : Session) → may_send s ≡ true → IsConfirmed s → IsConfirmed (session.sent kind now s)) → (s t : State) → t ≡ piece_sent s → may_send s.session ≡ true → IsConfirmed s.session → IsConfirmed t.session
+piece_confirmed law s t is may h = subst (λ (x : State). IsConfirmed x.session) (sym is) (law FromQueue s.moment s.session may h)
+
+pub piece_in_time : ((kind : Kind) (now : ℕ) (s : Session) → 0 < s.t1 → IsInTime now s → IsInTime now (session.sent kind now s)) → (s t : State) → t ≡ piece_sent s → StaysInTime s t
+piece_in_time law s t is some h = subst (λ (x : State). IsInTime x.moment x.session × (0 < x.session.t1)) (sym is) (law FromQueue s.moment s.session some h, some)

@@ -1,5 +1,5 @@
 -- What is stored, and the start of a run.
-use Rattle.std.proofs.Common.{◌≡◌, ◌≢◌, ℕ, zero, suc, ◌<◌, Bool, true, false, ◌&&◌, All, List, [], ◌∷◌, ◌++◌, length, map, Option, Some, refl, ap, sym, ◌∙◌, subst, arith, append_assoc, eq-eqb}
+use Rattle.std.proofs.Common.{◌≡◌, ◌≢◌, ℕ, zero, suc, ◌<◌, ◌≤◌, Bool, true, false, ◌&&◌, All, List, [], ◌∷◌, ◌++◌, length, map, Option, Some, refl, ap, sym, ◌∙◌, subst, arith, append_assoc, eq-eqb}
 use Rattle.std.specs.Prelude.{if◌then◌else◌, option_map}
 use Rattle.std.specs.List.{AllByRecursion}
 use Rattle.std.proofs.lemmas.List.{append-nil, length-map}
@@ -13,6 +13,7 @@ use Rattle.link.specs.Requests.{FitsAddress}
 use Rattle.link.specs.Primary.{start}
 use Rattle.link.specs.Telling.{Tells}
 use Rattle.gateway.specs.declared.settings.Station.{Station}
+use Rattle.gateway.specs.declared.settings.TcpSettings.{TcpSettings}
 use Rattle.gateway.specs.declared.entries.Entry.{Entry}
 use Rattle.gateway.specs.declared.entries.Entry.TheVariants.{Line, Open, Bytes, Cut, Tick}
 use Rattle.gateway.specs.declared.entries.Told.TheVariants as told
@@ -24,9 +25,12 @@ use Rattle.gateway.specs.Recorded.{Recorded, is_none_left, coming}
 use Rattle.gateway.specs.Frames.{new_connection}
 use Rattle.gateway.specs.Connections.{no_channel}
 use Rattle.gateway.specs.Reports.{Setup, address_at, index_of, AreFound}
-use Rattle.gateway.specs.Setups.{link_of, setup_of}
+use Rattle.session.specs.Ends.{IsConfirmed}
+use Rattle.gateway.specs.SessionLaws.{SessionLaws}
+use Rattle.gateway.specs.Setups.{link_of, session_of, setup_of}
 use Rattle.gateway.specs.State.{State, first_state}
-use Rattle.gateway.specs.Agrees.{Agrees, Follows, Rests}
+use Rattle.gateway.specs.Agrees.{IsTimely, Agrees, Follows, Rests}
+use Rattle.gateway.proofs.Talking.{talk_first}
 use Rattle.gateway.proofs.Agreement.{fresh}
 
 pub stored_push : (xs : List Told) (x : Told) (log : Log) → stored_log (xs ++ x ∷ []) log ≡ told_of x ∷ stored_log xs log
@@ -64,8 +68,8 @@ abbrev pub StartTells : Type 0
 StartTells = (settings : LinkSettings) (addresses : List ℕ) → 0 < length addresses → All (FitsAddress settings.size) addresses → Tells settings addresses (start settings addresses) no_exchanges
 
 -- nothing has been told yet
-pub at_first : (c : Settings) → StartTells → AreStations c.line.link c.line.sizes.ca c.stations → c.tcp.k < 32768 → Agrees (setup_of c) (first_state c) [] [] false
-at_first c starts rules small = record {
+pub at_first : (c : Settings) → StartTells → SessionLaws → AreStations c.line.link c.line.sizes.ca c.stations → IsTimely (session_of c.tcp) → Agrees (setup_of c) (first_state c) [] [] false
+at_first c starts laws rules timely = record {
   k = refl;
   sizes = refl;
   places = refl;
@@ -77,11 +81,12 @@ at_first c starts rules small = record {
   primary = start (link_of c.line) (map (λ (s : Station). s.address) c.stations);
   turns = refl;
   asks = refl;
+  talk = talk_first (setup_of c) timely laws;
   c = new_connection;
-  here = fresh (first_state c) no_channel small refl (λ h. refl) refl refl refl refl refl refl refl refl;
+  here = fresh (first_state c) no_channel timely.range.k_small refl (λ h. refl) refl refl refl refl refl refl refl refl;
   earlier = [];
   carries = record { whole = refl; gone = []; front = refl; joined = refl; count = refl };
-  before = record { are = tt; orders = tt; acts = tt; rests = tt };
+  before = record { are = tt; orders = tt; times = tt; acts = tt; rests = tt };
 }
 
 -- An event is stored: the rest of the script is still to come.
@@ -130,14 +135,14 @@ pub take_sound : (xs ys : List Told) (entry copy : Entry) (before left : List En
 take_sound xs ys entry copy before left script started on is h e same =
     (stored_entry xs ys entry copy before left script started on is h.0 e same, (subst (AllByRecursion FitsPort) is h.1).1)
 
+-- the settings' ranges
+pub timely : (t : TcpSettings) → IsTimely (session_of t)
+timely t = record { range = record { k_small = omega (arith, t.k_in_range.1); w_positive = omega (arith, t.w_in_range.0) }; patient = omega (arith, t.t1_in_range.0) }
+
 -- at the start, of a port that tells an empty log
 
-pub first_follows : (c : Settings) (s : State) (told : Option Log) → StartTells → AreStations c.line.link c.line.sizes.ca c.stations → c.tcp.k < 32768 → s ≡ first_state c → told ≡ Some [] → Follows (setup_of c) s told
-first_follows c s told starts rules small is e = subst (λ o. Follows (setup_of c) s o) (sym e) (subst (λ x. Agrees (setup_of c) x [] [] false) (sym is) (at_first c starts rules small))
+pub first_follows : (c : Settings) (s : State) (told : Option Log) → StartTells → SessionLaws → AreStations c.line.link c.line.sizes.ca c.stations → IsTimely (session_of c.tcp) → s ≡ first_state c → told ≡ Some [] → Follows (setup_of c) s told
+first_follows c s told starts laws rules timely is e = subst (λ o. Follows (setup_of c) s o) (sym e) (subst (λ x. Agrees (setup_of c) x [] [] false × IsConfirmed x.session) (sym is) (at_first c starts laws rules timely, refl))
 
 pub nothing_rests : (p : Setup) (told : Option Log) → told ≡ Some [] → Rests p told
 nothing_rests p told e = subst (Rests p) (sym e) tt
-
--- the port over stored entries tells one
-pub nothing_told : (r : Recorded) (entries : List Entry) → r ≡ record { log = []; failed = 0; started = false; left = entries; script = script_of entries } → Some r.log ≡ Some []
-nothing_told r entries e = ap (λ (x : Recorded). Some x.log) e

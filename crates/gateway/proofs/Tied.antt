@@ -13,7 +13,8 @@ use Rattle.session.specs.declared.kinds.Close.TheVariants.{SendNumber, ReceiveNu
 use Rattle.session.specs.declared.kinds.Kind.TheVariants.{Queue as FromQueue}
 use Rattle.session.specs.Session as session
 use Rattle.session.specs.Session.{Session, is_close, outcome_of, after_frame, from_queue, is_running, may_send, is_valid, newly, newly_by, left_by, refuses, taken}
-use Rattle.gateway.specs.Frames.{Connection, Sent, runs, i_frames, acknowledged_count, reached, fault_of}
+use Rattle.session.specs.History.{reached}
+use Rattle.gateway.specs.Frames.{Connection, Sent, runs, i_frames, acknowledged_count, fault_of}
 use Rattle.gateway.specs.Objects.{has_objects}
 use Rattle.gateway.specs.Agrees.{Unconfirmed, Tied}
 use Rattle.gateway.proofs.Counters.{reached-valid, reached-invalid}

@@ -6,7 +6,10 @@ use Rattle.apci.specs.declared.apdu.Apdu.{Apdu}
 use Rattle.apci.specs.Reading.{IsMore}
 use Rattle.link.specs.Primary.{Primary, asked, sending}
 use Rattle.link.specs.Telling.{Tells}
-use Rattle.session.specs.Session.{Session, is_running, is_from_queue, may_send}
+use Rattle.session.specs.Session.{Session, is_running, is_from_queue, may_send, pulled}
+use Rattle.session.specs.History.{History}
+use Rattle.session.specs.Runs.{Settings, IsInRange, Call, run}
+use Rattle.session.specs.Ends.{IsConfirmed, IsInTime}
 use Rattle.session.specs.declared.kinds.Unacknowledged.{Unacknowledged}
 use Rattle.gateway.specs.Objects.{objects, has_objects}
 use Rattle.gateway.specs.Log.{Log, Input, Came, latest}
@@ -18,6 +21,8 @@ use Rattle.gateway.specs.Traffic.{is_replaced, ActsRightly, RestsBetweenSteps, H
 use Rattle.gateway.specs.Polls.{has_room}
 use Rattle.gateway.specs.Counting.{nothing_counted, counts_after}
 use Rattle.gateway.specs.Line.{TurnsTo}
+use Rattle.gateway.specs.Conversation.{came_frames, Happens, KeepsTimes}
+use Rattle.gateway.specs.SessionLaws.{SessionLaws}
 use Rattle.gateway.specs.State.{State}
 
 -- The line
@@ -77,19 +82,37 @@ pub record Carries (objs : List InformationObject) (parts : ℕ) (earlier : List
   pub joined : objs ≡ gone ++ (objects_of_frames sent ++ flat_map objects unsent)
   pub count : parts ≡ acknowledged_reports earlier + (reports_among sent + length unsent)
 
+-- settings that a session can have
+pub record IsTimely (p : Settings) : Type 0 where
+  pub range : IsInRange p
+  pub patient : 0 < p.t1
+
 -- The past
 
 -- what holds of the log so far
 pub record Past (p : Setup) (log : Log) (earlier : List Connection) : Type 0 where
   pub are : AreConnections (past log) earlier
   pub orders : AreInOrder (taken_objects p log) earlier
+  pub times : KeepsTimes p log
   pub acts : ActsRightly p log
   pub rests : RestsBetweenSteps p log
+
+-- The session
+
+-- The session is what the calls of the history made it, and the history is the log's.
+pub record Talks (p : Setup) (s : Session) (log : Log) (c : Connection) : Type 0 where
+  pub timely : IsTimely p.session
+  pub laws : SessionLaws
+  pub calls : List Call
+  pub history : History
+  pub runs : run p.session calls ≡ record { session = s; history = history }
+  pub happens : Happens log history
+  pub came : came_frames history ≡ c.received_frames
 
 -- The state agrees with the log, as if these octets of the open connection had not come yet; the step's request has been asked
 -- for, or not yet.
 pub record Agrees (p : Setup) (s : State) (log : Log) (unjudged : List ℕ) (is_asked : Bool) : Type 0 where
-  pub k : s.session.k ≡ p.window
+  pub k : s.session.k ≡ p.session.k
   pub sizes : s.sizes ≡ p.sizes
   pub places : s.queue.places ≡ p.places
   pub clock : s.moment ≡ latest log
@@ -102,6 +125,7 @@ pub record Agrees (p : Setup) (s : State) (log : Log) (unjudged : List ℕ) (is_
   pub asks : IsLine is_asked s primary
   pub c : Connection
   pub here : Presently s (present log) unjudged c
+  pub talk : Talks p s.session log c
   pub earlier : List Connection
   pub carries : Carries (taken_objects p log) (parts_of_all p.sizes (reports_in p log)) earlier c.sent_frames s.queue.unsent
   pub before : Past p log earlier
@@ -109,6 +133,10 @@ pub record Agrees (p : Setup) (s : State) (log : Log) (unjudged : List ℕ) (is_
 -- the same where the port tells its log
 abbrev pub Tracks : Setup → State → Option Log → List ℕ → Bool → Type 0
 Tracks p s told unjudged is_asked = IfSome told (λ log. Agrees p s log unjudged is_asked)
+
+-- the same with no confirmation left to be sent
+abbrev pub Awaits : Setup → State → Option Log → List ℕ → Type 0
+Awaits p s told unjudged = IfSome told (λ log. Agrees p s log unjudged false × IsConfirmed s.session)
 
 -- what is left of the log by a call that puts actions out: all of it went out, or the log is faithful so far
 abbrev pub Leaves : Bool → Setup → State → Option Log → List ℕ → Bool → Type 0
@@ -122,18 +150,29 @@ has_begun (entry ∷ log) = true
 
 -- between steps
 abbrev pub Follows : Setup → State → Option Log → Type 0
-Follows p s told = IfSome told (λ log. Agrees p s log [] (has_begun log))
+Follows p s told = IfSome told (λ log. Agrees p s log [] (has_begun log) × IsConfirmed s.session)
 
 -- the log ends with this event, and before it the state agreed with the log and had done all that it could
 pub record HasCome (p : Setup) (s : State) (now : ℕ) (event : Input) (log : Log) : Type 0 where
   pub before : Log
   pub is : log ≡ Came now event ∷ before
   pub agrees : Agrees p s before [] (has_begun before)
+  pub confirmed : IsConfirmed s.session
   pub rested : HasRested p before
 
 -- a step has done all that it could
 abbrev pub Rests : Setup → Option Log → Type 0
 Rests p told = IfSome told (HasRested p)
+
+-- nothing is due on the connection, and no answer is late
+pub record IsQuiet (s : State) : Type 0 where
+  pub confirmed : IsConfirmed s.session
+  pub pulled_all : (pulled s.moment s.session).0 ≡ None
+  pub in_time : IsInTime s.moment s.session
+
+-- where no answer was late, none is late
+abbrev pub StaysInTime : (before after : State) → Type 0
+StaysInTime s t = 0 < s.session.t1 → IsInTime s.moment s.session → IsInTime t.moment t.session × (0 < t.session.t1)
 
 -- nothing can be sent any more
 abbrev pub IsSpent : State → Type 0

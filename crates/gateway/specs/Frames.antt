@@ -5,6 +5,7 @@ use Rattle.apci.specs.declared.apdu.Apdu.{Apdu}
 use Rattle.apci.specs.declared.apdu.Apdu.TheVariants.{I, S, U}
 use Rattle.apci.specs.declared.apdu.Uf.TheVariants.{StartAct, StopAct}
 use Rattle.asdu.specs.InformationObjects.{InformationObject}
+use Rattle.session.specs.History.{reached}
 use Rattle.session.specs.declared.kinds.Close.{Close}
 use Rattle.session.specs.declared.kinds.Close.TheVariants.{SendNumber, ReceiveNumber, Stopped}
 use Rattle.gateway.specs.Objects.{objects, has_objects}
@@ -47,11 +48,8 @@ i_frames [] = 0
 i_frames (I ns nr asdu ∷ older) = suc (i_frames older)
 i_frames (_ ∷ older) = i_frames older
 
--- the least number that is not below n and equals nr modulo 32768
-abbrev pub reached : ℕ → ℕ → ℕ
-reached n nr = n + (nr + (32768 - n % 32768)) % 32768
-
--- how many sent I frames these frames acknowledge: each N(R) those before it (5.1)
+-- How many sent I frames these frames acknowledge: each N(R) moves the count to the least number that isn't below it and equals
+-- N(R) modulo 32768 (5.1).
 abbrev pub acknowledged_count : List Apdu → ℕ
 acknowledged_count [] = 0
 acknowledged_count (I ns nr asdu ∷ older) = reached (acknowledged_count older) nr

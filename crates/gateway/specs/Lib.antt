@@ -12,6 +12,8 @@ pub mod Streams
 pub mod Frames
 pub mod Connections
 pub mod Room
+pub mod Conversation
+pub mod SessionLaws
 pub mod Line
 pub mod LineLaws
 pub mod Traffic

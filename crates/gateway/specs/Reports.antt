@@ -10,17 +10,18 @@ use Rattle.link.specs.declared.settings.LinkSettings.{LinkSettings}
 use Rattle.link.specs.Exchanges.{Exchange, Exchanges, Sending, no_exchanges, heard_current, timed_current, begun_by, views, all_of, with_station, reports_of_exchanges}
 use Rattle.link.specs.Procedure.{KeepsFrameCountBit}
 use Rattle.link.specs.Requests.{request_in}
+use Rattle.session.specs.Runs.{Settings}
 use Rattle.gateway.specs.Log.{Log, Came, Went, LineIn, LineOut, latest}
 use Rattle.gateway.specs.Objects.{monitor_objects, parts_of}
 
 -- What a gateway is set to: its line, the link addresses of its stations, the sizes of the line's ASDUs, the places of
--- its queue, and how many I frames may be unacknowledged (k).
+-- its queue, and the session's numbers and times (k, w, t1, t2, t3).
 pub record Setup : Type 0 where
   pub link : LinkSettings
   pub addresses : List ℕ
   pub sizes : Sizes
   pub places : ℕ
-  pub window : ℕ
+  pub session : Settings
 
 abbrev pub address_at : List ℕ → ℕ → ℕ
 address_at addresses i = slice_index addresses i

@@ -16,6 +16,7 @@ use Rattle.gateway.specs.Log.{Log, Input, LineIn}
 use Rattle.gateway.specs.Connections.{ends, present, IsConnection}
 use Rattle.gateway.specs.Reports.{Setup}
 use Rattle.gateway.specs.Counting.{counted}
+use Rattle.gateway.specs.Traffic.{HasCause}
 use Rattle.gateway.specs.State.{State, at_moment, framed, disconnected, next_frame, piece_sent}
 use Rattle.gateway.specs.Agrees.{Agrees}
 
@@ -71,4 +72,6 @@ pub record MayClose (p : Setup) (s : State) (cause : Close) (log : Log) : Type 0
   pub open_is : state.session.connected ≡ true
   pub unjudged : List ℕ
   pub agrees : Agrees p state log unjudged false
-  pub stands : IsConnection (present log) agrees.c (Some cause)
+  pub fault : Option Close
+  pub stands : IsConnection (present log) agrees.c fault
+  pub why : HasCause p cause log

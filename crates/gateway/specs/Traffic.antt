@@ -5,7 +5,7 @@ use Rattle.link.specs.declared.service.Asked.{Asked}
 use Rattle.link.specs.Requests.{request_frame}
 use Rattle.link.specs.Primary.{Primary}
 use Rattle.session.specs.declared.kinds.Close.{Close}
-use Rattle.session.specs.declared.kinds.Close.TheVariants.{Replaced}
+use Rattle.session.specs.declared.kinds.Close.TheVariants.{Timeout, Replaced}
 use Rattle.gateway.specs.Log.{Log, Opened, Came, Went, Output, LineOut, TcpOut, Closed, latest}
 use Rattle.gateway.specs.Streams.{IsOneFrame}
 use Rattle.gateway.specs.Frames.{Connection, runs, acknowledged_count, first_unacknowledged, monitor_objects_sent, AreInOrder}
@@ -13,6 +13,7 @@ use Rattle.gateway.specs.Connections.{present, past, ends, IsConnection, AreConn
 use Rattle.gateway.specs.Reports.{Setup, address_at, taken_objects, KeepsLinks}
 use Rattle.link.specs.Leave.{is_poll_request}
 use Rattle.gateway.specs.Room.{AreConnectionsOf, HasRoom}
+use Rattle.gateway.specs.Conversation.{KeepsTimes, IsLate, IsTalkAtRest}
 use Rattle.gateway.specs.Line.{TurnsTo, IsWaiting, IsLineAtRest}
 
 -- The octets are a request to a station, while no exchange is outstanding; and a poll only where there is room.
@@ -29,15 +30,16 @@ abbrev pub is_replaced : Log → Bool
 is_replaced (Came now Opened ∷ log) = (present log).is_open
 is_replaced log = false
 
--- the connection is open, and its octets give the cause
-abbrev pub HasCause : Close → Log → Type 0
-HasCause cause log = ends cause ≡ true → ((present log).is_open ≡ true) × ((c : Connection) × IsConnection (present log) c (Some cause))
+-- The connection is open, and its octets give the cause; or an answer is late.
+abbrev pub HasCause : Setup → Close → Log → Type 0
+HasCause p Timeout log = IsLate p log
+HasCause p cause log = ends cause ≡ true → ((present log).is_open ≡ true) × ((c : Connection) × IsConnection (present log) c (Some cause))
 
 -- to the line whole requests, to TCP one APDU at a time while a connection is open, and a close with its cause
 abbrev pub MayGo : Setup → Log → Output → Type 0
 MayGo p log (LineOut octets) = IsRequest p log octets
 MayGo p log (TcpOut octets) = ((present log).is_open ≡ true) × IsOneFrame octets
-MayGo p log (Closed cause) = HasCause cause log
+MayGo p log (Closed cause) = HasCause p cause log
 
 abbrev pub replaces : Output → Bool
 replaces (Closed Replaced) = true
@@ -57,15 +59,17 @@ ActsRightly p (Went now action ∷ log) = GoesOut p log now action × ActsRightl
 ActsRightly p (entry ∷ log) = ActsRightly p log
 
 -- After a step nothing stands on the connection that closes it, and all that may be sent is sent: on the connection, where
--- data transfer is started and the window isn't full, all objects; on the line, all but data for which there is no room.
+-- data transfer is started and the window isn't full, all objects, and each confirmation, S frame and test that is due; on the
+-- line, all but data for which there is no room.
 pub record IsAtRest (p : Setup) (log : Log) : Type 0 where
   pub here : Connection
   pub before : List Connection
   pub are : AreConnectionsOf log here before
   pub settled : is_replaced log ≡ false
-  pub eager : (present log).is_open ≡ true → runs here.received_frames ≡ true → length here.sent_frames < acknowledged_count here.received_frames + p.window →
+  pub eager : (present log).is_open ≡ true → runs here.received_frames ≡ true → length here.sent_frames < acknowledged_count here.received_frames + p.session.k →
       first_unacknowledged before + length (monitor_objects_sent here) ≡ length (taken_objects p log)
   pub line : IsLineAtRest p log (here ∷ before)
+  pub talk : IsTalkAtRest p log
 
 -- nothing has come yet, or the last step has done all that it could
 abbrev pub HasRested : Setup → Log → Type 0
@@ -89,5 +93,6 @@ pub record IsFaithful (p : Setup) (log : Log) : Type 0 where
   pub links : KeepsLinks p log
   pub primary : Primary
   pub turns : TurnsTo p log primary
+  pub times : KeepsTimes p log
   pub acts : ActsRightly p log
   pub rests : RestsBetweenSteps p log

@@ -1,10 +1,10 @@
 //! The gateway's parts, and what each part of a step makes of them.
-ghost use Rattle.std.specs.Prelude.{◌≡◌, ℕ, ◌+◌, ◌<◌, ◌≤◌, true, false, List, [], ◌∷◌, length, map, IfSome, IfNone, IfOk, Some, None, option_map};
+ghost use Rattle.std.specs.Prelude.{◌≡◌, ℕ, ◌+◌, ◌<◌, ◌≤◌, true, false, List, [], ◌∷◌, length, map, IfSome, IfNone, IfOk, Some, None, option_map, if◌then◌else◌};
 ghost use Rattle.ft12.specs.Fronts.{front_of};
 ghost use Rattle.link.specs.Exchanges.{Sending};
 ghost use Rattle.link.specs.Primary.{start, asked, sending, request_of, timed_out, received, received_outcome};
 ghost use Rattle.apci.specs.Spelling.{Fits};
-ghost use Rattle.session.specs.Session.{confirmed, pulled, may_send};
+ghost use Rattle.session.specs.Session.{confirmed, pulled, may_send, timed_out as answers_late};
 ghost use Rattle.events.specs.Queue.{free_places};
 ghost use Rattle.link.specs.Leave.{is_poll_request, is_polling};
 ghost use Rattle.gateway.specs.Polls.{has_room};
@@ -300,6 +300,13 @@ impl Gateway {
         ensures fits { IfSome result Fits }
     {
         self.session.pull(self.moment)
+    }
+
+    /// The cause to close the connection where a frame has been without an answer for t1.
+    pub(crate) fn late(&self) -> Option<Close>
+        ensures { result ≡ (if answers_late self.now.moment self.now.session then Some Close.Timeout else None) }
+    {
+        self.session.due(self.moment)
     }
 
     /// The frame of the oldest piece that isn't sent.

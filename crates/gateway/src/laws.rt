@@ -4,12 +4,14 @@ ghost use Rattle.session.specs.declared.kinds.Close.{Close};
 ghost use Rattle.gateway.specs.Frames.{Connection};
 ghost use Rattle.gateway.specs.Connections.{Channel, IsConnection};
 ghost use Rattle.gateway.specs.LineLaws.{LineLaws};
+ghost use Rattle.gateway.specs.SessionLaws.{SessionLaws};
 
 use apci::{one_front, spellings_cancel};
 use link::{
     master_tells_the_log, next_changes_nothing, outcomes_bear_the_reports, requests_are_read_back,
     requests_wait_their_turn, rests_mean,
 };
+use session::{histories_keep_the_rules, timers_are_kept, transfer_is_controlled};
 
 /// The octets of a connection have one reading: its frames, and what closes it, if anything does.
 pub fn one_reading()
@@ -29,4 +31,13 @@ pub(crate) fn line_is_told()
     requests_are_read_back();
     rests_mean();
     next_changes_nothing();
+}
+
+/// What holds of the connection's session after every list of calls.
+pub(crate) fn session_is_told()
+    ensures { SessionLaws }
+{
+    histories_keep_the_rules();
+    transfer_is_controlled();
+    timers_are_kept();
 }

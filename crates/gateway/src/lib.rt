@@ -2,15 +2,15 @@
 //! connection at a time, of which it is the controlled station.
 //!
 //! A [`Gateway`] takes one event after another from a [`Port`] and puts out what follows from each: [`Gateway::step`],
-//! [`drive`], [`drive_on`]. [`engine_log`] is a whole run over stored entries, whose log is stored. So far ASDUs from the
-//! control centre are dropped, and no connection is closed for want of an answer in time.
+//! [`drive`], [`drive_on`]. So far ASDUs from the control centre are dropped.
 //!
 //! Proved, of the log of a run, for any octets and moments: its events are those that came; each station is asked as its link
 //! allows, with the frame count bit that is due, and each request is the one that the stations' turns give; nothing is polled
-//! while the queue is full, and nothing else is kept back; to TCP goes one whole APDU at
-//! a time, only while a connection is open, numbered without a gap; the monitor objects sent on each connection are a
-//! contiguous run of those taken from the line, from the first on that no connection before acknowledged; and a connection
-//! is closed exactly by its cause. A port whose device fails breaks none of this for the log so far.
+//! while the queue is full, and nothing else is kept back; to TCP goes one whole APDU at a time, only while a connection is
+//! open, numbered without a gap, each frame when it is due and with the number of the frames received; the monitor objects
+//! sent on each connection are a contiguous run of those taken from the line, from the first on that no connection before
+//! acknowledged; and a connection is closed exactly by its cause. A port whose device fails breaks none of this for the log so
+//! far.
 #![tactic(auto)]
 
 mod config;
@@ -19,7 +19,6 @@ mod engine;
 mod entries;
 mod laws;
 mod ports;
-mod recording;
 mod runs;
 mod settings;
 mod step;
@@ -30,11 +29,12 @@ pub use engine::{Gateway, NoMemory};
 pub use entries::{Entry, Told};
 pub use laws::one_reading;
 pub use ports::{Action, Event, Next, Port};
-pub use recording::engine_log;
 pub use runs::{End, drive, drive_on};
 pub use settings::{
     LineSettings, Silence, Station, TcpSettings, is_common_address, is_link_address,
 };
 
+#[cfg(test)]
+mod recording;
 #[cfg(test)]
 mod tests;

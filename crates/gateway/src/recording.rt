@@ -1,18 +1,15 @@
-//! Runs over stored entries, whose log is stored.
+//! Runs over stored entries, whose log is stored: for tests.
 ghost use Rattle.std.specs.Prelude.{◌≡◌, ℕ, ◌+◌, ◌<◌, ◌≤◌, true, false, List, [], ◌∷◌, ◌++◌, length, take, IfOk, OnOk, OnErr, Option, Some, None, if◌then◌else◌, ◌&&◌};
 ghost use Rattle.std.specs.List.{AllByRecursion};
 ghost use Rattle.gateway.specs.Log.{LogEntry, Came, Went, Ticked, tell, events_of};
 ghost use Rattle.gateway.specs.Ports.{told_by, output_of, FitsBuffer, faults_of};
 ghost use Rattle.gateway.specs.Entries.{FitsPort, event_of, script_of, told_of, log_of, number_of};
-ghost use Rattle.gateway.specs.Setups.{setup_of};
-ghost use Rattle.gateway.specs.Traffic.{IsFaithful, HasRested};
 
 use crate::config::Config;
-use crate::engine::{Gateway, NoMemory};
+use crate::engine::NoMemory;
 use crate::entries::{Entry, Told};
 use crate::ports::{Action, Next, Port};
-use crate::runs::{End, drive_on};
-use link::master_tells_the_log;
+use crate::runs::{End, drive};
 use session::Close;
 use std::alloc::{AllocError, Global};
 use std::marker::Model;
@@ -238,23 +235,17 @@ impl<'a> Port for Recording<'a> {
     }
 }
 
-/// The log of a run whose events are a tick at moment 0 and then these entries, each with its moment: every event, and
-/// after it what went out at it. Of the octets of an entry at most 1,024 are asked for. Only want of memory is answered by
-/// an `Err`.
-pub fn engine_log(alloc: Global, config: &Config, entries: &[Entry]) -> Result<Vec<Told>, NoMemory>
-    requires fits { AllByRecursion FitsPort entries.now }
-    // The events of the log are these, and no others.
-    ensures events { IfOk result (λ told. events_of (log_of told.items) ≡ script_of entries.now) }
-    // What the log shows of the line and of each connection keeps every promise of a gateway with these settings.
-    ensures faithful { IfOk result (λ told. IsFaithful (setup_of config.now) (log_of told.items)) }
-    // After the last step nothing that may be sent is left.
-    ensures rests { IfOk result (λ told. HasRested (setup_of config.now) (log_of told.items)) }
+/// The log of a run whose events are a tick at moment 0 and then these entries: every event, and after it what went out at
+/// it. Only want of memory is answered by an `Err`.
+pub(crate) fn engine_log(
+    alloc: Global,
+    config: &Config,
+    entries: &[Entry],
+) -> Result<Vec<Told>, NoMemory>
+    requires { AllByRecursion FitsPort entries.now }
 {
-    master_tells_the_log();
-    let _stations = config.stations();
-    let mut gateway = Gateway::new(alloc, config)?;
     let mut port = Recording::new(alloc, entries);
-    match drive_on(&mut gateway, &mut port, u64::MAX) {
+    match drive(alloc, config, &mut port, u64::MAX)? {
         End::Finished => Ok(port.into_log()),
         End::Turns => Err(NoMemory),
         End::Device => Err(NoMemory),

@@ -10,6 +10,7 @@ ghost use Rattle.gateway.specs.Setups.{setup_of};
 
 use crate::config::Config;
 use crate::engine::{Gateway, NoMemory};
+use crate::laws::session_is_told;
 use crate::ports::{Event, Next, Port};
 use link::master_tells_the_log;
 use std::alloc::Global;
@@ -69,6 +70,7 @@ pub fn drive<P: Port>(
     ensures unasked { OnErr result (port.new ≡ port.old) }
 {
     master_tells_the_log();
+    session_is_told();
     let _stations = config.stations();
     let mut gateway = Gateway::new(alloc, config)?;
     Ok(drive_on(&mut gateway, port, turns))

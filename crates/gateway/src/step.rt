@@ -1,14 +1,15 @@
 //! One event, and what goes out at it.
-ghost use Rattle.std.specs.Prelude.{◌≡◌, ℕ, ◌+◌, ◌<◌, ◌≤◌, Bool, true, false, List, [], ◌∷◌, ◌++◌, length, drop, IfSome, Some, Option, if◌then◌else◌};
+ghost use Rattle.std.specs.Prelude.{◌≡◌, ℕ, ◌+◌, ◌<◌, ◌≤◌, Bool, true, false, List, [], ◌∷◌, ◌++◌, length, drop, IfSome, Some, None, Option, if◌then◌else◌};
 ghost use Rattle.std.specs.Bool.{OnTrue};
 ghost use Rattle.apci.specs.Spelling.{Fits, spelling};
-ghost use Rattle.session.specs.Session.{may_send};
+ghost use Rattle.session.specs.Session.{pulled};
+ghost use Rattle.session.specs.Ends.{after_confirm, after_pull, IsConfirmed, IsInTime};
 ghost use Rattle.gateway.specs.Log.{LogEntry, Went, TcpOut, Opened, tell};
 ghost use Rattle.gateway.specs.Ports.{input_of};
 ghost use Rattle.gateway.specs.Reports.{Setup};
 ghost use Rattle.gateway.specs.Traffic.{IsFaithful};
 ghost use Rattle.gateway.specs.State.{State, disconnected, connected};
-ghost use Rattle.gateway.specs.Agrees.{Tracks, Leaves, Follows, HasCome, Rests, IsSpent};
+ghost use Rattle.gateway.specs.Agrees.{Tracks, Awaits, Leaves, Follows, HasCome, Rests, IsSpent, StaysInTime};
 ghost use Rattle.gateway.specs.Steps.{MayClose, HearsEvent, Begins};
 ghost use Rattle.gateway.specs.Judging.{Goes, IsOnward, faults_in};
 ghost use Rattle.gateway.specs.Runs.{events_told};
@@ -17,7 +18,7 @@ use crate::engine::{Found, Gateway};
 use crate::laws::line_is_told;
 use crate::ports::{Action, Event, Port};
 use apci::{Apdu, encode};
-use session::Close;
+use session::{Close, calls_come_to_an_end};
 
 /// What an APDU leads to.
 #[derive(Clone, Copy, Debug, PartialEq, Eq)]
@@ -43,26 +44,41 @@ impl Gateway {
         port.put(self.moment(), &Action::Tcp(&encode(apdu)))
     }
 
-    /// Sends the confirmations that are due.
-    fn send_confirmations<P: Port>(&mut self, port: &mut P) -> bool
+    /// Sends the next confirmation, if one is due.
+    fn send_confirmation<P: Port>(&mut self, port: &mut P) -> bool
         requires { P.failed port.old < u64.MAX }
         ensures kept { (p : Setup) (unjudged : List ℕ) (is_asked : Bool) → Tracks p self.old (P.log port.old) unjudged is_asked → Leaves result p self.new (P.log port.new) unjudged is_asked }
         ensures open { self.new.session.connected ≡ self.old.session.connected }
+        ensures next { OnTrue result (self.new ≡ record self.old { session = after_confirm self.old.session }) }
         ensures events { events_told (P.log port.new) ≡ events_told (P.log port.old) }
         ensures script { P.script port.new ≡ P.script port.old }
         ensures cause { P.failed port.new ≡ P.failed port.old + (if result then 0 else 1) }
     {
-        for _ in 0..3 {
-            match self.confirm() {
-                None => return true,
-                Some(apdu) => {
-                    if !self.hand(&apdu, port) {
-                        return false;
-                    }
-                }
-            }
+        match self.confirm() {
+            None => true,
+            Some(apdu) => self.hand(&apdu, port),
         }
-        true
+    }
+
+    /// Sends the confirmations that are due: an S frame, STARTDT con or TESTFR con, and STOPDT con.
+    fn send_confirmations<P: Port>(&mut self, port: &mut P) -> bool
+        requires { P.failed port.old < u64.MAX }
+        ensures kept { (p : Setup) (unjudged : List ℕ) (is_asked : Bool) → Tracks p self.old (P.log port.old) unjudged is_asked → Leaves result p self.new (P.log port.new) unjudged is_asked }
+        ensures open { self.new.session.connected ≡ self.old.session.connected }
+        ensures confirmed { OnTrue result (IsConfirmed self.new.session) }
+        ensures in_time { OnTrue result (StaysInTime self.old self.new) }
+        ensures events { events_told (P.log port.new) ≡ events_told (P.log port.old) }
+        ensures script { P.script port.new ≡ P.script port.old }
+        ensures cause { P.failed port.new ≡ P.failed port.old + (if result then 0 else 1) }
+    {
+        calls_come_to_an_end();
+        if !self.send_confirmation(port) {
+            return false;
+        }
+        if !self.send_confirmation(port) {
+            return false;
+        }
+        self.send_confirmation(port)
     }
 
     /// Sends reports while the window is open.
@@ -71,10 +87,13 @@ impl Gateway {
         ensures kept { (p : Setup) (unjudged : List ℕ) (is_asked : Bool) → Tracks p self.old (P.log port.old) unjudged is_asked → Leaves result p self.new (P.log port.new) unjudged is_asked }
         ensures open { self.new.session.connected ≡ self.old.session.connected }
         ensures spent { OnTrue result (IsSpent self.new) }
+        ensures confirmed { OnTrue result (IsConfirmed self.old.session → IsConfirmed self.new.session) }
+        ensures in_time { OnTrue result (StaysInTime self.old self.new) }
         ensures events { events_told (P.log port.new) ≡ events_told (P.log port.old) }
         ensures script { P.script port.new ≡ P.script port.old }
         ensures cause { P.failed port.new ≡ P.failed port.old + (if result then 0 else 1) }
     {
+        calls_come_to_an_end();
         while let Some(apdu) = self.next_report() {
             if !self.hand(&apdu, port) {
                 return false;
@@ -83,27 +102,40 @@ impl Gateway {
         true
     }
 
+    /// Sends the S frame, or else the TESTFR act, if one is due.
+    fn send_due<P: Port>(&mut self, port: &mut P) -> bool
+        requires { P.failed port.old < u64.MAX }
+        ensures kept { (p : Setup) (unjudged : List ℕ) (is_asked : Bool) → Tracks p self.old (P.log port.old) unjudged is_asked → Leaves result p self.new (P.log port.new) unjudged is_asked }
+        ensures open { self.new.session.connected ≡ self.old.session.connected }
+        ensures next { OnTrue result (self.new ≡ record self.old { session = after_pull self.old.moment self.old.session }) }
+        ensures events { events_told (P.log port.new) ≡ events_told (P.log port.old) }
+        ensures script { P.script port.new ≡ P.script port.old }
+        ensures cause { P.failed port.new ≡ P.failed port.old + (if result then 0 else 1) }
+    {
+        match self.pull() {
+            None => true,
+            Some(apdu) => self.hand(&apdu, port),
+        }
+    }
+
     /// Sends the S frame and the TESTFR act that are due.
     fn send_dues<P: Port>(&mut self, port: &mut P) -> bool
         requires { P.failed port.old < u64.MAX }
         ensures kept { (p : Setup) (unjudged : List ℕ) (is_asked : Bool) → Tracks p self.old (P.log port.old) unjudged is_asked → Leaves result p self.new (P.log port.new) unjudged is_asked }
         ensures open { self.new.session.connected ≡ self.old.session.connected }
         ensures spent { OnTrue result (IsSpent self.old → IsSpent self.new) }
+        ensures confirmed { OnTrue result (IsConfirmed self.old.session → IsConfirmed self.new.session) }
+        ensures pulled { OnTrue result ((pulled self.new.moment self.new.session).0 ≡ None) }
+        ensures in_time { OnTrue result (StaysInTime self.old self.new) }
         ensures events { events_told (P.log port.new) ≡ events_told (P.log port.old) }
         ensures script { P.script port.new ≡ P.script port.old }
         ensures cause { P.failed port.new ≡ P.failed port.old + (if result then 0 else 1) }
     {
-        for _ in 0..2 {
-            match self.pull() {
-                None => return true,
-                Some(apdu) => {
-                    if !self.hand(&apdu, port) {
-                        return false;
-                    }
-                }
-            }
+        calls_come_to_an_end();
+        if !self.send_due(port) {
+            return false;
         }
-        true
+        self.send_due(port)
     }
 
     /// Sends what may be sent: confirmations, then reports, then what else is due.
@@ -112,6 +144,9 @@ impl Gateway {
         ensures kept { (p : Setup) (unjudged : List ℕ) (is_asked : Bool) → Tracks p self.old (P.log port.old) unjudged is_asked → Leaves result p self.new (P.log port.new) unjudged is_asked }
         ensures open { self.new.session.connected ≡ self.old.session.connected }
         ensures spent { OnTrue result (IsSpent self.new) }
+        ensures confirmed { OnTrue result (IsConfirmed self.new.session) }
+        ensures pulled { OnTrue result ((pulled self.new.moment self.new.session).0 ≡ None) }
+        ensures in_time { OnTrue result (StaysInTime self.old self.new) }
         ensures events { events_told (P.log port.new) ≡ events_told (P.log port.old) }
         ensures script { P.script port.new ≡ P.script port.old }
         ensures cause { P.failed port.new ≡ P.failed port.old + (if result then 0 else 1) }
@@ -129,6 +164,7 @@ impl Gateway {
     fn close<P: Port>(&mut self, cause: Close, port: &mut P) -> bool
         requires { P.failed port.old < u64.MAX }
         ensures kept { (p : Setup) → IfSome (P.log port.old) (MayClose p self.old cause) → Leaves result p self.new (P.log port.new) [] false }
+        ensures closed { OnTrue result (self.new ≡ disconnected self.old) }
         ensures events { events_told (P.log port.new) ≡ events_told (P.log port.old) }
         ensures script { P.script port.new ≡ P.script port.old }
         ensures cause { P.failed port.new ≡ P.failed port.old + (if result then 0 else 1) }
@@ -146,7 +182,7 @@ impl Gateway {
         requires fits { Fits apdu.now }
         requires open { self.old.session.connected ≡ true }
         requires whole { self.old.so_far ≡ Some [] }
-        ensures kept { (p : Setup) (rest : List ℕ) → Tracks p self.old (P.log port.old) (spelling apdu.now ++ rest) false → Goes result p self.new (P.log port.new) rest }
+        ensures kept { (p : Setup) (rest : List ℕ) → Awaits p self.old (P.log port.old) (spelling apdu.now ++ rest) → Goes result p self.new (P.log port.new) rest }
         ensures open { IsOnward result (self.new.session.connected ≡ true) }
         ensures events { events_told (P.log port.new) ≡ events_told (P.log port.old) }
         ensures script { P.script port.new ≡ P.script port.old }
@@ -167,7 +203,7 @@ impl Gateway {
         requires ready { P.failed port.old < u64.MAX }
         requires some { 0 < length octets.now }
         requires open { self.old.session.connected ≡ true }
-        ensures kept { (p : Setup) → Tracks p self.old (P.log port.old) octets.now false → Goes result.1 p self.new (P.log port.new) (drop result.0 octets.now) }
+        ensures kept { (p : Setup) → Awaits p self.old (P.log port.old) octets.now → Goes result.1 p self.new (P.log port.new) (drop result.0 octets.now) }
         ensures open { IsOnward result.1 (self.new.session.connected ≡ true) }
         ensures progress { IsOnward result.1 ((0 < result.0) × (result.0 ≤ length octets.now)) }
         ensures events { events_told (P.log port.new) ≡ events_told (P.log port.old) }
@@ -200,7 +236,7 @@ impl Gateway {
     fn receive<P: Port>(&mut self, octets: &[u8], port: &mut P) -> bool
         requires ready { P.failed port.old < u64.MAX }
         requires open { self.old.session.connected ≡ true }
-        ensures kept { (p : Setup) → Tracks p self.old (P.log port.old) octets.now false → Leaves result p self.new (P.log port.new) [] false }
+        ensures kept { (p : Setup) → Awaits p self.old (P.log port.old) octets.now → Leaves result p self.new (P.log port.new) [] false }
         ensures events { events_told (P.log port.new) ≡ events_told (P.log port.old) }
         ensures script { P.script port.new ≡ P.script port.old }
         ensures cause { P.failed port.new ≡ P.failed port.old + (if result then 0 else 1) }
@@ -294,7 +330,7 @@ impl Gateway {
     /// Takes the octets of a piece, where a connection is open.
     fn take_bytes<P: Port>(&mut self, octets: &[u8], port: &mut P) -> bool
         requires { P.failed port.old < u64.MAX }
-        ensures kept { (p : Setup) → Tracks p self.old (P.log port.old) (if self.old.session.connected then octets.now else []) false → Leaves result p self.new (P.log port.new) [] false }
+        ensures kept { (p : Setup) → Awaits p self.old (P.log port.old) (if self.old.session.connected then octets.now else []) → Leaves result p self.new (P.log port.new) [] false }
         ensures events { events_told (P.log port.new) ≡ events_told (P.log port.old) }
         ensures script { P.script port.new ≡ P.script port.old }
         ensures cause { P.failed port.new ≡ P.failed port.old + (if result then 0 else 1) }
@@ -305,10 +341,27 @@ impl Gateway {
         self.receive(octets, port)
     }
 
+    /// Closes the connection where an answer is late.
+    fn watch<P: Port>(&mut self, port: &mut P) -> bool
+        requires { P.failed port.old < u64.MAX }
+        ensures kept { (p : Setup) → Tracks p self.old (P.log port.old) [] false → Leaves result p self.new (P.log port.new) [] false }
+        ensures in_time { OnTrue result (IsInTime self.new.moment self.new.session) }
+        ensures events { events_told (P.log port.new) ≡ events_told (P.log port.old) }
+        ensures script { P.script port.new ≡ P.script port.old }
+        ensures cause { P.failed port.new ≡ P.failed port.old + (if result then 0 else 1) }
+    {
+        match self.late() {
+            None => true,
+            Some(cause) => self.close(cause, port),
+        }
+    }
+
     /// Puts out the line's next request, if there is one.
     fn ask<P: Port>(&mut self, port: &mut P) -> bool
         requires { P.failed port.old < u64.MAX }
         ensures kept { (p : Setup) → Tracks p self.old (P.log port.old) [] false → Leaves result p self.new (P.log port.new) [] true }
+        ensures session { self.new.session ≡ self.old.session }
+        ensures moment { self.new.moment ≡ self.old.moment }
         ensures events { events_told (P.log port.new) ≡ events_told (P.log port.old) }
         ensures script { P.script port.new ≡ P.script port.old }
         ensures cause { P.failed port.new ≡ P.failed port.old + (if result then 0 else 1) }
@@ -336,6 +389,9 @@ impl Gateway {
         self.hear_event(event);
         self.time();
         if !self.take(event, port) {
+            return false;
+        }
+        if !self.watch(port) {
             return false;
         }
         if !self.ask(port) {

@@ -1,13 +1,15 @@
 //! Runs with the logs that the standard's rules and this gateway's profile give, worked out by hand.
-ghost use Rattle.std.specs.Prelude.{◌≡◌, ◌<◌, ◌≤◌, true};
+ghost use Rattle.std.specs.Prelude.{◌≡◌, ◌<◌, ◌≤◌, true, [], None};
 ghost use Rattle.std.specs.List.{AllByRecursion};
 ghost use Rattle.ft12.specs.declared.frame.LinkSize.TheVariants.{One};
 ghost use Rattle.asdu.specs.declared.sizes.CaSize.TheVariants as ca;
 ghost use Rattle.gateway.specs.Config.{AreStations};
 ghost use Rattle.gateway.specs.Entries.{FitsPort};
 
+use crate::recording::engine_log;
 use crate::{
-    Config, Counts, Entry, Gateway, LineSettings, Silence, Station, TcpSettings, Told, engine_log,
+    Action, Config, Counts, End, Entry, Event, Gateway, LineSettings, Next, Port, Silence, Station,
+    TcpSettings, Told, drive,
 };
 use asdu::{CaSize, CauseSize, IoaSize, Sizes};
 use ft12::LinkSize;
@@ -387,20 +389,70 @@ fn a_silent_station_is_reset(rt: HostRuntime) -> Result<(), Fail> {
     Ok(())
 }
 
+/// A port that has no event, and takes each action. It tells no log.
+#[derive(Drop)]
+struct Sink;
+
+impl Port for Sink {
+    ghost log = { λ t. None };
+
+    ghost failed = { λ t. 0 };
+
+    ghost ended = { λ t. true };
+
+    ghost script = { λ t. [] };
+
+    fn next(&mut self, _buf: &mut [u8; 1024]) -> Next {
+        Next::Done
+    }
+
+    fn put(&mut self, _now: u64, _action: &Action<'_>) -> bool {
+        true
+    }
+
+    fn failures(&self) -> u64 {
+        0
+    }
+}
+
 #[test]
 fn what_is_dropped_is_counted(rt: HostRuntime) -> Result<(), Fail> {
     let alloc = rt.alloc();
     let config = config_with(alloc, IoaSize::Two, 100)?;
-    let gateway = match Gateway::new(alloc, &config) {
+    let mut gateway = match Gateway::new(alloc, &config) {
         Ok(gateway) => gateway,
         Err(_) => return Err(Fail::from(AllocError)),
     };
-    let none = Counts {
-        skipped: 0,
-        mirrors: 0,
+    let mut sink = Sink;
+    let pieces = [
+        "100B010C16",
+        "E5",
+        POINT,
+        // A negative 'unknown type', a type that isn't known, and the confirmation of a command.
+        "68090968080101016C01640001DD16",
+        "680909680801FF0103016400017216",
+        "6809096808012D0107010A0081CA16",
+    ];
+    assert!(rt; gateway.step(0, Event::Tick, &mut sink));
+    for (at, piece) in pieces.iter().enumerate() {
+        let octets = octets(alloc, piece)?;
+        assert!(rt; gateway.step(at as u64, Event::Line(&octets), &mut sink));
+    }
+    let dropped = Counts {
+        skipped: 2,
+        mirrors: 1,
         lost: 0,
     };
-    assert!(rt; gateway.counts() == none);
+    assert!(rt; gateway.counts() == dropped);
+    Ok(())
+}
+
+#[test]
+fn a_run_ends_where_the_port_does(rt: HostRuntime) -> Result<(), Fail> {
+    let alloc = rt.alloc();
+    let config = config_with(alloc, IoaSize::Two, 100)?;
+    assert!(rt; matches!(drive(alloc, &config, &mut Sink, 5), Ok(End::Finished)));
+    assert!(rt; matches!(drive(alloc, &config, &mut Sink, 0), Ok(End::Turns)));
     Ok(())
 }
 
@@ -431,6 +483,73 @@ fn connections_close_by_their_cause(rt: HostRuntime) -> Result<(), Fail> {
         (40, 'R', "680E0000000064010600010000000014"),
     ];
     assert!(rt; runs(alloc, &config, &events, &[], &opened, &[])?);
+    Ok(())
+}
+
+#[test]
+fn timers_run_out(rt: HostRuntime) -> Result<(), Fail> {
+    let alloc = rt.alloc();
+    // A received I frame is acknowledged after t2.
+    assert!(rt;
+        leads(
+            alloc,
+            &[
+                (50, 'R', "680E0000000064010600010000000014"),
+                (10050, 'T', "")
+            ],
+            &[(10050, 'S', "107B017C16"), (10050, 'T', "680401000200")]
+        )?
+    );
+    // A connection without a frame for t3 is tested, and closed where the test has no answer for t1.
+    assert!(rt;
+        leads(
+            alloc,
+            &[(20040, 'T', ""), (35040, 'T', "")],
+            &[
+                (20040, 'S', "107B017C16"),
+                (20040, 'T', "680443000000"),
+                (35040, 'X', "5"),
+                (35040, 'S', "107B017C16")
+            ]
+        )?
+    );
+    Ok(())
+}
+
+#[test]
+fn each_act_is_confirmed(rt: HostRuntime) -> Result<(), Fail> {
+    let alloc = rt.alloc();
+    // TESTFR act in a flood, and STOPDT act.
+    assert!(rt;
+        leads(
+            alloc,
+            &[(50, 'R', "680443000000680443000000680413000000")],
+            &[
+                (50, 'T', "680483000000"),
+                (50, 'T', "680483000000"),
+                (50, 'T', "680423000000")
+            ]
+        )?
+    );
+    // STOPDT con waits until each sent I frame is acknowledged.
+    assert!(rt;
+        leads(
+            alloc,
+            &[
+                (50, 'S', POINT),
+                (60, 'R', "680413000000"),
+                (70, 'R', "680401000200")
+            ],
+            &[
+                (50, 'S', "105B015C16"),
+                (50, 'T', SENT),
+                (70, 'T', "680423000000")
+            ]
+        )?
+    );
+    // Frames that the grammar refuses.
+    assert!(rt; leads(alloc, &[(50, 'R', "680401010000")], &[(50, 'X', "1")])?);
+    assert!(rt; leads(alloc, &[(50, 'R', "680507")], &[(50, 'X', "1")])?);
     Ok(())
 }
 

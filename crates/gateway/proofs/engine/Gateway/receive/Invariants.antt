@@ -1,12 +1,12 @@
-use Rattle.std.proofs.Common.{◌≡◌, ◌≤◌, ◌-◌, length, drop, true, false}
+use Rattle.std.proofs.Common.{◌≡◌, ◌≤◌, ◌-◌, length, drop, true}
 use Rattle.gateway.specs.Reports.{Setup}
-use Rattle.gateway.specs.Agrees.{Tracks}
+use Rattle.gateway.specs.Agrees.{Awaits}
 use Rattle.gateway.specs.Runs.{events_told}
 use Rattle.gateway.proofs.engine.Gateway.receive.Given as goal
 
 abbrev pub invariant-loop-done : goal.invariant-loop-done
 invariant-loop-done g l = record {
-  kept : (p : Setup) → Tracks p l.fn.self (g.P.Port.log l.fn.port) l.octets false → Tracks p l.self (g.P.Port.log l.port) (drop l.done l.octets) false;
+  kept : (p : Setup) → Awaits p l.fn.self (g.P.Port.log l.fn.port) l.octets → Awaits p l.self (g.P.Port.log l.port) (drop l.done l.octets);
   on : l.self.session.connected ≡ true;
   within : l.done ≤ length l.octets;
   events : events_told (g.P.Port.log l.port) ≡ events_told (g.P.Port.log l.fn.port);

@@ -1,25 +1,13 @@
-use Rattle.std.proofs.Common.{ap, sym, subst, ◌∙◌, rules}
-use Rattle.gateway.specs.State.{State}
-use Rattle.gateway.specs.Agrees.{Tracks}
-use Rattle.gateway.proofs.Put.{told_sent, sends_confirmation, confirmed_open, no_confirmation}
+use Rattle.gateway.proofs.Put.{on_map, three_confirm, confirm_in_time, stays_after}
 use Rattle.gateway.proofs.engine.Gateway.send_confirmations.Goals as goal
 
-pub returns-in-None-clause-kept : goal.returns-in-None-clause-kept
-returns-in-None-clause-kept g c = λ p unjudged is_asked h.
-    subst (λ x. Tracks p x (g.P.Port.log c.loop.port) unjudged is_asked) (sym (no_confirmation c.loop.self c.confirm.new.self c.in-None.ensures.due c.confirm.ensures.rest)) (c.loop.invariant.kept p unjudged is_asked h)
-
-pub returns-in-None-clause-open : goal.returns-in-None-clause-open
-returns-in-None-clause-open g c = confirmed_open _ _ _ c.confirm.ensures.due ∙ c.loop.invariant.on
-
-pub returns-then-not-hand-clause-open : goal.returns-then-not-hand-clause-open
-returns-then-not-hand-clause-open g c = confirmed_open _ _ _ c.confirm.ensures.due ∙ c.loop.invariant.on
-
-pub loop-preserved : goal.loop-preserved
-loop-preserved g c = record {
-  kept = λ p unjudged is_asked h. told_sent p _ _ c.loop.self c.confirm.new.self c.in-Some.apdu _ unjudged is_asked c.if-not-hand.ensures.told (ap (λ (x : State). x.moment) c.confirm.ensures.rest)
-      (sends_confirmation c.loop.self c.confirm.new.self c.in-Some.apdu c.in-Some.ensures.fits c.in-Some.ensures.due c.confirm.ensures.rest) (c.loop.invariant.kept p unjudged is_asked h);
-  on = confirmed_open _ _ _ c.confirm.ensures.due ∙ c.loop.invariant.on;
-  events = c.if-not-hand.ensures.events ∙ c.loop.invariant.events;
-  script = c.if-not-hand.ensures.script ∙ c.loop.invariant.script;
-  cause = search rules;
-}
+pub returns-clause-in_time : goal.returns-clause-in_time
+returns-clause-in_time g c =
+    let law = c.calls_come_to_an_end.ensures.in_time_confirm in
+    let s = c.args.self.now in
+    let t = c.send_confirmation.new.self in
+    let u = c.send_confirmation-2.new.self in
+    let v = c.send_confirmation-3.new.self in
+    on_map c.send_confirmation-3.result _ _
+    (λ last. stays_after s u v (stays_after s t u (confirm_in_time law s t c.if-not-send_confirmation.ensures.next) (confirm_in_time law t u c.if-not-send_confirmation-2.ensures.next)) (confirm_in_time law u v last))
+    c.send_confirmation-3.ensures.next

@@ -1,29 +1,16 @@
-use Rattle.std.proofs.Common.{ap, sym, subst, ◌∙◌, rules}
-use Rattle.gateway.specs.State.{State}
-use Rattle.gateway.specs.Agrees.{Tracks}
-use Rattle.gateway.proofs.Put.{told_sent, sends_pulled, pulled_open, pulled_spent, none_pulled}
+use Rattle.gateway.proofs.Put.{on_map, two_pulls, pull_in_time, pull_confirmed, pull_spent, stays_after}
 use Rattle.gateway.proofs.engine.Gateway.send_dues.Goals as goal
 
-pub returns-in-None-clause-kept : goal.returns-in-None-clause-kept
-returns-in-None-clause-kept g c = λ p unjudged is_asked h.
-    subst (λ x. Tracks p x (g.P.Port.log c.loop.port) unjudged is_asked) (sym (none_pulled c.loop.self c.pull.new.self c.in-None.ensures.due c.pull.ensures.rest)) (c.loop.invariant.kept p unjudged is_asked h)
+pub returns-clause-confirmed : goal.returns-clause-confirmed
+returns-clause-confirmed g c =
+    let law = c.calls_come_to_an_end.ensures.confirmed_pull in
+    on_map c.send_due-2.result _ _
+    (λ last h. pull_confirmed law c.send_due.new.self c.send_due-2.new.self last (pull_confirmed law c.args.self.now c.send_due.new.self c.if-not-send_due.ensures.next h))
+    c.send_due-2.ensures.next
 
-pub returns-in-None-clause-open : goal.returns-in-None-clause-open
-returns-in-None-clause-open g c = pulled_open _ _ _ _ c.pull.ensures.due ∙ c.loop.invariant.on
-
-pub returns-in-None-clause-spent : goal.returns-in-None-clause-spent
-returns-in-None-clause-spent g c = λ h. pulled_spent _ c.loop.self c.pull.new.self c.pull.ensures.due c.pull.ensures.rest (c.loop.invariant.spent h)
-
-pub returns-then-not-hand-clause-open : goal.returns-then-not-hand-clause-open
-returns-then-not-hand-clause-open g c = pulled_open _ _ _ _ c.pull.ensures.due ∙ c.loop.invariant.on
-
-pub loop-preserved : goal.loop-preserved
-loop-preserved g c = record {
-  kept = λ p unjudged is_asked h. told_sent p _ _ c.loop.self c.pull.new.self c.in-Some.apdu _ unjudged is_asked c.if-not-hand.ensures.told (ap (λ (x : State). x.moment) c.pull.ensures.rest)
-      (sends_pulled c.loop.self c.pull.new.self c.in-Some.apdu c.in-Some.ensures.fits c.in-Some.ensures.due c.pull.ensures.rest) (c.loop.invariant.kept p unjudged is_asked h);
-  on = pulled_open _ _ _ _ c.pull.ensures.due ∙ c.loop.invariant.on;
-  spent = λ h. pulled_spent _ c.loop.self c.pull.new.self c.pull.ensures.due c.pull.ensures.rest (c.loop.invariant.spent h);
-  events = c.if-not-hand.ensures.events ∙ c.loop.invariant.events;
-  script = c.if-not-hand.ensures.script ∙ c.loop.invariant.script;
-  cause = search rules;
-}
+pub returns-clause-in_time : goal.returns-clause-in_time
+returns-clause-in_time g c =
+    let law = c.calls_come_to_an_end.ensures.in_time_pull in
+    on_map c.send_due-2.result _ _
+    (λ last. stays_after c.args.self.now c.send_due.new.self c.send_due-2.new.self (pull_in_time law c.args.self.now c.send_due.new.self c.if-not-send_due.ensures.next) (pull_in_time law c.send_due.new.self c.send_due-2.new.self last))
+    c.send_due-2.ensures.next

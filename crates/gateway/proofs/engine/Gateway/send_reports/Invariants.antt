@@ -1,12 +1,15 @@
 use Rattle.std.proofs.Common.{◌≡◌, ℕ, Bool, List, length}
 use Rattle.gateway.specs.Reports.{Setup}
-use Rattle.gateway.specs.Agrees.{Tracks}
+use Rattle.session.specs.Ends.{IsConfirmed}
+use Rattle.gateway.specs.Agrees.{Tracks, StaysInTime}
 use Rattle.gateway.specs.Runs.{events_told}
 use Rattle.gateway.proofs.engine.Gateway.send_reports.Given as goal
 
 abbrev pub invariant-loop-apdu : goal.invariant-loop-apdu
 invariant-loop-apdu g l = record {
   kept : (p : Setup) (unjudged : List ℕ) (is_asked : Bool) → Tracks p l.fn.self (g.P.Port.log l.fn.port) unjudged is_asked → Tracks p l.self (g.P.Port.log l.port) unjudged is_asked;
+  confirmed : IsConfirmed l.fn.self.session → IsConfirmed l.self.session;
+  in_time : StaysInTime l.fn.self l.self;
   on : l.self.session.connected ≡ l.fn.self.session.connected;
   events : events_told (g.P.Port.log l.port) ≡ events_told (g.P.Port.log l.fn.port);
   script : g.P.Port.script l.port ≡ g.P.Port.script l.fn.port;

@@ -1,4 +1,5 @@
 use Rattle.std.proofs.Common.{false}
+use Rattle.gateway.proofs.Put.{awaits}
 use Rattle.gateway.proofs.Judgements.{judged_on, judged_closes}
 use Rattle.gateway.proofs.engine.Gateway.take_apdu.Goals as goal
 
@@ -12,4 +13,4 @@ returns-then-not-flush-clause-kept g c = λ p rest h.
 
 pub returns-clause-kept : goal.returns-clause-kept
 returns-clause-kept g c = λ p rest h.
-    c.if-not-flush.ensures.kept p rest false (judged_on p _ c.args.self.now c.judge.new.self c.args.apdu.now rest c.requires.open c.requires.fits c.requires.whole c.in-None.ensures h)
+    awaits p _ c.flush.new.self rest c.if-not-flush.ensures.confirmed (c.if-not-flush.ensures.kept p rest false (judged_on p _ c.args.self.now c.judge.new.self c.args.apdu.now rest c.requires.open c.requires.fits c.requires.whole c.in-None.ensures h))

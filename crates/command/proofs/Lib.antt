@@ -1,0 +1,13 @@
+pub mod Codes
+pub mod Kept
+pub mod Spelled
+pub mod Sendings
+pub mod Tied
+pub mod Keeps
+pub mod Judged
+pub mod Mirroring
+pub mod Lines
+pub mod Runs
+pub mod Ruled
+pub mod Passing
+pub mod Full

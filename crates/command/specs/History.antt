@@ -1,0 +1,250 @@
+-- What can be seen of commands from outside, and what the rules make of it. Nothing here knows how it is kept.
+use Rattle.std.specs.Prelude.{◌≡◌, ℕ, suc, ◌+◌, ◌-◌, ◌<◌, Bool, true, false, not, ◌&&◌, ◌||◌, ◌==◌, nat_lt, if◌then◌else◌, List, [], ◌∷◌, ◌++◌, length, drop, Option, Some, None, option_map, is_none, unwrap_or, slice_get, slice_index}
+use Rattle.std.specs.Option.{option_map_or}
+use Rattle.std.specs.List.{list_any}
+use Rattle.elements.specs.declared.types.TypeId.{TypeId}
+use Rattle.elements.specs.Types.{type_of}
+use Rattle.asdu.specs.Sizes.{tcp}
+use Rattle.asdu.specs.Asdu.{AsduValue, Info, spelled}
+use Rattle.asdu.specs.Fields.{value_at}
+use Rattle.asdu.specs.Writing.{carried}
+use Rattle.asdu.specs.declared.sizes.Sizes.{Sizes}
+use Rattle.command.specs.Octets.{answer, negative}
+use Rattle.command.specs.Command.{command_at, is_execute, without_select}
+use Rattle.command.specs.Selection.{target_of, same_target, same_element, same_test}
+use Rattle.command.specs.Stations.{is_addressed, is_guarded, station_number}
+use Rattle.command.specs.Judging.{fault, makes_selection, ends_selection}
+use Rattle.command.specs.Mirrors.{is_con, target_at, element_of}
+use Rattle.command.specs.declared.content.Command.{Command}
+use Rattle.command.specs.declared.content.Element.{Element}
+use Rattle.command.specs.declared.content.Target.{Target}
+use Rattle.command.specs.declared.station.StationInfo.{StationInfo}
+
+pub data Told : Type 0 where
+  -- at this moment an ASDU came from the control centre; it was answered so, or forwarded (no answer)
+  Judged : ℕ → List ℕ → Option (List ℕ) → Told
+  -- a command went to the station for the first time, with these octets
+  Sent : ℕ → List ℕ → Told
+  -- the station accepted the command on its line
+  Accepted : ℕ → Told
+  -- the station was busy, which is answered so or not at all
+  Refused : ℕ → Option (List ℕ) → Told
+  -- the command on the station's line was given up; whether there was one
+  GivenUp : ℕ → Bool → Told
+  -- at this moment a station answered a command
+  Mirrored : ℕ → AsduValue → Told
+  -- an own answer was handed over; whether it was kept
+  Offered : List ℕ → Bool → Told
+  -- an own answer went out
+  Answered : List ℕ → Told
+  -- the connection ended
+  Ended : Told
+
+-- the newest first
+abbrev pub History : Type 0
+History = List Told
+
+abbrev pub first : List (List ℕ) → Option (List ℕ)
+first [] = None
+first (xs ∷ xss) = Some xs
+
+-- ---- Commands on their way
+
+-- the ASDU in the sizes of the line, with this common address
+abbrev pub typed_line_octets : Sizes → ℕ → Option TypeId → List ℕ → List ℕ
+typed_line_octets sizes ca None xs = []
+typed_line_octets sizes ca (Some t) xs = spelled sizes (carried sizes (record (value_at tcp t xs) { ca = ca }))
+
+abbrev pub line_octets : Sizes → List ℕ → StationInfo → List ℕ
+line_octets sizes xs station = typed_line_octets sizes station.ca (type_of (slice_index xs 0)) xs
+
+-- ---- Selects and cons
+
+-- a select, when it came, and how many commands for its station were forwarded before it on its connection
+pub record Select : Type 0 where
+  pub command : Command
+  pub came : ℕ
+  pub place : ℕ
+
+-- a negative con of this target
+abbrev pub negates : Target → AsduValue → Bool
+negates target v = is_con true v.cause && list_any (λ i. same_target target (target_at v i)) v.infos
+
+abbrev pub is_element : Element → Option Element → Bool
+is_element e None = false
+is_element e (Some f) = same_element e f
+
+abbrev pub names_one : Command → AsduValue → List Info → Bool
+names_one c v [] = false
+names_one c v (i ∷ []) = same_target (target_of c) (target_at v i) && is_element c.element (element_of i.element)
+names_one c v (i ∷ j ∷ is) = false
+
+-- a positive con of this select: of one object, of equal type, addresses and element
+abbrev pub confirms : Command → AsduValue → Bool
+confirms c v = not (is_con true v.cause) && is_con false v.cause && names_one c v v.infos
+
+-- the command that stands on a line is that of this place
+abbrev pub is_place : ℕ → Option ℕ → Bool
+is_place place None = false
+is_place place (Some n) = n == place
+
+module _ (sizes : Sizes) (stations : List StationInfo) (select_ms : ℕ) where
+  -- the ASDU is for station k
+  abbrev pub is_for : ℕ → List ℕ → Bool
+  is_for k xs = option_map_or (is_addressed (command_at xs)) (slice_get stations k) false
+
+  -- the ASDUs forwarded to station k on the open connection, oldest first
+  abbrev pub forwarded_to : ℕ → History → List (List ℕ)
+  forwarded_to k [] = []
+  forwarded_to k (Judged now xs None ∷ h) = if is_for k xs then forwarded_to k h ++ xs ∷ [] else forwarded_to k h
+  forwarded_to k (Ended ∷ h) = []
+  forwarded_to k (_ ∷ h) = forwarded_to k h
+
+  -- how many of them went out
+  abbrev pub sent_count : ℕ → History → ℕ
+  sent_count k [] = 0
+  sent_count k (Sent j octets ∷ h) = if k == j then suc (sent_count k h) else sent_count k h
+  sent_count k (Ended ∷ h) = 0
+  sent_count k (_ ∷ h) = sent_count k h
+
+  -- the oldest of them that didn't
+  abbrev pub next_for : ℕ → History → Option (List ℕ)
+  next_for k h = first (drop (sent_count k h) (forwarded_to k h))
+
+  -- its octets on the line
+  abbrev pub next_octets : ℕ → History → Option (List ℕ)
+  next_octets k h = option_map (λ xs. option_map_or (line_octets sizes xs) (slice_get stations k) []) (next_for k h)
+
+  -- Each first sending is the oldest command that was forwarded to its station on the open connection and didn't go
+  -- out: in the order in which they came, each once, and only while their connection is open.
+  abbrev pub ForwardsCommands : History → Type 0
+  ForwardsCommands [] = Unit {0}
+  ForwardsCommands (Sent k octets ∷ h) = (next_octets k h ≡ Some octets) × ForwardsCommands h
+  ForwardsCommands (_ ∷ h) = ForwardsCommands h
+
+  -- ---- The line
+
+  -- the ASDU whose command stands on the line of station k: it was put there on the open connection and isn't done
+  abbrev pub on_line : ℕ → History → Option (List ℕ)
+  on_line k [] = None
+  on_line k (Sent j octets ∷ h) = if k == j then next_for k h else on_line k h
+  on_line k (Accepted j ∷ h) = if k == j then None else on_line k h
+  on_line k (Refused j a ∷ h) = if k == j then None else on_line k h
+  on_line k (GivenUp j b ∷ h) = if k == j then None else on_line k h
+  on_line k (Ended ∷ h) = None
+  on_line k (_ ∷ h) = on_line k h
+
+  -- a command stands on the line of station k, of this connection or of one before
+  abbrev pub is_on_line : ℕ → History → Bool
+  is_on_line k [] = false
+  is_on_line k (Sent j octets ∷ h) = k == j || is_on_line k h
+  is_on_line k (Accepted j ∷ h) = not (k == j) && is_on_line k h
+  is_on_line k (Refused j a ∷ h) = not (k == j) && is_on_line k h
+  is_on_line k (GivenUp j b ∷ h) = not (k == j) && is_on_line k h
+  is_on_line k (_ ∷ h) = is_on_line k h
+
+  -- ---- Answers
+
+  -- the cause of the answer to an ASDU that isn't forwarded: that of its own fault, or else a negative one
+  abbrev pub cause_given : List ℕ → ℕ
+  cause_given xs = unwrap_or (fault sizes stations xs) (negative xs)
+
+  -- the answer that a busy station's command gets: a negative one, where its connection is open
+  abbrev pub busy_answer : ℕ → History → Option (List ℕ)
+  busy_answer k h = option_map (λ xs. answer (negative xs) xs) (on_line k h)
+
+  -- Each answer is the ASDU that came with its cause octet replaced, and nothing that has a fault of its own is forwarded.
+  abbrev pub GivesOwnAnswers : History → Type 0
+  GivesOwnAnswers [] = Unit {0}
+  GivesOwnAnswers (Judged now xs (Some a) ∷ h) = (a ≡ answer (cause_given xs) xs) × GivesOwnAnswers h
+  GivesOwnAnswers (Judged now xs None ∷ h) = (fault sizes stations xs ≡ None) × GivesOwnAnswers h
+  GivesOwnAnswers (Refused k a ∷ h) = (a ≡ busy_answer k h) × GivesOwnAnswers h
+  GivesOwnAnswers (GivenUp k b ∷ h) = (b ≡ is_on_line k h) × GivesOwnAnswers h
+  GivesOwnAnswers (_ ∷ h) = GivesOwnAnswers h
+
+  -- ---- Selections
+
+  -- the command has no fault of its own, and is for this target
+  abbrev pub names : Target → List ℕ → Bool
+  names target xs = is_none (fault sizes stations xs) && same_target target (target_of (command_at xs))
+
+  abbrev pub station_of : Command → ℕ
+  station_of c = station_number c.ca stations
+
+  -- The select that stands for this target: the latest that was forwarded on the open connection, where no execute or
+  -- deactivation without a fault of its own, and no negative con, came since.
+  abbrev pub standing : Target → History → Option Select
+  standing t [] = None
+  standing t (Judged now xs a ∷ h) =
+      if not (names t xs) then standing t h
+      else (if is_none a && makes_selection stations (command_at xs)
+      then Some (record { command = command_at xs; came = now; place = length (forwarded_to (station_of (command_at xs)) h) })
+      else (if ends_selection (command_at xs) then None else standing t h))
+  standing t (Mirrored now v ∷ h) = if negates t v then None else standing t h
+  standing t (Ended ∷ h) = None
+  standing t (_ ∷ h) = standing t h
+
+  -- the place of the command that stands on the line of station k, where its connection is open
+  abbrev pub place_on_line : ℕ → History → Option ℕ
+  place_on_line k [] = None
+  place_on_line k (Sent j octets ∷ h) = if k == j then Some (sent_count k h) else place_on_line k h
+  place_on_line k (Accepted j ∷ h) = if k == j then None else place_on_line k h
+  place_on_line k (Refused j a ∷ h) = if k == j then None else place_on_line k h
+  place_on_line k (GivenUp j b ∷ h) = if k == j then None else place_on_line k h
+  place_on_line k (Ended ∷ h) = None
+  place_on_line k (_ ∷ h) = place_on_line k h
+
+  -- station k accepted the command of this place on the open connection
+  abbrev pub is_accepted_at : ℕ → ℕ → History → Bool
+  is_accepted_at k place [] = false
+  is_accepted_at k place (Accepted j ∷ h) = (k == j && is_place place (place_on_line k h)) || is_accepted_at k place h
+  is_accepted_at k place (Ended ∷ h) = false
+  is_accepted_at k place (_ ∷ h) = is_accepted_at k place h
+
+  -- when the select was confirmed: its latest con that came in time, after the station accepted it
+  abbrev pub confirmed_at : Select → History → Option ℕ
+  confirmed_at z [] = None
+  confirmed_at z (Mirrored now v ∷ h) =
+      if (confirms z.command v && nat_lt (now - z.came) select_ms) && is_accepted_at (station_of z.command) z.place h then Some now else confirmed_at z h
+  confirmed_at z (Ended ∷ h) = None
+  confirmed_at z (_ ∷ h) = confirmed_at z h
+
+  -- This execute, which comes now, is selected: a select of its type and addresses stands, with its test bit and its
+  -- element apart from S/E; the station accepted it, and confirmed it less than select_ms ago.
+  pub record IsSelected (x : Command) (now : ℕ) (h : History) : Type 0 where
+    pub select : Select
+    pub stands : standing (target_of x) h ≡ Some select
+    pub element : same_element (without_select select.command.element) x.element ≡ true
+    pub test : same_test select.command.cause x.cause ≡ true
+    pub moment : ℕ
+    pub confirmed : confirmed_at select h ≡ Some moment
+    pub in_time : now - moment < select_ms
+
+  -- each forwarded execute to a station that asks for selects is selected
+  abbrev pub ExecutesAreSelected : History → Type 0
+  ExecutesAreSelected [] = Unit {0}
+  ExecutesAreSelected (Judged now xs None ∷ h) =
+      (is_guarded stations (command_at xs) ≡ true → is_execute (command_at xs) ≡ true → IsSelected (command_at xs) now h) × ExecutesAreSelected h
+  ExecutesAreSelected (_ ∷ h) = ExecutesAreSelected h
+
+-- ---- Own answers
+
+-- those that were kept on the open connection, oldest first
+abbrev pub own_kept : History → List (List ℕ)
+own_kept [] = []
+own_kept (Offered octets true ∷ h) = own_kept h ++ octets ∷ []
+own_kept (Ended ∷ h) = []
+own_kept (_ ∷ h) = own_kept h
+
+-- those that went out on it
+abbrev pub own_sent : History → List (List ℕ)
+own_sent [] = []
+own_sent (Answered octets ∷ h) = own_sent h ++ octets ∷ []
+own_sent (Ended ∷ h) = []
+own_sent (_ ∷ h) = own_sent h
+
+-- an own answer is kept exactly where fewer than 16 are kept that didn't go out
+abbrev pub KeepsOwnAnswers : History → Type 0
+KeepsOwnAnswers [] = Unit {0}
+KeepsOwnAnswers (Offered octets kept ∷ h) = (kept ≡ nat_lt (length (own_kept h)) (length (own_sent h) + 16)) × KeepsOwnAnswers h
+KeepsOwnAnswers (_ ∷ h) = KeepsOwnAnswers h

@@ -1,0 +1,12 @@
+pub mod Octets
+pub mod Command
+pub mod Selection
+pub mod Stations
+pub mod State
+pub mod Judging
+pub mod Mirrors
+pub mod Fields
+pub mod History
+pub mod Calls
+pub mod Rules
+pub mod Laws

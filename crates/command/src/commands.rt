@@ -1,0 +1,446 @@
+//! What is kept of commands, and the calls.
+ghost use Rattle.std.specs.Prelude.{◌≡◌, false, ◌≤◌, ◌<◌, ◌+◌, length, IfOk, IfSome, IfNone, Some, None, option_map, if◌then◌else◌, slice_index, vec_len};
+ghost use Rattle.arrayvec.specs.ArrayVec.{array_vec_len};
+ghost use Rattle.elements.specs.Types.{row};
+ghost use Rattle.asdu.specs.Reading.{value_of};
+ghost use Rattle.command.specs.Octets.{negative};
+ghost use Rattle.command.specs.Command.{element_len, command_at};
+ghost use Rattle.command.specs.Mirrors.{all_over, one_confirmed, confirmed, mirrored, element_of as element_in};
+
+use crate::act::{Act, Answer};
+use crate::content::{Command, Target, append, is_command_type, read_command, refuse};
+use crate::judging::{
+    count_addressed, form_fault, is_addressee, is_guarded, is_object, is_selected, negative_cause,
+};
+use crate::keeping::{
+    advanced, count_waiting, cut_all, free_lines, is_used_at, place_of, push_copies, refusal_at,
+    station_number,
+};
+use crate::mirrors::{element_of, is_con};
+use crate::selection::{Selection, Sign, Stage};
+use crate::station::StationInfo;
+use crate::waiting::{Line, Waiting};
+use arrayvec::ArrayVec;
+use asdu::{Asdu, Sizes, head};
+use circular_buffer::HeapCircularBuffer;
+use std::alloc::Global;
+use std::marker::Model;
+use thiserror::Error;
+
+/// Memory was refused.
+#[derive(Clone, Copy, Debug, PartialEq, Eq, Error)]
+#[error("no memory")]
+pub struct NoMemory;
+
+/// The most commands that wait for the line.
+const MOST_WAITING: usize = 64;
+
+/// The most selections.
+const MOST_SELECTIONS: usize = 16;
+
+/// The most own answers that wait to be sent.
+const MOST_ANSWERS: usize = 16;
+
+/// Commands on their way to the line, selections and own answers.
+#[derive(Drop)]
+pub struct Commands {
+    stations: Vec<StationInfo>,
+    sizes: Sizes,
+    select_ms: u64,
+    /// Those that were never put on the line, oldest first.
+    waiting: Vec<Waiting>,
+    /// What was put on the line of each station and isn't done.
+    lines: Vec<Line>,
+    selections: ArrayVec<Selection, 16>,
+    answers: HeapCircularBuffer<Answer>,
+}
+
+impl Model for Commands {
+    ghost use Rattle.command.specs.State.{State};
+
+    ghost Value = { State };
+
+    ghost use Rattle.command.specs.Fields.{state_of, IsSound};
+
+    ghost view = { state_of };
+
+    ghost invariant = { IsSound };
+}
+
+impl Commands {
+    ghost use Rattle.command.specs.State.{new_state, told, has_room, offered, first_answer, answered, closed, timed, octets_waiting, with_line, sent as after_sending, accepted as after_acceptance, given_up, line_of, is_used, refusal_of};
+    ghost use Rattle.command.specs.Judging.{answer_of, judged, admitted, placed, ends_selection, without_selection, fault as fault_of, address_fault as fault_of_addresses, lacks_selection, lacks_place, makes_selection, forwarded, selected, others};
+
+    /// No command, no selection and no own answer. This alone takes memory.
+    ///
+    /// `stations` are those of the line, in the order of the settings, at most 32; `sizes` those of the line's ASDUs;
+    /// `select_ms` is how long a select may wait for its con, and how long an execute may come after the con, in ms.
+    pub fn new(
+        alloc: Global,
+        stations: &[StationInfo],
+        sizes: Sizes,
+        select_ms: u64,
+    ) -> Result<Commands, NoMemory>
+        requires { length stations.now ≤ 32 }
+        ensures { IfOk result (λ c. c ≡ new_state stations.now sizes select_ms) }
+    {
+        let known = stations.to_vec(alloc).map_err(|_| NoMemory)?;
+        let waiting = Vec::with_capacity(alloc, MOST_WAITING).map_err(|_| NoMemory)?;
+        let lines = free_lines(alloc, stations)?;
+        let answers = HeapCircularBuffer::with_capacity(alloc, MOST_ANSWERS).map_err(|_| NoMemory)?;
+        Ok(Commands {
+            stations: known,
+            sizes,
+            select_ms,
+            waiting,
+            lines,
+            selections: ArrayVec::new(),
+            answers,
+        })
+    }
+
+    /// Selections hear of something.
+    fn tell(&mut self, sign: Sign)
+        ensures { self.new ≡ told sign self.old }
+    {
+        if self.selections.is_empty() {
+            return;
+        }
+        self.selections = advanced(self.selections.as_slice(), self.select_ms, sign);
+    }
+
+    /// Judges an ASDU of 9 to 249 octets from the control centre, at moment `now` in ms: it is forwarded, or answered by the
+    /// first rule that applies.
+    pub fn judge_command(&mut self, octets: &[u8], now: u64) -> Act
+        requires long { 9 ≤ length octets.now }
+        requires fits { length octets.now ≤ 249 }
+        ensures judged { (answer_of result, self.new) ≡ judged octets.now now self.old }
+        ensures fits { IfSome (answer_of result) (λ answer. (9 ≤ length answer) × (length answer ≤ 249)) }
+    {
+        match self.fault(octets) {
+            Some(cause) => Act::Own(refuse(cause, octets)),
+            None => self.admit(octets, read_command(octets), now),
+        }
+    }
+
+    /// What is wrong with the ASDU itself: the cause of its answer, by the first rule that applies.
+    fn fault(&self, octets: &[u8]) -> Option<u8>
+        requires long { 9 ≤ length octets.now }
+        ensures value { result ≡ fault_of self.now.sizes self.now.stations octets.now }
+        ensures known { IfSome result (λ cause. cause < 64) }
+        ensures whole { IfNone result (length octets.now ≡ 9 + element_len (slice_index octets.now 0)) }
+    {
+        let cause = octets[2] & 0x3F;
+        if !is_command_type(octets[0]) {
+            return Some(44);
+        }
+        if cause != 6 && cause != 8 {
+            return Some(45);
+        }
+        self.address_fault(octets)
+    }
+
+    /// What is wrong with its addresses or its form.
+    fn address_fault(&self, octets: &[u8]) -> Option<u8>
+        requires long { 9 ≤ length octets.now }
+        ensures value { result ≡ fault_of_addresses self.now.sizes self.now.stations octets.now }
+        ensures known { IfSome result (λ cause. cause < 64) }
+        ensures whole { IfNone result (length octets.now ≡ 9 + element_len (slice_index octets.now 0)) }
+    {
+        let Some(head) = head(Sizes::TCP, octets) else {
+            unreachable!();
+        };
+        if !is_addressee(self.stations.as_slice(), head.kind, head.ca) {
+            return Some(46);
+        }
+        if !is_object(self.sizes, head.kind, head.ioa) {
+            return Some(47);
+        }
+        form_fault(octets)
+    }
+
+    /// A command without a fault of its own.
+    fn admit(&mut self, octets: &[u8], command: Command, now: u64) -> Act
+        requires long { 9 ≤ length octets.now }
+        requires whole { length octets.now ≡ 9 + element_len (slice_index octets.now 0) }
+        requires read { command ≡ command_at octets.now }
+        ensures judged { (answer_of result, self.new) ≡ admitted octets.now command now self.old }
+        ensures fits { IfSome (answer_of result) (λ answer. (9 ≤ length answer) × (length answer ≤ 249)) }
+    {
+        let lacks_selection = self.lacks_selection(command, now);
+        self.end_selection(command);
+        if lacks_selection {
+            return Act::Own(refuse(negative_cause(octets), octets));
+        }
+        self.place(octets, command, now)
+    }
+
+    /// An execute or a deactivation ends the selection of its target.
+    fn end_selection(&mut self, command: Command)
+        ensures { self.new ≡ (if ends_selection command then without_selection command self.old else self.old) }
+    {
+        if command.is_deactivation() || command.is_execute() {
+            self.tell(Sign::Over(command.target()));
+        }
+    }
+
+    /// A command that may go, where there are places for it.
+    fn place(&mut self, octets: &[u8], command: Command, now: u64) -> Act
+        requires long { 9 ≤ length octets.now }
+        requires whole { length octets.now ≡ 9 + element_len (slice_index octets.now 0) }
+        requires read { command ≡ command_at octets.now }
+        ensures judged { (answer_of result, self.new) ≡ placed octets.now command now self.old }
+        ensures fits { IfSome (answer_of result) (λ answer. (9 ≤ length answer) × (length answer ≤ 249)) }
+    {
+        if self.lacks_place(command) {
+            return Act::Own(refuse(negative_cause(octets), octets));
+        }
+        self.forward(octets, command, now);
+        Act::Forward
+    }
+
+    /// Whether it is an execute without a live selection.
+    fn lacks_selection(&self, command: Command, now: u64) -> bool
+        ensures { result ≡ lacks_selection command now self.now }
+    {
+        is_guarded(self.stations.as_slice(), command)
+            && command.is_execute()
+            && !is_selected(self.selections.as_slice(), self.select_ms, command, now)
+    }
+
+    /// Whether too few places are free.
+    fn lacks_place(&self, command: Command) -> bool
+        ensures { result ≡ lacks_place command self.now }
+    {
+        self.waiting.len() + count_addressed(self.stations.as_slice(), command) > MOST_WAITING
+            || (self.makes_selection(command) && self.count_others(command) >= MOST_SELECTIONS)
+    }
+
+    fn makes_selection(&self, command: Command) -> bool
+        ensures { result ≡ makes_selection self.now.stations command }
+    {
+        is_guarded(self.stations.as_slice(), command) && command.is_select()
+    }
+
+    /// How many selections are of other targets.
+    fn count_others(&self, command: Command) -> usize
+        ensures { result ≡ length (others command self.now) }
+    {
+        advanced(
+            self.selections.as_slice(),
+            self.select_ms,
+            Sign::Over(command.target()),
+        )
+        .len()
+    }
+
+    /// The command waits for the line.
+    fn forward(&mut self, octets: &[u8], command: Command, now: u64)
+        requires long { 9 ≤ length octets.now }
+        requires whole { length octets.now ≡ 9 + element_len (slice_index octets.now 0) }
+        requires read { command ≡ command_at octets.now }
+        requires places { lacks_place command self.old ≡ false }
+        ensures { self.new ≡ forwarded octets.now command now self.old }
+    {
+        if self.makes_selection(command) {
+            self.select(command, now);
+        }
+        push_copies(
+            &mut self.waiting,
+            self.stations.as_slice(),
+            self.sizes,
+            octets,
+        );
+    }
+
+    /// A select makes a selection, or replaces that of its target.
+    fn select(&mut self, command: Command, now: u64)
+        requires { length (others command self.old) < 16 }
+        ensures { self.new ≡ selected command now self.old }
+    {
+        let station = station_number(self.stations.as_slice(), command.ca);
+        self.tell(Sign::Over(command.target()));
+        self.selections.push(Selection {
+            station,
+            command,
+            came: now,
+            stage: Stage::Queued(count_waiting(self.waiting.as_slice(), station)),
+        });
+    }
+
+    /// The octets of the oldest command that waits for the station: the ASDU in the sizes of the line, with the station's
+    /// own common address.
+    pub fn waiting(&self, station: usize) -> Option<&[u8]>
+        ensures some { IfSome result (λ octets. octets_waiting station self.now ≡ Some octets.now) }
+        ensures none { IfNone result (octets_waiting station self.now ≡ None) }
+        ensures fits { IfSome result (λ octets. (1 ≤ length octets.now) × (length octets.now ≤ 12)) }
+    {
+        let place = place_of(self.waiting.as_slice(), station)?;
+        Some(self.waiting[place].octets.as_slice())
+    }
+
+    /// This stands on the line of the station now.
+    fn set_line(&mut self, station: usize, line: Line)
+        ensures { self.new ≡ with_line station line self.old }
+    {
+        if station < self.lines.len() {
+            self.lines[station] = line;
+        }
+    }
+
+    /// The oldest command that waits for the station goes out for the first time.
+    pub fn on_line(&mut self, station: usize)
+        ensures { self.new ≡ after_sending station self.old }
+    {
+        let Some(place) = place_of(self.waiting.as_slice(), station) else {
+            return;
+        };
+        self.tell(Sign::Sending(station));
+        let Waiting {
+            station: _,
+            received,
+            octets: _,
+        } = self.waiting.remove(place);
+        self.set_line(station, Line::Holds(received));
+    }
+
+    /// The station accepted the command on its line.
+    pub fn accepted(&mut self, station: usize)
+        ensures { self.new ≡ after_acceptance station self.old }
+    {
+        self.tell(Sign::Acceptance(station));
+        self.set_line(station, Line::Free);
+    }
+
+    /// The station refused the command on its line as busy. The answer is for the control centre; there is none where the
+    /// connection that sent the command has ended.
+    pub fn busy(&mut self, station: usize) -> Option<Answer>
+        ensures answer { option_map (λ answer. answer.items) result ≡ refusal_of (line_of station self.old) }
+        ensures fits { IfSome result (λ answer. (9 ≤ array_vec_len answer) × (array_vec_len answer ≤ 249)) }
+        ensures state { self.new ≡ given_up station self.old }
+    {
+        let answer = refusal_at(self.lines.as_slice(), station);
+        self.tell(Sign::Loss(station));
+        self.set_line(station, Line::Free);
+        answer
+    }
+
+    /// The command on the station's line is given up. Answers whether there was one.
+    pub fn lost(&mut self, station: usize) -> bool
+        ensures there { result ≡ is_used (line_of station self.old) }
+        ensures state { self.new ≡ given_up station self.old }
+    {
+        let there = is_used_at(self.lines.as_slice(), station);
+        self.tell(Sign::Loss(station));
+        self.set_line(station, Line::Free);
+        there
+    }
+
+    /// A station answered a command, at moment `now` in ms: what that does to selections. Other ASDUs do nothing.
+    #[tactic(auto, using(crate::proofs::Codes::kind_code))]
+    pub fn mirror(&mut self, asdu: &Asdu, now: u64)
+        ensures { self.new ≡ mirrored (value_of asdu.now) now self.old }
+    {
+        let head = asdu.head();
+        if is_con(true, head.cause) {
+            self.end_all(head.kind, head.ca, asdu);
+        } else if is_con(false, head.cause) {
+            self.confirm(head.kind, head.ca, asdu, now);
+        }
+    }
+
+    /// The selection of each object ends.
+    fn end_all(&mut self, kind: u8, ca: u16, asdu: &Asdu)
+        requires kind { kind ≡ (row (value_of asdu.now).kind).code }
+        requires ca { ca ≡ (value_of asdu.now).ca }
+        ensures { self.new ≡ all_over (value_of asdu.now) (value_of asdu.now).infos self.old }
+    {
+        for object in asdu.objects() {
+            self.tell(Sign::Over(Target {
+                kind,
+                ca,
+                address: object.address,
+            }));
+        }
+    }
+
+    /// A positive con came.
+    fn confirm(&mut self, kind: u8, ca: u16, asdu: &Asdu, now: u64)
+        requires kind { kind ≡ (row (value_of asdu.now).kind).code }
+        requires ca { ca ≡ (value_of asdu.now).ca }
+        ensures { self.new ≡ one_confirmed (value_of asdu.now) (value_of asdu.now).infos now self.old }
+    {
+        let mut objects = asdu.objects();
+        let Some(object) = objects.next() else {
+            return;
+        };
+        if objects.next().is_some() {
+            return;
+        }
+        let target = Target {
+            kind,
+            ca,
+            address: object.address,
+        };
+        self.confirm_one(target, object.element, now);
+    }
+
+    /// A positive con of this target came, with this element.
+    fn confirm_one(&mut self, target: Target, element: &[u8], now: u64)
+        ensures { self.new ≡ confirmed (element_in element.now) target now self.old }
+    {
+        if let Some(element) = element_of(element) {
+            self.tell(Sign::Con(target, element, now));
+        }
+    }
+
+    /// Keeps an own answer of 9 to 249 octets. It is false, and nothing changes, where 16 are kept.
+    pub fn own(&mut self, octets: &[u8]) -> bool
+        requires long { 9 ≤ length octets.now }
+        requires fits { length octets.now ≤ 249 }
+        ensures room { result ≡ has_room self.old }
+        ensures state { self.new ≡ offered octets.now self.old }
+    {
+        if self.answers.is_full() {
+            return false;
+        }
+        let mut copy = ArrayVec::new();
+        append(&mut copy, octets);
+        self.answers.try_push_back(copy).is_ok()
+    }
+
+    /// The oldest own answer that wasn't sent.
+    pub fn own_answer(&self) -> Option<&[u8]>
+        ensures some { IfSome result (λ octets. first_answer self.now.answers ≡ Some octets.now) }
+        ensures none { IfNone result (first_answer self.now.answers ≡ None) }
+        ensures fits { IfSome result (λ octets. (9 ≤ length octets.now) × (length octets.now ≤ 249)) }
+    {
+        let answer = self.answers.front()?;
+        Some(answer.as_slice())
+    }
+
+    /// The oldest own answer went out.
+    pub fn own_sent(&mut self)
+        requires { 0 < length self.old.answers }
+        ensures { self.new ≡ answered self.old }
+    {
+        let _ = self.answers.pop_front();
+    }
+
+    /// The connection has ended: what was never put on the line, selections and own answers are gone.
+    pub fn cut(&mut self)
+        ensures { self.new ≡ closed self.old }
+    {
+        self.waiting.clear();
+        self.selections.clear();
+        self.answers.clear();
+        cut_all(&mut self.lines);
+    }
+
+    /// Selections end with time: those that wait for their con, and those whose con came, `select_ms` ago.
+    pub fn due(&mut self, now: u64)
+        ensures { self.new ≡ timed now self.old }
+    {
+        self.tell(Sign::Time(now));
+    }
+}

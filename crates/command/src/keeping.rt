@@ -1,0 +1,166 @@
+//! Lists of what is kept: waiting commands, lines and selections.
+ghost use Rattle.std.specs.Prelude.{◌≡◌, ◌≤◌, ◌<◌, ◌+◌, ◌++◌, length, map, remove, get_or, count_by, slice_index, slice_index_or, IfOk, IfSome, IfNone, Some, None, option_map, vec_len, vec_capacity};
+ghost use Rattle.std.specs.List.{filter_map};
+ghost use Rattle.arrayvec.specs.ArrayVec.{array_vec_len};
+ghost use Rattle.command.specs.Command.{element_len, command_at};
+ghost use Rattle.command.specs.Selection.{advanced as next_of};
+ghost use Rattle.command.specs.Stations.{is_addressed, station_number as number_of};
+ghost use Rattle.command.specs.State.{cut_off, free_line, oldest, without_oldest, is_used, refusal_of};
+ghost use Rattle.command.specs.Judging.{copies, waiting_count};
+ghost use Rattle.command.specs.declared.waiting.Waiting.{Waiting};
+ghost use Rattle.command.specs.declared.waiting.Line.TheVariants.{Free};
+
+use crate::act::Answer;
+use crate::commands::NoMemory;
+use crate::content::{read_command, refuse, write_command};
+use crate::judging::{is_for, negative_cause};
+use crate::selection::{Selection, Sign};
+use crate::station::StationInfo;
+use crate::waiting::{Line, LineOctets, Received, Waiting};
+use arrayvec::ArrayVec;
+use asdu::Sizes;
+use std::alloc::Global;
+
+/// What is left of selections after a sign.
+pub(crate) fn advanced(
+    selections: &[Selection],
+    select_ms: u64,
+    sign: Sign,
+) -> ArrayVec<Selection, 16>
+    requires { length selections.now ≤ 16 }
+    ensures { result.items ≡ filter_map (next_of select_ms sign) selections.now }
+{
+    let mut left = ArrayVec::new();
+    for selection in selections {
+        if let Some(selection) = selection.advanced(select_ms, sign) {
+            left.push(selection);
+        }
+    }
+    left
+}
+
+/// A free line for each station.
+pub(crate) fn free_lines(alloc: Global, stations: &[StationInfo]) -> Result<Vec<Line>, NoMemory>
+    ensures { IfOk result (λ lines. lines.items ≡ map free_line stations.now) }
+{
+    let mut lines = Vec::with_capacity(alloc, stations.len()).map_err(|_| NoMemory)?;
+    for _i in 0..stations.len() {
+        lines.push_reserved(Line::Free);
+    }
+    Ok(lines)
+}
+
+/// The connection of the commands on the lines has ended.
+pub(crate) fn cut_all(lines: &mut [Line])
+    ensures { lines.new ≡ map cut_off lines.old }
+{
+    for line in lines.iter_mut() {
+        cut(line);
+    }
+}
+
+fn cut(line: &mut Line)
+    ensures { line.new ≡ cut_off line.old }
+{
+    if let Line::Holds(_) = line {
+        *line = Line::CutOff;
+    }
+}
+
+/// The negative answer to the command on the station's line, where its connection is open.
+pub(crate) fn refusal_at(lines: &[Line], station: usize) -> Option<Answer>
+    ensures answer { option_map (λ answer. answer.items) result ≡ refusal_of (get_or lines.now station Free) }
+    ensures fits { IfSome result (λ answer. (9 ≤ array_vec_len answer) × (array_vec_len answer ≤ 249)) }
+{
+    if station < lines.len() {
+        refusal(&lines[station])
+    } else {
+        None
+    }
+}
+
+fn refusal(line: &Line) -> Option<Answer>
+    ensures answer { option_map (λ answer. answer.items) result ≡ refusal_of line.now }
+    ensures fits { IfSome result (λ answer. (9 ≤ array_vec_len answer) × (array_vec_len answer ≤ 249)) }
+{
+    match line {
+        Line::Holds(received) => {
+            let octets = received.as_slice();
+            Some(refuse(negative_cause(octets), octets))
+        }
+        Line::Free | Line::CutOff => None,
+    }
+}
+
+/// Whether a command was put on the station's line and isn't done.
+pub(crate) fn is_used_at(lines: &[Line], station: usize) -> bool
+    ensures { result ≡ is_used (get_or lines.now station Free) }
+{
+    station < lines.len() && !matches!(lines[station], Line::Free)
+}
+
+/// The place of the oldest command that waits for the station.
+pub(crate) fn place_of(waiting: &[Waiting], station: usize) -> Option<usize>
+    ensures within { IfSome result (λ i. i < length waiting.now) }
+    ensures rest { IfSome result (λ i. remove waiting.now i ≡ without_oldest station waiting.now) }
+    ensures found { IfSome result (λ i. (w : Waiting) → oldest station waiting.now ≡ Some (slice_index_or waiting.now i w)) }
+    ensures none { IfNone result (oldest station waiting.now ≡ None) }
+{
+    for i in 0..waiting.len() {
+        if waiting[i].station == station {
+            return Some(i);
+        }
+    }
+    None
+}
+
+/// How many commands wait for the station.
+pub(crate) fn count_waiting(waiting: &[Waiting], station: usize) -> usize
+    ensures { result ≡ waiting_count station waiting.now }
+{
+    let mut count = 0;
+    for command in waiting {
+        if command.station == station {
+            count += 1;
+        }
+    }
+    count
+}
+
+/// The first station with this common address, or how many there are.
+pub(crate) fn station_number(stations: &[StationInfo], ca: u16) -> usize
+    ensures { result ≡ number_of ca stations.now }
+{
+    for i in 0..stations.len() {
+        if stations[i].ca == ca {
+            return i;
+        }
+    }
+    stations.len()
+}
+
+/// The command waits for each station that it is for.
+pub(crate) fn push_copies(
+    waiting: &mut Vec<Waiting>,
+    stations: &[StationInfo],
+    sizes: Sizes,
+    octets: &[u8],
+)
+    requires long { 9 ≤ length octets.now }
+    requires whole { length octets.now ≡ 9 + element_len (slice_index octets.now 0) }
+    requires room { vec_len waiting.old + count_by (is_addressed (command_at octets.now)) stations.now ≤ vec_capacity waiting.old }
+    ensures items { waiting.new.items ≡ waiting.old.items ++ copies sizes octets.now 0 stations.now }
+    ensures capacity { vec_capacity waiting.new ≡ vec_capacity waiting.old }
+{
+    let command = read_command(octets);
+    for i in 0..stations.len() {
+        let station = stations[i];
+        if is_for(command, station) {
+            waiting.push_reserved(Waiting {
+                station: i,
+                received: Received::copied(octets),
+                octets: LineOctets::new(write_command(sizes, station.ca, command)),
+            });
+        }
+    }
+}

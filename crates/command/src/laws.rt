@@ -1,0 +1,56 @@
+//! What holds of every list of calls, in the words of what can be seen from outside.
+//!
+//! The history has what came from the control centre and what became of it, what went to the stations and what they
+//! answered, and the own answers. Each law says what the calls do by what the rules make of that history.
+
+ghost use Rattle.std.specs.Prelude.{◌≡◌, ◌≤◌, ◌++◌, ℕ, List, true, option_map};
+ghost use Rattle.std.specs.List.{list_any};
+ghost use Rattle.asdu.specs.declared.sizes.Sizes.{Sizes};
+ghost use Rattle.command.specs.declared.station.StationInfo.{StationInfo};
+ghost use Rattle.command.specs.declared.content.Command.{Command};
+ghost use Rattle.command.specs.Octets.{answer};
+ghost use Rattle.command.specs.Selection.{lets_through};
+ghost use Rattle.command.specs.Calls.{Call, run, latest, NeverFall};
+ghost use Rattle.command.specs.State.{State, octets_waiting};
+ghost use Rattle.command.specs.Judging.{judged};
+ghost use Rattle.command.specs.Rules.{rules_for, first_cause};
+ghost use Rattle.command.specs.History.{ForwardsCommands, next_octets, ExecutesAreSelected, IsSelected, GivesOwnAnswers, own_kept, own_sent, KeepsOwnAnswers};
+ghost use Rattle.command.specs.Laws.{AfterEachRun};
+
+/// The answer to an ASDU is the one that the first rule that applies gives; where none applies it is forwarded.
+pub fn judgement_is_the_first_rule_that_applies()
+    ensures { (xs : List ℕ) (now : ℕ) (s : State) → (judged xs now s).0 ≡ option_map (λ cause. answer cause xs) (first_cause (rules_for xs now s)) }
+{}
+
+/// First sendings to a station are the commands forwarded to it, in their order, each once, and only while their
+/// connection is open. What waits is the next of them.
+pub fn commands_are_forwarded()
+    ensures in_turn { AfterEachRun (λ stations sizes select_ms s h. ForwardsCommands sizes stations select_ms h) }
+    ensures waiting { AfterEachRun (λ stations sizes select_ms s h. (k : ℕ) → octets_waiting k s ≡ next_octets sizes stations select_ms k h) }
+{}
+
+/// Before each forwarded execute to a station that asks for selects its select stands: the latest of its type and
+/// addresses, accepted on the line and confirmed in time, with nothing between that ends it.
+pub fn executes_are_selected()
+    ensures { AfterEachRun (λ stations sizes select_ms s h. ExecutesAreSelected sizes stations select_ms h) }
+{}
+
+/// Where moments never fall, a selected execute is refused for no want of a selection: one that is live lets it through.
+pub fn selected_executes_pass()
+    ensures { (stations : List StationInfo) (sizes : Sizes) (select_ms : ℕ) (calls : List Call) → NeverFall calls → (x : Command) (now : ℕ) → latest calls ≤ now → IsSelected sizes stations select_ms x now (run stations sizes select_ms calls).history → list_any (lets_through select_ms x now) (run stations sizes select_ms calls).state.selections ≡ true }
+{}
+
+/// Each answer is the right one, and the own answers that are kept go out first in, first out: 16 of them at most
+/// wait, and the end of a connection removes them.
+pub fn own_answers_are_given()
+    ensures right { AfterEachRun (λ stations sizes select_ms s h. GivesOwnAnswers sizes stations select_ms h) }
+    ensures in_turn { AfterEachRun (λ stations sizes select_ms s h. own_kept h ≡ own_sent h ++ s.answers) }
+    ensures kept { AfterEachRun (λ stations sizes select_ms s h. KeepsOwnAnswers h) }
+{}
+
+/// No call changes the settings.
+pub fn settings_stay()
+    ensures stations { AfterEachRun (λ stations sizes select_ms s h. s.stations ≡ stations) }
+    ensures sizes { AfterEachRun (λ stations sizes select_ms s h. s.sizes ≡ sizes) }
+    ensures select_ms { AfterEachRun (λ stations sizes select_ms s h. s.select_ms ≡ select_ms) }
+{}

@@ -1,0 +1,206 @@
+//! Selections.
+ghost use Rattle.std.specs.Prelude.{◌≡◌, ◌&&◌};
+ghost use Rattle.command.specs.Selection.{same_target as are_same_targets, same_element as are_same_elements, with_stage as staged, after_sending as sending, after_acceptance as acceptance, after_loss as loss, is_accepted as accepted, is_live as live, runs_from as running_from, advanced as next_of, lets_through as through, target_of};
+
+use crate::content::{Command, Element, Target};
+
+/// How far the select of a selection has come.
+#[derive(Clone, Copy, Debug, PartialEq, Eq)]
+pub(crate) enum Stage {
+    /// It waits behind so many commands of its station.
+    Queued(usize),
+    /// It is on the line.
+    Sent,
+    /// The station took it.
+    Accepted,
+    /// The station's latest con came at this moment.
+    Live(u64),
+}
+
+/// A selection: its select, that select's station and the moment at which it came.
+#[derive(Clone, Copy, Debug, Default, PartialEq, Eq)]
+pub(crate) struct Selection {
+    pub station: usize,
+    pub command: Command,
+    pub came: u64,
+    pub stage: Stage,
+}
+
+/// What selections hear of.
+#[derive(Clone, Copy, Debug, PartialEq, Eq)]
+pub(crate) enum Sign {
+    /// A command goes out to the station for the first time.
+    Sending(usize),
+    /// The station accepted the command on the line.
+    Acceptance(usize),
+    /// The station was busy, or the command was given up.
+    Loss(usize),
+    /// The selection of this target ends.
+    Over(Target),
+    /// A positive con of this target and element came.
+    Con(Target, Element, u64),
+    /// It is so late.
+    Time(u64),
+}
+
+impl Default for Stage {
+    fn default() -> Stage {
+        Stage::Accepted
+    }
+}
+
+pub(crate) fn same_target(a: Target, b: Target) -> bool
+    ensures { result ≡ are_same_targets a b }
+{
+    a.kind == b.kind && a.ca == b.ca && a.address == b.address
+}
+
+pub(crate) fn same_element(a: Element, b: Element) -> bool
+    ensures { result ≡ are_same_elements a b }
+{
+    match (a, b) {
+        (Element::Octet(x), Element::Octet(y)) => x == y,
+        (Element::SetPoint(a, b, c), Element::SetPoint(x, y, z)) => a == x && b == y && c == z,
+        (Element::Octet(_), Element::SetPoint(_, _, _)) => false,
+        (Element::SetPoint(_, _, _), Element::Octet(_)) => false,
+    }
+}
+
+impl Selection {
+    fn with_stage(self, stage: Stage) -> Selection
+        ensures { result ≡ staged stage self }
+    {
+        Selection { stage, ..self }
+    }
+
+    fn after_sending(self) -> Option<Selection>
+        ensures { result ≡ sending self.stage self }
+    {
+        match self.stage {
+            Stage::Queued(ahead) => {
+                if ahead == 0 {
+                    Some(self.with_stage(Stage::Sent))
+                } else {
+                    Some(self.with_stage(Stage::Queued(ahead - 1)))
+                }
+            }
+            Stage::Sent => None,
+            Stage::Accepted | Stage::Live(_) => Some(self),
+        }
+    }
+
+    fn after_acceptance(self) -> Option<Selection>
+        ensures { result ≡ acceptance self.stage self }
+    {
+        match self.stage {
+            Stage::Sent => Some(self.with_stage(Stage::Accepted)),
+            Stage::Queued(_) | Stage::Accepted | Stage::Live(_) => Some(self),
+        }
+    }
+
+    fn after_loss(self) -> Option<Selection>
+        ensures { result ≡ loss self.stage self }
+    {
+        match self.stage {
+            Stage::Sent => None,
+            Stage::Queued(_) | Stage::Accepted | Stage::Live(_) => Some(self),
+        }
+    }
+
+    fn is_accepted(self) -> bool
+        ensures { result ≡ accepted self.stage }
+    {
+        match self.stage {
+            Stage::Queued(_) | Stage::Sent => false,
+            Stage::Accepted | Stage::Live(_) => true,
+        }
+    }
+
+    /// The moment from which its time runs.
+    fn runs_from(self) -> u64
+        ensures { result ≡ running_from self self.stage }
+    {
+        match self.stage {
+            Stage::Queued(_) | Stage::Sent | Stage::Accepted => self.came,
+            Stage::Live(since) => since,
+        }
+    }
+
+    /// What becomes of it.
+    pub(crate) fn advanced(self, select_ms: u64, sign: Sign) -> Option<Selection>
+        ensures { result ≡ next_of select_ms sign self }
+    {
+        match sign {
+            Sign::Sending(station) => {
+                if self.station == station {
+                    self.after_sending()
+                } else {
+                    Some(self)
+                }
+            }
+            Sign::Acceptance(station) => {
+                if self.station == station {
+                    self.after_acceptance()
+                } else {
+                    Some(self)
+                }
+            }
+            Sign::Loss(station) => {
+                if self.station == station {
+                    self.after_loss()
+                } else {
+                    Some(self)
+                }
+            }
+            Sign::Over(target) => {
+                if same_target(self.command.target(), target) {
+                    None
+                } else {
+                    Some(self)
+                }
+            }
+            Sign::Con(target, element, now) => {
+                if self.is_named(target, element)
+                    && self.is_accepted()
+                    && now.saturating_sub(self.came) < select_ms
+                {
+                    Some(self.with_stage(Stage::Live(now)))
+                } else {
+                    Some(self)
+                }
+            }
+            Sign::Time(now) => {
+                if now.saturating_sub(self.runs_from()) >= select_ms {
+                    None
+                } else {
+                    Some(self)
+                }
+            }
+        }
+    }
+
+    fn is_named(self, target: Target, element: Element) -> bool
+        ensures { result ≡ are_same_targets (target_of self.command) target && are_same_elements self.command.element element }
+    {
+        same_target(self.command.target(), target) && same_element(self.command.element, element)
+    }
+
+    /// Whether it lets this execute through.
+    pub(crate) fn lets_through(&self, select_ms: u64, command: Command, now: u64) -> bool
+        ensures { result ≡ through select_ms command now self.now }
+    {
+        same_target(self.command.target(), command.target())
+            && same_element(self.command.element.without_select(), command.element)
+            && (self.command.cause >= 128) == (command.cause >= 128)
+            && self.is_live(select_ms, now)
+    }
+
+    fn is_live(&self, select_ms: u64, now: u64) -> bool
+        ensures { result ≡ live select_ms now self.now.stage }
+    {
+        match self.stage {
+            Stage::Live(since) => now.saturating_sub(since) < select_ms,
+            Stage::Queued(_) | Stage::Sent | Stage::Accepted => false,
+        }
+    }
+}

@@ -1,0 +1,92 @@
+//! Commands on their way to the line.
+ghost use Rattle.std.specs.Prelude.{◌≡◌, ◌≤◌, ℕ, List, length};
+ghost use Rattle.arrayvec.specs.ArrayVec.{array_vec_len};
+
+use arrayvec::ArrayVec;
+use std::marker::Model;
+
+/// The ASDU of a command as it came from the control centre.
+#[derive(Drop)]
+pub(crate) struct Received {
+    octets: ArrayVec<u8, 12>,
+}
+
+impl Model for Received {
+    ghost Value = { List ℕ };
+
+    ghost view = { λ a. a.octets.items };
+
+    ghost invariant = { λ a. 9 ≤ array_vec_len a.octets };
+}
+
+impl Received {
+    /// Keeps a copy of the octets.
+    pub(crate) fn copied(octets: &[u8]) -> Received
+        requires long { 9 ≤ length octets.now }
+        requires fits { length octets.now ≤ 12 }
+        ensures { result ≡ octets.now }
+    {
+        let mut copy = ArrayVec::new();
+        let Ok(()) = copy.try_extend_from_slice(octets) else {
+            unreachable!();
+        };
+        Received { octets: copy }
+    }
+
+    pub(crate) fn as_slice(&self) -> &[u8]
+        ensures value { result.now ≡ self.now }
+        ensures long { 9 ≤ length result.now }
+        ensures fits { length result.now ≤ 12 }
+    {
+        self.octets.as_slice()
+    }
+}
+
+/// The ASDU of a command as it goes to its station.
+#[derive(Drop)]
+pub(crate) struct LineOctets {
+    octets: ArrayVec<u8, 12>,
+}
+
+impl Model for LineOctets {
+    ghost Value = { List ℕ };
+
+    ghost view = { λ a. a.octets.items };
+
+    ghost invariant = { λ a. 1 ≤ array_vec_len a.octets };
+}
+
+impl LineOctets {
+    pub(crate) fn new(octets: ArrayVec<u8, 12>) -> LineOctets
+        requires { 1 ≤ array_vec_len octets }
+        ensures { result ≡ octets.items }
+    {
+        LineOctets { octets }
+    }
+
+    pub(crate) fn as_slice(&self) -> &[u8]
+        ensures value { result.now ≡ self.now }
+        ensures some { 1 ≤ length result.now }
+        ensures fits { length result.now ≤ 12 }
+    {
+        self.octets.as_slice()
+    }
+}
+
+/// A command that waits for the line of a station, as it came and as it goes out.
+#[derive(Drop)]
+pub(crate) struct Waiting {
+    pub station: usize,
+    pub received: Received,
+    pub octets: LineOctets,
+}
+
+/// What was put on the line of a station and isn't done.
+#[derive(Drop)]
+pub(crate) enum Line {
+    Free,
+    /// A command of the open connection, as it came.
+    Holds(Received),
+    /// A command whose connection has ended.
+    CutOff,
+}

@@ -1,0 +1,130 @@
+-- The loop in which all stations hear.
+use Rattle.std.proofs.Common.{◌≡◌, ℕ, zero, suc, ◌+◌, ◌<◌, ◌≤◌, List, [], ◌∷◌, ◌++◌, length, take, drop, get_or, slice_set, Option, Some, None, IfSome, Bool, true, false, refl, sym, ap, subst, ◌∙◌, inl, inr, append_assoc, arith}
+use Rattle.std.proofs.lemmas.List.{take_more, drop_more, get_or_at, length-take-le, take_all, drop_all, append-nil}
+use Rattle.std.specs.List.{AllByRecursion}
+use Rattle.ft12.specs.declared.frame.LinkSize.{LinkSize}
+use Rattle.ft12.specs.declared.frame.Frame.{Frame}
+use Rattle.ft12.specs.declared.frame.Frame.TheVariants.{Single, Fixed, Data}
+use Rattle.ft12.specs.Spelling.{Fits, spelling}
+use Rattle.link.specs.Secondary.{Secondary, HearsOctets, heard_reading}
+use Rattle.link.specs.declared.request.Reading.{Reading}
+use Rattle.link.specs.declared.request.Reading.TheVariants.{Foreign, Unknown, Asks}
+use Rattle.link.specs.Requests.{reading_of}
+use Rattle.link.proofs.Serving.{kept_address, kept_size}
+use Rattle.sim.specs.declared.directive.Fate.{Fate}
+use Rattle.sim.specs.declared.directive.Fate.TheVariants.{Unheard, AnswerLost, AnswerSpoilt, Answered}
+use Rattle.sim.specs.Lives.{later, HeardByAll, IsPutOut}
+
+-- the first i of the stations have heard
+pub record HeardSoFar (octets : List ℕ) (initial : List Secondary) (i : ℕ) (answer : Option Frame) (stations : List Secondary) : Type 0 where
+  pub done : List Secondary
+  pub heard : HeardByAll octets (take i initial) answer done
+  pub rest : stations ≡ done ++ drop i initial
+  pub fits : (size : LinkSize) → AllByRecursion (λ s. s.size ≡ size) initial → IfSome answer (Fits size)
+
+pub heard_none : (octets : List ℕ) (initial : List Secondary) → HeardSoFar octets initial 0 None initial
+heard_none octets initial = record { done = []; heard = refl; rest = refl; fits = λ size all. tt }
+
+heard_length : (octets : List ℕ) (ss ts : List Secondary) (answer : Option Frame) → HeardByAll octets ss answer ts → length ts ≡ length ss
+heard_length octets [] [] answer h = refl
+heard_length octets [] (t ∷ ts) answer h = absurd h
+heard_length octets (s ∷ ss) [] answer h = absurd h
+heard_length octets (s ∷ ss) (t ∷ ts) answer h = omega (arith, heard_length octets ss ts h.1 h.3)
+
+pub later_none : (a : Option Frame) → later None a ≡ a
+later_none None = refl
+later_none (Some frame) = refl
+
+pub later_assoc : (a b c : Option Frame) → later (later a b) c ≡ later a (later b c)
+later_assoc a b None = refl
+later_assoc a b (Some frame) = refl
+
+heard_snoc : (octets : List ℕ) (ss ts : List Secondary) (a b : Option Frame) (s t : Secondary) → HeardByAll octets ss a ts → HearsOctets s octets b t →
+    HeardByAll octets (ss ++ s ∷ []) (later a b) (ts ++ t ∷ [])
+heard_snoc octets [] [] a b s t h hears = (b, None, hears, refl, ap (λ (x : Option Frame). later x b) h ∙ later_none b)
+heard_snoc octets [] (u ∷ ts) a b s t h hears = absurd h
+heard_snoc octets (r ∷ ss) [] a b s t h hears = absurd h
+heard_snoc octets (r ∷ ss) (u ∷ ts) a b s t h hears =
+    (h.0, later h.1 b, h.2, heard_snoc octets ss ts h.1 b s t h.3 hears, ap (λ (x : Option Frame). later x b) h.4 ∙ later_assoc h.0 h.1 b)
+
+set_at : (done : List Secondary) (x y : Secondary) (rest : List Secondary) (i : ℕ) → length done ≡ i → slice_set (done ++ x ∷ rest) i y ≡ (done ++ y ∷ []) ++ rest
+set_at [] x y rest zero e = refl
+set_at [] x y rest (suc i) e = absurd (omega arith)
+set_at (d ∷ done) x y rest zero e = absurd (omega arith)
+set_at (d ∷ done) x y rest (suc i) e = ap (λ (l : List Secondary). d ∷ l) (set_at done x y rest i (omega arith))
+
+size_at : (size : LinkSize) (ss : List Secondary) (i : ℕ) (d : Secondary) → i < length ss → AllByRecursion (λ s. s.size ≡ size) ss → (get_or ss i d).size ≡ size
+size_at size [] i d lt all = absurd (omega arith)
+size_at size (s ∷ ss) zero d lt all = all.0
+size_at size (s ∷ ss) (suc i) d lt all = size_at size ss i d (omega arith) all.1
+
+fits_later : (size : LinkSize) (a b : Option Frame) → IfSome a (Fits size) → IfSome b (Fits size) → IfSome (later a b) (Fits size)
+fits_later size a None f g = f
+fits_later size a (Some frame) f g = g
+
+pub heard_more : (octets : List ℕ) (initial stations : List Secondary) (i : ℕ) (answer b joint : Option Frame) (s t : Secondary) → i < length initial → HeardSoFar octets initial i answer stations →
+    s ≡ get_or stations i s → HearsOctets s octets b t → IfSome b (Fits s.size) → joint ≡ later answer b → HeardSoFar octets initial (i + 1) joint (slice_set stations i t)
+heard_more octets initial stations i answer b joint s t lt so is hears fit e =
+    let x : Secondary = get_or initial i s in
+    let long : length so.done ≡ i = heard_length octets (take i initial) so.done answer so.heard ∙ length-take-le i initial (omega arith) in
+    let whole : stations ≡ so.done ++ x ∷ drop (i + 1) initial = so.rest ∙ ap (λ (l : List Secondary). so.done ++ l) (drop_more initial i s lt) in
+    let at : s ≡ x = is ∙ ap (λ (l : List Secondary). get_or l i s) whole ∙ get_or_at so.done x (drop (i + 1) initial) s i long in
+    record {
+      done = so.done ++ t ∷ [];
+      heard = subst (λ (l : List Secondary). HeardByAll octets l joint (so.done ++ t ∷ [])) (sym (take_more initial i s lt))
+          (subst (λ (a : Option Frame). HeardByAll octets (take i initial ++ x ∷ []) a (so.done ++ t ∷ [])) (sym e)
+          (heard_snoc octets (take i initial) so.done answer b x t so.heard (subst (λ (u : Secondary). HearsOctets u octets b t) at hears)));
+      rest = ap (λ (l : List Secondary). slice_set l i t) whole ∙ set_at so.done x t (drop (i + 1) initial) i long;
+      fits = λ size all.
+          let same : s.size ≡ size = ap (λ (u : Secondary). u.size) at ∙ size_at size initial i s lt all in
+          subst (λ (o : Option Frame). IfSome o (Fits size)) (sym e)
+          (fits_later size answer b (so.fits size all) (subst (λ (z : LinkSize). IfSome b (Fits z)) same fit));
+    }
+
+-- all have heard
+pub heard_whole : (octets : List ℕ) (initial stations : List Secondary) (i : ℕ) (answer : Option Frame) → length initial ≤ i → HeardSoFar octets initial i answer stations → HeardByAll octets initial answer stations
+heard_whole octets initial stations i answer le so =
+    let done : stations ≡ so.done = so.rest ∙ ap (λ (l : List Secondary). so.done ++ l) (drop_all i initial le) ∙ append-nil so.done in
+    subst (HeardByAll octets initial answer) (sym done) (subst (λ (l : List Secondary). HeardByAll octets l answer so.done) (take_all i initial le) so.heard)
+
+size_read : (granted : Bool) (s : Secondary) (reading : Reading) → (heard_reading granted s reading).state.size ≡ s.size
+size_read granted s Foreign = refl
+size_read granted s Unknown = refl
+size_read granted s (Asks request) = kept_size granted s request
+
+address_read : (granted : Bool) (s : Secondary) (reading : Reading) → (heard_reading granted s reading).state.address ≡ s.address
+address_read granted s Foreign = refl
+address_read granted s Unknown = refl
+address_read granted s (Asks request) = kept_address granted s request
+
+pub size_heard : (octets : List ℕ) (s t : Secondary) (answer : Option Frame) → HearsOctets s octets answer t → t.size ≡ s.size
+size_heard octets s t answer (inl h) = ap (λ (u : Secondary). u.size) h.2.2 ∙ size_read h.2.0 s (reading_of s.address h.0)
+size_heard octets s t answer (inr h) = ap (λ (u : Secondary). u.size) h.2
+
+pub address_heard : (octets : List ℕ) (s t : Secondary) (answer : Option Frame) → HearsOctets s octets answer t → t.address ≡ s.address
+address_heard octets s t answer (inl h) = ap (λ (u : Secondary). u.address) h.2.2 ∙ address_read h.2.0 s (reading_of s.address h.0)
+address_heard octets s t answer (inr h) = ap (λ (u : Secondary). u.address) h.2
+
+sizes_heard : (size : LinkSize) (octets : List ℕ) (ss ts : List Secondary) (answer : Option Frame) → HeardByAll octets ss answer ts → AllByRecursion (λ s. s.size ≡ size) ss → AllByRecursion (λ s. s.size ≡ size) ts
+sizes_heard size octets [] [] answer h all = tt
+sizes_heard size octets [] (t ∷ ts) answer h all = absurd h
+sizes_heard size octets (s ∷ ss) [] answer h all = absurd h
+sizes_heard size octets (s ∷ ss) (t ∷ ts) answer h all = (size_heard octets s t h.0 h.2 ∙ all.0, sizes_heard size octets ss ts h.1 h.3 all.1)
+
+pub sizes_out : (size : LinkSize) (fate : Fate) (octets : List ℕ) (ss ts : List Secondary) (answer : Option Frame) → IsPutOut fate octets ss answer ts → AllByRecursion (λ s. s.size ≡ size) ss → AllByRecursion (λ s. s.size ≡ size) ts
+sizes_out size Unheard octets ss ts answer h all = subst (λ (us : List Secondary). AllByRecursion (λ s. s.size ≡ size) us) (sym h.1) all
+sizes_out size AnswerLost octets ss ts answer h all = sizes_heard size octets ss ts answer h all
+sizes_out size (AnswerSpoilt place) octets ss ts answer h all = sizes_heard size octets ss ts answer h all
+sizes_out size Answered octets ss ts answer h all = sizes_heard size octets ss ts answer h all
+
+-- a spelling has octets
+pub some_spelling : (size : LinkSize) (frame : Frame) → 0 < length (spelling size frame)
+some_spelling size Single = omega arith
+some_spelling size (Fixed c a) = omega arith
+some_spelling size (Data c a body) = omega arith
+
+pub length_out : (fate : Fate) (octets : List ℕ) (ss ts : List Secondary) (answer : Option Frame) → IsPutOut fate octets ss answer ts → length ts ≡ length ss
+length_out Unheard octets ss ts answer h = ap length h.1
+length_out AnswerLost octets ss ts answer h = heard_length octets ss ts answer h
+length_out (AnswerSpoilt place) octets ss ts answer h = heard_length octets ss ts answer h
+length_out Answered octets ss ts answer h = heard_length octets ss ts answer h

@@ -1,0 +1,10 @@
+pub mod ScriptLemmas
+pub mod Finding
+pub mod Steps
+pub mod Standing
+pub mod Spoils
+pub mod HearingLemmas
+pub mod Keeping
+pub mod BeginningLemmas
+pub mod TextLemmas
+pub mod RunLemmas

@@ -1,0 +1,40 @@
+use Rattle.std.proofs.Common.{◌≡◌, ◌+◌, ◌≤◌, ℕ, List, Option, length, option_map, sym, ap, subst, ◌∙◌, arith}
+use Rattle.std.specs.List.{AllByRecursion}
+use Rattle.ft12.specs.declared.frame.LinkSize.{LinkSize}
+use Rattle.link.specs.Secondary.{Secondary}
+use Rattle.gateway.specs.declared.settings.LineSettings.{LineSettings}
+use Rattle.gateway.specs.Entries.{log_of}
+use Rattle.sim.specs.declared.directive.Fate.{Fate}
+use Rattle.sim.specs.Losses.{fate_of}
+use Rattle.sim.specs.Lives.{IsPutOut, arriving, plan_of}
+use Rattle.sim.proofs.Steps.{length-log}
+use Rattle.sim.proofs.HearingLemmas.{length_out}
+use Rattle.sim.proofs.Keeping.{ask_kept, written}
+use Rattle.sim.proofs.sim.Sim.ask.Goals as goal
+
+pub overflow_add-self : goal.overflow_add-self
+overflow_add-self c =
+    let few : c.self.inside.requests ≤ length (log_of c.self.inside.log.items) = c.self.invariant.1.few in
+    omega (arith, length-log c.self.inside.log.items, c.self.inside.log.ok.0, c.self.inside.log.ok.1, c.self.inside.log.small)
+
+pub arriving-self-inside-requires : goal.arriving-self-inside-requires
+arriving-self-inside-requires c =
+    c.put_out-answer.ensures.fits c.line.result.now.link
+    (subst (λ (l : LineSettings). AllByRecursion (λ s. s.size ≡ l.link) c.as_mut_slice.result.now) (sym c.line.ensures)
+    (subst (λ (ss : List Secondary). AllByRecursion (λ s. s.size ≡ c.self.inside.config.now.line.link) ss) (sym c.as_mut_slice.ensures.value) c.self.invariant.1.sizes))
+
+pub invariant_of-self-2 : goal.invariant_of-self-2
+invariant_of-self-2 c =
+    let fate : c.fate-fate.result ≡ fate_of c.self.inside.script.now (c.self.inside.requests + 1) = c.fate-fate.ensures in
+    let out : IsPutOut c.fate-fate.result c.args.octets.now c.self.inside.stations.items c.put_out-answer.result c.put_out-answer.new.stations =
+    subst (λ (ss : List Secondary). IsPutOut c.fate-fate.result c.args.octets.now ss c.put_out-answer.result c.put_out-answer.new.stations) c.as_mut_slice.ensures.value c.put_out-answer.ensures.out in
+    let same : length c.put_out-answer.new.stations ≡ length c.self.inside.stations.items = length_out c.fate-fate.result c.args.octets.now c.self.inside.stations.items c.put_out-answer.new.stations c.put_out-answer.result out in (
+      c.self.invariant.0,
+      ask_kept (plan_of c.self.inside.config.now c.self.inside.script.now) c.self.inside.log.items _ c.self.inside.stations.items c.put_out-answer.new.stations _ _ c.args.now c.in_ok-copy.copy c.args.octets.now c.put_out-answer.result _
+          c.in_ok-keep.ensures.ok c.in_ok-copy.ensures.items
+          (subst (λ (f : Fate). IsPutOut f c.args.octets.now c.self.inside.stations.items c.put_out-answer.result c.put_out-answer.new.stations) fate out)
+          (written c.self.inside.stations.items c.put_out-answer.new.stations c.self.inside.stations.len (omega (arith, same, c.self.inside.stations.ok.0, c.self.inside.stations.ok.1)))
+          (c.arriving-self-inside.ensures ∙ ap (λ (l : LineSettings). arriving l.link c.fate-fate.result c.put_out-answer.result) c.line.ensures
+          ∙ ap (λ (f : Fate). arriving c.self.inside.config.now.line.link f c.put_out-answer.result) fate)
+          c.self.invariant.1,
+    )

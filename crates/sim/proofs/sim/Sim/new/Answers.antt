@@ -1,0 +1,6 @@
+use Rattle.sim.proofs.BeginningLemmas.{begun_sizes}
+use Rattle.sim.proofs.Keeping.{stands_new}
+use Rattle.sim.proofs.sim.Sim.new.Goals as goal
+
+pub invariant_of-result : goal.invariant_of-result
+invariant_of-result c = (c.turns.ensures, stands_new _ _ _ _ c.new.ensures.items c.shut.ensures c.in_ok-stations.ensures (begun_sizes _ 0 _ _))

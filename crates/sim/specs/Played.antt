@@ -1,0 +1,90 @@
+-- Runs of a simulated line.
+use Rattle.std.specs.Prelude.{◌≡◌, ℕ, ◌+◌, ◌≤◌, min, nat_le, Bool, true, false, if◌then◌else◌, List, [], ◌∷◌, Option, None, length}
+use Rattle.std.specs.List.{AllByRecursion}
+use Rattle.ft12.specs.declared.frame.Frame.{Frame}
+use Rattle.link.specs.Secondary.{Secondary}
+use Rattle.gateway.specs.Log.{Log, LogEntry, Came, Went, LineIn, last_moment}
+use Rattle.sim.specs.declared.centre.Centre.{Centre}
+use Rattle.sim.specs.Centres.{shut, centre_of, after_event}
+use Rattle.sim.specs.Losses.{turns_of}
+use Rattle.sim.specs.Lives.{Plan, AreLived, waiting_in, requests_in}
+use Rattle.sim.specs.Calls.{calls_in, moment_of, event_at, lasting, FollowsPlan}
+
+-- The log is a run of the plan, in which the stations answered the requests so, the newest first, and which leaves them so.
+pub record IsPlayed (plan : Plan) (log : Log) (answers : List (Option Frame)) (stations : List Secondary) : Type 0 where
+  pub lived : AreLived plan log answers stations
+  pub follows : FollowsPlan plan log answers
+
+-- where a run stands: what waits, what the control centre knows, and how many calls and requests there were
+pub record Standing : Type 0 where
+  pub waiting : Option (List ℕ)
+  pub centre : Centre
+  pub call : ℕ
+  pub moment : ℕ
+  pub requests : ℕ
+
+-- The log is a run of the plan, and stands so.
+pub record Stands (plan : Plan) (log : Log) (stations : List Secondary) (at : Standing) : Type 0 where
+  pub answers : List (Option Frame)
+  pub played : IsPlayed plan log answers stations
+  pub waiting : at.waiting ≡ waiting_in plan log answers
+  pub centre : at.centre ≡ centre_of log
+  pub call : at.call ≡ calls_in log
+  pub moment : at.moment ≡ moment_of log
+  pub requests : at.requests ≡ requests_in log
+  pub in_time : at.moment ≤ last_moment
+  pub sent : at.centre.sent ≤ length log
+  pub received : at.centre.received ≤ length log
+  pub few : at.requests ≤ length log
+  pub in_turns : at.call ≤ turns_of plan.directives
+  pub sizes : AllByRecursion (λ s. s.size ≡ plan.size) stations
+
+-- what a simulated line's port is to its callers
+pub record Simulated : Type 0 where
+  pub plan : Plan
+  pub log : Log
+  pub failed : ℕ
+  pub stations : List Secondary
+  pub standing : Standing
+
+abbrev pub has_ended : Simulated → Bool
+has_ended s = nat_le (turns_of s.plan.directives) s.standing.call
+
+-- the next event of a simulated line, and its moment
+abbrev pub coming : Plan → Standing → LogEntry
+coming plan at =
+    let event = event_at plan.directives (at.call + 1) at.centre at.waiting in
+    Came (min (at.moment + lasting plan.answer_ms event) last_moment) event
+
+abbrev pub centre_after : LogEntry → Centre → Centre
+centre_after (Came now event) c = after_event event c
+centre_after (Went now action) c = c
+
+abbrev pub moment_at : LogEntry → ℕ
+moment_at (Came now event) = now
+moment_at (Went now action) = now
+
+-- an answer is given
+abbrev pub is_given : LogEntry → Bool
+is_given (Came now (LineIn octets)) = true
+is_given entry = false
+
+-- where a run stands after an event
+abbrev pub standing_after : LogEntry → Standing → Standing
+standing_after entry at = record {
+  waiting = if is_given entry then None else at.waiting;
+  centre = centre_after entry at.centre;
+  call = at.call + 1;
+  moment = moment_at entry;
+  requests = at.requests;
+}
+
+-- a run of the plan, before its first call
+abbrev pub fresh_run : Plan → Simulated
+fresh_run plan = record {
+  plan = plan;
+  log = [];
+  failed = 0;
+  stations = plan.stations;
+  standing = record { waiting = None; centre = shut; call = 0; moment = 0; requests = 0 };
+}

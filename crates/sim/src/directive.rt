@@ -1,0 +1,160 @@
+//! The lines of a script.
+ghost use Rattle.std.specs.Prelude.{◌≡◌, ◌≤◌, IfSome, length};
+ghost use Rattle.std.specs.Option.{option_copied};
+ghost use Rattle.sim.specs.Directives.{IsWithinRanges};
+ghost use Rattle.sim.specs.Scripts.{clashes, is_turns};
+ghost use Rattle.sim.specs.Texts.{reports_for};
+ghost use Rattle.sim.specs.Losses.{turns_said, ack_said, spoil_said, send_said, loses_request, loses_answer, cuts};
+
+use link::Asdu;
+
+/// A class of user data (IEC 60870-5-2): what a station gives at requests of class 1, or of class 2.
+#[derive(Clone, Copy, Debug, PartialEq, Eq)]
+pub enum Class {
+    One,
+    Two,
+}
+
+/// What becomes of a request.
+#[derive(Clone, Copy, Debug, PartialEq, Eq)]
+pub enum Fate {
+    /// No station hears it.
+    Unheard,
+    /// It is heard, and its answer is lost.
+    AnswerLost,
+    /// In its answer the octet at this place, modulo its length, is changed in all eight bits.
+    AnswerSpoilt(u64),
+    /// Its answer comes.
+    Answered,
+}
+
+/// What a line of a script says. Requests on the line and calls of the port are counted from 1; there is none with number 0.
+#[derive(Drop)]
+pub enum Directive {
+    /// So many calls of the port.
+    Turns(u64),
+    /// The control centre acknowledges once so many I frames are unacknowledged, 1 to 32767.
+    Ack(u64),
+    /// The station with this index, from 0, has this report from the start: 1 to 253 octets, or 252 with two-octet link
+    /// addresses.
+    Report(usize, Class, Asdu),
+    /// The request with this number isn't heard.
+    LoseRequest(u64),
+    /// The answer to the request with this number is lost.
+    LoseAnswer(u64),
+    /// In the answer to the request with the first number the octet at this place, modulo its length, is changed in all eight
+    /// bits.
+    SpoilAnswer(u64, u64),
+    /// At the call with this number the connection is cut.
+    Cut(u64),
+    /// At the call with this number an I frame with this ASDU, of 9 to 249 octets, goes to the gateway.
+    Send(u64, Asdu),
+}
+
+impl Directive {
+    /// Whether it says how many calls there are.
+    pub(crate) fn is_turns(&self) -> bool
+        ensures { result ≡ is_turns self.now }
+    {
+        matches!(self, Directive::Turns(_))
+    }
+
+    /// Whether the two can't stand in one script.
+    pub(crate) fn clashes(&self, other: &Directive) -> bool
+        ensures { result ≡ clashes self.now other.now }
+    {
+        match self {
+            Directive::Turns(_) => matches!(other, Directive::Turns(_)),
+            Directive::Ack(_) => matches!(other, Directive::Ack(_)),
+            Directive::SpoilAnswer(n, _) => match other {
+                Directive::SpoilAnswer(m, _) => n == m,
+                _ => false,
+            },
+            Directive::Send(n, _) => match other {
+                Directive::Send(m, _) => n == m,
+                _ => false,
+            },
+            _ => false,
+        }
+    }
+}
+
+impl Directive {
+    /// How many calls there are, if it says so.
+    pub(crate) fn turns(&self) -> Option<u64>
+        ensures { result ≡ turns_said self.now }
+    {
+        match self {
+            Directive::Turns(n) => Some(*n),
+            _ => None,
+        }
+    }
+
+    pub(crate) fn ack(&self) -> Option<u64>
+        ensures { result ≡ ack_said self.now }
+    {
+        match self {
+            Directive::Ack(n) => Some(*n),
+            _ => None,
+        }
+    }
+
+    /// The place at which it has the answer to this request spoilt.
+    pub(crate) fn spoils(&self, request: u64) -> Option<u64>
+        ensures { result ≡ spoil_said request self.now }
+    {
+        match self {
+            Directive::SpoilAnswer(n, place) if *n == request => Some(*place),
+            _ => None,
+        }
+    }
+
+    /// The ASDU that it has sent at this call.
+    pub(crate) fn sends(&self, call: u64) -> Option<&Asdu>
+        ensures said { option_copied result ≡ send_said call self.now }
+        ensures least { IsWithinRanges self.now → IfSome result (λ asdu. 9 ≤ length asdu.now) }
+        ensures most { IsWithinRanges self.now → IfSome result (λ asdu. length asdu.now ≤ 249) }
+    {
+        match self {
+            Directive::Send(n, asdu) if *n == call => Some(asdu),
+            _ => None,
+        }
+    }
+
+    pub(crate) fn loses_request(&self, request: u64) -> bool
+        ensures { result ≡ loses_request request self.now }
+    {
+        match self {
+            Directive::LoseRequest(n) => *n == request,
+            _ => false,
+        }
+    }
+
+    pub(crate) fn loses_answer(&self, request: u64) -> bool
+        ensures { result ≡ loses_answer request self.now }
+    {
+        match self {
+            Directive::LoseAnswer(n) => *n == request,
+            _ => false,
+        }
+    }
+
+    /// Whether it gives the station with this index a report.
+    pub(crate) fn reports_for(&self, station: usize) -> bool
+        ensures { result ≡ reports_for station self.now }
+    {
+        match self {
+            Directive::Report(i, _, _) => *i == station,
+            _ => false,
+        }
+    }
+
+    pub(crate) fn cuts(&self, call: u64) -> bool
+        ensures { result ≡ cuts call self.now }
+    {
+        match self {
+            Directive::Cut(n) => *n == call,
+            _ => false,
+        }
+    }
+}

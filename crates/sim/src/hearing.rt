@@ -1,0 +1,84 @@
+//! What a request makes of the stations of a line.
+ghost use Rattle.std.specs.Prelude.{◌≡◌, ◌<◌, ◌%◌, IfSome, length, option_map};
+ghost use Rattle.std.specs.List.{AllByRecursion};
+ghost use Rattle.ft12.specs.declared.frame.LinkSize.{LinkSize};
+ghost use Rattle.ft12.specs.Spelling.{Fits, spelling};
+ghost use Rattle.ft12.specs.Spoiling.{spoilt};
+ghost use Rattle.sim.specs.Lives.{later, HeardByAll, IsPutOut, arriving};
+
+use crate::directive::Fate;
+use arrayvec::ArrayVec;
+use ft12::{Frame, LinkSize, encode};
+use link::Station;
+
+fn later_of(before: Option<Frame>, frame: Option<Frame>) -> Option<Frame>
+    ensures { result ≡ later before frame }
+{
+    match frame {
+        Some(frame) => Some(frame),
+        None => before,
+    }
+}
+
+#[tactic(auto, using(crate::proofs::HearingLemmas::heard_none, crate::proofs::HearingLemmas::heard_whole))]
+/// Each station hears the octets. The answer is that of the last one that answers.
+fn hear_all(stations: &mut [Station], octets: &[u8]) -> Option<Frame>
+    ensures heard { HeardByAll octets.now stations.old result stations.new }
+    ensures fits { (size : LinkSize) → AllByRecursion (λ s. s.size ≡ size) stations.old → IfSome result (Fits size) }
+{
+    let mut answer = None;
+    for station in stations.iter_mut() {
+        let frame = station.hear(octets);
+        answer = later_of(answer, frame);
+    }
+    answer
+}
+
+/// Puts a request out to the stations, of which each hears it where it isn't lost.
+pub(crate) fn put_out(stations: &mut [Station], fate: Fate, octets: &[u8]) -> Option<Frame>
+    ensures out { IsPutOut fate octets.now stations.old result stations.new }
+    ensures fits { (size : LinkSize) → AllByRecursion (λ s. s.size ≡ size) stations.old → IfSome result (Fits size) }
+{
+    match fate {
+        Fate::Unheard => None,
+        _ => hear_all(stations, octets),
+    }
+}
+
+/// Changes the octet at the place in all eight bits.
+fn spoil(octets: &mut ArrayVec<u8, 261>, place: usize)
+    requires { place < length octets.old.items }
+    ensures { octets.new.items ≡ spoilt place octets.old.items }
+{
+    octets[place] = 255 - octets[place];
+}
+
+/// What of an answer comes to wait.
+pub(crate) fn arriving(
+    size: LinkSize,
+    fate: Fate,
+    answer: Option<Frame>,
+) -> Option<ArrayVec<u8, 261>>
+    requires { IfSome answer (Fits size) }
+    ensures { option_map (λ v. v.items) result ≡ arriving size fate answer }
+{
+    let frame = answer?;
+    match fate {
+        Fate::Unheard | Fate::AnswerLost => None,
+        Fate::Answered => Some(encode(size, &frame)),
+        Fate::AnswerSpoilt(place) => Some(spoilt(size, place, &frame)),
+    }
+}
+
+#[tactic(auto, using(crate::proofs::HearingLemmas::some_spelling))]
+/// The octets of a frame, with the one at the place, modulo their length, changed.
+fn spoilt(size: LinkSize, place: u64, frame: &Frame) -> ArrayVec<u8, 261>
+    requires { Fits size frame.now }
+    ensures { result.items ≡ spoilt (place % length (spelling size frame.now)) (spelling size frame.now) }
+{
+    let mut octets = encode(size, frame);
+    let len = octets.len();
+    prove!(len > 0);
+    spoil(&mut octets, (place % len as u64) as usize);
+    octets
+}

@@ -1,0 +1,36 @@
+//! A line whose stations lose requests and answers as a script says, and a control centre (this gateway's own profile, to show
+//! what a gateway does with losses).
+//!
+//! [`read_script`] reads a whole [`Script`], or names its first wrong line. [`Sim`] is the port of a gateway over it: stations
+//! (`link::Station`) that hear what isn't lost, and a control centre that acknowledges and sends. [`simulate`] runs a gateway over
+//! it and writes the text of the run. What the gateway does is no matter of this crate, and no clock is read.
+//!
+//! Proved: a script read is what the lines of its text say, in their order, and a line that is refused is the first that says
+//! nothing, or what no script can have beside the lines before it. It is an invariant of [`Sim`] that each event of its log is
+//! what the script gives at that call (the first of seven that applies, `specs/Calls.antt`), and that its stations have heard each
+//! request that isn't lost, by every step of `link`'s machine, and nothing else (`specs/Lives.antt`): an answer waits until it is
+//! given, or a next request goes out. What [`simulate`] writes is the text of such a run, of as many calls as the script says, in
+//! which the gateway keeps every promise of a gateway.
+#![tactic(auto)]
+
+mod beginning;
+mod centre;
+mod directive;
+mod due;
+mod hearing;
+mod line;
+mod reading;
+mod script;
+mod sim;
+mod simulation;
+mod text;
+
+pub use directive::{Class, Directive, Fate};
+pub use reading::read_script;
+pub use script::Script;
+pub use sim::Sim;
+pub use simulation::{SimFault, simulate};
+pub use traces::TextFault;
+
+#[cfg(test)]
+mod tests;

@@ -1,0 +1,90 @@
+//! Reading of scripts.
+ghost use Rattle.std.specs.Prelude.{◌≡◌, IfOk, MatchResult, map};
+ghost use Rattle.std.specs.List.{AllByRecursion, list_any};
+ghost use Rattle.sim.specs.Directives.{FitsStations};
+ghost use Rattle.sim.specs.Scripts.{IsScriptOf, AreSaidBy, IsFaultOf, FitsSettings, clashes_with, is_turns, lines_of};
+
+use crate::directive::Directive;
+use crate::line::read_line;
+use crate::script::Script;
+use ft12::LinkSize;
+use gateway::Config;
+use std::alloc::{AllocError, Global};
+use traces::{TextFault, is_skipped, pieces};
+
+const LINE_FEED: u8 = b'\n';
+
+/// The lines that line feeds end. What follows the last line feed is a line where there is something.
+#[tactic(auto, using(crate::proofs::ScriptLemmas::ended_without, crate::proofs::ScriptLemmas::ended_with))]
+fn lines(alloc: Global, text: &[u8]) -> Result<Vec<&[u8]>, AllocError>
+    ensures { IfOk result (λ v. map (λ line. line.now) v.items ≡ lines_of text.entry.now) }
+{
+    let mut lines = pieces(alloc, text, LINE_FEED)?;
+    let Some(last) = lines.pop() else {
+        return Ok(lines);
+    };
+    if last.is_empty() {
+        return Ok(lines);
+    }
+    lines.push(last)?;
+    Ok(lines)
+}
+
+/// Whether one of them clashes with this one.
+fn clash(before: &[Directive], directive: &Directive) -> bool
+    ensures { result ≡ clashes_with before.now directive.now }
+{
+    before.iter().any(|other| other.clashes(directive))
+}
+
+fn has_turns(directives: &[Directive]) -> bool
+    ensures { result ≡ list_any is_turns directives.now }
+{
+    directives.iter().any(|directive| directive.is_turns())
+}
+
+/// Reads lines, counted from 1, where there are so many stations and link addresses have this size.
+#[tactic(auto, using(crate::proofs::ScriptLemmas::read_skip, crate::proofs::ScriptLemmas::wrong_here, crate::proofs::ScriptLemmas::clash_here, crate::proofs::ScriptLemmas::said_end, crate::proofs::ScriptLemmas::wrong_end, crate::proofs::ScriptLemmas::no_turns_end))]
+fn read_lines(
+    alloc: Global,
+    size: LinkSize,
+    stations: usize,
+    lines: &[&[u8]],
+) -> Result<Script, TextFault>
+    ensures script { MatchResult result (AreSaidBy size stations (map (λ line. line.now) lines.now)) (IsFaultOf size stations (map (λ line. line.now) lines.now)) }
+    ensures fits { IfOk result (AllByRecursion (FitsStations size stations)) }
+{
+    let mut directives = Vec::new(alloc);
+    for (i, line) in lines.iter().enumerate() {
+        if is_skipped(*line) {
+            continue;
+        }
+        match read_line(alloc, size, stations, *line)? {
+            Some(directive) if !clash(&directives, &directive) => directives.push(directive)?,
+            _ => return Err(TextFault::Line(i as u64 + 1)),
+        }
+    }
+    if has_turns(&directives) {
+        Ok(Script::new(directives))
+    } else {
+        Err(TextFault::Line(lines.len() as u64 + 1))
+    }
+}
+
+/// Reads a whole script for these settings: lines that end in a line feed (the last may lack it), empty ones and those that begin
+/// with `#` skipped. Numbers are 1 to 9 decimal digits, octets in hexadecimal of either case. The lines are `turns N`, `ack N` (1 to
+/// 32767), `report S CLASS HEX` (station from 1, class 1 or 2), `lose request N`, `lose answer N`, `spoil answer N P`, `cut N` and
+/// `send N HEX` (9 to 249 octets). The first wrong line is the fault; a second `turns`, `ack`, `spoil answer` for one request or
+/// `send` for one call is wrong, and a script without `turns` at the line after the last.
+pub fn read_script(alloc: Global, config: &Config, text: &[u8]) -> Result<Script, TextFault>
+    ensures script { IsScriptOf config.now text.now result }
+    ensures fits { IfOk result (FitsSettings config.now) }
+{
+    let lines = lines(alloc, text)?;
+    read_lines(
+        alloc,
+        config.line().link,
+        config.stations().len(),
+        lines.as_slice(),
+    )
+}

@@ -1,0 +1,361 @@
+//! The port of a simulated line.
+ghost use Rattle.std.specs.Prelude.{◌≡◌, ℕ, ◌+◌, ◌<◌, ◌≤◌, ◌^◌, min, Bool, true, false, List, [], ◌∷◌, ◌++◌, length, take, IfOk, OnOk, OnErr, Option, Some, None, if◌then◌else◌, option_map, nat_le};
+ghost use Rattle.gateway.specs.Log.{LogEntry, Came, Went, LineOut, TcpOut, Closed, Input, tell, last_moment};
+ghost use Rattle.gateway.specs.Ports.{told_by, output_of, FitsBuffer, faults_of};
+ghost use Rattle.gateway.specs.Entries.{FitsPort, event_of, log_of, number_of, told_of};
+ghost use Rattle.sim.specs.Lives.{Plan, plan_of};
+ghost use Rattle.sim.specs.Losses.{turns_of};
+ghost use Rattle.sim.specs.Scripts.{FitsSettings};
+ghost use Rattle.sim.specs.Played.{centre_after, moment_at, is_given, coming};
+
+use crate::beginning::begin;
+use crate::centre::Centre;
+use crate::due::Due;
+use crate::hearing::{arriving, put_out};
+use crate::script::Script;
+use arrayvec::ArrayVec;
+use gateway::{Action, Config, Entry, Next, Port, Told};
+use link::{NoMemory, Station};
+use session::Close;
+use std::alloc::{AllocError, Global};
+use std::marker::Model;
+
+/// The last moment that counts.
+const LAST_MOMENT: u64 = 999_999_999_999_999;
+
+/// A line whose stations and control centre do as a script says, as the port of a gateway. It stores its log.
+#[derive(Drop)]
+pub struct Sim<'a> {
+    alloc: Global,
+    config: &'a Config,
+    script: &'a Script,
+    turns: u64,
+    stations: Vec<Station>,
+    waiting: Option<ArrayVec<u8, 261>>,
+    centre: Centre,
+    call: u64,
+    moment: u64,
+    requests: u64,
+    log: Vec<Told>,
+    failures: u64,
+}
+
+impl<'a> Model for Sim<'a> {
+    ghost use Rattle.std.specs.Prelude.{◌≡◌, option_map};
+    ghost use Rattle.gateway.specs.Entries.{log_of};
+    ghost use Rattle.sim.specs.Lives.{plan_of};
+    ghost use Rattle.sim.specs.Losses.{turns_of};
+    ghost use Rattle.sim.specs.Played.{Simulated, Stands};
+
+    ghost Value = { Simulated };
+
+    ghost view = { λ a. record {
+      plan = plan_of a.config.now a.script.now;
+      log = log_of a.log.items;
+      failed = a.failures;
+      stations = a.stations.items;
+      standing = record { waiting = option_map (λ v. v.items) a.waiting; centre = a.centre; call = a.call; moment = a.moment; requests = a.requests };
+    } };
+
+    // The log is a run of the plan, and the rest is as it stands after the log.
+    ghost invariant = { λ a. (a.turns ≡ turns_of a.script.now)
+        × Stands (plan_of a.config.now a.script.now) (log_of a.log.items) a.stations.items (record { waiting = option_map (λ v. v.items) a.waiting; centre = a.centre; call = a.call; moment = a.moment; requests = a.requests }) };
+}
+
+/// Copies the octets to the front.
+fn fill(buf: &mut [u8; 1024], octets: &[u8])
+    requires { length octets.now ≤ 1024 }
+    ensures { take (length octets.now) buf.new ≡ octets.now }
+{
+    buf[..octets.len()].copy_from_slice(octets);
+}
+
+/// Copies the octets of an event to the front of the buffer.
+fn announce(entry: &Entry, buf: &mut [u8; 1024]) -> Next
+    requires { FitsPort entry.now }
+    ensures told { told_by result buf.new ≡ event_of entry.now ∷ [] }
+    ensures fits { FitsBuffer result }
+    ensures healthy { faults_of result ≡ 0 }
+    ensures some { result ≡ Next.Done → ⊥ }
+{
+    match entry {
+        Entry::Line(now, octets) => {
+            fill(buf, octets);
+            Next::Line(*now, octets.len())
+        }
+        Entry::Open(now) => Next::Open(*now),
+        Entry::Bytes(now, octets) => {
+            fill(buf, octets);
+            Next::Bytes(*now, octets.len())
+        }
+        Entry::Cut(now) => Next::Cut(*now),
+        Entry::Tick(now) => Next::Tick(*now),
+    }
+}
+
+/// The number of a cause.
+fn number(cause: Close) -> u8
+    ensures { result ≡ number_of cause }
+{
+    cause as u8
+}
+
+/// Adds to the log.
+fn keep(log: &mut Vec<Told>, told: Told) -> Result<(), AllocError>
+    ensures ok { OnOk result (log.new.items ≡ log.old.items ++ told ∷ []) }
+    ensures err { OnErr result (log.new.items ≡ log.old.items) }
+{
+    log.push(told)?;
+    Ok(())
+}
+
+/// What the control centre knows after an event.
+fn centre_after(entry: &Entry, centre: Centre) -> Centre
+    requires { centre.sent + 1 < 2 ^ 64 }
+    ensures { result ≡ centre_after (event_of entry.now) centre }
+{
+    match entry {
+        Entry::Open(_) => Centre::opened(),
+        Entry::Cut(_) => Centre::shut(),
+        Entry::Bytes(_, octets) => centre.after_sending(octets),
+        Entry::Line(_, _) | Entry::Tick(_) => centre,
+    }
+}
+
+fn moment_at(entry: &Entry) -> u64
+    ensures { result ≡ moment_at (event_of entry.now) }
+{
+    match entry {
+        Entry::Line(now, _)
+        | Entry::Open(now)
+        | Entry::Bytes(now, _)
+        | Entry::Cut(now)
+        | Entry::Tick(now) => *now,
+    }
+}
+
+fn is_given(entry: &Entry) -> bool
+    ensures { result ≡ is_given (event_of entry.now) }
+{
+    matches!(entry, Entry::Line(_, _))
+}
+
+/// Takes away what waits, where it is given.
+fn forget(waiting: &mut Option<ArrayVec<u8, 261>>, is_given: bool)
+    ensures { option_map (λ v. v.items) waiting.new ≡ (if is_given then None else option_map (λ v. v.items) waiting.old) }
+{
+    if is_given {
+        *waiting = None;
+    }
+}
+
+impl<'a> Sim<'a> {
+    ghost use Rattle.sim.specs.Played.{Simulated, Stands, fresh_run, has_ended};
+
+    /// The port of a run with these settings and this script, which is to be one for them.
+    pub fn new(alloc: Global, config: &'a Config, script: &'a Script) -> Result<Sim<'a>, NoMemory>
+        requires { FitsSettings config.now script.now }
+        ensures { IfOk result (λ sim. sim ≡ fresh_run (plan_of config.now script.now)) }
+    {
+        let stations = begin(alloc, config, script)?;
+        Ok(Sim {
+            alloc,
+            config,
+            script,
+            turns: script.turns(),
+            stations,
+            waiting: None,
+            centre: Centre::shut(),
+            call: 0,
+            moment: 0,
+            requests: 0,
+            log: Vec::new(alloc),
+            failures: 0,
+        })
+    }
+
+    /// What is stored of the run, the oldest first.
+    pub fn told(&self) -> &[Told]
+        ensures log { log_of result.now ≡ self.now.log }
+        ensures small { length result.now < 2 ^ 63 }
+        ensures stands { Stands self.now.plan self.now.log self.now.stations self.now.standing }
+    {
+        &self.log
+    }
+
+    /// The stations, as they stand.
+    pub fn stations(&self) -> &[Station]
+        ensures { result.now ≡ self.now.stations }
+    {
+        &self.stations
+    }
+
+    /// The moment of an event that lasts so long.
+    fn after(&self, lasting: u64) -> u64
+        requires { lasting ≤ 60000 }
+        ensures { result ≡ min (self.now.standing.moment + lasting) last_moment }
+    {
+        (self.moment + lasting).min(LAST_MOMENT)
+    }
+
+    /// The next event.
+    fn next_entry(&self) -> Result<Entry, AllocError>
+        requires { self.now.standing.call < u64.MAX }
+        ensures event { IfOk result (λ entry. event_of entry ≡ coming self.now.plan self.now.standing) }
+        ensures fits { IfOk result FitsPort }
+    {
+        let answer_ms = self.config.line().answer_ms;
+        match Due::at(self.script, self.call + 1, &self.centre) {
+            Due::Cut => Ok(Entry::Cut(self.after(1))),
+            Due::Open => Ok(Entry::Open(self.after(1))),
+            Due::Apdu(octets) => {
+                let octets = Vec::from_slice(self.alloc, &octets)?;
+                Ok(Entry::Bytes(self.after(1), octets))
+            }
+            Due::Line => match &self.waiting {
+                Some(piece) => {
+                    let octets = Vec::from_slice(self.alloc, piece)?;
+                    Ok(Entry::Line(self.after(1), octets))
+                }
+                None => Ok(Entry::Tick(self.after(answer_ms))),
+            },
+        }
+    }
+
+    /// The next event comes.
+    #[tactic(auto, using(crate::proofs::Steps::stored_push))]
+    fn come(&mut self, entry: Entry) -> Result<(), AllocError>
+        requires open { self.old.standing.call < turns_of self.old.plan.directives }
+        requires few { self.old.standing.call < u64.MAX }
+        requires event { event_of entry ≡ coming self.old.plan self.old.standing }
+        ensures ok { OnOk result (self.new.log ≡ event_of entry ∷ self.old.log) }
+        ensures err { OnErr result (self.new.log ≡ self.old.log) }
+        ensures plan { self.new.plan ≡ self.old.plan }
+        ensures failed { self.new.failed ≡ self.old.failed }
+    {
+        let centre = centre_after(&entry, self.centre);
+        let moment = moment_at(&entry);
+        let is_given = is_given(&entry);
+        keep(&mut self.log, Told::Came(entry))?;
+        forget(&mut self.waiting, is_given);
+        self.centre = centre;
+        self.moment = moment;
+        self.call += 1;
+        Ok(())
+    }
+
+    /// A request goes out: the stations hear it, or it is lost. What waits is gone.
+    #[tactic(auto, using(crate::proofs::Steps::stored_push))]
+    fn ask(&mut self, now: u64, octets: &[u8]) -> Result<(), AllocError>
+        ensures ok { OnOk result (self.new.log ≡ Went now (LineOut octets.now) ∷ self.old.log) }
+        ensures err { OnErr result (self.new.log ≡ self.old.log) }
+        ensures plan { self.new.plan ≡ self.old.plan }
+        ensures failed { self.new.failed ≡ self.old.failed }
+    {
+        let copy = Vec::from_slice(self.alloc, octets)?;
+        keep(&mut self.log, Told::Line(now, copy))?;
+        self.requests += 1;
+        let fate = self.script.fate(self.requests);
+        let answer = put_out(self.stations.as_mut_slice(), fate, octets);
+        self.waiting = arriving(self.config.line().link, fate, answer);
+        Ok(())
+    }
+
+    /// An APDU goes to the control centre.
+    #[tactic(auto, using(crate::proofs::Steps::stored_push))]
+    fn hand(&mut self, now: u64, octets: &[u8]) -> Result<(), AllocError>
+        ensures ok { OnOk result (self.new.log ≡ Went now (TcpOut octets.now) ∷ self.old.log) }
+        ensures err { OnErr result (self.new.log ≡ self.old.log) }
+        ensures plan { self.new.plan ≡ self.old.plan }
+        ensures failed { self.new.failed ≡ self.old.failed }
+    {
+        let copy = Vec::from_slice(self.alloc, octets)?;
+        keep(&mut self.log, Told::Tcp(now, copy))?;
+        self.centre = self.centre.after_receiving(octets);
+        Ok(())
+    }
+
+    /// The gateway closes the connection.
+    #[tactic(auto, using(crate::proofs::Steps::stored_push))]
+    fn close(&mut self, now: u64, cause: Close) -> Result<(), AllocError>
+        ensures ok { OnOk result (self.new.log ≡ Went now (Closed cause) ∷ self.old.log) }
+        ensures err { OnErr result (self.new.log ≡ self.old.log) }
+        ensures plan { self.new.plan ≡ self.old.plan }
+        ensures failed { self.new.failed ≡ self.old.failed }
+    {
+        keep(&mut self.log, Told::Close(now, number(cause)))?;
+        self.centre = Centre::shut();
+        Ok(())
+    }
+
+    /// The next event has come and stands at the front of the buffer.
+    fn give(&mut self, buf: &mut [u8; 1024]) -> Result<Next, AllocError>
+        requires open { self.old.standing.call < turns_of self.old.plan.directives }
+        requires few { self.old.standing.call < u64.MAX }
+        ensures told { IfOk result (λ next. self.new.log ≡ told_by next buf.new ++ self.old.log) }
+        ensures fits { IfOk result FitsBuffer }
+        ensures healthy { IfOk result (λ next. faults_of next ≡ 0) }
+        ensures some { IfOk result (λ next. next ≡ Next.Done → ⊥) }
+        ensures err { OnErr result (self.new.log ≡ self.old.log) }
+        ensures plan { self.new.plan ≡ self.old.plan }
+        ensures failed { self.new.failed ≡ self.old.failed }
+    {
+        let entry = self.next_entry()?;
+        let next = announce(&entry, buf);
+        self.come(entry)?;
+        Ok(next)
+    }
+
+    fn fail(&mut self)
+        requires { self.old.failed < u64.MAX }
+        ensures { self.new ≡ record self.old { failed = self.old.failed + 1 } }
+    {
+        self.failures += 1;
+    }
+}
+
+impl<'a> Port for Sim<'a> {
+    ghost use Rattle.sim.specs.Played.{has_ended};
+
+    ghost Fixed = { Plan };
+
+    ghost log = { λ s. Some s.log };
+
+    ghost failed = { λ s. s.failed };
+
+    ghost ended = { has_ended };
+
+    ghost script = { λ s. s.plan };
+
+    fn next(&mut self, buf: &mut [u8; 1024]) -> Next {
+        if self.call >= self.turns {
+            return Next::Done;
+        }
+        match self.give(buf) {
+            Ok(next) => next,
+            Err(_) => {
+                self.fail();
+                Next::Fault
+            }
+        }
+    }
+
+    fn put(&mut self, now: u64, action: &Action<'_>) -> bool {
+        let told = match action {
+            Action::Line(octets) => self.ask(now, octets),
+            Action::Tcp(octets) => self.hand(now, octets),
+            Action::Close(cause) => self.close(now, *cause),
+        };
+        match told {
+            Ok(()) => true,
+            Err(_) => {
+                self.fail();
+                false
+            }
+        }
+    }
+
+    fn failures(&self) -> u64 {
+        self.failures
+    }
+}
