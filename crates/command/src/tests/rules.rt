@@ -27,7 +27,7 @@ fn types_that_are_unknown(rt: HostRuntime) -> Result<(), Fail> {
 }
 
 #[test]
-fn causes_and_addresses_that_are_unknown(rt: HostRuntime) -> Result<(), Fail> {
+fn causes_addresses_and_objects_that_are_unknown(rt: HostRuntime) -> Result<(), Fail> {
     let mut commands = two_stations(rt.alloc(), SMALL)?;
     let steps = [
         // neither activation nor deactivation
@@ -48,15 +48,6 @@ fn causes_and_addresses_that_are_unknown(rt: HostRuntime) -> Result<(), Fail> {
             1,
             &[0x2D, 0x01, 0x6E, 0x00, 0xFF, 0xFF, 0x0A, 0x00, 0x00, 0x01],
         ),
-    ];
-    assert_eq!(rt; count_of_answers(&mut commands, &steps), 3);
-    Ok(())
-}
-
-#[test]
-fn objects_that_are_unknown(rt: HostRuntime) -> Result<(), Fail> {
-    let mut commands = two_stations(rt.alloc(), SMALL)?;
-    let steps = [
         // an interrogation is to object 0
         Step::Answers(
             &[0x64, 0x01, 0x06, 0x00, 0x01, 0x00, 0x01, 0x00, 0x00, 0x14],
@@ -80,7 +71,7 @@ fn objects_that_are_unknown(rt: HostRuntime) -> Result<(), Fail> {
             1,
         ),
     ];
-    assert_eq!(rt; count_of_answers(&mut commands, &steps), 4);
+    assert_eq!(rt; count_of_answers(&mut commands, &steps), 7);
     Ok(())
 }
 
@@ -99,6 +90,26 @@ fn forms_that_are_refused(rt: HostRuntime) -> Result<(), Fail> {
             &[0x2D, 0x01, 0x88, 0x00, 0x02, 0x00, 0x0A, 0x00, 0x00],
             1,
             &[0x2D, 0x01, 0xC9, 0x00, 0x02, 0x00, 0x0A, 0x00, 0x00],
+        ),
+        // state 0 and state 3 of a double command, state 3 of a step command
+        Step::Answers(
+            &[0x2E, 0x01, 0x06, 0x00, 0x02, 0x00, 0x0A, 0x00, 0x00, 0x00],
+            1,
+            &[0x2E, 0x01, 0x47, 0x00, 0x02, 0x00, 0x0A, 0x00, 0x00, 0x00],
+        ),
+        Step::Answers(
+            &[0x2E, 0x01, 0x06, 0x00, 0x02, 0x00, 0x0A, 0x00, 0x00, 0x83],
+            1,
+            &[0x2E, 0x01, 0x47, 0x00, 0x02, 0x00, 0x0A, 0x00, 0x00, 0x83],
+        ),
+        Step::Answers(
+            &[0x2F, 0x01, 0x08, 0x00, 0x02, 0x00, 0x0A, 0x00, 0x00, 0x03],
+            1,
+            &[0x2F, 0x01, 0x49, 0x00, 0x02, 0x00, 0x0A, 0x00, 0x00, 0x03],
+        ),
+        Step::Forwards(
+            &[0x2E, 0x01, 0x06, 0x00, 0x02, 0x00, 0x0A, 0x00, 0x00, 0x02],
+            1,
         ),
         // interrogations 19 and 37
         Step::Answers(
@@ -120,36 +131,7 @@ fn forms_that_are_refused(rt: HostRuntime) -> Result<(), Fail> {
         // a deactivation needs none
         Step::Forwards(&STOP, 1),
     ];
-    assert_eq!(rt; count_of_answers(&mut commands, &steps), 7);
-    Ok(())
-}
-
-#[test]
-fn states_that_are_refused(rt: HostRuntime) -> Result<(), Fail> {
-    let mut commands = two_stations(rt.alloc(), MIDDLE)?;
-    let steps = [
-        // state 0 and state 3 of a double command, state 3 of a step command
-        Step::Answers(
-            &[0x2E, 0x01, 0x06, 0x00, 0x02, 0x00, 0x0A, 0x00, 0x00, 0x00],
-            1,
-            &[0x2E, 0x01, 0x47, 0x00, 0x02, 0x00, 0x0A, 0x00, 0x00, 0x00],
-        ),
-        Step::Answers(
-            &[0x2E, 0x01, 0x06, 0x00, 0x02, 0x00, 0x0A, 0x00, 0x00, 0x83],
-            1,
-            &[0x2E, 0x01, 0x47, 0x00, 0x02, 0x00, 0x0A, 0x00, 0x00, 0x83],
-        ),
-        Step::Answers(
-            &[0x2F, 0x01, 0x08, 0x00, 0x02, 0x00, 0x0A, 0x00, 0x00, 0x03],
-            1,
-            &[0x2F, 0x01, 0x49, 0x00, 0x02, 0x00, 0x0A, 0x00, 0x00, 0x03],
-        ),
-        Step::Forwards(
-            &[0x2E, 0x01, 0x06, 0x00, 0x02, 0x00, 0x0A, 0x00, 0x00, 0x02],
-            1,
-        ),
-    ];
-    assert_eq!(rt; count_of_answers(&mut commands, &steps), 4);
+    assert_eq!(rt; count_of_answers(&mut commands, &steps), 11);
     Ok(())
 }
 
