@@ -1,6 +1,7 @@
 //! Selections.
 ghost use Rattle.std.specs.Prelude.{◌≡◌, ◌&&◌};
 ghost use Rattle.command.specs.Selection.{same_target as are_same_targets, same_element as are_same_elements, with_stage as staged, after_sending as sending, after_acceptance as acceptance, after_loss as loss, is_accepted as accepted, is_live as live, runs_from as running_from, advanced as next_of, lets_through as through, target_of};
+ghost use Rattle.command.specs.declared.selection.Sign.TheVariants.{Con as ConSign, Time as TimeSign};
 
 use crate::content::{Command, Element, Target};
 
@@ -159,23 +160,39 @@ impl Selection {
                     Some(self)
                 }
             }
-            Sign::Con(target, element, now) => {
-                if self.is_named(target, element)
-                    && self.is_accepted()
-                    && now.saturating_sub(self.came) < select_ms
-                {
-                    Some(self.with_stage(Stage::Live(now)))
-                } else {
-                    Some(self)
-                }
-            }
-            Sign::Time(now) => {
-                if now.saturating_sub(self.runs_from()) >= select_ms {
-                    None
-                } else {
-                    Some(self)
-                }
-            }
+            Sign::Con(target, element, now) => self.after_con(select_ms, target, element, now),
+            Sign::Time(now) => self.after_time(select_ms, now),
+        }
+    }
+
+    /// What becomes of it where a positive con of this target and element came.
+    fn after_con(
+        self,
+        select_ms: u64,
+        target: Target,
+        element: Element,
+        now: u64,
+    ) -> Option<Selection>
+        ensures { result ≡ next_of select_ms (ConSign target element now) self }
+    {
+        if self.is_named(target, element)
+            && self.is_accepted()
+            && now.saturating_sub(self.came) < select_ms
+        {
+            Some(self.with_stage(Stage::Live(now)))
+        } else {
+            Some(self)
+        }
+    }
+
+    /// What becomes of it with time.
+    fn after_time(self, select_ms: u64, now: u64) -> Option<Selection>
+        ensures { result ≡ next_of select_ms (TimeSign now) self }
+    {
+        if now.saturating_sub(self.runs_from()) >= select_ms {
+            None
+        } else {
+            Some(self)
         }
     }
 
