@@ -1,5 +1,5 @@
 -- The stations as they begin.
-use Rattle.std.proofs.Common.{◌≡◌, ℕ, zero, suc, ◌+◌, ◌<◌, ◌≤◌, ◌^◌, List, [], ◌∷◌, ◌++◌, length, take, drop, get_or, refl, sym, ap, subst, ◌∙◌, arith, append_assoc}
+use Rattle.std.proofs.Common.{◌≡◌, ℕ, zero, suc, ◌+◌, ◌<◌, ◌≤◌, ◌^◌, List, [], ◌∷◌, ◌++◌, length, take, drop, get_or, refl, sym, ap, ◌∙◌, arith, append_assoc}
 use Rattle.std.proofs.lemmas.List.{append-nil, take_more, take_all, drop_more, drop_all}
 use Rattle.std.specs.List.{AllByRecursion, flat_map}
 use Rattle.ft12.specs.declared.frame.LinkSize.{LinkSize}
@@ -13,7 +13,7 @@ use Rattle.sim.specs.declared.directive.Class.TheVariants.{One, Two}
 use Rattle.sim.specs.declared.directive.Directive.{Directive}
 use Rattle.sim.specs.Directives.{FitsStations}
 use Rattle.sim.specs.Losses.{report_said}
-use Rattle.sim.specs.Lives.{with_reports, begun, begun_from}
+use Rattle.sim.specs.Lives.{with_reports, begun_from}
 
 pub with_first : (s : Secondary) (x : List ℕ) → record s { class1 = s.class1 ++ x ∷ [] } ≡ with_reports s (x ∷ []) []
 with_first s x = ap (λ (l : List (List ℕ)). record s { class1 = s.class1 ++ x ∷ []; class2 = l }) (sym (append-nil s.class2))

@@ -1,10 +1,10 @@
 -- What a line of a script says, looked for line by line.
-use Rattle.std.proofs.Common.{◌≡◌, ℕ, zero, suc, ◌+◌, ◌<◌, ◌≤◌, List, [], ◌∷◌, length, drop, get_or, Option, Some, None, refl, sym, ap, ◌∙◌, arith}
+use Rattle.std.proofs.Common.{◌≡◌, ℕ, zero, suc, ◌+◌, ◌<◌, ◌≤◌, List, [], ◌∷◌, length, drop, get_or, Option, Some, None, arith}
 use Rattle.std.proofs.lemmas.List.{drop_more, drop_all}
 use Rattle.std.specs.List.{AllByRecursion}
 use Rattle.sim.specs.declared.directive.Directive.{Directive}
 use Rattle.sim.specs.Directives.{IsWithinRanges}
-use Rattle.sim.specs.Losses.{or_else, first_said}
+use Rattle.sim.specs.Losses.{first_said}
 
 pub first_next : {A : Type 0} (say : Directive → Option A) (ds : List Directive) (i : ℕ) (d : Directive) → i < length ds → say (get_or ds i d) ≡ None → first_said say (drop i ds) ≡ first_said say (drop (i + 1) ds)
 first_next say ds i d lt e = rw (drop_more ds i d lt, e)

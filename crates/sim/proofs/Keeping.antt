@@ -1,20 +1,20 @@
 -- The fields of the port after one event or one action.
-use Rattle.std.proofs.Common.{◌≡◌, ℕ, ◌+◌, ◌<◌, min, Bool, true, false, List, [], ◌∷◌, ◌++◌, length, take, drop, Option, Some, None, option_map, if◌then◌else◌, refl, sym, ap, subst, ◌∙◌, arith, Vec, Global}
+use Rattle.std.proofs.Common.{◌≡◌, ℕ, ◌+◌, ◌<◌, min, List, [], ◌∷◌, ◌++◌, length, take, drop, Option, None, if◌then◌else◌, refl, sym, ap, subst, ◌∙◌, Vec, Global}
 use Rattle.std.specs.List.{AllByRecursion}
 use Rattle.std.proofs.lemmas.List.{take_at}
 use Rattle.ft12.specs.declared.frame.Frame.{Frame}
 use Rattle.link.specs.Secondary.{Secondary}
-use Rattle.gateway.specs.Log.{Log, LogEntry, Came, Went, Input, LineOut, TcpOut, last_moment}
+use Rattle.gateway.specs.Log.{Log, Came, Went, Input, LineOut, TcpOut, last_moment}
 use Rattle.gateway.specs.declared.entries.Entry.{Entry}
 use Rattle.gateway.specs.declared.entries.Told.{Told}
 use Rattle.gateway.specs.declared.entries.Told.TheVariants as told
-use Rattle.gateway.specs.Entries.{log_of, told_of, event_of}
+use Rattle.gateway.specs.Entries.{log_of, event_of}
 use Rattle.sim.specs.declared.centre.Centre.{Centre}
 use Rattle.sim.specs.Centres.{shut, after_receiving}
 use Rattle.sim.specs.Losses.{fate_of, turns_of}
 use Rattle.sim.specs.Lives.{Plan, IsPutOut, arriving}
 use Rattle.sim.specs.Calls.{event_at, lasting}
-use Rattle.sim.specs.Played.{Standing, Stands, Simulated, coming, standing_after, centre_after, moment_at, is_given}
+use Rattle.sim.specs.Played.{Standing, Stands, Simulated, coming, centre_after, moment_at, is_given}
 use Rattle.sim.proofs.Steps.{pushed}
 use Rattle.sim.proofs.Standing.{stands_came, stands_asked, stands_handed, stands_fresh}
 use Rattle.sim.proofs.HearingLemmas.{sizes_out}

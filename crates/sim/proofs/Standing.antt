@@ -1,18 +1,16 @@
 -- A run goes on by one event or one action.
-use Rattle.std.proofs.Common.{◌≡◌, ℕ, ◌+◌, ◌-◌, ◌%◌, ◌<◌, ◌≤◌, min, Bool, true, false, List, [], ◌∷◌, length, slice_index, Option, Some, None, refl, sym, ap, subst, ◌∙◌, inl, inr, arith}
+use Rattle.std.proofs.Common.{◌≡◌, ℕ, ◌+◌, ◌<◌, ◌≤◌, min, Bool, true, false, List, [], ◌∷◌, length, Option, None, refl, sym, ap, subst, ◌∙◌, arith}
 use Rattle.std.specs.Prelude.{◌==◌}
 use Rattle.std.specs.List.{AllByRecursion}
 use Rattle.ft12.specs.declared.frame.Frame.{Frame}
-use Rattle.ft12.specs.declared.frame.LinkSize.{LinkSize}
 use Rattle.link.specs.Secondary.{Secondary}
 use Rattle.gateway.specs.Log.{Log, LogEntry, Came, Went, Input, LineIn, Opened, TcpIn, CutOff, Ticked, LineOut, TcpOut, Closed, last_moment}
 use Rattle.session.specs.declared.kinds.Close.{Close}
 use Rattle.sim.specs.declared.centre.Centre.{Centre}
-use Rattle.sim.specs.declared.directive.Fate.{Fate}
 use Rattle.sim.specs.Centres.{shut, is_data, first_control, after_sending, after_receiving, after_event, centre_of}
 use Rattle.sim.specs.Losses.{fate_of, turns_of}
-use Rattle.sim.specs.Lives.{Plan, IsPutOut, arriving, waiting_in, requests_in}
-use Rattle.sim.specs.Calls.{event_at, lasting, calls_in, moment_of, next_event, next_moment}
+use Rattle.sim.specs.Lives.{Plan, IsPutOut, arriving, waiting_in}
+use Rattle.sim.specs.Calls.{event_at, lasting, calls_in}
 use Rattle.sim.specs.Played.{Standing, Stands, coming, standing_after}
 
 sent_by : (octets : List ℕ) (c : Centre) (n : ℕ) → c.sent ≤ n → (after_sending octets c).sent ≤ n + 1

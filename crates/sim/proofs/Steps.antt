@@ -1,5 +1,5 @@
 -- The stored log goes on.
-use Rattle.std.proofs.Common.{◌≡◌, ℕ, List, [], ◌∷◌, ◌++◌, length, refl, ap, ◌∙◌, arith, ◌+◌}
+use Rattle.std.proofs.Common.{◌≡◌, List, [], ◌∷◌, ◌++◌, length, refl, ap, ◌∙◌, arith, ◌+◌}
 use Rattle.gateway.specs.Log.{Log, LogEntry}
 use Rattle.gateway.specs.declared.entries.Told.{Told}
 use Rattle.gateway.specs.Entries.{stored_log, log_of, told_of}

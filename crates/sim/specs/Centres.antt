@@ -4,7 +4,7 @@ use Rattle.std.specs.Prelude.{ℕ, ◌+◌, ◌%◌, ◌==◌, Bool, true, false
 use Rattle.apci.specs.Spelling.{spelling}
 use Rattle.apci.specs.declared.apdu.Apdu.TheVariants.{I, S, U}
 use Rattle.apci.specs.declared.apdu.Uf.TheVariants.{StartAct}
-use Rattle.gateway.specs.Log.{Log, LogEntry, Came, Went, Input, Opened, CutOff, TcpIn, TcpOut, Closed}
+use Rattle.gateway.specs.Log.{Log, Came, Went, Input, Opened, CutOff, TcpIn, TcpOut, Closed}
 use Rattle.sim.specs.declared.centre.Centre.{Centre}
 
 -- without a connection

@@ -1,5 +1,5 @@
 -- What a script says of one request or one call.
-use Rattle.std.specs.Prelude.{ℕ, ◌+◌, ◌==◌, ◌&&◌, Bool, true, false, if◌then◌else◌, List, [], ◌∷◌, Option, Some, None}
+use Rattle.std.specs.Prelude.{ℕ, ◌==◌, ◌&&◌, Bool, true, false, if◌then◌else◌, List, [], ◌∷◌, Option, Some, None}
 use Rattle.std.specs.List.{list_any}
 use Rattle.sim.specs.declared.directive.Class.{Class}
 use Rattle.sim.specs.declared.directive.Class.TheVariants.{One, Two}

@@ -1,5 +1,5 @@
 -- Runs of a simulated line.
-use Rattle.std.specs.Prelude.{◌≡◌, ℕ, ◌+◌, ◌≤◌, min, nat_le, Bool, true, false, if◌then◌else◌, List, [], ◌∷◌, Option, None, length}
+use Rattle.std.specs.Prelude.{◌≡◌, ℕ, ◌+◌, ◌≤◌, min, nat_le, Bool, true, false, if◌then◌else◌, List, [], Option, None, length}
 use Rattle.std.specs.List.{AllByRecursion}
 use Rattle.ft12.specs.declared.frame.Frame.{Frame}
 use Rattle.link.specs.Secondary.{Secondary}

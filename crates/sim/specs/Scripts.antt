@@ -7,7 +7,7 @@ use Rattle.traces.specs.declared.reading.TextFault.{TextFault}
 use Rattle.traces.specs.declared.reading.TextFault.TheVariants.{Line, NoMemory}
 use Rattle.traces.specs.Trace.{is_skipped}
 use Rattle.sim.specs.declared.directive.Directive.{Directive}
-use Rattle.sim.specs.declared.directive.Directive.TheVariants.{Turns, Ack, Report, LoseRequest, LoseAnswer, SpoilAnswer, Cut, Send}
+use Rattle.sim.specs.declared.directive.Directive.TheVariants.{Turns, Ack, SpoilAnswer, Send}
 use Rattle.sim.specs.Directives.{directive_in, FitsStations, IsWithinRanges}
 
 abbrev pub is_turns : Directive → Bool

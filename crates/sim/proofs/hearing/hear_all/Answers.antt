@@ -1,4 +1,4 @@
-use Rattle.std.proofs.Common.{arith, length, ◌<◌, sym, subst, IfSome}
+use Rattle.std.proofs.Common.{arith, sym, subst, IfSome}
 use Rattle.ft12.specs.Spelling.{Fits}
 use Rattle.link.specs.Secondary.{Secondary, HearsOctets}
 use Rattle.sim.proofs.HearingLemmas.{heard_more}

@@ -1,4 +1,4 @@
-use Rattle.std.proofs.Common.{◌≡◌, true, false, rules, sym, ◌∙◌}
+use Rattle.std.proofs.Common.{◌≡◌, false, rules, sym, ◌∙◌}
 use Rattle.sim.specs.Scripts.{clashes_with}
 use Rattle.sim.proofs.ScriptLemmas.{read_more}
 use Rattle.sim.proofs.reading.read_lines.Goals as goal

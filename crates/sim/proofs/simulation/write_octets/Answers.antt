@@ -1,4 +1,4 @@
-use Rattle.std.proofs.Common.{arith, length, drop, ℕ}
+use Rattle.std.proofs.Common.{arith, ℕ}
 use Rattle.std.proofs.lemmas.List.{length-take, length-drop}
 use Rattle.sim.proofs.TextLemmas.{written_more}
 use Rattle.sim.proofs.simulation.write_octets.Goals as goal

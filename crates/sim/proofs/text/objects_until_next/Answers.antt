@@ -1,4 +1,4 @@
-use Rattle.std.proofs.Common.{◌≡◌, ◌<◌, ◌^◌, sym, ap, ◌∙◌, arith}
+use Rattle.std.proofs.Common.{◌<◌, ◌^◌, sym, ap, ◌∙◌, arith}
 use Rattle.sim.specs.Texts.{opens}
 use Rattle.sim.proofs.TextLemmas.{until_open, until_end}
 use Rattle.sim.proofs.text.objects_until_next.Goals as goal

@@ -1,4 +1,4 @@
-use Rattle.std.proofs.Common.{◌≡◌, ◌<◌, ◌≤◌, ℕ, Bool, List, Option, None, length, option_map, if◌then◌else◌, sym, ap, subst, ◌∙◌, arith}
+use Rattle.std.proofs.Common.{◌<◌, ◌≤◌, Bool, None, length, option_map, if◌then◌else◌, sym, ap, subst, ◌∙◌, arith}
 use Rattle.gateway.specs.Entries.{log_of}
 use Rattle.sim.specs.Losses.{turns_of}
 use Rattle.sim.specs.Played.{Simulated, coming}

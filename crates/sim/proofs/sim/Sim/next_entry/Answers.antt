@@ -1,4 +1,4 @@
-use Rattle.std.proofs.Common.{◌≡◌, ◌+◌, ℕ, List, Option, option_map, min, sym, ap, ◌∙◌}
+use Rattle.std.proofs.Common.{◌+◌, ℕ, List, option_map, min, sym, ap, ◌∙◌}
 use Rattle.gateway.specs.Log.{Opened, CutOff, Ticked, LineIn, TcpIn, last_moment}
 use Rattle.gateway.specs.declared.settings.LineSettings.{LineSettings}
 use Rattle.sim.specs.Calls.{line_event}
