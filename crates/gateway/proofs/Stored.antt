@@ -1,5 +1,5 @@
 -- What is stored, and the start of a run.
-use Rattle.std.proofs.Common.{◌≡◌, ◌≢◌, ℕ, zero, suc, ◌<◌, ◌≤◌, Bool, true, false, ◌&&◌, All, List, [], ◌∷◌, ◌++◌, length, map, Option, Some, refl, ap, sym, ◌∙◌, subst, arith, append_assoc, eq-eqb}
+use Rattle.std.proofs.Common.{◌≡◌, ◌≢◌, ℕ, zero, suc, ◌<◌, Bool, true, false, ◌&&◌, All, List, [], ◌∷◌, ◌++◌, length, map, Option, Some, refl, ap, sym, ◌∙◌, subst, arith, append_assoc, eq-eqb}
 use Rattle.std.specs.Prelude.{if◌then◌else◌, option_map}
 use Rattle.std.specs.List.{AllByRecursion}
 use Rattle.std.proofs.lemmas.List.{append-nil, length-map}
@@ -20,8 +20,8 @@ use Rattle.gateway.specs.declared.entries.Told.TheVariants as told
 use Rattle.gateway.specs.declared.entries.Told.{Told}
 use Rattle.gateway.specs.Config.{Settings, IsStation, AreApart, AreDistinct, AreStations}
 use Rattle.gateway.specs.Log.{Log, LogEntry, Went, Output, events_of}
-use Rattle.gateway.specs.Entries.{event_of, script_of, told_of, stored_log, log_of, FitsPort}
-use Rattle.gateway.specs.Recorded.{Recorded, is_none_left, coming}
+use Rattle.gateway.specs.Entries.{event_of, told_of, stored_log, log_of, FitsPort}
+use Rattle.gateway.specs.Recorded.{is_none_left, coming}
 use Rattle.gateway.specs.Frames.{new_connection}
 use Rattle.gateway.specs.Connections.{no_channel}
 use Rattle.gateway.specs.Reports.{Setup, address_at, index_of, AreFound}

@@ -1,5 +1,5 @@
 -- The history of the open connection, as the log goes on and the session is called.
-use Rattle.std.proofs.Common.{◌≡◌, ℕ, ◌<◌, ◌≤◌, ◌&&◌, Bool, true, false, List, [], ◌∷◌, ◌++◌, length, refl, ap, sym, ◌∙◌, subst, arith, append_assoc, length-append, Option, Some, None, cond}
+use Rattle.std.proofs.Common.{◌≡◌, ℕ, ◌<◌, ◌≤◌, ◌&&◌, Bool, true, false, List, [], ◌∷◌, ◌++◌, length, refl, ap, sym, ◌∙◌, subst, arith, length-append, Option, Some, None, cond}
 use Rattle.std.specs.Prelude.{is_none, not, nat_lt, ◌==◌, if◌then◌else◌}
 use Rattle.std.proofs.lemmas.List.{append-nil}
 use Rattle.std.proofs.lemmas.Bool.{cond-true, and_from}
@@ -9,9 +9,7 @@ use Rattle.apci.specs.declared.apdu.Uf.{Uf}
 use Rattle.apci.specs.declared.apdu.Uf.TheVariants.{StartAct, StartCon, StopAct, StopCon, TestAct, TestCon}
 use Rattle.apci.specs.Spelling.{spelling, Fits}
 use Rattle.apci.specs.Reading.{IsMore}
-use Rattle.session.specs.declared.kinds.Close.{Close}
 use Rattle.session.specs.declared.kinds.Close.TheVariants.{Grammar, SendNumber, ReceiveNumber, Stopped, Timeout, OwnAnswers, Replaced}
-use Rattle.session.specs.declared.kinds.Kind.{Kind}
 use Rattle.session.specs.declared.kinds.Kind.TheVariants.{Queue as FromQueue, Own}
 use Rattle.session.specs.declared.kinds.Taken.{Taken}
 use Rattle.session.specs.declared.kinds.Taken.TheVariants.{Nothing, Asdu, Close as Closes}
@@ -19,16 +17,16 @@ use Rattle.session.specs.Session as session
 use Rattle.session.specs.Session.{Session, Due, is_close, outcome_of, may_send, confirmed, pulled, timed_out, refuses}
 use Rattle.session.specs.History as talk
 use Rattle.session.specs.History.{History, confirmation_of, frame_due, has_timed_out}
-use Rattle.session.specs.Runs.{Settings, Call, Take, Send, Confirm, Pull, Open, Cut, Run, run, told, gone, may_take, after_call, with_frame}
+use Rattle.session.specs.Runs.{Settings, Call, Take, Send, Confirm, Pull, Open, Cut, Run, run, told, gone, may_take, after_call}
 use Rattle.session.specs.Rules.{KeepsRules}
-use Rattle.session.specs.Ends.{IsConfirmed, IsInTime, after_confirm, after_pull}
+use Rattle.session.specs.Ends.{IsConfirmed, after_confirm, after_pull}
 use Rattle.gateway.specs.Objects.{has_objects}
 use Rattle.gateway.specs.Log.{Log, LineIn, Opened, TcpIn, CutOff, Ticked, Came, Went, LineOut, TcpOut, Closed, latest}
 use Rattle.gateway.specs.Streams.{spelled}
 use Rattle.gateway.specs.Frames.{Sent, Connection, data_frames, new_connection}
-use Rattle.gateway.specs.Connections.{Channel, present, ends}
+use Rattle.gateway.specs.Connections.{Channel, present}
 use Rattle.gateway.specs.Reports.{Setup}
-use Rattle.gateway.specs.Conversation.{came_frames, with_frames, kind_of, with_sent, TakesFrames, HasTakenAll, HandsOver, NothingOr, Happens, KeepsTalk, KeepsTimes}
+use Rattle.gateway.specs.Conversation.{came_frames, with_sent, TakesFrames, HasTakenAll, Happens, KeepsTalk}
 use Rattle.gateway.specs.SessionLaws.{SessionLaws}
 use Rattle.gateway.specs.Agrees.{Talks, IsTimely}
 

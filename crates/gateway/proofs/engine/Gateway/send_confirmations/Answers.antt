@@ -1,4 +1,4 @@
-use Rattle.gateway.proofs.Put.{on_map, three_confirm, confirm_in_time, stays_after}
+use Rattle.gateway.proofs.Put.{on_map, confirm_in_time, stays_after}
 use Rattle.gateway.proofs.engine.Gateway.send_confirmations.Goals as goal
 
 pub returns-clause-in_time : goal.returns-clause-in_time

@@ -1,4 +1,4 @@
-use Rattle.gateway.proofs.Put.{on_map, two_pulls, pull_in_time, pull_confirmed, pull_spent, stays_after}
+use Rattle.gateway.proofs.Put.{on_map, pull_in_time, pull_confirmed, stays_after}
 use Rattle.gateway.proofs.engine.Gateway.send_dues.Goals as goal
 
 pub returns-clause-confirmed : goal.returns-clause-confirmed

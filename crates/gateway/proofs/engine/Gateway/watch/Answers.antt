@@ -1,4 +1,3 @@
-use Rattle.std.proofs.Common.{sym, ap, ◌∙◌}
 use Rattle.gateway.proofs.Put.{late_none, told_late}
 use Rattle.gateway.proofs.engine.Gateway.watch.Goals as goal
 
