@@ -334,3 +334,23 @@ fn each_test_of_a_flood_is_confirmed(rt: HostRuntime) -> Result<(), Fail> {
     assert_eq!(rt; done.status, 0);
     Ok(())
 }
+
+#[test]
+fn the_largest_settings_run(rt: HostRuntime) -> Result<(), Fail> {
+    let alloc = rt.alloc();
+    let mut config = String::from_str(
+        alloc,
+        "[line]\nlink = 1\ncause = 1\nca = 1\nioa = 2\nqueue = 65535\n[tcp]\nk = 32767\nw = 32767\n",
+    )?;
+    for n in 1..33u64 {
+        write!(&mut config, "[[station]]\naddress = {n}\nca = {n}\n")?;
+    }
+    let job = Job::Replay {
+        config: config.as_bytes(),
+        trace: b"",
+    };
+    let done = performed(alloc, &job);
+    assert_eq!(rt; done.out.as_slice(), b"0 > S 1049014A16\n".as_slice());
+    assert_eq!(rt; done.status, 0);
+    Ok(())
+}
