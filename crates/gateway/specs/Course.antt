@@ -8,7 +8,8 @@ use Rattle.apci.specs.declared.apdu.Apdu.TheVariants.{I}
 use Rattle.apci.specs.Spelling.{spelling, Fits}
 use Rattle.apci.specs.Reading.{IsMore}
 use Rattle.ft12.specs.Fronts.{front_of}
-use Rattle.link.specs.Answers.{Command, Asked, Counted}
+use Rattle.link.specs.declared.service.Service.TheVariants.{Command}
+use Rattle.link.specs.declared.service.Asked.TheVariants.{Counted}
 use Rattle.link.specs.Exchanges.{Sending}
 use Rattle.link.specs.Requests.{request_frame}
 use Rattle.link.specs.Primary.{sending, received_outcome}

@@ -1,5 +1,5 @@
 -- The line at rest, as its log shows it (IEC 60870-5-2, unbalanced transmission procedures).
-use Rattle.std.specs.Prelude.{◌≡◌, ℕ, ◌<◌, ◌⊎◌, true, List, length, Some, None}
+use Rattle.std.specs.Prelude.{◌≡◌, ℕ, ◌<◌, ◌⊎◌, true, false, List, length, Some, None}
 use Rattle.ft12.specs.Fronts.{front_of}
 use Rattle.link.specs.Exchanges.{OpenExchange, IsOutstanding, view}
 use Rattle.link.specs.Turns.{station_at}

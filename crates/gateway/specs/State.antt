@@ -1,5 +1,5 @@
 -- What a gateway is to its callers, and what each part of a step makes of it.
-use Rattle.std.specs.Prelude.{◌≡◌, ℕ, ◌≤◌, min, max, Bool, true, false, List, [], length, map, is_some, Option, Some}
+use Rattle.std.specs.Prelude.{◌≡◌, ℕ, ◌≤◌, min, max, Bool, true, false, List, [], length, map, is_some, Option, Some, None}
 use Rattle.link.specs.Exchanges.{Sending}
 use Rattle.link.specs.Primary.{Primary, start, asked, withdrawn}
 use Rattle.apci.specs.declared.apdu.Apdu.{Apdu}

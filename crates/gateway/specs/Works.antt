@@ -12,11 +12,12 @@ use Rattle.asdu.specs.InformationObjects.{InformationObject, objects_of}
 use Rattle.asdu.specs.Translation.{parts, IsPiece}
 use Rattle.apci.specs.declared.apdu.Apdu.{Apdu}
 use Rattle.apci.specs.declared.apdu.Apdu.TheVariants.{I}
-use Rattle.link.specs.Answers.{Asked}
+use Rattle.link.specs.declared.service.Asked.{Asked}
 use Rattle.link.specs.Procedure.{is_held}
 use Rattle.link.specs.Turns.{station_at}
 use Rattle.link.specs.Exchanges.{Sending}
-use Rattle.link.specs.Primary.{Primary, Outcome, start, asked, received, timed_out, due_outcome, is_command, offered_to, withdrawn}
+use Rattle.link.specs.declared.outcome.Outcome.{Outcome}
+use Rattle.link.specs.Primary.{Primary, start, asked, received, timed_out, due_outcome, is_command, offered_to, withdrawn}
 use Rattle.link.specs.declared.outcome.Outcome.TheVariants as outcome
 use Rattle.command.specs.declared.waiting.Waiting.{Waiting}
 use Rattle.command.specs.State as tasks
