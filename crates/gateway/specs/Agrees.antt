@@ -24,7 +24,7 @@ use Rattle.gateway.specs.Traffic.{is_replaced, ActsRightly, RestsBetweenSteps, H
 use Rattle.gateway.specs.Works.{Works, tasks_of}
 use Rattle.gateway.specs.Course.{Course, here_of, room_in, Runs}
 use Rattle.gateway.specs.Conversation.{KeepsTimes}
-use Rattle.gateway.specs.Phases.{Phase, Taking, Asked, IsPhase, works_in, IsAsked}
+use Rattle.gateway.specs.Phases.{Phase, Taking, resting, IsPhase, works_in, IsAsked}
 use Rattle.gateway.specs.CommandLaws.{CommandLaws}
 use Rattle.gateway.specs.SessionLaws.{SessionLaws}
 use Rattle.gateway.specs.State.{State}
@@ -161,13 +161,13 @@ Leaves false p s told unjudged phase = IfSome told (IsFaithful p)
 
 -- between steps
 abbrev pub Follows : Setup → State → Option Log → Type 0
-Follows p s told = IfSome told (λ log. Agrees p s log [] Asked × IsConfirmed s.session)
+Follows p s told = IfSome told (λ log. Agrees p s log [] (resting log) × IsConfirmed s.session)
 
 -- the log ends with this event, and before it the state agreed with the log and had done all that it could
 pub record HasCome (p : Setup) (s : State) (now : ℕ) (event : Input) (log : Log) : Type 0 where
   pub before : Log
   pub is : log ≡ Came now event ∷ before
-  pub agrees : Agrees p s before [] Asked
+  pub agrees : Agrees p s before [] (resting before)
   pub confirmed : IsConfirmed s.session
   pub rested : HasRested p before
 

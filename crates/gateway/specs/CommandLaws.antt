@@ -1,5 +1,5 @@
 -- What `command` proves of every list of calls, and of its calls.
-use Rattle.std.specs.Prelude.{◌≡◌, ℕ, ◌≤◌, ◌++◌, ◌==◌, false, List, [], length, Some}
+use Rattle.std.specs.Prelude.{◌≡◌, ℕ, ◌<◌, ◌≤◌, ◌++◌, ◌==◌, false, List, [], length, slice_index, Some}
 use Rattle.asdu.specs.Sizes.{tcp}
 use Rattle.asdu.specs.Asdu.{AsduValue}
 use Rattle.asdu.specs.InformationObjects.{monitor_objects_of}
@@ -21,5 +21,5 @@ pub record CommandLaws : Type 0 where
   pub judged_answers : (xs : List ℕ) (now : ℕ) (s : State) → (judged xs now s).1.answers ≡ s.answers
   pub mirrored_answers : (v : AsduValue) (now : ℕ) (s : State) → (mirrored v now s).answers ≡ s.answers
   pub sent_answers : (j : ℕ) (s : State) → (sent j s).answers ≡ s.answers
-  pub judged_plain : (xs : List ℕ) (now : ℕ) (s : State) (a : List ℕ) → 9 ≤ length xs → (judged xs now s).0 ≡ Some a → monitor_objects_of tcp a ≡ []
+  pub judged_plain : (xs : List ℕ) (now : ℕ) (s : State) (a : List ℕ) → 9 ≤ length xs → slice_index xs 2 < 256 → (judged xs now s).0 ≡ Some a → monitor_objects_of tcp a ≡ []
   pub busy_plain : AfterEachRun (λ stations sizes select_ms s h. (k : ℕ) (a : List ℕ) → refusal_of (line_of k s) ≡ Some a → monitor_objects_of tcp a ≡ [])

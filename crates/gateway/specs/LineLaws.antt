@@ -43,6 +43,7 @@ pub record LineLaws : Type 0 where
       IsOutstanding (slice_index addresses x.station) (view (front_of settings.size) x).exchange → ⊥
   pub back : (size : LinkSize) (address : ℕ) (request : Asked) → FitsAddress size address → FitsAsked size request →
       request_in size (spelling size (request_frame address request)) ≡ Some (address, request)
+  pub over : (q : Primary) (now : ℕ) (may_poll : Bool) → sending q may_poll ≡ None → sending (asked q now may_poll) may_poll ≡ None
   pub leave : (q : Primary) (may_poll : Bool) → IsFitting q → q.outstanding ≡ None → sending q may_poll ≡ None → may_poll ≡ false
   pub up : (q : Primary) (may_poll : Bool) → IsFitting q → q.outstanding ≡ None → sending q may_poll ≡ None → (i : ℕ) → i < length q.stations → is_up (station_at q.stations i).link ≡ true
   pub free : (q : Primary) (may_poll : Bool) → IsFitting q → q.outstanding ≡ None → sending q may_poll ≡ None → (i : ℕ) → i < length q.stations → holds_command (station_at q.stations i).link ≡ false

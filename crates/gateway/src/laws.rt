@@ -3,10 +3,15 @@ ghost use Rattle.std.specs.Prelude.{◌≡◌, Option, false};
 ghost use Rattle.session.specs.declared.kinds.Close.{Close};
 ghost use Rattle.gateway.specs.Frames.{Connection};
 ghost use Rattle.gateway.specs.Connections.{Channel, IsConnection};
+ghost use Rattle.gateway.specs.CommandLaws.{CommandLaws};
 ghost use Rattle.gateway.specs.LineLaws.{LineLaws};
 ghost use Rattle.gateway.specs.SessionLaws.{SessionLaws};
 
 use apci::{one_front, spellings_cancel};
+use command::{
+    commands_are_forwarded, executes_are_selected, own_answers_are_given,
+    own_answers_bear_no_objects, waiting_commands_stay,
+};
 use link::{
     master_tells_the_log, next_changes_nothing, offers_wait, outcomes_bear_the_reports,
     requests_are_read_back, requests_wait_their_turn, rests_mean,
@@ -33,6 +38,17 @@ pub(crate) fn line_is_told()
     rests_mean();
     next_changes_nothing();
     offers_wait();
+}
+
+/// What holds of commands after every list of calls.
+pub(crate) fn command_is_told()
+    ensures { CommandLaws }
+{
+    commands_are_forwarded();
+    executes_are_selected();
+    own_answers_are_given();
+    waiting_commands_stay();
+    own_answers_bear_no_objects();
 }
 
 /// What holds of the connection's session after every list of calls.
