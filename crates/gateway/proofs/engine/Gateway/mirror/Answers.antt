@@ -1,4 +1,4 @@
-use Rattle.std.proofs.Common.{ap, sym, ◌∙◌}
+use Rattle.std.proofs.Common.{false, ap, sym, ◌∙◌}
 use Rattle.asdu.specs.Asdu.{AsduValue}
 use Rattle.asdu.specs.Reading.{value_of}
 use Rattle.command.specs.State as tasks
