@@ -2,15 +2,17 @@
 ghost use Rattle.std.specs.Prelude.{◌≡◌, ℕ, ◌+◌, ◌<◌, ◌≤◌, true, false, List, [], ◌∷◌, length, map, IfSome, IfNone, IfOk, Some, None, Option, option_map, if◌then◌else◌};
 ghost use Rattle.ft12.specs.Fronts.{front_of};
 ghost use Rattle.link.specs.Exchanges.{Sending};
-ghost use Rattle.link.specs.Primary.{start, asked, sending, request_of, received, received_outcome};
+ghost use Rattle.link.specs.Primary.{start, asked, offered_to, sending, request_of, received, received_outcome};
 ghost use Rattle.apci.specs.Spelling.{Fits};
-ghost use Rattle.session.specs.Session.{confirmed, pulled, may_send, outcome_of, timed_out as answers_late};
+ghost use Rattle.session.specs.Session.{new_session, confirmed, pulled, may_send, outcome_of, timed_out as answers_late};
 ghost use Rattle.command.specs.State as tasks;
 ghost use Rattle.command.specs.Judging.{judged};
-ghost use Rattle.events.specs.Queue.{free_places};
+ghost use Rattle.events.specs.Queue.{empty, free_places};
 ghost use Rattle.link.specs.Leave.{is_poll_request, is_polling, is_report};
 ghost use Rattle.std.specs.List.{AllByRecursion};
-ghost use Rattle.elements.specs.Types.{row};
+ghost use Rattle.asdu.specs.Asdu.{IsAsdu};
+ghost use Rattle.asdu.specs.InformationObjects.{monitor_objects_of};
+ghost use Rattle.asdu.specs.Reading.{value_of};
 ghost use Rattle.command.specs.State.{oldest};
 ghost use Rattle.events.specs.Queue.{octets_of};
 ghost use Rattle.gateway.specs.Works.{offered_by};
@@ -30,7 +32,7 @@ use crate::counts::Counts;
 use crate::settings::{LineSettings, Silence};
 use apci::{Apdu, Assembler, Heard};
 use arrayvec::ArrayVec;
-use asdu::{Asdu, Sizes, read, translate};
+use asdu::{Asdu, Piece, Sizes, read, translate};
 use command::{Act, Commands, StationInfo};
 use events::Events;
 use link::{
@@ -149,22 +151,69 @@ impl Counts {
     }
 }
 
+/// What is known of the stations to which commands go.
+fn station_infos(alloc: Global, config: &Config) -> Result<Vec<StationInfo>, NoMemory>
+    ensures all { IfOk result (λ infos. infos.items ≡ map info_of config.now.stations) }
+    ensures few { IfOk result (λ infos. length infos.items ≤ 32) }
+{
+    let mut infos = Vec::new(alloc);
+    for station in config.stations() {
+        let info = StationInfo {
+            ca: station.ca,
+            select: station.select,
+        };
+        infos.push(info).map_err(|_| NoMemory)?;
+    }
+    Ok(infos)
+}
+
 /// The commands to the stations.
 fn commands(alloc: Global, config: &Config) -> Result<Commands, NoMemory>
     ensures { IfOk result (λ c. c ≡ tasks.new_state (map info_of config.now.stations) config.now.line.sizes config.now.tcp.select_ms) }
 {
-    let stations: Vec<StationInfo> = config
-        .stations()
-        .iter()
-        .map(|s| StationInfo {
-            ca: s.ca,
-            select: s.select,
-        })
-        .collect(alloc)
-        .map_err(|_| NoMemory)?;
+    let stations = station_infos(alloc, config)?;
     Commands::new(alloc, &stations, config.line().sizes, config.tcp().select_ms).map_err(|_| {
         NoMemory
     })
+}
+
+/// Offers a station user data that fit any frame.
+fn offer_to(line: &mut Master, station: usize, octets: &[u8])
+    requires station { station < length line.old.stations }
+    requires some { 1 ≤ length octets.now }
+    requires short { length octets.now ≤ 12 }
+    ensures { line.new ≡ offered_to line.old station octets.now }
+{
+    let _is_new = line.offer(station, octets);
+}
+
+/// Keeps own answers, up to the first that finds no place.
+fn keep_all(commands: &mut Commands, pieces: &[Piece]) -> bool
+    requires long { AllByRecursion (λ p. (9 ≤ length p.items) × (length p.items ≤ 249)) pieces.now }
+    ensures state { commands.new ≡ kept_until (octets_of pieces.now) commands.old }
+    ensures all { result ≡ all_kept (octets_of pieces.now) commands.old }
+{
+    for piece in pieces {
+        if !commands.own(piece) {
+            return false;
+        }
+    }
+    true
+}
+
+/// An empty queue.
+fn empty_queue(alloc: Global, config: &Config) -> Result<Events, NoMemory>
+    ensures { IfOk result (λ e. e ≡ empty config.now.line.queue) }
+{
+    Events::new(alloc, usize::from(config.line().queue)).map_err(|_| NoMemory)
+}
+
+/// The session without a connection.
+fn closed_session(alloc: Global, config: &Config) -> Result<Session, NoMemory>
+    ensures { IfOk result (λ s. s ≡ new_session config.now.tcp.k config.now.tcp.w config.now.tcp.t1_ms config.now.tcp.t2_ms config.now.tcp.t3_ms) }
+{
+    let tcp = config.tcp();
+    Session::new(alloc, tcp.k, tcp.w, tcp.t1_ms, tcp.t2_ms, tcp.t3_ms).map_err(|_| NoMemory)
 }
 
 impl Gateway {
@@ -172,17 +221,11 @@ impl Gateway {
     pub fn new(alloc: Global, config: &Config) -> Result<Gateway, NoMemory>
         ensures { IfOk result (λ s. s ≡ first_state config.now) }
     {
-        let line = config.line();
-        let tcp = config.tcp();
-        let events = Events::new(alloc, usize::from(line.queue)).map_err(|_| NoMemory)?;
-        let session = Session::new(alloc, tcp.k, tcp.w, tcp.t1_ms, tcp.t2_ms, tcp.t3_ms).map_err(
-            |_| NoMemory,
-        )?;
         Ok(Gateway {
             line: master(alloc, config)?,
-            sizes: line.sizes,
-            events,
-            session,
+            sizes: config.line().sizes,
+            events: empty_queue(alloc, config)?,
+            session: closed_session(alloc, config)?,
             assembler: Assembler::new(),
             moment: 0,
             counts: Counts {
@@ -275,29 +318,16 @@ impl Gateway {
     fn mirror(&mut self, asdu: &Asdu<'_>) -> bool
         requires short { length asdu.now.octets.now ≤ 253 }
         requires sizes { asdu.now.sizes ≡ self.old.sizes }
-        requires kind { (row asdu.now.kind).monitor ≡ false }
+        requires found { IsAsdu asdu.now.sizes (value_of asdu.now) asdu.now.octets.now }
+        requires plain { monitor_objects_of asdu.now.sizes asdu.now.octets.now ≡ [] }
         ensures { Mirrors self.old asdu.now.octets.now result self.new }
     {
         self.commands.mirror(asdu, self.moment);
-        if !self.session.runs() {
-            self.counts.mirror();
-            return true;
-        }
         let pieces = translate(asdu);
-        self.answer_with(&pieces)
-    }
-
-    /// Keeps own answers, up to the first that finds no place.
-    fn answer_with(&mut self, pieces: &[ArrayVec<u8, 249>]) -> bool
-        requires long { AllByRecursion (λ p. (9 ≤ length p.items) × (length p.items ≤ 249)) pieces.now }
-        ensures state { self.new ≡ record self.old { commands = kept_until (octets_of pieces.now) self.old.commands } }
-        ensures all { result ≡ all_kept (octets_of pieces.now) self.old.commands }
-    {
-        for piece in pieces {
-            if !self.commands.own(piece) {
-                return false;
-            }
+        if self.session.runs() {
+            return keep_all(&mut self.commands, &pieces);
         }
+        self.counts.mirror();
         true
     }
 
@@ -347,7 +377,6 @@ impl Gateway {
     pub(crate) fn offer_all(&mut self)
         ensures { self.new ≡ record self.old { line = offered_upto (length self.old.line.stations) self.old.commands.waiting self.old.line } }
     {
-        polls_wait_for_leave();
         offers_wait();
         for station in 0..self.line.count() {
             self.offer(station);
@@ -359,8 +388,9 @@ impl Gateway {
         requires { station < length self.old.line.stations }
         ensures { self.new ≡ record self.old { line = offered_by (oldest station self.old.commands.waiting) station self.old.line } }
     {
+        polls_wait_for_leave();
         if let Some(octets) = self.commands.waiting(station) {
-            let _is_new = self.line.offer(station, octets);
+            offer_to(&mut self.line, station, octets);
         }
     }
 
