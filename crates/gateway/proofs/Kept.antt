@@ -139,12 +139,13 @@ plain_map (p ∷ ps) none =
     let others : List InformationObject = flat_map (λ p. monitor_objects_of tcp p.items) ps in
     (ap (λ (os : List InformationObject). not (length os == 0)) (first_none (objects p.items) others none), plain_map ps (rest_none (objects p.items) others none))
 
-pub mirrors : (s t : State) (sizes : Sizes) (v : AsduValue) (report : List ℕ) (ps : List (ArrayVec ℕ)) (fits : Bool) → IsPassedOn s.sizes v report (octets_of ps) → flat_map (λ p. monitor_objects_of tcp p.items) ps ≡ monitor_objects_of sizes report → monitor_objects_of sizes report ≡ [] →
+pub mirrors : (s t : State) (sizes : Sizes) (v : AsduValue) (report : List ℕ) (ps : List (ArrayVec ℕ)) (fits : Bool) → sizes ≡ s.sizes → IsPassedOn s.sizes v report (octets_of ps) → flat_map (λ p. monitor_objects_of tcp p.items) ps ≡ monitor_objects_of sizes report → monitor_objects_of sizes report ≡ [] →
     t ≡ mirrored_state (is_running s.session) v (octets_of ps) s → fits ≡ mirror_fits (is_running s.session) v (octets_of ps) s → Mirrors s report fits t
-mirrors s t sizes v report ps fits passed monitored none after all = record {
+mirrors s t sizes v report ps fits same passed monitored none after all = record {
   v = v;
   pieces = octets_of ps;
   passed = passed;
+  none = sym (ap (λ z. monitor_objects_of z report) same) ∙ none;
   plain = plain_map ps (monitored ∙ none);
   after = after;
   all = all;

@@ -49,7 +49,8 @@ pub record Mirrors (s : State) (report : List ℕ) (fits : Bool) (t : State) : T
   pub v : AsduValue
   pub pieces : List (List ℕ)
   pub passed : IsPassedOn s.sizes v report pieces
-  -- none of them has an object of the queue's
+  -- neither it nor any of them has an object of the queue's
+  pub none : monitor_objects s.sizes report ≡ []
   pub plain : AllByRecursion (λ piece. has_objects piece ≡ false) pieces
   pub after : t ≡ mirrored_state (is_running s.session) v pieces s
   pub all : fits ≡ mirror_fits (is_running s.session) v pieces s
