@@ -9,9 +9,8 @@ use Rattle.asdu.specs.Sizes.{tcp}
 use Rattle.asdu.specs.InformationObjects.{InformationObject, object_in, value_objects, objects_of, monitor_objects_of, is_passed_on}
 use Rattle.asdu.specs.Translation.{parts, IsPiece}
 use Rattle.events.specs.Queue as queue
-use Rattle.events.specs.Queue.{Queue, octets_of, free_places}
+use Rattle.events.specs.Queue.{octets_of}
 use Rattle.gateway.specs.Objects.{objects, has_objects, monitor_objects, parts_of}
-use Rattle.elements.specs.declared.types.TypeId.{TypeId}
 use Rattle.elements.specs.Types.{row}
 use Rattle.asdu.specs.Asdu.{AsduValue, Info, IsAsdu}
 use Rattle.gateway.specs.declared.counts.Counts.{Counts}
@@ -99,10 +98,6 @@ passed_monitor false passed a b is on = let no : false ≡ true = is ∙ on in c
 pub learns_kept : (of_command : Bool) (s t : State) (report : List ℕ) (fits : Bool) → of_command ≡ false → Keeps s report t → fits ≡ true → LearnsReport of_command s report fits t
 learns_kept false s t report fits is kept all = (kept, all)
 learns_kept true s t report fits is kept all = cc
-
-pub learns_mirror : (of_command : Bool) (s t : State) (report : List ℕ) (fits : Bool) → of_command ≡ true → Mirrors s report fits t → LearnsReport of_command s report fits t
-learns_mirror true s t report fits is mirrors = mirrors
-learns_mirror false s t report fits is mirrors = cc
 
 -- The pieces of a report of a command type
 

@@ -1,30 +1,28 @@
 //! The gateway's parts, and what each part of a step makes of them.
-ghost use Rattle.std.specs.Prelude.{◌≡◌, ℕ, ◌+◌, ◌<◌, ◌≤◌, true, false, List, [], ◌∷◌, length, map, IfSome, IfNone, IfOk, Some, None, Option, option_map, if◌then◌else◌};
-ghost use Rattle.ft12.specs.Fronts.{front_of};
-ghost use Rattle.link.specs.Exchanges.{Sending};
-ghost use Rattle.link.specs.Primary.{start, asked, offered_to, sending, request_of, received, received_outcome};
+ghost use Rattle.std.specs.Prelude.{◌≡◌, ℕ, ◌<◌, ◌≤◌, true, false, List, [], length, map, IfSome, IfNone, IfOk, Some, None, option_map, if◌then◌else◌};
+ghost use Rattle.link.specs.declared.settings.LinkSettings.{LinkSettings};
+ghost use Rattle.link.specs.Exchanges.{Sending, Exchanges};
+ghost use Rattle.link.specs.Telling.{Tells};
+ghost use Rattle.link.specs.Primary.{start, offered_to, sending, request_of};
 ghost use Rattle.apci.specs.Spelling.{Fits};
 ghost use Rattle.session.specs.Session.{new_session, confirmed, pulled, may_send, outcome_of, timed_out as answers_late};
 ghost use Rattle.command.specs.State as tasks;
+ghost use Rattle.command.specs.State.{oldest};
 ghost use Rattle.command.specs.Judging.{judged};
-ghost use Rattle.events.specs.Queue.{empty, free_places};
+ghost use Rattle.events.specs.Queue.{empty, free_places, octets_of};
 ghost use Rattle.link.specs.Leave.{is_poll_request, is_polling, is_report};
 ghost use Rattle.std.specs.List.{AllByRecursion};
 ghost use Rattle.asdu.specs.Asdu.{IsAsdu};
 ghost use Rattle.asdu.specs.InformationObjects.{monitor_objects_of};
 ghost use Rattle.asdu.specs.Reading.{value_of};
-ghost use Rattle.command.specs.State.{oldest};
-ghost use Rattle.events.specs.Queue.{octets_of};
-ghost use Rattle.gateway.specs.Works.{offered_by};
-ghost use Rattle.gateway.specs.State.{after_request};
 ghost use Rattle.gateway.specs.Agrees.{IsSpent};
 ghost use Rattle.gateway.specs.Polls.{has_room};
-ghost use Rattle.gateway.specs.Counting.{nothing_counted, one_skipped, one_mirrored, one_lost};
-ghost use Rattle.gateway.specs.Works.{kept_until, all_kept, listed, is_command_report, is_first_command, offered_upto};
+ghost use Rattle.gateway.specs.Counting.{one_skipped, one_mirrored, one_lost};
+ghost use Rattle.gateway.specs.Works.{kept_until, all_kept, listed, is_command_report, offered_by, offered_upto};
 ghost use Rattle.gateway.specs.Setups.{link_of, info_of};
 ghost use Rattle.gateway.specs.declared.settings.Station.{Station};
-ghost use Rattle.gateway.specs.State.{first_state, at_moment, disconnected, connected, received as frame_received, heard_commands, has_place};
-ghost use Rattle.gateway.specs.Steps.{Judged, SendsPiece, SendsOwn, SendsData, Keeps, Mirrors, LearnsReport, Hears, Learns, refused, refusal_fits, given_up, accepted, line_timed, settled};
+ghost use Rattle.gateway.specs.State.{first_state, after_request, at_moment, disconnected, connected, received as frame_received, heard_commands, has_place};
+ghost use Rattle.gateway.specs.Steps.{Judged, SendsPiece, SendsOwn, SendsData, Mirrors, LearnsReport, Hears, Learns, refused, refusal_fits, given_up, line_timed, settled};
 ghost use Rattle.gateway.specs.Finding.{Finds};
 
 use crate::config::Config;
@@ -36,8 +34,8 @@ use asdu::{Asdu, Piece, Sizes, read, translate};
 use command::{Act, Commands, StationInfo};
 use events::Events;
 use link::{
-    LinkSettings, Master, Outcome, Request, RequestKind, next_changes_nothing, offers_wait,
-    polls_wait_for_leave,
+    LinkSettings, Master, Outcome, Request, RequestKind, master_tells_the_log,
+    next_changes_nothing, offers_wait, polls_wait_for_leave,
 };
 use session::{Close, Kind, Session, Taken};
 use std::alloc::Global;
@@ -172,9 +170,13 @@ fn commands(alloc: Global, config: &Config) -> Result<Commands, NoMemory>
     ensures { IfOk result (λ c. c ≡ tasks.new_state (map info_of config.now.stations) config.now.line.sizes config.now.tcp.select_ms) }
 {
     let stations = station_infos(alloc, config)?;
-    Commands::new(alloc, &stations, config.line().sizes, config.tcp().select_ms).map_err(|_| {
-        NoMemory
-    })
+    Commands::new(
+        alloc,
+        &stations,
+        config.line().sizes,
+        config.tcp().select_ms,
+    )
+    .map_err(|_| { NoMemory })
 }
 
 /// Offers a station user data that fit any frame.
@@ -182,8 +184,10 @@ fn offer_to(line: &mut Master, station: usize, octets: &[u8])
     requires station { station < length line.old.stations }
     requires some { 1 ≤ length octets.now }
     requires short { length octets.now ≤ 12 }
-    ensures { line.new ≡ offered_to line.old station octets.now }
+    ensures state { line.new ≡ offered_to line.old station octets.now }
+    ensures tells { (settings : LinkSettings) (addresses : List ℕ) (e : Exchanges) → Tells settings addresses line.old e → Tells settings addresses line.new e }
 {
+    master_tells_the_log();
     let _is_new = line.offer(station, octets);
 }
 
@@ -375,7 +379,8 @@ impl Gateway {
 
     /// Offers to each station the oldest command that waits for it.
     pub(crate) fn offer_all(&mut self)
-        ensures { self.new ≡ record self.old { line = offered_upto (length self.old.line.stations) self.old.commands.waiting self.old.line } }
+        ensures state { self.new ≡ record self.old { line = offered_upto (length self.old.line.stations) self.old.commands.waiting self.old.line } }
+        ensures tells { (settings : LinkSettings) (addresses : List ℕ) (e : Exchanges) → Tells settings addresses self.old.line e → Tells settings addresses self.new.line e }
     {
         offers_wait();
         for station in 0..self.line.count() {
@@ -386,7 +391,8 @@ impl Gateway {
     /// Offers to a station the oldest command that waits for it.
     fn offer(&mut self, station: usize)
         requires { station < length self.old.line.stations }
-        ensures { self.new ≡ record self.old { line = offered_by (oldest station self.old.commands.waiting) station self.old.line } }
+        ensures state { self.new ≡ record self.old { line = offered_by (oldest station self.old.commands.waiting) station self.old.line } }
+        ensures tells { (settings : LinkSettings) (addresses : List ℕ) (e : Exchanges) → Tells settings addresses self.old.line e → Tells settings addresses self.new.line e }
     {
         polls_wait_for_leave();
         if let Some(octets) = self.commands.waiting(station) {

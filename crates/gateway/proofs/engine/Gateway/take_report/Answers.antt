@@ -18,7 +18,7 @@ returns-then-is_passed_on c =
     let asdu = c.in-Ok.asdu in
     let u : AsduValue = value_of asdu in
     let of_command : is_command_report s.sizes report ≡ false = command_as s.sizes report u c.in-Ok.ensures.objects c.in-Ok.ensures.found.value.some
-        ∙ passed_monitor (row u.kind).monitor (is_passed_on u.kind u.cause) (not (u.cause == 108)) (not (u.cause == 236)) refl (sym c.if-is_passed_on.ensures.value) in
+    ∙ passed_monitor (row u.kind).monitor (is_passed_on u.kind u.cause) (not (u.cause == 108)) (not (u.cause == 236)) refl (sym c.if-is_passed_on.ensures.value) in
     rw (← c.self.view_is) (learns_kept (is_command_report s.sizes report) s _ report true of_command
     (keeps_report s _ report asdu.octets.now asdu.sizes c.translate.result.items c.in-Ok.ensures.source.0 c.in-Ok.ensures.source.1 c.translate.ensures.monitored (c.translate.ensures.some_monitored (sym c.if-is_passed_on.ensures.value)) c.translate.ensures.number (c.if-is_passed_on.ensures.passed refl)
     (counted_as s report asdu.octets.now asdu.sizes u c.in-Ok.ensures.source.0 c.in-Ok.ensures.source.1 c.in-Ok.ensures.objects c.in-Ok.ensures.found.value.some
