@@ -337,6 +337,11 @@ after_heard p s log unjudged rest f a on ready so fits whole passes faultless =
       before = a.before;
     }
 
+pub heard_course : (p : Setup) (s : State) (log : Log) (unjudged rest : List ℕ) (f : Apdu) (a : Agrees p s log unjudged Taking) (on : s.session.connected ≡ true) (ready : IsConfirmed s.session) (so : s.so_far ≡ Some []) (fits : Fits f) (whole : a.here.so_far ++ unjudged ≡ spelling f ++ rest) (passes : refuses s.session f ≡ false) (faultless : fault_of (length a.course.sent) (came_frames a.course.talk) f ≡ None) →
+    (after_heard p s log unjudged rest f a on ready so fits whole passes faultless).course ≡ with_frame p f s.moment a.course
+unfolding after_heard
+heard_course p s log unjudged rest f a on ready so fits whole passes faultless = refl
+
 -- the same of another assembler's state
 pub with_so_far : (p : Setup) (s : State) (log : Log) (unjudged rest so_far : List ℕ) (phase : Phase) (a : Agrees p s log unjudged phase) → IsMore so_far → (present log).received ≡ spelled (came_frames a.course.talk) ++ (so_far ++ rest) → Agrees p (record s { so_far = Some so_far }) log rest phase
 with_so_far p s log unjudged rest so_far phase a waits joined = record {

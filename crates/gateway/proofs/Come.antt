@@ -473,6 +473,12 @@ come_other p s t log now event fits aside on rest a h =
       };
     }
 
+-- with these works
+pub come_course : (p : Setup) (s t : State) (log : Log) (now : ℕ) (event : Input) (fits : Bool) (aside : IsAside now event log) (on : GoesOn now event log) (rest : HasRested p log) (a : Agrees p s log [] (resting log)) → (h : Heard p s t log now event (left_of p log a.course) fits) →
+    (come_other p s t log now event fits aside on rest a h).course ≡ with_works h.z (left_of p log a.course)
+unfolding come_other
+come_course p s t log now event fits aside on rest a h = refl
+
 -- what the ended connection leaves in the queue, with the pieces kept since
 left_over : (p : Setup) (s t : State) (log : Log) (now : ℕ) (event : Input) (left : Course) (fits : Bool) (earlier : List Connection) → Heard p s t log now event left fits → Carries (taken_objects p log) (parts_of_all p.sizes (reports_in p log)) earlier [] (queue.rewound s.queue).unsent →
     Carries (taken_objects p (Came now event ∷ log)) (parts_of_all p.sizes (reports_in p (Came now event ∷ log))) earlier [] (queue.rewound t.queue).unsent

@@ -170,6 +170,7 @@ impl Gateway {
         ensures script { P.script port.new ≡ P.script port.old }
         ensures cause { P.failed port.new ≡ P.failed port.old + (if result then 0 else 1) }
     {
+        line_is_told();
         let went = port.put(self.moment(), &Action::Close(cause));
         if went {
             self.disconnect();
@@ -338,6 +339,9 @@ impl Gateway {
     {
         line_is_told();
         if fits {
+            return true;
+        }
+        if !self.is_open() {
             return true;
         }
         self.close(Close::OwnAnswers, port)
