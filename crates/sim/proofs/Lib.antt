@@ -4,6 +4,8 @@ pub mod Steps
 pub mod Standing
 pub mod Spoils
 pub mod HearingLemmas
+pub mod Laws
+pub mod Requests
 pub mod Keeping
 pub mod BeginningLemmas
 pub mod TextLemmas

@@ -7,4 +7,5 @@ pub mod Calls
 pub mod Dues
 pub mod Played
 pub mod Texts
+pub mod Outstations
 pub mod Runs
