@@ -6,6 +6,7 @@ pub mod Spoils
 pub mod HearingLemmas
 pub mod Laws
 pub mod Requests
+pub mod Turns
 pub mod Keeping
 pub mod BeginningLemmas
 pub mod TextLemmas
