@@ -1,8 +1,8 @@
 -- What the crates below say of octets and stations, as the lemmas use it.
-use Rattle.std.specs.Prelude.{◌≡◌, ℕ, ◌+◌, ◌<◌, ◌^◌, List, ◌++◌, length}
+use Rattle.std.specs.Prelude.{◌≡◌, ℕ, ◌+◌, ◌<◌, ◌^◌, List, [], ◌++◌, length}
 use Rattle.ft12.specs.declared.frame.LinkSize.{LinkSize}
 use Rattle.ft12.specs.declared.frame.Frame.{Frame}
-use Rattle.ft12.specs.declared.frame.Front.TheVariants.{Whole}
+use Rattle.ft12.specs.declared.frame.Front.TheVariants.{Whole, More}
 use Rattle.ft12.specs.Fronts.{front_of}
 use Rattle.ft12.specs.Reading.{IsFront}
 use Rattle.ft12.specs.Spelling.{IsLineFrame, Fits, spelling}
@@ -15,6 +15,7 @@ use Rattle.link.specs.Life.{Call, after, requests_heard, turns_in, given1, given
 pub record Laws : Type 0 where
   -- of octets
   pub right : (size : LinkSize) (octets : List ℕ) → IsFront size octets (front_of size octets)
+  pub nothing : (size : LinkSize) → front_of size [] ≡ More
   pub whole : (size : LinkSize) (octets more : List ℕ) (frame : Frame) (n : ℕ) → front_of size octets ≡ Whole frame n → front_of size (octets ++ more) ≡ Whole frame n
   pub spelled : (size : LinkSize) (frame : Frame) (more : List ℕ) → Fits size frame → front_of size (spelling size frame ++ more) ≡ Whole frame (length (spelling size frame))
   pub spoils : (size : LinkSize) (f g : Frame) (x rest : List ℕ) (place n : ℕ) → IsLineFrame size f x → place < length x → IsFront size (spoilt place x ++ rest) (Whole g n) → ⊥

@@ -7,6 +7,7 @@ pub mod HearingLemmas
 pub mod Laws
 pub mod Requests
 pub mod Turns
+pub mod Fronts
 pub mod Keeping
 pub mod BeginningLemmas
 pub mod TextLemmas
