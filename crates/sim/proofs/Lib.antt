@@ -8,6 +8,7 @@ pub mod Laws
 pub mod Requests
 pub mod Turns
 pub mod Fronts
+pub mod Honest
 pub mod Keeping
 pub mod BeginningLemmas
 pub mod TextLemmas
