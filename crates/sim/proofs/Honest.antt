@@ -316,3 +316,43 @@ serves_request laws p log rs waiting fate octets ss ts answer i now d first foun
         (subst (λ (l : List (Bool × Asked)). Serves p (rs ++ l) (begun_by now (Some new) (exchanges_of p log)) (arriving p.link.size fate answer) i first (get_or ts i d)) (sym its_own)
         (serves_one laws p rs (exchanges_of p log) waiting (arriving p.link.size fate answer) i now (is_heard fate) r one.turn first (get_or ss i d) (get_or ts i d) h
         (read.frame, asked_frame read.frame (address_at p.addresses i) r read.asked) one.took one.may))
+
+-- A station has served after each log of a run.
+pub serves : (laws : Laws) (p : Setup) (plan : Plan) (log : Log) (answers : List (Option Frame)) (stations : List Secondary) (i : ℕ) (d : Secondary) → FitsPlan p plan → i < length p.addresses →
+    AreLived plan log answers stations → AllByRecursion (λ answer. IfSome answer (Fits plan.size)) answers → FollowsPlan plan log answers → ActsRightly p log →
+    Serves p (requests_to p plan.directives i log) (exchanges_of p log) (waiting_in plan log answers) i (get_or plan.stations i d) (get_or stations i d)
+serves laws p plan [] [] stations i d fits lt lived fit follows acts = record {
+  turns = [];
+  took = ap (λ (ss : List Secondary). get_or ss i d) lived;
+  readable = tt;
+  fronts = record { done = []; here = []; both = refl; long = refl; fronts = tt; latest = refl };
+}
+serves laws p plan [] (a ∷ answers) stations i d fits lt lived fit follows acts = absurd lived
+serves laws p plan (Came now (LineIn octets) ∷ log) answers stations i d fits lt lived fit follows acts =
+    serves_heard laws p (requests_to p plan.directives i log) (exchanges_of p log) (waiting_in plan log answers) i (latest (Came now (LineIn octets) ∷ log)) octets (get_or plan.stations i d) (get_or stations i d)
+    (event_waits octets plan.directives (calls_in log + 1) (centre_of log) (waiting_in plan log answers) follows.0)
+    (serves laws p plan log answers stations i d fits lt lived fit follows.2 acts)
+serves laws p plan (Came now Opened ∷ log) answers stations i d fits lt lived fit follows acts =
+    serves_timed p (requests_to p plan.directives i log) (exchanges_of p log) (waiting_in plan log answers) i (latest (Came now Opened ∷ log)) (get_or plan.stations i d) (get_or stations i d)
+    (serves laws p plan log answers stations i d fits lt lived fit follows.2 acts)
+serves laws p plan (Came now (TcpIn octets) ∷ log) answers stations i d fits lt lived fit follows acts =
+    serves_timed p (requests_to p plan.directives i log) (exchanges_of p log) (waiting_in plan log answers) i (latest (Came now (TcpIn octets) ∷ log)) (get_or plan.stations i d) (get_or stations i d)
+    (serves laws p plan log answers stations i d fits lt lived fit follows.2 acts)
+serves laws p plan (Came now CutOff ∷ log) answers stations i d fits lt lived fit follows acts =
+    serves_timed p (requests_to p plan.directives i log) (exchanges_of p log) (waiting_in plan log answers) i (latest (Came now CutOff ∷ log)) (get_or plan.stations i d) (get_or stations i d)
+    (serves laws p plan log answers stations i d fits lt lived fit follows.2 acts)
+serves laws p plan (Came now Ticked ∷ log) answers stations i d fits lt lived fit follows acts =
+    serves_timed p (requests_to p plan.directives i log) (exchanges_of p log) (waiting_in plan log answers) i (latest (Came now Ticked ∷ log)) (get_or plan.stations i d) (get_or stations i d)
+    (serves laws p plan log answers stations i d fits lt lived fit follows.2 acts)
+serves laws p plan (Went now (LineOut octets) ∷ log) [] stations i d fits lt lived fit follows acts = absurd lived
+serves laws p plan (Went now (LineOut octets) ∷ log) (a ∷ answers) stations i d fits lt lived fit follows acts =
+    let fate : Fate = fate_of plan.directives (requests_in log + 1) in
+    let first : Secondary = get_or plan.stations i d in
+    let these : AreThese p plan.size lived.0 = these_lived p plan log answers lived.0 (record { addresses = fits.addresses; sizes = fits.sizes }) lived.2 in
+    subst (λ (z : LinkSize). Serves p (requests_to p plan.directives i log ++ request_to i (is_heard fate) (sending_in p octets)) (begun_by now (sending_in p octets) (exchanges_of p log)) (arriving z fate a) i first (get_or stations i d))
+    (sym fits.size)
+    (serves_request laws p log (requests_to p plan.directives i log) (waiting_in plan log answers) fate octets lived.0 stations a i now d first fits.found
+    (subst (λ (z : LinkSize). AreThese p z lived.0) fits.size these) lt (subst (λ (z : LinkSize). IfSome a (Fits z)) fits.size fit.0) acts.0.may.alone lived.1
+    (serves laws p plan log answers lived.0 i d fits lt lived.2 fit.1 follows acts.1))
+serves laws p plan (Went now (TcpOut octets) ∷ log) answers stations i d fits lt lived fit follows acts = serves laws p plan log answers stations i d fits lt lived fit follows acts.1
+serves laws p plan (Went now (Closed cause) ∷ log) answers stations i d fits lt lived fit follows acts = serves laws p plan log answers stations i d fits lt lived fit follows acts.1

@@ -9,6 +9,8 @@ pub mod Requests
 pub mod Turns
 pub mod Fronts
 pub mod Honest
+pub mod Serviceable
+pub mod Served
 pub mod Keeping
 pub mod BeginningLemmas
 pub mod TextLemmas
