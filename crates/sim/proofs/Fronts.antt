@@ -9,7 +9,7 @@ use Rattle.ft12.specs.declared.frame.Front.{Front}
 use Rattle.ft12.specs.declared.frame.Front.TheVariants.{Whole, More, Never}
 use Rattle.ft12.specs.Fronts.{front_of}
 use Rattle.ft12.specs.Reading.{IsFront}
-use Rattle.ft12.specs.Spelling.{IsLineFrame, Fits, spelling}
+use Rattle.ft12.specs.Spelling.{Fits, spelling}
 use Rattle.ft12.specs.Spoiling.{spoilt}
 use Rattle.link.specs.declared.answer.Answer.{Answer}
 use Rattle.link.specs.Answers.{answer_of}
@@ -22,7 +22,7 @@ use Rattle.gateway.specs.Line.{IsWaiting}
 use Rattle.sim.specs.declared.directive.Fate.{Fate}
 use Rattle.sim.specs.declared.directive.Fate.TheVariants.{Unheard, AnswerLost, AnswerSpoilt, Answered}
 use Rattle.sim.specs.Lives.{arriving}
-use Rattle.sim.proofs.Laws.{Laws}
+use Rattle.sim.proofs.Below.{Laws}
 use Rattle.sim.proofs.HearingLemmas.{some_spelling}
 
 -- An exchange is settled: it takes no more octets, or has a frame at its front.

@@ -12,9 +12,9 @@ use Rattle.link.specs.declared.service.Asked.{Asked}
 use Rattle.link.specs.Delivery.{requests_of}
 use Rattle.link.specs.Exchanges.{Exchange, Exchanges, OpenExchange, Sending, as_list, all_of, heard_octets, heard_current, timed, timed_current, begun_by, view}
 use Rattle.link.specs.Outstation.{Turn, silent}
-use Rattle.link.specs.Requests.{request_in, reading_of}
+use Rattle.link.specs.Requests.{request_in}
 use Rattle.link.specs.Secondary.{Secondary, served}
-use Rattle.gateway.specs.Log.{Log, LogEntry, Came, Went, Input, LineIn, Opened, TcpIn, CutOff, Ticked, LineOut, TcpOut, Closed, latest}
+use Rattle.gateway.specs.Log.{Log, Came, Went, LineIn, Opened, TcpIn, CutOff, Ticked, LineOut, TcpOut, Closed, latest}
 use Rattle.gateway.specs.Line.{IsWaiting}
 use Rattle.gateway.specs.Reports.{Setup, address_at, index_of, AreFound, sending_in, exchanges_of, exchanges_with}
 use Rattle.gateway.specs.Traffic.{ActsRightly}
@@ -22,13 +22,13 @@ use Rattle.sim.specs.declared.centre.Centre.{Centre}
 use Rattle.sim.specs.declared.directive.Directive.{Directive}
 use Rattle.sim.specs.declared.directive.Fate.{Fate}
 use Rattle.sim.specs.declared.directive.Fate.TheVariants.{Unheard, AnswerLost, AnswerSpoilt, Answered}
-use Rattle.sim.specs.Centres.{start_apdu, acknowledging_apdu, data_apdu, centre_of}
+use Rattle.sim.specs.Centres.{start_apdu, acknowledging_apdu, centre_of}
 use Rattle.sim.specs.Losses.{fate_of, ack_of, is_cut_at, sent_at}
 use Rattle.sim.specs.Lives.{Plan, HeardByAll, IsPutOut, AreLived, requests_in, arriving, waiting_in}
 use Rattle.sim.specs.Calls.{calls_in, line_event, quiet_event, sending_event, event_at, FollowsPlan}
 use Rattle.sim.specs.Outstations.{is_heard, request_to, requests_to, TakesTurn, TakesTurns}
-use Rattle.sim.proofs.Laws.{Laws}
-use Rattle.sim.proofs.HearingLemmas.{address_heard, sizes_out, length_out}
+use Rattle.sim.proofs.Below.{Laws}
+use Rattle.sim.proofs.HearingLemmas.{address_heard, sizes_out}
 use Rattle.sim.proofs.Requests.{asked_frame, read_from, quiet, hears_asked, heard_at, heard_joint, address_in, IsNotTo, Whom, nobody, other, this, whom}
 use Rattle.sim.proofs.Turns.{IsReadable, asked_of, takes_more}
 use Rattle.sim.proofs.Fronts.{MayCome, its, AreFronts, fronts_timed, fronts_heard, fronts_settled, fronts_other, fronts_this, begun, may_arrive, settled_now, its-append}
@@ -138,8 +138,11 @@ put_asked laws p fate octets ss ts answer i d r x found these lt fits empty e h 
         (two.0, one.2 ∙ two.1, two.2)
 
     go : (f : Fate) → IsPutOut f octets ss answer ts → TurnAt p.link.size f answer (get_or ss i d) (get_or ts i d) r x
-    go Unheard k = record { turn = silent; took = (refl, ap (λ (us : List Secondary). get_or us i d) k.1);
-        may = subst (λ (a : Option Frame). MayCome p.link.size (arriving p.link.size Unheard a) x silent) (sym k.0) tt }
+    go Unheard k = record {
+      turn = silent;
+      took = (refl, ap (λ (us : List Secondary). get_or us i d) k.1);
+      may = subst (λ (a : Option Frame). MayCome p.link.size (arriving p.link.size Unheard a) x silent) (sym k.0) tt;
+    }
     go AnswerLost k = let so = heard_so k in
         record { turn = (served so.0 (get_or ss i d) r).turn; took = (so.0, refl, so.2); may = may_arrive laws p.link.size AnswerLost answer x (served so.0 (get_or ss i d) r).turn fits empty (sym so.1) }
     go (AnswerSpoilt place) k = let so = heard_so k in
@@ -260,7 +263,7 @@ serves_heard : (laws : Laws) (p : Setup) (rs : List (Bool × Asked)) (e : Exchan
     Serves p rs (record { ended = e.ended; current = timed_current p.link.answer_ms at (heard_current octets e.current) }) None i first s
 serves_heard laws p rs e waiting i at octets first s is h =
     let come : AreFronts p.link.size i (record { ended = e.ended; current = heard_current octets e.current }) h.turns None =
-        fronts_heard laws p.link.size i octets e h.turns (subst (λ (w : Option (List ℕ)). AreFronts p.link.size i e h.turns w) is h.fronts) in
+    fronts_heard laws p.link.size i octets e h.turns (subst (λ (w : Option (List ℕ)). AreFronts p.link.size i e h.turns w) is h.fronts) in
     record { turns = h.turns; took = h.took; readable = h.readable; fronts = fronts_timed p.link.size i p.link.answer_ms at (record { ended = e.ended; current = heard_current octets e.current }) h.turns None come }
 
 readable_more : (a : ℕ) (rs : List (Bool × Asked)) (r : Bool × Asked) → AllByRecursion (λ (q : Bool × Asked). IsReadable a q.1) rs → IsReadable a r.1 → AllByRecursion (λ (q : Bool × Asked). IsReadable a q.1) (rs ++ r ∷ [])

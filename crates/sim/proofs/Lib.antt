@@ -4,7 +4,7 @@ pub mod Steps
 pub mod Standing
 pub mod Spoils
 pub mod HearingLemmas
-pub mod Laws
+pub mod Below
 pub mod Requests
 pub mod Turns
 pub mod Fronts

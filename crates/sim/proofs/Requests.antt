@@ -1,8 +1,8 @@
 -- Of whom octets ask something, and who answers.
-use Rattle.std.proofs.Common.{◌≡◌, ℕ, zero, suc, ◌+◌, ◌/◌, ◌%◌, ◌<◌, ◌≤◌, ◌&&◌, Bool, true, false, List, [], ◌∷◌, ◌++◌, length, take, get_or, map, Option, Some, None, refl, sym, ap, subst, ◌∙◌, inl, inr, arith, if◌then◌else◌}
+use Rattle.std.proofs.Common.{◌≡◌, ℕ, zero, suc, ◌/◌, ◌%◌, ◌<◌, ◌&&◌, Bool, true, false, List, [], ◌∷◌, length, get_or, map, Option, Some, None, refl, sym, ap, subst, ◌∙◌, inl, inr, arith, if◌then◌else◌}
 use Rattle.std.specs.Prelude.{◌==◌, option_map, option_and_then}
 use Rattle.std.specs.List.{AllByRecursion}
-use Rattle.std.proofs.lemmas.List.{append-nil, take_all, length-map}
+use Rattle.std.proofs.lemmas.List.{append-nil, take_all}
 use Rattle.std.proofs.lemmas.Bool.{eqb-true, eq-eqb, ne_eqb}
 use Rattle.ft12.specs.declared.frame.LinkSize.{LinkSize}
 use Rattle.ft12.specs.declared.frame.Frame.{Frame}
@@ -16,11 +16,11 @@ use Rattle.link.specs.declared.service.Asked.{Asked}
 use Rattle.link.specs.declared.request.Reading.{Reading}
 use Rattle.link.specs.declared.request.Reading.TheVariants.{Foreign, Unknown, Asks}
 use Rattle.link.specs.Exchanges.{Sending}
-use Rattle.link.specs.Requests.{comes_to, short_reading, data_reading, reading_of, asked_by, asked_in, request_at, request_in}
+use Rattle.link.specs.Requests.{short_reading, data_reading, reading_of, asked_by, asked_in, request_at, request_in}
 use Rattle.link.specs.Secondary.{Secondary, heard_reading, served, HearsOctets}
 use Rattle.gateway.specs.Reports.{Setup, address_at, index_of, AreFound, sent_to, sending_in}
 use Rattle.sim.specs.Lives.{later, HeardByAll}
-use Rattle.sim.proofs.Laws.{Laws}
+use Rattle.sim.proofs.Below.{Laws}
 use Rattle.sim.proofs.HearingLemmas.{later_none}
 
 -- What a frame asks

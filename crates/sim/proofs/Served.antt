@@ -1,6 +1,6 @@
 -- What each station did, put together.
-use Rattle.std.proofs.Common.{◌≡◌, ◌≢◌, ℕ, zero, suc, ◌+◌, ◌<◌, ◌^◌, Bool, true, false, List, [], ◌∷◌, ◌++◌, length, get_or, map, Option, Some, IfSome, refl, sym, ap, subst, ◌∙◌, arith, zero-add, if◌then◌else◌}
-use Rattle.std.specs.Prelude.{◌==◌, option_map}
+use Rattle.std.proofs.Common.{◌≡◌, ◌≢◌, ℕ, zero, suc, ◌+◌, ◌<◌, Bool, true, List, [], ◌∷◌, ◌++◌, length, get_or, map, Option, Some, refl, sym, ap, subst, ◌∙◌, arith, zero-add, if◌then◌else◌}
+use Rattle.std.specs.Prelude.{option_map}
 use Rattle.std.specs.List.{AllByRecursion, flat_map}
 use Rattle.std.proofs.lemmas.List.{length-map}
 use Rattle.std.proofs.lemmas.Bool.{eq-eqb, ne_eqb}
@@ -8,27 +8,26 @@ use Rattle.ft12.specs.declared.frame.LinkSize.{LinkSize}
 use Rattle.ft12.specs.declared.frame.Frame.{Frame}
 use Rattle.link.specs.declared.answer.Answer.TheVariants.{Unable}
 use Rattle.link.specs.declared.service.Asked.{Asked}
-use Rattle.link.specs.Delivery.{requests_of, reports, commands}
+use Rattle.link.specs.Delivery.{requests_of, reports}
 use Rattle.link.specs.Exchanges.{answer_to, all_of}
 use Rattle.link.specs.Life.{given1, given2, saturated}
-use Rattle.link.specs.Outstation.{Turn, OutstationRun, unreset, all_done}
+use Rattle.link.specs.Outstation.{OutstationRun, unreset, all_done}
 use Rattle.link.specs.Secondary.{Secondary, fresh_station, outstation_of}
 use Rattle.gateway.specs.declared.settings.Station.{Station}
-use Rattle.gateway.specs.declared.settings.Silence.{Silence}
 use Rattle.gateway.specs.declared.settings.Silence.TheVariants.{Hold}
 use Rattle.gateway.specs.Config.{Settings, AreApart, AreDistinct}
 use Rattle.gateway.specs.Log.{Log}
 use Rattle.gateway.specs.Reports.{Setup, address_at, index_of, AreFound, exchanges_of, exchanges_with}
 use Rattle.gateway.specs.Setups.{setup_of, holds}
 use Rattle.gateway.specs.Traffic.{IsFaithful}
-use Rattle.delivery.specs.Delivery.{IsHonest, IsSteady, IsRelayed, Delivers}
+use Rattle.delivery.specs.Delivery.{IsHonest, IsSteady, Delivers}
 use Rattle.sim.specs.declared.directive.Class.TheVariants.{One, Two}
 use Rattle.sim.specs.declared.directive.Directive.{Directive}
 use Rattle.sim.specs.Losses.{report_said}
 use Rattle.sim.specs.Lives.{begun_from, plan_of, waiting_in}
-use Rattle.sim.specs.Outstations.{TakesTurns, requests_to, first_station, HasServed, HaveServed}
+use Rattle.sim.specs.Outstations.{requests_to, first_station, HasServed, HaveServed}
 use Rattle.sim.specs.Played.{IsPlayed}
-use Rattle.sim.proofs.Laws.{Laws}
+use Rattle.sim.proofs.Below.{Laws}
 use Rattle.sim.proofs.BeginningLemmas.{begun_sizes}
 use Rattle.sim.proofs.HearingLemmas.{length_lived}
 use Rattle.sim.proofs.Turns.{asked_of, DidAll, did_all}
@@ -118,9 +117,10 @@ served_so laws delivers steadies c ds log waiting i s faithful lt h =
 have_served : (c : Settings) (ds : List Directive) (log : Log) (n : ℕ) (ss : List Secondary) (d : Secondary) → ((i : ℕ) → i < length ss → HasServed c ds log (n + i) (get_or ss i d)) → HaveServed c ds log n ss
 have_served c ds log n [] d h = tt
 have_served c ds log n (s ∷ ss) d h =
-    let same : n + 0 ≡ n = omega arith in
-    (subst (λ (k : ℕ). HasServed c ds log k s) same (h 0 (omega arith)),
-    have_served c ds log (n + 1) ss d (λ i lt. let one : n + suc i ≡ (n + 1) + i = omega arith in subst (λ (k : ℕ). HasServed c ds log k (get_or ss i d)) one (h (suc i) (omega arith))))
+    let same : n + 0 ≡ n = omega arith in (
+      subst (λ (k : ℕ). HasServed c ds log k s) same (h 0 (omega arith)),
+      have_served c ds log (n + 1) ss d (λ i lt. let one : n + suc i ≡ (n + 1) + i = omega arith in subst (λ (k : ℕ). HasServed c ds log k (get_or ss i d)) one (h (suc i) (omega arith))),
+    )
 
 pub all_served : (laws : Laws) → Delivered → Steadied → (c : Settings) (ds : List Directive) (log : Log) (answers : List (Option Frame)) (stations : List Secondary) → AreDistinct c.stations → IsPlayed (plan_of c ds) log answers stations →
     IsFaithful (setup_of c) log → HaveServed c ds log 0 stations

@@ -1,5 +1,5 @@
 -- A station never answers that it can't serve (functions 14 and 15).
-use Rattle.std.proofs.Common.{◌≡◌, ◌≢◌, ℕ, ◌%◌, ◌||◌, ◌&&◌, Bool, true, false, List, [], ◌∷◌, length, Option, Some, None, IfSome, refl, sym, ap, subst, ◌∙◌, arith, if◌then◌else◌}
+use Rattle.std.proofs.Common.{◌≡◌, ◌≢◌, ℕ, ◌%◌, ◌||◌, ◌&&◌, Bool, true, false, List, [], ◌∷◌, length, Option, Some, None, IfSome, refl, sym, ap, subst, arith, if◌then◌else◌}
 use Rattle.std.specs.Prelude.{◌==◌, option_and_then}
 use Rattle.std.specs.List.{AllByRecursion}
 use Rattle.ft12.specs.declared.frame.Frame.{Frame}
@@ -9,12 +9,12 @@ use Rattle.link.specs.declared.service.Service.TheVariants.{Class1, Class2, Comm
 use Rattle.link.specs.declared.service.Asked.{Asked}
 use Rattle.link.specs.declared.service.Asked.TheVariants.{Status, Reset, Counted}
 use Rattle.link.specs.declared.answer.Answer.{Answer}
-use Rattle.link.specs.declared.answer.Answer.TheVariants.{Ready, Confirmed, Busy, Report, NoData, Unable}
-use Rattle.link.specs.Answers.{unable_answer, service_answer, code_answer, data_answer, comes_from, answer_of}
+use Rattle.link.specs.declared.answer.Answer.TheVariants.{Ready, Confirmed, Busy, NoData, Unable}
+use Rattle.link.specs.Answers.{unable_answer, code_answer, data_answer, comes_from, answer_of}
 use Rattle.link.specs.Delivery.{AreTrueFronts, IsTrueFront}
 use Rattle.link.specs.Exchanges.{Exchange, answer_to}
-use Rattle.link.specs.Outstation.{Turn, silent}
-use Rattle.link.specs.Secondary.{Secondary, Served, control_of, short_of, unchanged, no_data, served_class1, served_class2, served_command, served_new, is_same, served_counted, served}
+use Rattle.link.specs.Outstation.{Turn}
+use Rattle.link.specs.Secondary.{Secondary, Served, control_of, short_of, unchanged, served_class1, served_class2, served_new, is_same, served_counted, served}
 use Rattle.sim.specs.Outstations.{TakesTurn, TakesTurns}
 
 -- functions 14 and 15 in a frame of fixed length

@@ -1,5 +1,5 @@
 -- A station's turns at the requests to it.
-use Rattle.std.proofs.Common.{◌≡◌, ℕ, ◌+◌, ◌<◌, ◌^◌, Bool, true, false, List, [], ◌∷◌, ◌++◌, length, map, Option, Some, None, refl, sym, ap, subst, ◌∙◌, append_assoc, arith}
+use Rattle.std.proofs.Common.{◌≡◌, ℕ, ◌+◌, ◌<◌, ◌^◌, Bool, true, false, List, [], ◌∷◌, ◌++◌, length, map, Some, refl, sym, ap, subst, ◌∙◌, append_assoc, arith}
 use Rattle.std.specs.List.{AllByRecursion}
 use Rattle.std.proofs.lemmas.List.{append-nil, length-append}
 use Rattle.ft12.specs.declared.frame.Frame.{Frame}
@@ -7,7 +7,7 @@ use Rattle.link.specs.declared.service.Service.TheVariants.{Class1, Class2, Comm
 use Rattle.link.specs.declared.service.Asked.{Asked}
 use Rattle.link.specs.declared.service.Asked.TheVariants.{Status, Reset, Counted}
 use Rattle.link.specs.declared.request.Reading.{Reading}
-use Rattle.link.specs.declared.request.Reading.TheVariants.{Foreign, Unknown, Asks}
+use Rattle.link.specs.declared.request.Reading.TheVariants.{Asks}
 use Rattle.link.specs.Delivery.{reports, commands, given_by, accepted_by}
 use Rattle.link.specs.Life.{Call, Hear, request_asked, turn_asked, given1_at, given2_at, given1, given2, saturated}
 use Rattle.link.specs.Outstation.{Effect, Turn, silent, OutstationStep, OutstationRun, unheard, all_done}
@@ -15,7 +15,7 @@ use Rattle.link.specs.Requests.{reading_of}
 use Rattle.link.specs.Secondary.{Secondary, outstation_of, heard_reading, served}
 use Rattle.link.proofs.Serving.{kept_address}
 use Rattle.sim.specs.Outstations.{TakesTurn, TakesTurns}
-use Rattle.sim.proofs.Laws.{Laws}
+use Rattle.sim.proofs.Below.{Laws}
 
 -- some frame asks this of the station with this address
 abbrev pub IsReadable : (address : ℕ) → Asked → Type 0
@@ -44,15 +44,15 @@ did_served laws s request granted readable lt =
     let turn : Turn = (served granted s request).turn in
     let t : Secondary = (served granted s request).state in
     let run : OutstationRun s.address (outstation_of s) (request ∷ []) (turn ∷ []) (outstation_of t) =
-        subst (λ (m : Reading). OutstationRun s.address (outstation_of s) (request_asked m ++ []) (turn_asked granted s m ++ []) (outstation_of (heard_reading granted s m).state)) readable.1 (laws.run s calls) in
+    subst (λ (m : Reading). OutstationRun s.address (outstation_of s) (request_asked m ++ []) (turn_asked granted s m ++ []) (outstation_of (heard_reading granted s m).state)) readable.1 (laws.run s calls) in
     let first : given1 (request ∷ []) (turn ∷ []) ++ t.class1 ≡ s.class1 ++ [] =
-        subst (λ (m : Reading). given1 (request_asked m ++ []) (turn_asked granted s m ++ []) ++ (heard_reading granted s m).state.class1 ≡ s.class1 ++ []) readable.1 (laws.class1 s calls lt) in
+    subst (λ (m : Reading). given1 (request_asked m ++ []) (turn_asked granted s m ++ []) ++ (heard_reading granted s m).state.class1 ≡ s.class1 ++ []) readable.1 (laws.class1 s calls lt) in
     let second : given2 (request ∷ []) (turn ∷ []) ++ t.class2 ≡ s.class2 ++ [] =
-        subst (λ (m : Reading). given2 (request_asked m ++ []) (turn_asked granted s m ++ []) ++ (heard_reading granted s m).state.class2 ≡ s.class2 ++ []) readable.1 (laws.class2 s calls lt) in
+    subst (λ (m : Reading). given2 (request_asked m ++ []) (turn_asked granted s m ++ []) ++ (heard_reading granted s m).state.class2 ≡ s.class2 ++ []) readable.1 (laws.class2 s calls lt) in
     let accepts : s.accepted ++ commands (turn.done ++ []) ≡ t.accepted =
-        subst (λ (m : Reading). s.accepted ++ commands (all_done (turn_asked granted s m ++ [])) ≡ (heard_reading granted s m).state.accepted) readable.1 (laws.accepted s calls lt) in
+    subst (λ (m : Reading). s.accepted ++ commands (all_done (turn_asked granted s m ++ [])) ≡ (heard_reading granted s m).state.accepted) readable.1 (laws.accepted s calls lt) in
     let gives : t.given ≡ saturated (s.given + length (reports (turn.done ++ []))) =
-        subst (λ (m : Reading). (heard_reading granted s m).state.given ≡ saturated (s.given + length (reports (all_done (turn_asked granted s m ++ []))))) readable.1 (laws.given s calls lt) in
+    subst (λ (m : Reading). (heard_reading granted s m).state.given ≡ saturated (s.given + length (reports (all_done (turn_asked granted s m ++ []))))) readable.1 (laws.given s calls lt) in
     record {
       step = subst (λ o. OutstationStep s.address (outstation_of s) request turn o) (sym run.2) run.1;
       address = kept_address granted s request;

@@ -9,7 +9,7 @@ use Rattle.link.specs.Life.{given1, given2, saturated}
 use Rattle.link.specs.Secondary.{Secondary, fresh_station, served}
 use Rattle.gateway.specs.declared.settings.Silence.TheVariants.{Hold}
 use Rattle.gateway.specs.Config.{Settings}
-use Rattle.gateway.specs.Log.{Log, Came, Went, LineOut}
+use Rattle.gateway.specs.Log.{Log, Went, LineOut}
 use Rattle.gateway.specs.Reports.{Setup, address_at, sending_in, exchanges_with}
 use Rattle.gateway.specs.Setups.{setup_of}
 use Rattle.delivery.specs.Delivery.{IsHonest, IsSteady, IsRelayed}

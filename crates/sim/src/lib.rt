@@ -18,6 +18,7 @@ mod centre;
 mod directive;
 mod due;
 mod hearing;
+mod laws;
 mod line;
 mod reading;
 mod script;
@@ -26,6 +27,7 @@ mod simulation;
 mod text;
 
 pub use directive::{Class, Directive, Fate};
+pub use laws::stations_are_honest;
 pub use reading::read_script;
 pub use script::Script;
 pub use sim::Sim;
