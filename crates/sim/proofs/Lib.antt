@@ -11,6 +11,7 @@ pub mod Fronts
 pub mod Honest
 pub mod Serviceable
 pub mod Served
+pub mod Closing
 pub mod Keeping
 pub mod BeginningLemmas
 pub mod TextLemmas

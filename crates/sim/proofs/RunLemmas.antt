@@ -20,7 +20,8 @@ use Rattle.sim.specs.Losses.{turns_of}
 use Rattle.sim.specs.Lives.{Plan, plan_of}
 use Rattle.sim.specs.Calls.{calls_in}
 use Rattle.sim.specs.Played.{IsPlayed, Stands, Simulated, has_ended}
-use Rattle.sim.specs.Texts.{run_text}
+use Rattle.sim.specs.Closing.{connections_in, lines_of_connections}
+use Rattle.sim.specs.Texts.{connection_lines, run_text}
 use Rattle.sim.specs.Outstations.{HaveServed}
 use Rattle.sim.specs.Runs.{IsRun, IsSimulated, IsBegun, IsLeft}
 
@@ -58,8 +59,9 @@ ended_calls s ended k =
 pub told_run : (c : Settings) (ds : List Directive) (s : Simulated) (told : List Told) (stations : List Secondary) → s.plan ≡ plan_of c ds →
     calls_in s.log ≡ turns_of ds → IsFaithful (setup_of c) s.log → log_of told ≡ s.log → stations ≡ s.stations → Stands s.plan s.log s.stations s.standing →
     ((log : Log) → IsFaithful (setup_of c) log → Delivers (setup_of c) log) →
-    ((log : Log) (answers : List (Option Frame)) (ss : List Secondary) → IsPlayed (plan_of c ds) log answers ss → IsFaithful (setup_of c) log → HaveServed c ds log 0 ss) → IsRun c ds told stations
-told_run c ds s told stations plan calls faithful log same k delivers serve =
+    ((log : Log) (answers : List (Option Frame)) (ss : List Secondary) → IsPlayed (plan_of c ds) log answers ss → IsFaithful (setup_of c) log → HaveServed c ds log 0 ss) →
+    ((f : IsFaithful (setup_of c) (log_of told)) → connection_lines 1 told ≡ lines_of_connections (connections_in (log_of told) f.here f.earlier)) → IsRun c ds told stations
+told_run c ds s told stations plan calls faithful log same k delivers serve count =
     let played : IsPlayed (plan_of c ds) (log_of told) k.answers stations = subst (λ (ss : List Secondary). IsPlayed (plan_of c ds) (log_of told) k.answers ss) (sym same)
     (subst (λ (l : Log). IsPlayed (plan_of c ds) l k.answers s.stations) (sym log)
     (subst (λ (q : Plan). IsPlayed q s.log k.answers s.stations) plan k.played)) in
@@ -71,6 +73,7 @@ told_run c ds s told stations plan calls faithful log same k delivers serve =
       faithful = kept;
       delivers = delivers (log_of told) kept;
       served = serve (log_of told) k.answers stations played kept;
+      connections = count kept;
     }
 
 -- what was written is the text of the run

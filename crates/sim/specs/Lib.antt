@@ -8,4 +8,5 @@ pub mod Dues
 pub mod Played
 pub mod Texts
 pub mod Outstations
+pub mod Closing
 pub mod Runs

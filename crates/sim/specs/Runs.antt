@@ -17,7 +17,8 @@ use Rattle.sim.specs.Lives.{plan_of}
 use Rattle.sim.specs.Calls.{calls_in}
 use Rattle.sim.specs.Played.{IsPlayed}
 use Rattle.sim.specs.Outstations.{Begins, HaveServed}
-use Rattle.sim.specs.Texts.{run_text}
+use Rattle.sim.specs.Closing.{connections_in, lines_of_connections}
+use Rattle.sim.specs.Texts.{connection_lines, run_text}
 
 -- A run of the script. Its events are what the script gives at each of so many calls, and its stations have answered and stand as
 -- their requests make them. What the gateway did keeps every promise of a gateway; so what it sent on each connection is a contiguous
@@ -30,6 +31,8 @@ pub record IsRun (c : Settings) (ds : List Directive) (told : List Told) (statio
   pub faithful : IsFaithful (setup_of c) (log_of told)
   pub delivers : Delivers (setup_of c) (log_of told)
   pub served : HaveServed c ds (log_of told) 0 stations
+  -- The closing lines of the connections have the numbers of the monitor objects sent on them.
+  pub connections : connection_lines 1 told ≡ lines_of_connections (connections_in (log_of told) faithful.here faithful.earlier)
 
 -- What was written is the text of a run of the script.
 pub record IsSimulated (c : Settings) (ds : List Directive) (before after : Option (List ℕ)) : Type 0 where

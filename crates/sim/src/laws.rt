@@ -1,16 +1,22 @@
 //! What holds of every run over a simulated line.
-ghost use Rattle.std.specs.Prelude.{List, Option};
+ghost use Rattle.std.specs.Prelude.{◌≡◌, List, Option};
 ghost use Rattle.ft12.specs.declared.frame.Frame.{Frame};
 ghost use Rattle.link.specs.Secondary.{Secondary};
+ghost use Rattle.gateway.specs.declared.entries.Told.{Told};
 ghost use Rattle.gateway.specs.Config.{Settings, AreDistinct};
+ghost use Rattle.gateway.specs.Entries.{log_of};
 ghost use Rattle.gateway.specs.Log.{Log};
+ghost use Rattle.gateway.specs.Reports.{Setup};
 ghost use Rattle.gateway.specs.Setups.{setup_of};
 ghost use Rattle.gateway.specs.Traffic.{IsFaithful};
 ghost use Rattle.sim.specs.declared.directive.Directive.{Directive};
 ghost use Rattle.sim.specs.Lives.{plan_of};
 ghost use Rattle.sim.specs.Played.{IsPlayed};
 ghost use Rattle.sim.specs.Outstations.{HaveServed};
+ghost use Rattle.sim.specs.Texts.{connection_lines};
+ghost use Rattle.sim.specs.Closing.{connections_in, lines_of_connections};
 
+use apci::spellings_cancel;
 use delivery::{nothing_is_lost, silence_is_no_reset};
 use ft12::{front_is_computed, spoilt_lines_are_no_lines};
 use link::station_is_an_outstation;
@@ -28,4 +34,13 @@ pub fn stations_are_honest()
     station_is_an_outstation();
     nothing_is_lost();
     silence_is_no_reset();
+}
+
+/// The closing lines of a run's connections, which the text counts from its actions, have the numbers of the monitor objects that
+/// the frames of the connections bear.
+pub fn connections_are_counted()
+    ensures { (p : Setup) (told : List Told) (f : IsFaithful p (log_of told)) →
+        connection_lines 1 told ≡ lines_of_connections (connections_in (log_of told) f.here f.earlier) }
+{
+    spellings_cancel();
 }

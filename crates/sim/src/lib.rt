@@ -27,7 +27,7 @@ mod simulation;
 mod text;
 
 pub use directive::{Class, Directive, Fate};
-pub use laws::stations_are_honest;
+pub use laws::{connections_are_counted, stations_are_honest};
 pub use reading::read_script;
 pub use script::Script;
 pub use sim::Sim;

@@ -10,7 +10,7 @@ ghost use Rattle.sim.specs.Scripts.{FitsSettings};
 ghost use Rattle.sim.specs.Runs.{IsSimulated, IsBegun, IsLeft};
 ghost use Rattle.sim.specs.declared.simulation.SimFault.TheVariants as fault;
 
-use crate::laws::stations_are_honest;
+use crate::laws::{connections_are_counted, stations_are_honest};
 use crate::script::Script;
 use crate::sim::Sim;
 use crate::text::text;
@@ -113,6 +113,7 @@ pub fn simulate<W: Write>(
     ensures left { IfErr result (IsLeft config.now script.now (W.contents out.old) (W.contents out.new)) }
 {
     stations_are_honest();
+    connections_are_counted();
     nothing_is_lost();
     let _stations = config.stations();
     let sim = run(alloc, config, script)?;
