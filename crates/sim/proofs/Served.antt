@@ -1,8 +1,9 @@
 -- What each station did, put together.
-use Rattle.std.proofs.Common.{◌≡◌, ◌≢◌, ℕ, zero, suc, ◌+◌, ◌<◌, Bool, true, List, [], ◌∷◌, ◌++◌, length, get_or, map, Option, Some, refl, sym, ap, subst, ◌∙◌, arith, zero-add, if◌then◌else◌}
-use Rattle.std.specs.Prelude.{option_map}
+use Rattle.std.proofs.Common.{◌≡◌, ◌≢◌, ℕ, zero, suc, ◌+◌, ◌<◌, Bool, true, false, List, [], ◌∷◌, ◌++◌, length, get_or, map, Option, Some, refl, sym, ap, subst, ◌∙◌, arith, zero-add, if◌then◌else◌}
+use Rattle.std.specs.Prelude.{option_map, cond, count_by, ◌&&◌, ◌==◌}
 use Rattle.std.specs.List.{AllByRecursion, flat_map}
-use Rattle.std.proofs.lemmas.List.{length-map}
+use Rattle.std.proofs.lemmas.List.{length-append, length-map}
+use Rattle.std.proofs.lemmas.List.Sums.{sum_by-cons}
 use Rattle.std.proofs.lemmas.Bool.{eq-eqb, ne_eqb}
 use Rattle.ft12.specs.declared.frame.LinkSize.{LinkSize}
 use Rattle.ft12.specs.declared.frame.Frame.{Frame}
@@ -11,7 +12,7 @@ use Rattle.link.specs.declared.service.Asked.{Asked}
 use Rattle.link.specs.Delivery.{requests_of, reports}
 use Rattle.link.specs.Exchanges.{answer_to, all_of}
 use Rattle.link.specs.Life.{given1, given2, saturated}
-use Rattle.link.specs.Outstation.{OutstationRun, unreset, all_done}
+use Rattle.link.specs.Outstation.{Turn, OutstationRun, unreset, all_done}
 use Rattle.link.specs.Secondary.{Secondary, fresh_station, outstation_of}
 use Rattle.gateway.specs.declared.settings.Station.{Station}
 use Rattle.gateway.specs.declared.settings.Silence.TheVariants.{Hold}
@@ -23,9 +24,11 @@ use Rattle.gateway.specs.Traffic.{IsFaithful}
 use Rattle.delivery.specs.Delivery.{IsHonest, IsSteady, Delivers}
 use Rattle.sim.specs.declared.directive.Class.TheVariants.{One, Two}
 use Rattle.sim.specs.declared.directive.Directive.{Directive}
+use Rattle.sim.specs.declared.directive.Directive.TheVariants.{Turns, Ack, Report, LoseRequest, LoseAnswer, SpoilAnswer, Cut, Send}
 use Rattle.sim.specs.Losses.{report_said}
 use Rattle.sim.specs.Lives.{begun_from, plan_of, waiting_in}
-use Rattle.sim.specs.Outstations.{requests_to, first_station, HasServed, HaveServed}
+use Rattle.sim.specs.Outstations.{requests_to, first_station, HasSessions, HasServed, HaveServed}
+use Rattle.sim.specs.Texts.{reports_for}
 use Rattle.sim.specs.Played.{IsPlayed}
 use Rattle.sim.proofs.Below.{Laws}
 use Rattle.sim.proofs.BeginningLemmas.{begun_sizes}
@@ -85,9 +88,39 @@ abbrev pub Steadied : Type 0
 Steadied = (p : Setup) (log : Log) (i : ℕ) → IsFaithful p log → i < length p.addresses → p.link.hold ≡ true →
     AllByRecursion (λ x. answer_to (address_at p.addresses i) x ≢ Some Unable) (exchanges_with p i log) → IsSteady p log i
 
-served_so : (laws : Laws) → Delivered → Steadied → (c : Settings) (ds : List Directive) (log : Log) (waiting : Option (List ℕ)) (i : ℕ) (s : Secondary) → IsFaithful (setup_of c) log → i < length (setup_of c).addresses →
+-- what it says of sessions
+abbrev pub SessionsKnown : Type 0
+SessionsKnown = (p : Setup) (log : Log) (i : ℕ) (turns : List Turn) → IsFaithful p log → i < length p.addresses → IsHonest p log i turns → HasSessions p log i turns
+
+-- the reports that a line of a script gives it
+reported_by : (index : ℕ) (d : Directive) → cond (reports_for index d) 1 0 ≡ length (report_said index One d) + length (report_said index Two d)
+reported_by index (Report i One octets) = go (i == index)
+  where
+    go : (b : Bool) → cond b 1 0 ≡ length (if b && true then octets ∷ [] else []) + length (if b && false then octets ∷ [] else [])
+    go true = omega arith
+    go false = omega arith
+reported_by index (Report i Two octets) = go (i == index)
+  where
+    go : (b : Bool) → cond b 1 0 ≡ length (if b && false then octets ∷ [] else []) + length (if b && true then octets ∷ [] else [])
+    go true = omega arith
+    go false = omega arith
+reported_by index (Turns n) = omega arith
+reported_by index (Ack n) = omega arith
+reported_by index (LoseRequest n) = omega arith
+reported_by index (LoseAnswer n) = omega arith
+reported_by index (SpoilAnswer n place) = omega arith
+reported_by index (Cut n) = omega arith
+reported_by index (Send n octets) = omega arith
+
+reported_all : (index : ℕ) (ds : List Directive) → count_by (reports_for index) ds ≡ length (flat_map (report_said index One) ds) + length (flat_map (report_said index Two) ds)
+reported_all index [] = refl
+reported_all index (d ∷ ds) =
+    sum_by-cons (λ (x : Directive). cond (reports_for index x) 1 0) d ds
+    ∙ omega (arith, reported_by index d, reported_all index ds, length-append (report_said index One d) (flat_map (report_said index One) ds), length-append (report_said index Two d) (flat_map (report_said index Two) ds))
+
+served_so : (laws : Laws) → Delivered → Steadied → SessionsKnown → (c : Settings) (ds : List Directive) (log : Log) (waiting : Option (List ℕ)) (i : ℕ) (s : Secondary) → IsFaithful (setup_of c) log → i < length (setup_of c).addresses →
     Serves (setup_of c) (requests_to (setup_of c) ds i log) (exchanges_of (setup_of c) log) waiting i (first_station c ds i) s → HasServed c ds log i s
-served_so laws delivers steadies c ds log waiting i s faithful lt h =
+served_so laws delivers steadies known c ds log waiting i s faithful lt h =
     let p : Setup = setup_of c in
     let a : ℕ = address_at p.addresses i in
     let asked : requests_of (exchanges_with p i log) ≡ asked_of (requests_to p ds i log) = same_asked p ds i log in
@@ -106,8 +139,10 @@ served_so laws delivers steadies c ds log waiting i s faithful lt h =
       honest = honest;
       class1 = (s.class1, ap (λ (rs : List Asked). given1 rs h.turns ++ s.class1) asked ∙ all.class1);
       class2 = (s.class2, ap (λ (rs : List Asked). given2 rs h.turns ++ s.class2) asked ∙ all.class2);
+      reported = reported_all i ds;
       given = all.given ∙ ap saturated (zero-add (length (reports (all_done h.turns))));
       accepted = sym all.accepted;
+      sessions_known = known p log i h.turns faithful lt honest;
       steady = steady;
       relayed = λ (held : c.line.silence ≡ Hold). let given_on = delivers p log faithful in given_on.relayed i h.turns lt honest (steady held);
     }
@@ -122,9 +157,9 @@ have_served c ds log n (s ∷ ss) d h =
       have_served c ds log (n + 1) ss d (λ i lt. let one : n + suc i ≡ (n + 1) + i = omega arith in subst (λ (k : ℕ). HasServed c ds log k (get_or ss i d)) one (h (suc i) (omega arith))),
     )
 
-pub all_served : (laws : Laws) → Delivered → Steadied → (c : Settings) (ds : List Directive) (log : Log) (answers : List (Option Frame)) (stations : List Secondary) → AreDistinct c.stations → IsPlayed (plan_of c ds) log answers stations →
+pub all_served : (laws : Laws) → Delivered → Steadied → SessionsKnown → (c : Settings) (ds : List Directive) (log : Log) (answers : List (Option Frame)) (stations : List Secondary) → AreDistinct c.stations → IsPlayed (plan_of c ds) log answers stations →
     IsFaithful (setup_of c) log → HaveServed c ds log 0 stations
-all_served laws delivers steadies c ds log answers stations apart played faithful =
+all_served laws delivers steadies known c ds log answers stations apart played faithful =
     let p : Setup = setup_of c in
     let d : Secondary = fresh_station c.line.link 0 in
     let fits : FitsPlan p (plan_of c ds) = fits_plan c ds apart in
@@ -135,6 +170,6 @@ all_served laws delivers steadies c ds log answers stations apart played faithfu
     let same : 0 + i ≡ i = omega arith in
     let begins : get_or (plan_of c ds).stations i d ≡ first_station c ds i = begun_at c.line.link 0 i ds c.stations i d set (omega arith) in
     subst (λ (k : ℕ). HasServed c ds log k (get_or stations i d)) (sym same)
-    (served_so laws delivers steadies c ds log (waiting_in (plan_of c ds) log answers) i (get_or stations i d) faithful within
+    (served_so laws delivers steadies known c ds log (waiting_in (plan_of c ds) log answers) i (get_or stations i d) faithful within
     (subst (λ (f : Secondary). Serves p (requests_to p ds i log) (exchanges_of p log) (waiting_in (plan_of c ds) log answers) i f (get_or stations i d)) begins
     (serves laws p (plan_of c ds) log answers stations i d fits within played.lived played.fit played.follows faithful.acts))))

@@ -1,10 +1,10 @@
 -- What each station of a simulated line did in a run, and what was taken from it.
-use Rattle.std.specs.Prelude.{◌≡◌, ℕ, ◌+◌, ◌==◌, Bool, true, false, if◌then◌else◌, List, [], ◌∷◌, ◌++◌, length, Option, Some, None}
-use Rattle.std.specs.List.{flat_map}
+use Rattle.std.specs.Prelude.{◌≡◌, ℕ, ◌+◌, ◌==◌, Bool, true, false, if◌then◌else◌, List, [], ◌∷◌, ◌++◌, count_by, length, Option, Some, None}
+use Rattle.std.specs.List.{flat_map, AllByRecursion}
 use Rattle.link.specs.declared.service.Asked.{Asked}
 use Rattle.link.specs.Exchanges.{Sending}
 use Rattle.link.specs.Outstation.{Turn, silent, all_done}
-use Rattle.link.specs.Delivery.{requests_of, reports, commands}
+use Rattle.link.specs.Delivery.{requests_of, reports, commands, learnt, sessions, HasReports, AcceptsSendings}
 use Rattle.link.specs.Life.{given1, given2, saturated}
 use Rattle.link.specs.Secondary.{Secondary, fresh_station, served}
 use Rattle.gateway.specs.declared.settings.Silence.TheVariants.{Hold}
@@ -12,13 +12,14 @@ use Rattle.gateway.specs.Config.{Settings}
 use Rattle.gateway.specs.Log.{Log, Went, LineOut}
 use Rattle.gateway.specs.Reports.{Setup, address_at, sending_in, exchanges_with}
 use Rattle.gateway.specs.Setups.{setup_of}
-use Rattle.delivery.specs.Delivery.{IsHonest, IsSteady, IsRelayed}
+use Rattle.delivery.specs.Delivery.{IsHonest, IsSteady, IsRelayed, reports_from}
 use Rattle.sim.specs.declared.directive.Class.TheVariants.{One, Two}
 use Rattle.sim.specs.declared.directive.Directive.{Directive}
 use Rattle.sim.specs.declared.directive.Fate.{Fate}
 use Rattle.sim.specs.declared.directive.Fate.TheVariants.{Unheard, AnswerLost, AnswerSpoilt, Answered}
 use Rattle.sim.specs.Losses.{fate_of, report_said}
 use Rattle.sim.specs.Lives.{requests_in}
+use Rattle.sim.specs.Texts.{reports_for}
 
 -- a request is heard unless it is lost
 abbrev pub is_heard : Fate → Bool
@@ -62,6 +63,15 @@ first_station c ds index = record (fresh_station c.line.link (address_at (setup_
 abbrev pub Begins : {A : Type 0} → List A → List A → Type 0
 Begins {A} some all = (rest : List A) × (some ++ rest ≡ all)
 
+-- In each session of its link, from one confirmed reset to the next, what was taken from the station with this index is what it gave,
+-- or all but the last; and the commands that it accepted are those sent to it, or all but the last. All that was taken from it was
+-- taken in the sessions.
+pub record HasSessions (p : Setup) (log : Log) (index : ℕ) (turns : List Turn) : Type 0 where
+  pub each_report : AllByRecursion (λ s. HasReports (address_at p.addresses index) s) (sessions (address_at p.addresses index) (exchanges_with p index log) turns)
+  pub each_command : AllByRecursion (λ s. AcceptsSendings (address_at p.addresses index) s) (sessions (address_at p.addresses index) (exchanges_with p index log) turns)
+  pub joined : flat_map (λ s. reports (learnt (address_at p.addresses index) s.exchanges)) (sessions (address_at p.addresses index) (exchanges_with p index log) turns)
+      ≡ reports_from p log index
+
 -- What the station with this index did in a run that left it so.
 pub record HasServed (c : Settings) (ds : List Directive) (log : Log) (index : ℕ) (s : Secondary) : Type 0 where
   pub turns : List Turn
@@ -73,8 +83,10 @@ pub record HasServed (c : Settings) (ds : List Directive) (log : Log) (index : �
   pub class1 : Begins (given1 (requests_of (exchanges_with (setup_of c) index log)) turns) (flat_map (report_said index One) ds)
   pub class2 : Begins (given2 (requests_of (exchanges_with (setup_of c) index log)) turns) (flat_map (report_said index Two) ds)
   -- the numbers of its closing line
+  pub reported : count_by (reports_for index) ds ≡ length (flat_map (report_said index One) ds) + length (flat_map (report_said index Two) ds)
   pub given : s.given ≡ saturated (length (reports (all_done turns)))
   pub accepted : s.accepted ≡ commands (all_done turns)
+  pub sessions_known : HasSessions (setup_of c) log index turns
   -- Where unanswered services are held its link is never reset. What was taken from it is what it gave, or all but the last; and
   -- the commands that it accepted are those sent to it, or all but the last.
   pub steady : c.line.silence ≡ Hold → IsSteady (setup_of c) log index

@@ -17,14 +17,14 @@ ghost use Rattle.sim.specs.Texts.{connection_lines};
 ghost use Rattle.sim.specs.Closing.{connections_in, lines_of_connections};
 
 use apci::spellings_cancel;
-use delivery::{nothing_is_lost, silence_is_no_reset};
+use delivery::{each_session_is_known, nothing_is_lost, silence_is_no_reset};
 use ft12::{front_is_computed, spoilt_lines_are_no_lines};
 use link::station_is_an_outstation;
 
 /// Whatever requests and answers a script loses or spoils, each simulated station is an honest outstation: it took its turns as the
 /// standard has it, no answer of it came late, and none was altered unseen. It gave the script's reports of each class in order,
-/// each once. And where unanswered services are held, its link is never reset, and what was taken from it is what it gave, or
-/// all but the last; so too for the commands that it accepted.
+/// each once. In each session of its link what was taken from it is what it gave, or all but the last; and so for the commands that it
+/// accepted. Where unanswered services are held its link is never reset, and this holds of the whole run.
 pub fn stations_are_honest()
     ensures { (c : Settings) (ds : List Directive) (log : Log) (answers : List (Option Frame)) (stations : List Secondary) → AreDistinct c.stations →
         IsPlayed (plan_of c ds) log answers stations → IsFaithful (setup_of c) log → HaveServed c ds log 0 stations }
@@ -33,6 +33,7 @@ pub fn stations_are_honest()
     spoilt_lines_are_no_lines();
     station_is_an_outstation();
     nothing_is_lost();
+    each_session_is_known();
     silence_is_no_reset();
 }
 
