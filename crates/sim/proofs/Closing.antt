@@ -19,6 +19,7 @@ use Rattle.gateway.specs.Objects.{objects}
 use Rattle.gateway.specs.Reports.{Setup}
 use Rattle.gateway.specs.Streams.{spelled, AreFrames, IsOneFrame}
 use Rattle.gateway.specs.Traffic.{ActsRightly, IsFaithful}
+use Rattle.delivery.specs.Delivery.{Delivers}
 use Rattle.sim.specs.Centres.{is_data}
 use Rattle.sim.specs.Texts.{objects_in_apdu, opens, objects_sent, objects_until_next, connection_line, connection_lines}
 use Rattle.sim.specs.Closing.{connections_in, lines_of_connections}
@@ -142,16 +143,28 @@ AreCounted [] [] = Unit {0}
 AreCounted (octets ∷ channels) (n ∷ ns) = IsCounted octets n × AreCounted channels ns
 AreCounted _ _ = ⊥
 
-same_sent : (c d : Channel) (channels : List Channel) (ns : List ℕ) → d.sent ≡ c.sent → AreCounted (c ∷ channels) ns → AreCounted (d ∷ channels) ns
-same_sent c d channels [] e h = absurd h
-same_sent c d channels (n ∷ ns) e h = (record { put = h.0.put; are = subst (λ (octets : List ℕ). AreFrames octets h.0.put) (sym e) h.0.are; number = h.0.number }, h.1)
-
-counted_received : (c : Channel) (octets : List ℕ) (channels : List Channel) (ns : List ℕ) → AreCounted (over c channels) ns → AreCounted (over (receiving c octets) channels) ns
-counted_received c octets channels ns h = go c.is_open refl h
+-- a channel that sent the same
+counted_like : (c d : Channel) (channels : List Channel) (ns : List ℕ) → d.is_open ≡ c.is_open → d.sent ≡ c.sent → AreCounted (over c channels) ns → AreCounted (over d channels) ns
+counted_like c d channels ns alike same h = subst (λ (b : Bool). AreCounted (if b then d ∷ channels else channels) ns) (sym alike) (go c.is_open ns h)
   where
-    go : (b : Bool) → c.is_open ≡ b → AreCounted (if b then c ∷ channels else channels) ns → AreCounted (over (if b then record { is_open = true; sent = c.sent; received = c.received ++ octets } else c) channels) ns
-    go true e k = same_sent c (record { is_open = true; sent = c.sent; received = c.received ++ octets }) channels ns refl k
-    go false e k = subst (λ (b : Bool). AreCounted (if b then c ∷ channels else channels) ns) (sym e) k
+    go : (b : Bool) (ms : List ℕ) → AreCounted (if b then c ∷ channels else channels) ms → AreCounted (if b then d ∷ channels else channels) ms
+    go true [] k = absurd k
+    go true (m ∷ ms) k = (record { put = k.0.put; are = subst (λ (octets : List ℕ). AreFrames octets k.0.put) (sym same) k.0.are; number = k.0.number }, k.1)
+    go false ms k = k
+
+received_open : (c : Channel) (octets : List ℕ) → (receiving c octets).is_open ≡ c.is_open
+received_open c octets = go c.is_open refl
+  where
+    go : (b : Bool) → c.is_open ≡ b → (receiving c octets).is_open ≡ c.is_open
+    go true e = rw e refl
+    go false e = rw e refl
+
+received_sent : (c : Channel) (octets : List ℕ) → (receiving c octets).sent ≡ c.sent
+received_sent c octets = go c.is_open refl
+  where
+    go : (b : Bool) → c.is_open ≡ b → (receiving c octets).sent ≡ c.sent
+    go true e = rw e refl
+    go false e = rw e refl
 
 counted_more : (c : Channel) (octets : List ℕ) (channels : List Channel) (ns : List ℕ) → IsOneFrame octets → AreCounted (c ∷ channels) ns → AreCounted (sending c octets ∷ channels) (add_first (objects_in_apdu octets) ns)
 counted_more c octets channels [] one h = absurd h
@@ -169,20 +182,22 @@ counted_sent c octets channels ns is_open one h =
     subst (λ (b : Bool). AreCounted (if b then sending c octets ∷ channels else channels) (add_first (objects_in_apdu octets) ns)) (sym is_open)
     (counted_more c octets channels ns one (subst (λ (b : Bool). AreCounted (if b then c ∷ channels else channels) ns) is_open h))
 
-counted_closed : (b : Bool) (c : Channel) (channels : List Channel) (ns : List ℕ) → AreCounted (over c channels) ns → AreCounted (over (if b then no_channel else c) (if b then over c channels else channels)) ns
-counted_closed true c channels ns h = h
-counted_closed false c channels ns h = h
+-- c is closed as d
+counted_closed : (b : Bool) (c d : Channel) (channels : List Channel) (ns : List ℕ) → d.is_open ≡ c.is_open → d.sent ≡ c.sent → AreCounted (over c channels) ns →
+    AreCounted (over (if b then no_channel else c) (if b then over d channels else channels)) ns
+counted_closed true c d channels ns alike same h = counted_like c d channels ns alike same h
+counted_closed false c d channels ns alike same h = h
 
 counted_log : (p : Setup) (log : Log) → ActsRightly p log → AreCounted (over (present log) (past log)) (sent_counts log)
 counted_log p [] acts = tt
 counted_log p (Came now Opened ∷ log) acts = (record { put = []; are = record { joined = refl; fit = tt }; number = refl }, counted_log p log acts)
 counted_log p (Came now CutOff ∷ log) acts = counted_log p log acts
-counted_log p (Came now (TcpIn octets) ∷ log) acts = counted_received (present log) octets (past log) (sent_counts log) (counted_log p log acts)
+counted_log p (Came now (TcpIn octets) ∷ log) acts = counted_like (present log) (receiving (present log) octets) (past log) (sent_counts log) (received_open (present log) octets) (received_sent (present log) octets) (counted_log p log acts)
 counted_log p (Came now (LineIn octets) ∷ log) acts = counted_log p log acts
 counted_log p (Came now Ticked ∷ log) acts = counted_log p log acts
 counted_log p (Went now (LineOut octets) ∷ log) acts = counted_log p log acts.1
 counted_log p (Went now (TcpOut octets) ∷ log) acts = counted_sent (present log) octets (past log) (sent_counts log) acts.0.may.0 acts.0.may.1 (counted_log p log acts.1)
-counted_log p (Went now (Closed cause) ∷ log) acts = counted_closed (ends cause) (present log) (past log) (sent_counts log) (counted_log p log acts.1)
+counted_log p (Went now (Closed cause) ∷ log) acts = counted_closed (ends cause) (present log) (present log) (past log) (sent_counts log) refl refl (counted_log p log acts.1)
 
 -- Octets are one list of frames
 
@@ -260,8 +275,8 @@ lines_counted (c ∷ cs) =
     ∙ ap (λ (l : List ℕ). l ++ line_of (length cs + 1) (number_sent c)) (lines_counted cs)
 
 -- The lines of the text are those of the connections.
-pub lines_are : Cancels → (p : Setup) (ts : List Told) (f : IsFaithful p (log_of ts)) → connection_lines 1 ts ≡ lines_of_connections (connections_in (log_of ts) f.here f.earlier)
-lines_are cancel p ts f =
+pub lines_are : Cancels → (p : Setup) (ts : List Told) → IsFaithful p (log_of ts) → (d : Delivers p (log_of ts)) → connection_lines 1 ts ≡ lines_of_connections (connections_in (log_of ts) d.here d.earlier)
+lines_are cancel p ts f d =
     text_lines ts
-    ∙ ap lines_of_counts (counts_all cancel (present (log_of ts)) (past (log_of ts)) (sent_counts (log_of ts)) f.here f.earlier (counted_log p (log_of ts) f.acts) f.begun f.are)
-    ∙ lines_counted (connections_in (log_of ts) f.here f.earlier)
+    ∙ ap lines_of_counts (counts_all cancel (present (log_of ts)) (past (log_of ts)) (sent_counts (log_of ts)) d.here d.earlier (counted_log p (log_of ts) f.acts) d.begun d.are)
+    ∙ lines_counted (connections_in (log_of ts) d.here d.earlier)

@@ -60,7 +60,7 @@ pub told_run : (c : Settings) (ds : List Directive) (s : Simulated) (told : List
     calls_in s.log ≡ turns_of ds → IsFaithful (setup_of c) s.log → log_of told ≡ s.log → stations ≡ s.stations → Stands s.plan s.log s.stations s.standing →
     ((log : Log) → IsFaithful (setup_of c) log → Delivers (setup_of c) log) →
     ((log : Log) (answers : List (Option Frame)) (ss : List Secondary) → IsPlayed (plan_of c ds) log answers ss → IsFaithful (setup_of c) log → HaveServed c ds log 0 ss) →
-    ((f : IsFaithful (setup_of c) (log_of told)) → connection_lines 1 told ≡ lines_of_connections (connections_in (log_of told) f.here f.earlier)) → IsRun c ds told stations
+    (IsFaithful (setup_of c) (log_of told) → (d : Delivers (setup_of c) (log_of told)) → connection_lines 1 told ≡ lines_of_connections (connections_in (log_of told) d.here d.earlier)) → IsRun c ds told stations
 told_run c ds s told stations plan calls faithful log same k delivers serve count =
     let played : IsPlayed (plan_of c ds) (log_of told) k.answers stations = subst (λ (ss : List Secondary). IsPlayed (plan_of c ds) (log_of told) k.answers ss) (sym same)
     (subst (λ (l : Log). IsPlayed (plan_of c ds) l k.answers s.stations) (sym log)
@@ -73,7 +73,7 @@ told_run c ds s told stations plan calls faithful log same k delivers serve coun
       faithful = kept;
       delivers = delivers (log_of told) kept;
       served = serve (log_of told) k.answers stations played kept;
-      connections = count kept;
+      connections = count kept (delivers (log_of told) kept);
     }
 
 -- what was written is the text of the run

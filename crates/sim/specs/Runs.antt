@@ -32,7 +32,7 @@ pub record IsRun (c : Settings) (ds : List Directive) (told : List Told) (statio
   pub delivers : Delivers (setup_of c) (log_of told)
   pub served : HaveServed c ds (log_of told) 0 stations
   -- The closing lines of the connections have the numbers of the monitor objects sent on them.
-  pub connections : connection_lines 1 told ≡ lines_of_connections (connections_in (log_of told) faithful.here faithful.earlier)
+  pub connections : connection_lines 1 told ≡ lines_of_connections (connections_in (log_of told) delivers.here delivers.earlier)
 
 -- What was written is the text of a run of the script.
 pub record IsSimulated (c : Settings) (ds : List Directive) (before after : Option (List ℕ)) : Type 0 where

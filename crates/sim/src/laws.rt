@@ -9,6 +9,7 @@ ghost use Rattle.gateway.specs.Log.{Log};
 ghost use Rattle.gateway.specs.Reports.{Setup};
 ghost use Rattle.gateway.specs.Setups.{setup_of};
 ghost use Rattle.gateway.specs.Traffic.{IsFaithful};
+ghost use Rattle.delivery.specs.Delivery.{Delivers};
 ghost use Rattle.sim.specs.declared.directive.Directive.{Directive};
 ghost use Rattle.sim.specs.Lives.{plan_of};
 ghost use Rattle.sim.specs.Played.{IsPlayed};
@@ -40,8 +41,8 @@ pub fn stations_are_honest()
 /// The closing lines of a run's connections, which the text counts from its actions, have the numbers of the monitor objects that
 /// the frames of the connections bear.
 pub fn connections_are_counted()
-    ensures { (p : Setup) (told : List Told) (f : IsFaithful p (log_of told)) →
-        connection_lines 1 told ≡ lines_of_connections (connections_in (log_of told) f.here f.earlier) }
+    ensures { (p : Setup) (told : List Told) → IsFaithful p (log_of told) → (d : Delivers p (log_of told)) →
+        connection_lines 1 told ≡ lines_of_connections (connections_in (log_of told) d.here d.earlier) }
 {
     spellings_cancel();
 }

@@ -17,7 +17,7 @@ returns g c =
     told_run c.args.config.now c.args.script.now c.in_ok-sim.sim c.told.result.now c.stations.result.now c.in_ok-sim.ensures.plan c.in_ok-sim.ensures.calls c.in_ok-sim.ensures.faithful
     c.told.ensures.log c.stations.ensures c.told.ensures.stands (c.nothing_is_lost.ensures (setup_of c.args.config.now))
     (λ log answers ss played faithful. c.stations_are_honest.ensures c.args.config.now c.args.script.now log answers ss c.stations-stations.ensures.rules.distinct played faithful)
-    (λ f. c.connections_are_counted.ensures (setup_of c.args.config.now) c.told.result.now f) in
+    (λ f d. c.connections_are_counted.ensures (setup_of c.args.config.now) c.told.result.now f d) in
     record {
       run = on_ok c.write_octets.result (Appends (g.W.Write.contents c.args.out.now) (g.W.Write.contents c.write_octets.new.out) c.as_bytes.result.now)
           (IsSimulated c.args.config.now c.args.script.now (g.W.Write.contents c.args.out.now) (g.W.Write.contents c.write_octets.new.out))
