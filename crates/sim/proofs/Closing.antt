@@ -1,6 +1,5 @@
 -- The closing lines of connections count what their frames have.
-use Rattle.std.proofs.Common.{◌≡◌, ℕ, ◌+◌, ◌-◌, ◌*◌, ◌%◌, ◌^◌, min, Bool, true, false, List, [], ◌∷◌, ◌++◌, length, drop, map, Option, refl, sym, ap, subst, ◌∙◌, append_assoc, arith, if◌then◌else◌}
-use Rattle.std.specs.Prelude.{◌==◌}
+use Rattle.std.proofs.Common.{◌≡◌, ℕ, ◌+◌, ◌-◌, ◌*◌, ◌%◌, ◌^◌, min, Bool, true, false, List, [], ◌∷◌, ◌++◌, length, map, refl, sym, ap, subst, ◌∙◌, append_assoc, arith, if◌then◌else◌}
 use Rattle.std.proofs.lemmas.List.{append-nil, length-append, length-map}
 use Rattle.std.proofs.lemmas.Bool.{eq-eqb}
 use Rattle.std.proofs.lemmas.Grind.{flat_map-append}
@@ -11,7 +10,7 @@ use Rattle.apci.specs.Spelling.{spelling}
 use Rattle.gateway.specs.declared.entries.Entry.TheVariants as entries
 use Rattle.gateway.specs.declared.entries.Told.{Told}
 use Rattle.gateway.specs.declared.entries.Told.TheVariants as told
-use Rattle.gateway.specs.Connections.{Channel, no_channel, new_channel, receiving, sending, ends, present, past, over, IsConnection, AreConnections, IsBegun}
+use Rattle.gateway.specs.Connections.{Channel, no_channel, receiving, sending, ends, present, past, over, AreConnections, IsBegun}
 use Rattle.gateway.specs.Entries.{stored_log, log_of, told_of}
 use Rattle.gateway.specs.Frames.{Connection, Sent, data_frames, objects_of_frames, monitor_objects_sent}
 use Rattle.gateway.specs.Log.{Log, Came, Went, LineIn, Opened, TcpIn, CutOff, Ticked, LineOut, TcpOut, Closed}

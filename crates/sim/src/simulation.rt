@@ -2,7 +2,7 @@
 ghost use Rattle.std.specs.Prelude.{◌≡◌, IfOk, IfErr, OnOk};
 ghost use Rattle.std.specs.Io.KnownBytes.{Appends};
 ghost use Rattle.gateway.specs.Setups.{setup_of};
-ghost use Rattle.gateway.specs.Traffic.{IsFaithful};
+ghost use Rattle.gateway.specs.Traffic.{IsFaithful, HasRested};
 ghost use Rattle.sim.specs.Calls.{calls_in};
 ghost use Rattle.sim.specs.Lives.{plan_of};
 ghost use Rattle.sim.specs.Losses.{turns_of};
@@ -78,6 +78,7 @@ fn run<'a>(alloc: Global, config: &'a Config, script: &'a Script) -> Result<Sim<
     ensures plan { IfOk result (λ sim. sim.plan ≡ plan_of config.now script.now) }
     ensures calls { IfOk result (λ sim. calls_in sim.log ≡ turns_of script.now) }
     ensures faithful { IfOk result (λ sim. IsFaithful (setup_of config.now) sim.log) }
+    ensures rests { IfOk result (λ sim. HasRested (setup_of config.now) sim.log) }
     ensures memory { IfErr result (λ e. e ≡ fault.NoMemory) }
 {
     let mut sim = Sim::new(alloc, config, script)?;
