@@ -2,14 +2,15 @@
 //! connection at a time, of which it is the controlled station.
 //!
 //! A [`Gateway`] takes one event after another from a [`Port`] and puts out what follows from each: [`Gateway::step`],
-//! [`drive`], [`drive_on`]. So far ASDUs from the control centre are dropped.
+//! [`drive`], [`drive_on`].
 //!
 //! Proved, of the log of a run, for any octets and moments: its events are those that came; each station is asked as its link
 //! allows, with the frame count bit that is due, and each request is the one that the stations' turns give; nothing is polled
-//! while the queue is full, and nothing else is kept back; to TCP goes one whole APDU at a time, only while a connection is
-//! open, numbered without a gap, each frame when it is due and with the number of the frames received; the monitor objects
-//! sent on each connection are a contiguous run of those taken from the line, from the first on that no connection before
-//! acknowledged; and a connection is closed exactly by its cause. A port whose device fails breaks none of this for the log so
+//! while the queue is full, and nothing else is kept back; commands go down in order, each once, an execute to a guarded
+//! station only where it was selected, and every other ASDU is answered; to TCP goes one whole APDU at a time, only while a
+//! connection is open, numbered without a gap, each frame when it is due and with the number of the frames received; the
+//! monitor objects sent on each connection are a contiguous run of those taken from the line, from the first on that no
+//! connection before acknowledged; and a connection is closed exactly by its cause. A port whose device fails breaks none of this for the log so
 //! far.
 #![tactic(auto)]
 
