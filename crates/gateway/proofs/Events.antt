@@ -1,5 +1,5 @@
 -- The line's lemmas where a port may tell no log, in the form that answers cite.
-use Rattle.std.proofs.Common.{◌≡◌, ℕ, ◌<◌, ◌≤◌, ◌+◌, Bool, true, false, not, List, [], ◌∷◌, length, refl, ap, sym, ◌∙◌, subst, arith, Option, Some, None, length-append}
+use Rattle.std.proofs.Common.{◌≡◌, ℕ, ◌≤◌, ◌+◌, Bool, true, false, not, List, [], ◌∷◌, length, refl, ap, sym, ◌∙◌, subst, arith, Option, Some, None, length-append}
 use Rattle.std.specs.Prelude.{IfSome, if◌then◌else◌, option_map}
 use Rattle.std.specs.Bool.{OnTrue}
 use Rattle.std.proofs.lemmas.List.{append-nil}
@@ -110,14 +110,18 @@ module _ (laws : LineLaws) (p : Setup) (s : State) (q : Primary) (log : Log) (a 
       let same : taken_objects p new ≡ taken_objects p log = taken_grows p log new [] goes.reported ∙ append-nil (taken_objects p log) in
       let parts : parts_of_all p.sizes (reports_in p new) ≡ parts_of_all p.sizes (reports_in p log) = omega (arith, parts_grow p log new [] goes.reported) in
       let d : Course = with_works (asked_works at (room_in p log a.course) x ready) a.course in
-      let course_runs : Runs p new d = (a.course, a.talk.course_runs, record {
-        due = a.stands.asks;
-        request = x;
-        next = same_next (Some x) next;
-        spelled_so = refl;
-        waits = command_waits x next;
-        is = refl;
-      }) in
+      let course_runs : Runs p new d = (
+        a.course,
+        a.talk.course_runs,
+        record {
+          due = a.stands.asks;
+          request = x;
+          next = same_next (Some x) next;
+          spelled_so = refl;
+          waits = command_waits x next;
+          is = refl;
+        },
+      ) in
       let talk : Talks p s.session new d = talk_on p s.session s.session log new a.course d a.talk refl refl course_runs in
       record {
         k = a.k;

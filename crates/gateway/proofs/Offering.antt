@@ -1,5 +1,5 @@
 -- What is offered to a station is the oldest command that waits for it.
-use Rattle.std.proofs.Common.{◌≡◌, ℕ, zero, suc, ◌<◌, ◌≤◌, ◌&&◌, ◌==◌, Bool, true, false, not, All, List, [], ◌∷◌, length, Option, Some, None, refl, ap, sym, ◌∙◌, subst, arith}
+use Rattle.std.proofs.Common.{◌≡◌, ℕ, zero, suc, ◌<◌, ◌≤◌, ◌&&◌, ◌==◌, Bool, true, false, not, All, List, [], length, Option, Some, None, refl, ap, sym, ◌∙◌, subst, arith}
 use Rattle.std.specs.Prelude.{if◌then◌else◌, option_map, slice_index}
 use Rattle.std.proofs.lemmas.List.Elements.{All-get_or}
 use Rattle.asdu.specs.Sizes.{tcp}
@@ -10,7 +10,7 @@ use Rattle.std.proofs.lemmas.Bool.Decides.{nat_tests}
 use Rattle.apci.specs.declared.apdu.Apdu.{Apdu}
 use Rattle.apci.specs.declared.apdu.Apdu.TheVariants.{I, S, U}
 use Rattle.link.specs.Exchanges.{Sending}
-use Rattle.link.specs.Primary.{Primary, asked, sending, may_offer, offered_to, withdrawn, is_command}
+use Rattle.link.specs.Primary.{Primary, asked, sending, may_offer, withdrawn, is_command}
 use Rattle.link.specs.Offers.{offered_at}
 use Rattle.command.specs.declared.waiting.Waiting.{Waiting}
 use Rattle.command.specs.State as tasks

@@ -16,14 +16,14 @@ use Rattle.gateway.specs.Runs.{events_told}
 use Rattle.gateway.specs.LineLaws.{LineLaws}
 use Rattle.session.specs.declared.kinds.Kind.{Kind}
 use Rattle.session.specs.declared.kinds.Kind.TheVariants.{Queue as FromQueue, Own}
-use Rattle.gateway.specs.State.{State, disconnected, piece_sent, own_sent}
+use Rattle.gateway.specs.State.{State, disconnected}
 use Rattle.gateway.specs.Phases.{Phase, Timed, Asked, Taking}
 use Rattle.session.specs.declared.kinds.Close.TheVariants.{Timeout}
 use Rattle.session.specs.History.{has_timed_out}
 use Rattle.session.specs.Runs.{Confirm, Pull}
 use Rattle.session.specs.Ends.{after_confirm, after_pull, IsConfirmed, IsInTime}
 use Rattle.gateway.specs.Agrees.{Agrees, Tracks, Awaits, Leaves, Rests, IsSpent, IsQuiet, StaysInTime}
-use Rattle.gateway.specs.Steps.{SendsPiece, SendsOwn, SendsData, MayClose, after_closing}
+use Rattle.gateway.specs.Steps.{SendsPiece, SendsOwn, SendsData, MayClose}
 use Rattle.gateway.proofs.Tied.{SameWindow}
 use Rattle.gateway.proofs.Talking.{HasNoData, confirms, pulls, patient, all_taken, late_by, confirm_t1, pull_t1}
 use Rattle.gateway.proofs.Agreement.{GoesOut, faithful, stands_now, after_piece, after_own, after_due, after_close, rested}

@@ -1,18 +1,18 @@
 -- At rest no command waits that may go.
 use Rattle.std.proofs.Common.{◌≡◌, ℕ, zero, suc, ◌<◌, ◌≤◌, ◌&&◌, ◌==◌, Bool, true, false, not, List, length, Option, Some, None, refl, ap, sym, ◌∙◌, subst, arith, inl, inr, eq-eqb}
-use Rattle.std.specs.Prelude.{if◌then◌else◌, option_map, is_none, ◌⊎◌, slice_set}
-use Rattle.std.proofs.lemmas.Bool.{and_parts, and_from, cases_lt}
+use Rattle.std.specs.Prelude.{if◌then◌else◌, is_none, ◌⊎◌, slice_set}
+use Rattle.std.proofs.lemmas.Bool.{and_from, cases_lt}
 use Rattle.std.proofs.lemmas.List.{get_or-set_same, get_or-set_other}
 use Rattle.link.specs.declared.procedure.Link.{Link}
 use Rattle.link.specs.declared.procedure.Link.TheVariants.{Down, Available, Next, Held}
 use Rattle.link.specs.declared.turn.Chosen.{Chosen}
 use Rattle.link.specs.Procedure.{holds_command}
-use Rattle.link.specs.Turns.{no_station, station_at, is_poll}
+use Rattle.link.specs.Turns.{no_station, station_at}
 use Rattle.link.specs.Primary.{Primary, Outstanding, asked, asked_from, after_choice, choice, sending, sending_from, sending_by, may_offer, with_offer, offered_to, is_sending_command}
 use Rattle.link.specs.Offers.{offered_at}
 use Rattle.link.specs.Leave.{holds_poll, IsLeftToPolls}
 use Rattle.command.specs.declared.waiting.Waiting.{Waiting}
-use Rattle.command.specs.State.{octets_waiting, oldest}
+use Rattle.command.specs.State.{oldest}
 use Rattle.gateway.specs.Works.{offered_by, offered_upto}
 use Rattle.gateway.specs.LineLaws.{LineLaws}
 
@@ -34,9 +34,9 @@ by_test false q r h = record { outstanding = refl; link = λ i. refl }
 
 same_or_not : (i k : ℕ) → (i ≡ k) ⊎ ((i ≡ k) → ⊥)
 same_or_not i k = elim (cases_lt i k) [
-    | inl lt ↦ inr (λ e. omega (arith, lt, e))
-    | inr le ↦ elim (cases_lt k i) [ inl lt ↦ inr (λ e. omega (arith, lt, e)) | inr eq ↦ inl (omega (arith, le, eq)) ]
-  ]
+  | inl lt ↦ inr (λ e. omega (arith, lt, e))
+  | inr le ↦ elim (cases_lt k i) [ inl lt ↦ inr (λ e. omega (arith, lt, e)) | inr eq ↦ inl (omega (arith, le, eq)) ]
+]
 
 offer_leaves : (q : Primary) (k : ℕ) (x : List ℕ) → k < length q.stations → Leaves q (offered_to q k x)
 offer_leaves q k x within = by_test (may_offer q k) q _ (record { outstanding = refl; link = λ i. same_link q k i x within (same_or_not i k) })

@@ -22,7 +22,6 @@ use Rattle.gateway.specs.Config.{Settings, IsStation, AreApart, AreDistinct, Are
 use Rattle.gateway.specs.Log.{Log, LogEntry, Went, Output, events_of}
 use Rattle.gateway.specs.Entries.{event_of, told_of, stored_log, log_of, FitsPort}
 use Rattle.gateway.specs.Recorded.{is_none_left, coming}
-use Rattle.gateway.specs.Frames.{new_connection}
 use Rattle.gateway.specs.Connections.{no_channel}
 use Rattle.gateway.specs.Reports.{Setup, address_at, index_of, AreFound}
 use Rattle.session.specs.Ends.{IsConfirmed}

@@ -1,6 +1,6 @@
 -- The history of the open connection, as the log goes on and the session is called.
-use Rattle.std.proofs.Common.{◌≡◌, ℕ, ◌<◌, ◌≤◌, ◌&&◌, Bool, true, false, List, [], ◌∷◌, ◌++◌, length, refl, ap, sym, ◌∙◌, subst, arith, length-append, Option, Some, None, cond}
-use Rattle.std.specs.Prelude.{is_none, not, nat_lt, ◌==◌, if◌then◌else◌}
+use Rattle.std.proofs.Common.{◌≡◌, ℕ, ◌<◌, ◌&&◌, Bool, true, false, List, [], ◌∷◌, ◌++◌, length, refl, ap, sym, ◌∙◌, subst, Option, Some, None, cond}
+use Rattle.std.specs.Prelude.{is_none, not, nat_lt, ◌==◌}
 use Rattle.std.proofs.lemmas.List.{append-nil}
 use Rattle.std.proofs.lemmas.Bool.{cond-true, and_from}
 use Rattle.apci.specs.declared.apdu.Apdu.{Apdu}
@@ -24,9 +24,9 @@ use Rattle.gateway.specs.Streams.{spelled}
 use Rattle.gateway.specs.Frames.{data_frames}
 use Rattle.gateway.specs.Connections.{Channel, present}
 use Rattle.gateway.specs.Reports.{Setup}
-use Rattle.gateway.specs.Works.{Works, tasks_of, IsOwnDue}
-use Rattle.gateway.specs.Course.{Course, first_course, came_frames, kind_of, told_sent, with_frame, with_sent, TakesFrames, HasTakenAll, HandsOver, Runs}
-use Rattle.gateway.specs.Conversation.{KeepsCommands, KeepsTalk}
+use Rattle.gateway.specs.Works.{Works, IsOwnDue}
+use Rattle.gateway.specs.Course.{Course, first_course, came_frames, kind_of, told_sent, with_frame, with_sent, TakesFrames, HasTakenAll, Runs}
+use Rattle.gateway.specs.Conversation.{KeepsTalk}
 use Rattle.gateway.specs.Phases.{IsTaking}
 use Rattle.gateway.specs.CommandLaws.{CommandLaws}
 use Rattle.gateway.specs.SessionLaws.{SessionLaws}

@@ -1,8 +1,6 @@
 -- The line's primary station and commands, as the log goes on and the parts are called.
-use Rattle.std.proofs.Common.{◌≡◌, ℕ, ◌<◌, ◌≤◌, ◌&&◌, ◌==◌, Bool, true, false, not, cond, List, [], ◌∷◌, ◌++◌, length, Option, Some, None, refl, ap, sym, ◌∙◌, subst, arith}
-use Rattle.std.specs.Prelude.{if◌then◌else◌, option_map}
-use Rattle.std.specs.List.{AllByRecursion}
-use Rattle.std.proofs.lemmas.Bool.{and_parts, false≢true}
+use Rattle.std.proofs.Common.{◌≡◌, ℕ, ◌&&◌, Bool, true, false, List, [], ◌∷◌, ◌++◌, length, Option, Some, None, refl, ap, sym, ◌∙◌, subst}
+use Rattle.std.specs.Prelude.{if◌then◌else◌}
 use Rattle.asdu.specs.declared.sizes.Sizes.{Sizes}
 use Rattle.apci.specs.declared.apdu.Apdu.{Apdu}
 use Rattle.apci.specs.declared.apdu.Apdu.TheVariants.{I, S, U}
@@ -13,10 +11,8 @@ use Rattle.command.specs.declared.waiting.Waiting.{Waiting}
 use Rattle.command.specs.State as tasks
 use Rattle.command.specs.State.{has_room, first_answer, octets_waiting, line_of, is_used, oldest_for}
 use Rattle.command.specs.Judging.{judged}
-use Rattle.command.specs.History.{History, Offered}
-use Rattle.command.specs.Calls.{Call, Judge, Own, SendOwn, PutOnLine, Run, run, after_answer, after_sending}
-use Rattle.gateway.specs.declared.counts.Counts.{Counts}
-use Rattle.gateway.specs.Objects.{has_objects}
+use Rattle.command.specs.History.{Offered}
+use Rattle.command.specs.Calls.{Call, Judge, Own, SendOwn, Run, run, after_answer, after_sending}
 use Rattle.gateway.specs.Counting.{one_lost}
 use Rattle.gateway.specs.Reports.{Setup}
 use Rattle.gateway.specs.Works.{Works, tasks_of, kept_until, keep_calls, all_kept, is_overfull, listed, with_call, heard_works, cut_works, settled_works, unless_silent, given_up_works, ready_works, unasked_works, offered_upto, put_calls}

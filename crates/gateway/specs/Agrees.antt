@@ -10,7 +10,6 @@ use Rattle.command.specs.State as tasks
 use Rattle.command.specs.State.{octets_waiting}
 use Rattle.link.specs.Telling.{Tells}
 use Rattle.session.specs.Session.{Session, is_running, is_from_queue, may_send, pulled}
-use Rattle.session.specs.History.{History}
 use Rattle.session.specs.Runs.{Settings, IsInRange, Call, run}
 use Rattle.session.specs.Ends.{IsConfirmed, IsInTime}
 use Rattle.session.specs.declared.kinds.Unacknowledged.{Unacknowledged}

@@ -1,5 +1,5 @@
 -- What holds at each point of a run's course (IEC 60870-5-104, 5; IEC 60870-5-101, 7.2.3 and 7.2.6).
-use Rattle.std.specs.Prelude.{◌≡◌, true, false, List, [], ◌∷◌, ◌++◌, None}
+use Rattle.std.specs.Prelude.{◌≡◌, true, false, [], ◌∷◌, ◌++◌, None}
 use Rattle.session.specs.History.{confirmation_of, frame_due, has_timed_out}
 use Rattle.session.specs.Rules.{KeepsRules}
 use Rattle.command.specs.History.{ForwardsCommands, ExecutesAreSelected, GivesOwnAnswers, KeepsOwnAnswers, own_kept, own_sent}
@@ -7,7 +7,7 @@ use Rattle.command.specs.Calls.{Run}
 use Rattle.gateway.specs.Log.{Log, latest}
 use Rattle.gateway.specs.Connections.{present}
 use Rattle.gateway.specs.Reports.{Setup}
-use Rattle.gateway.specs.Works.{Works, tasks_of, is_overfull}
+use Rattle.gateway.specs.Works.{tasks_of, is_overfull}
 use Rattle.gateway.specs.Course.{Course, HasTakenAll, Runs}
 
 -- What was done with commands so far: each first sending is the oldest command forwarded to its station on the open connection that

@@ -1,5 +1,5 @@
 -- What taking an APDU leads to.
-use Rattle.std.specs.Prelude.{ℕ, false, List, [], Option, IfSome}
+use Rattle.std.specs.Prelude.{ℕ, List, [], Option, IfSome}
 use Rattle.gateway.specs.Log.{Log}
 use Rattle.gateway.specs.Reports.{Setup}
 use Rattle.gateway.specs.Traffic.{IsFaithful}

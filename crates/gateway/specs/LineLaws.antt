@@ -10,7 +10,7 @@ use Rattle.link.specs.Requests.{request_frame, request_in, FitsAddress, FitsAske
 use Rattle.link.specs.Procedure.{is_up, holds_command}
 use Rattle.link.specs.Turns.{station_at}
 use Rattle.link.specs.Holding.{IsFitting}
-use Rattle.link.specs.Primary.{Primary, start, asked, sending, request_of, received, received_outcome, timed_out, is_command, may_offer, offered_to, withdrawn}
+use Rattle.link.specs.Primary.{Primary, asked, sending, request_of, received, received_outcome, timed_out, is_command, may_offer, offered_to, withdrawn}
 use Rattle.link.specs.Offers.{offered_at}
 use Rattle.link.specs.Leave.{IsLeftToPolls}
 use Rattle.ft12.specs.declared.frame.Front.{Front}

@@ -1,5 +1,5 @@
 -- How far a step is.
-use Rattle.std.specs.Prelude.{◌≡◌, ℕ, Bool, true, false, List, [], ◌∷◌, Option, Some, None}
+use Rattle.std.specs.Prelude.{◌≡◌, ℕ, Bool, true, false, [], ◌∷◌, Option, Some, None}
 use Rattle.link.specs.Primary.{Outstanding, sending}
 use Rattle.gateway.specs.Log.{Log, TcpIn, Came, Went, TcpOut}
 use Rattle.gateway.specs.Reports.{Setup}

@@ -1,7 +1,7 @@
 -- What the gateway keeps beside the connection: the line's primary station, and what became of commands. Each entry of the log
 -- changes it (IEC 60870-5-101, 7.2.3; when own answers are kept, and when a command is offered to the line, is this gateway's own
 -- profile).
-use Rattle.std.specs.Prelude.{◌≡◌, ℕ, zero, suc, ◌≤◌, Bool, true, false, not, ◌&&◌, ◌==◌, if◌then◌else◌, List, [], ◌∷◌, length, Option, Some, None}
+use Rattle.std.specs.Prelude.{◌≡◌, ℕ, zero, suc, Bool, true, false, not, ◌&&◌, if◌then◌else◌, List, [], ◌∷◌, length, Option, Some, None}
 use Rattle.std.specs.List.{flat_map, AllByRecursion}
 use Rattle.ft12.specs.Fronts.{front_of}
 use Rattle.elements.specs.Types.{row}
@@ -12,7 +12,6 @@ use Rattle.asdu.specs.InformationObjects.{InformationObject, objects_of}
 use Rattle.asdu.specs.Translation.{parts, IsPiece}
 use Rattle.apci.specs.declared.apdu.Apdu.{Apdu}
 use Rattle.apci.specs.declared.apdu.Apdu.TheVariants.{I}
-use Rattle.link.specs.declared.service.Asked.{Asked}
 use Rattle.link.specs.Procedure.{is_held}
 use Rattle.link.specs.Turns.{station_at}
 use Rattle.link.specs.Exchanges.{Sending}
@@ -23,7 +22,7 @@ use Rattle.command.specs.declared.waiting.Waiting.{Waiting}
 use Rattle.command.specs.State as tasks
 use Rattle.command.specs.State.{has_room, line_of, refusal_of, is_used, oldest}
 use Rattle.command.specs.Judging.{judged}
-use Rattle.command.specs.History.{Told, Offered, History}
+use Rattle.command.specs.History.{Offered, History}
 use Rattle.command.specs.Calls.{Call, Judge, PutOnLine, Accept, Busy, Lose, Mirror, Own, SendOwn, Cut, Due, Run, run}
 use Rattle.gateway.specs.declared.counts.Counts.{Counts}
 use Rattle.gateway.specs.Log.{Input, LineIn}
