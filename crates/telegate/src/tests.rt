@@ -1,6 +1,8 @@
 //! Commands done over texts and writers in memory.
+mod numbers;
 mod rows;
 mod shows;
+mod simulations;
 mod texts;
 mod types;
 mod writers;

@@ -5,9 +5,9 @@ use std::alloc::AllocError;
 use std::test::Fail;
 
 /// The station is started, and a connection too.
-const OPENING: &str = "10 S 100B010C16\n20 S E5\n30 O\n40 R 680407000000\n";
+pub(super) const OPENING: &str = "10 S 100B010C16\n20 S E5\n30 O\n40 R 680407000000\n";
 
-const OPENED: &str =
+pub(super) const OPENED: &str =
     "0 > S 1049014A16\n10 > S 1040014116\n20 > S 107B017C16\n40 > T 68040B000000\n";
 
 /// What follows the opening, and what it gives. `N` is the report of one single point.

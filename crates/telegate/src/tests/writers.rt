@@ -66,6 +66,26 @@ fn output_that_fails_at_any_write_is_a_failed_device(rt: HostRuntime) -> Result<
 }
 
 #[test]
+fn a_run_that_cannot_be_written_is_a_failed_device(rt: HostRuntime) -> Result<(), Fail> {
+    let alloc = rt.alloc();
+    // No turns give the closing lines alone.
+    let lines = b"station 1 reports 0 given 0 accepted 0\n";
+    for writes in 0..42u64 {
+        let mut out = Failing { writes };
+        let mut err = Vec::new(alloc);
+        let status = perform(alloc, &Job::Sim(CONFIG_A, b"turns 0\n"), &mut out, &mut err);
+        if writes < lines.len() as u64 {
+            assert_eq!(rt; status, 3);
+            assert_eq!(rt; err.as_slice(), b"device failed\n".as_slice());
+        } else {
+            assert_eq!(rt; status, 0);
+            assert_eq!(rt; err.as_slice(), b"".as_slice());
+        }
+    }
+    Ok(())
+}
+
+#[test]
 fn a_fault_that_cannot_be_told_keeps_its_status(rt: HostRuntime) -> Result<(), Fail> {
     let alloc = rt.alloc();
     let mut out = Vec::new(alloc);
