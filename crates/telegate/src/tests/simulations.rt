@@ -1,6 +1,8 @@
 //! Runs over simulated stations: scripts, and what is printed of them.
-use super::{CONFIG_A, performed};
+use super::{CONFIG_A, prints, stops};
 use crate::job::Job;
+use std::alloc::{AllocError, Global};
+use std::process::Abort;
 use std::test::Fail;
 
 /// A report of class 2, whose first answer is lost: the poll goes out again.
@@ -29,24 +31,28 @@ station 1 reports 1 given 1 accepted 0
 connection 1 objects 1
 ";
 
+/// Runs the gateway as a script says, which is to print these lines.
+fn simulates(rt: &impl Abort, alloc: Global, config: &str, script: &str, lines: &str) {
+    let job = Job::Sim(config.as_bytes(), script.as_bytes());
+    prints(rt, alloc, &job, lines, 0);
+}
+
 #[test]
-fn a_lost_answer_is_asked_for_again(rt: HostRuntime) -> Result<(), Fail> {
-    for (script, lines) in [
-        (
-            "turns 8\nreport 1 2 01010301640001\nlose answer 3\n",
-            LOST_ANSWER,
-        ),
-        (
-            "turns 8\nreport 1 1 01010301640001\nlose answer 3\n",
-            LOST_ANSWER_OF_CLASS_1,
-        ),
-    ] {
-        let done = performed(rt.alloc(), &Job::Sim(CONFIG_A, script.as_bytes()));
-        assert_eq!(rt; done.out.as_slice(), lines.as_bytes(), "{script}");
-        assert_eq!(rt; done.status, 0);
-        assert_eq!(rt; done.err.as_slice(), b"".as_slice());
-    }
-    Ok(())
+fn a_lost_answer_is_asked_for_again(rt: HostRuntime) {
+    simulates(
+        &rt,
+        rt.alloc(),
+        CONFIG_A,
+        "turns 8\nreport 1 2 01010301640001\nlose answer 3\n",
+        LOST_ANSWER,
+    );
+    simulates(
+        &rt,
+        rt.alloc(),
+        CONFIG_A,
+        "turns 8\nreport 1 1 01010301640001\nlose answer 3\n",
+        LOST_ANSWER_OF_CLASS_1,
+    );
 }
 
 /// Wrong scripts, and their first wrong line.
@@ -76,40 +82,62 @@ static WRONG: [(&str, u64); 18] = [
     ("turns 1\r\n", 1),
 ];
 
-#[test]
-fn a_wrong_script_is_told_by_its_first_wrong_line(rt: HostRuntime) -> Result<(), Fail> {
-    let alloc = rt.alloc();
-    for (script, n) in &WRONG {
-        let fault = format!(in alloc; "script: line {n}\n")?;
-        let done = performed(alloc, &Job::Sim(CONFIG_A, script.as_bytes()));
-        assert_eq!(rt; done.err.as_slice(), fault.as_bytes(), "{script}");
-        assert_eq!(rt; done.status, 1);
-        assert_eq!(rt; done.out.as_slice(), b"".as_slice());
-    }
-    // The settings are judged first.
-    let done = performed(alloc, &Job::Sim(b"", b""));
-    assert_eq!(rt; done.err.as_slice(), b"config: line.link\n".as_slice());
-    assert_eq!(rt; done.status, 1);
+fn is_wrong_at(
+    rt: &impl Abort,
+    alloc: Global,
+    config: &str,
+    script: &str,
+    n: u64,
+) -> Result<(), AllocError> {
+    let fault = format!(in alloc; "script: line {n}\n")?;
+    let job = Job::Sim(config.as_bytes(), script.as_bytes());
+    stops(rt, alloc, &job, fault.as_str());
     Ok(())
 }
 
 #[test]
-fn a_report_fits_a_frame_of_the_line(rt: HostRuntime) -> Result<(), Fail> {
-    let alloc = rt.alloc();
-    let wide = b"[line]\nlink = 2\ncause = 1\nca = 1\nioa = 2\n[[station]]\naddress = 1\nca = 1\n";
-    for (config, word, most) in [
-        (CONFIG_A, "report 1 2 ", 253usize),
-        (wide.as_slice(), "report 1 1 ", 252),
-        (CONFIG_A, "send 1 ", 249),
-    ] {
-        let octets = "64".repeat(alloc, most)?;
-        let good = format!(in alloc; "turns 0\n{word}{octets}\n")?;
-        let done = performed(alloc, &Job::Sim(config, good.as_bytes()));
-        assert_eq!(rt; done.status, 0, "{word}");
-        let wrong = format!(in alloc; "turns 0\n{word}{octets}64\n")?;
-        let done = performed(alloc, &Job::Sim(config, wrong.as_bytes()));
-        assert_eq!(rt; done.status, 1, "{word}");
-        assert_eq!(rt; done.err.as_slice(), b"script: line 2\n".as_slice());
+fn a_wrong_script_is_told_by_its_first_wrong_line(rt: HostRuntime) -> Result<(), Fail> {
+    for (script, n) in &WRONG {
+        is_wrong_at(&rt, rt.alloc(), CONFIG_A, *script, *n)?;
+    }
+    Ok(())
+}
+
+/// A script with this line, which ends in so many octets.
+fn long_line(alloc: Global, word: &str, octets: usize) -> Result<String, AllocError> {
+    let octets = "64".repeat(alloc, octets)?;
+    format!(in alloc; "turns 0\n{word} {octets}\n")
+}
+
+/// The settings, the words before the octets, the most octets, and what is printed where there are no calls.
+static LONGEST: [(&str, &str, usize, &str); 3] = [
+    (
+        CONFIG_A,
+        "report 1 2",
+        253,
+        "station 1 reports 1 given 0 accepted 0\n",
+    ),
+    (
+        "[line]\nlink = 2\ncause = 1\nca = 1\nioa = 2\n[[station]]\naddress = 1\nca = 1\n",
+        "report 1 1",
+        252,
+        "station 1 reports 1 given 0 accepted 0\n",
+    ),
+    (
+        CONFIG_A,
+        "send 1",
+        249,
+        "station 1 reports 0 given 0 accepted 0\n",
+    ),
+];
+
+#[test]
+fn octets_fit_their_frame(rt: HostRuntime) -> Result<(), Fail> {
+    for (config, words, most, lines) in &LONGEST {
+        let good = long_line(rt.alloc(), *words, *most)?;
+        simulates(&rt, rt.alloc(), *config, good.as_str(), *lines);
+        let wrong = long_line(rt.alloc(), *words, most.saturating_add(1))?;
+        is_wrong_at(&rt, rt.alloc(), *config, wrong.as_str(), 2)?;
     }
     Ok(())
 }
