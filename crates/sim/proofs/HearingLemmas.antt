@@ -13,7 +13,9 @@ use Rattle.link.specs.Requests.{reading_of}
 use Rattle.link.proofs.Serving.{kept_address, kept_size}
 use Rattle.sim.specs.declared.directive.Fate.{Fate}
 use Rattle.sim.specs.declared.directive.Fate.TheVariants.{Unheard, AnswerLost, AnswerSpoilt, Answered}
-use Rattle.sim.specs.Lives.{later, HeardByAll, IsPutOut}
+use Rattle.gateway.specs.Log.{Log, Came, Went, LineOut, TcpOut, Closed}
+use Rattle.sim.specs.Losses.{fate_of}
+use Rattle.sim.specs.Lives.{Plan, later, HeardByAll, IsPutOut, AreLived, requests_in}
 
 -- the first i of the stations have heard
 pub record HeardSoFar (octets : List ℕ) (initial : List Secondary) (i : ℕ) (answer : Option Frame) (stations : List Secondary) : Type 0 where
@@ -128,3 +130,13 @@ length_out Unheard octets ss ts answer h = ap length h.1
 length_out AnswerLost octets ss ts answer h = heard_length octets ss ts answer h
 length_out (AnswerSpoilt place) octets ss ts answer h = heard_length octets ss ts answer h
 length_out Answered octets ss ts answer h = heard_length octets ss ts answer h
+
+pub length_lived : (plan : Plan) (log : Log) (answers : List (Option Frame)) (stations : List Secondary) → AreLived plan log answers stations → length stations ≡ length plan.stations
+length_lived plan [] [] stations h = ap length h
+length_lived plan [] (a ∷ answers) stations h = absurd h
+length_lived plan (Came now event ∷ log) answers stations h = length_lived plan log answers stations h
+length_lived plan (Went now (LineOut octets) ∷ log) [] stations h = absurd h
+length_lived plan (Went now (LineOut octets) ∷ log) (a ∷ answers) stations h =
+    length_out (fate_of plan.directives (requests_in log + 1)) octets h.0 stations a h.1 ∙ length_lived plan log answers h.0 h.2
+length_lived plan (Went now (TcpOut octets) ∷ log) answers stations h = length_lived plan log answers stations h
+length_lived plan (Went now (Closed cause) ∷ log) answers stations h = length_lived plan log answers stations h

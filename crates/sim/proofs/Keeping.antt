@@ -1,8 +1,9 @@
 -- The fields of the port after one event or one action.
-use Rattle.std.proofs.Common.{◌≡◌, ℕ, ◌+◌, ◌<◌, min, List, [], ◌∷◌, ◌++◌, length, take, drop, Option, None, if◌then◌else◌, refl, sym, ap, subst, ◌∙◌, Vec, Global}
+use Rattle.std.proofs.Common.{◌≡◌, ℕ, ◌+◌, ◌<◌, min, List, [], ◌∷◌, ◌++◌, length, take, drop, Option, None, IfSome, if◌then◌else◌, refl, sym, ap, subst, ◌∙◌, Vec, Global}
 use Rattle.std.specs.List.{AllByRecursion}
 use Rattle.std.proofs.lemmas.List.{take_at}
 use Rattle.ft12.specs.declared.frame.Frame.{Frame}
+use Rattle.ft12.specs.Spelling.{Fits}
 use Rattle.link.specs.Secondary.{Secondary}
 use Rattle.gateway.specs.Log.{Log, Came, Went, Input, LineOut, TcpOut, last_moment}
 use Rattle.gateway.specs.declared.entries.Entry.{Entry}
@@ -49,15 +50,15 @@ hand_kept plan items new stations at now copy octets centre push e c k =
 
 pub ask_kept : (plan : Plan) (items new : List Told) (stations after written : List Secondary) (at : Standing) (now : ℕ) (copy : Vec ℕ Global) (octets : List ℕ) (answer : Option Frame) (waiting : Option (List ℕ)) →
     new ≡ items ++ told.Line now copy ∷ [] → copy.items ≡ octets → IsPutOut (fate_of plan.directives (at.requests + 1)) octets stations answer after → written ≡ after →
-    waiting ≡ arriving plan.size (fate_of plan.directives (at.requests + 1)) answer → Stands plan (log_of items) stations at →
+    waiting ≡ arriving plan.size (fate_of plan.directives (at.requests + 1)) answer → IfSome answer (Fits plan.size) → Stands plan (log_of items) stations at →
     Stands plan (log_of new) written (record { waiting = waiting; centre = at.centre; call = at.call; moment = at.moment; requests = at.requests + 1 })
-ask_kept plan items new stations after written at now copy octets answer waiting push e out wrote w k =
+ask_kept plan items new stations after written at now copy octets answer waiting push e out wrote w fits k =
     let onward : Standing = record { waiting = waiting; centre = at.centre; call = at.call; moment = at.moment; requests = at.requests + 1 } in
     subst (λ (ss : List Secondary). Stands plan (log_of new) ss onward) (sym wrote)
     (subst (λ (l : Log). Stands plan l after onward)
     (sym (pushed items new (told.Line now copy) (Went now (LineOut octets)) push (ap (λ (l : List ℕ). Went now (LineOut l)) e)))
     (subst (λ (v : Option (List ℕ)). Stands plan (Went now (LineOut octets) ∷ log_of items) after (record { waiting = v; centre = at.centre; call = at.call; moment = at.moment; requests = at.requests + 1 })) (sym w)
-    (stands_asked plan (log_of items) stations after at now octets answer out (sizes_out plan.size (fate_of plan.directives (at.requests + 1)) octets stations after answer out k.sizes) k)))
+    (stands_asked plan (log_of items) stations after at now octets answer out (sizes_out plan.size (fate_of plan.directives (at.requests + 1)) octets stations after answer out k.sizes) fits k)))
 
 -- the stations as they are written back
 pub written : (xs ws : List Secondary) (len : ℕ) → length ws ≡ len → take len (ws ++ drop (length ws) xs) ≡ ws

@@ -4,6 +4,14 @@ pub mod Steps
 pub mod Standing
 pub mod Spoils
 pub mod HearingLemmas
+pub mod Below
+pub mod Requests
+pub mod Turns
+pub mod Fronts
+pub mod Honest
+pub mod Serviceable
+pub mod Served
+pub mod Closing
 pub mod Keeping
 pub mod BeginningLemmas
 pub mod TextLemmas

@@ -1,8 +1,9 @@
 -- Whole runs.
-use Rattle.std.proofs.Common.{◌≡◌, ℕ, ◌+◌, ◌≤◌, true, nat_le, List, [], ◌∷◌, length, Option, Some, refl, sym, ap, subst, ◌∙◌, arith}
-use Rattle.std.specs.Prelude.{Result, Ok, Err, OnOk}
+use Rattle.std.proofs.Common.{◌≡◌, ℕ, ◌+◌, ◌≤◌, true, nat_le, List, [], ◌∷◌, length, Option, None, Some, take, drop, take-append-drop, refl, sym, ap, subst, ◌∙◌, arith}
+use Rattle.std.specs.Prelude.{Result, Ok, Err, OnOk, IfErr}
 use Rattle.std.proofs.lemmas.List.{length-append}
-use Rattle.std.specs.Io.KnownBytes.{Appends}
+use Rattle.std.specs.Io.KnownBytes.{Appends, Keeps}
+use Rattle.ft12.specs.declared.frame.Frame.{Frame}
 use Rattle.link.specs.Secondary.{Secondary}
 use Rattle.gateway.specs.Log.{Log, Came, Went, events_of}
 use Rattle.gateway.specs.Runs.{MoreEvents}
@@ -10,14 +11,19 @@ use Rattle.gateway.specs.declared.entries.Told.{Told}
 use Rattle.gateway.specs.Entries.{log_of}
 use Rattle.gateway.specs.Config.{Settings}
 use Rattle.gateway.specs.Setups.{setup_of}
-use Rattle.gateway.specs.Traffic.{IsFaithful}
+use Rattle.gateway.specs.Traffic.{IsFaithful, HasRested}
+use Rattle.delivery.specs.Delivery.{Delivers}
 use Rattle.sim.specs.declared.directive.Directive.{Directive}
+use Rattle.sim.specs.declared.simulation.SimFault.{SimFault}
+use Rattle.sim.specs.declared.simulation.SimFault.TheVariants.{NoMemory, Write}
 use Rattle.sim.specs.Losses.{turns_of}
 use Rattle.sim.specs.Lives.{Plan, plan_of}
 use Rattle.sim.specs.Calls.{calls_in}
 use Rattle.sim.specs.Played.{IsPlayed, Stands, Simulated, has_ended}
-use Rattle.sim.specs.Texts.{run_text}
-use Rattle.sim.specs.Runs.{IsSimulated}
+use Rattle.sim.specs.Closing.{connections_in, lines_of_connections}
+use Rattle.sim.specs.Texts.{connection_lines, run_text}
+use Rattle.sim.specs.Outstations.{HaveServed}
+use Rattle.sim.specs.Runs.{IsRun, IsSimulated, IsBegun, IsLeft}
 
 length-events : (log : Log) → length (events_of log) ≡ calls_in log
 length-events [] = refl
@@ -49,18 +55,51 @@ ended_calls s ended k =
     let calls : s.standing.call ≡ calls_in s.log = k.call in
     omega arith
 
+-- the run that was told
+pub told_run : (c : Settings) (ds : List Directive) (s : Simulated) (told : List Told) (stations : List Secondary) → s.plan ≡ plan_of c ds →
+    calls_in s.log ≡ turns_of ds → IsFaithful (setup_of c) s.log → HasRested (setup_of c) s.log → log_of told ≡ s.log → stations ≡ s.stations → Stands s.plan s.log s.stations s.standing →
+    ((log : Log) → IsFaithful (setup_of c) log → Delivers (setup_of c) log) →
+    ((log : Log) (answers : List (Option Frame)) (ss : List Secondary) → IsPlayed (plan_of c ds) log answers ss → IsFaithful (setup_of c) log → HaveServed c ds log 0 ss) →
+    (IsFaithful (setup_of c) (log_of told) → (d : Delivers (setup_of c) (log_of told)) → connection_lines 1 told ≡ lines_of_connections (connections_in (log_of told) d.here d.earlier)) → IsRun c ds told stations
+told_run c ds s told stations plan calls faithful rests log same k delivers serve count =
+    let played : IsPlayed (plan_of c ds) (log_of told) k.answers stations = subst (λ (ss : List Secondary). IsPlayed (plan_of c ds) (log_of told) k.answers ss) (sym same)
+    (subst (λ (l : Log). IsPlayed (plan_of c ds) l k.answers s.stations) (sym log)
+    (subst (λ (q : Plan). IsPlayed q s.log k.answers s.stations) plan k.played)) in
+    let kept : IsFaithful (setup_of c) (log_of told) = subst (IsFaithful (setup_of c)) (sym log) faithful in
+    record {
+      answers = k.answers;
+      played = played;
+      calls = ap calls_in log ∙ calls;
+      faithful = kept;
+      rests = subst (HasRested (setup_of c)) (sym log) rests;
+      delivers = delivers (log_of told) kept;
+      served = serve (log_of told) k.answers stations played kept;
+      connections = count kept (delivers (log_of told) kept);
+    }
+
 -- what was written is the text of the run
-pub simulated : (c : Settings) (ds : List Directive) (before after : Option (List ℕ)) (s : Simulated) (told : List Told) (stations : List Secondary) (octets : List ℕ) → s.plan ≡ plan_of c ds →
-    calls_in s.log ≡ turns_of ds → IsFaithful (setup_of c) s.log → log_of told ≡ s.log → stations ≡ s.stations → Stands s.plan s.log s.stations s.standing →
+pub simulated : (c : Settings) (ds : List Directive) (before after : Option (List ℕ)) (told : List Told) (stations : List Secondary) (octets : List ℕ) → IsRun c ds told stations →
     octets ≡ run_text ds told stations → Appends before after octets → IsSimulated c ds before after
-simulated c ds before after s told stations octets plan calls faithful log same k is wrote = record {
-  told = told;
-  answers = k.answers;
-  stations = stations;
-  played = subst (λ (ss : List Secondary). IsPlayed (plan_of c ds) (log_of told) k.answers ss) (sym same)
-      (subst (λ (l : Log). IsPlayed (plan_of c ds) l k.answers s.stations) (sym log)
-      (subst (λ (q : Plan). IsPlayed q s.log k.answers s.stations) plan k.played));
-  calls = ap calls_in log ∙ calls;
-  faithful = subst (IsFaithful (setup_of c)) (sym log) faithful;
-  text = subst (Appends before after) is wrote;
-}
+simulated c ds before after told stations octets run is wrote = record { told = told; stations = stations; run = run; text = subst (Appends before after) is wrote }
+
+-- or its beginning
+pub cut_short : (c : Settings) (ds : List Directive) (before after : Option (List ℕ)) (told : List Told) (stations : List Secondary) (octets : List ℕ) (e : SimFault) → IsRun c ds told stations →
+    octets ≡ run_text ds told stations → (e ≡ Write) × IsBegun before after octets → IsLeft c ds before after e
+cut_short c ds before after told stations octets e run is wrote =
+    subst (IsLeft c ds before after) (sym wrote.0) (record { told = told; stations = stations; run = run; text = subst (IsBegun before after) is wrote.1 })
+
+pub on_err : {T E : Type 0} (r : Result T E) (P Q : E → Type 0) → IfErr r P → ((e : E) → P e → Q e) → IfErr r Q
+on_err (Ok v) P Q a f = tt
+on_err (Err e) P Q a f = f e a
+
+-- nothing is written for want of memory
+pub kept_nothing : (c : Settings) (ds : List Directive) (before : Option (List ℕ)) (e : SimFault) → e ≡ NoMemory → IsLeft c ds before before e
+kept_nothing c ds before e is = subst (IsLeft c ds before before) (sym is) (keeps_same before)
+  where
+    keeps_same : (known : Option (List ℕ)) → Keeps known known
+    keeps_same None = tt
+    keeps_same (Some xs) = refl
+
+-- the first octets of them all
+pub begun_so_far : (before after : Option (List ℕ)) (octets : List ℕ) (n : ℕ) → Appends before after (take n octets) → IsBegun before after octets
+begun_so_far before after octets n wrote = (take n octets, (drop n octets, take-append-drop n octets), wrote)

@@ -1,8 +1,9 @@
 -- A run goes on by one event or one action.
-use Rattle.std.proofs.Common.{◌≡◌, ℕ, ◌+◌, ◌<◌, ◌≤◌, min, Bool, true, false, List, [], ◌∷◌, length, Option, None, refl, sym, ap, subst, ◌∙◌, arith}
+use Rattle.std.proofs.Common.{◌≡◌, ℕ, ◌+◌, ◌<◌, ◌≤◌, min, Bool, true, false, List, [], ◌∷◌, length, Option, None, IfSome, refl, sym, ap, subst, ◌∙◌, arith}
 use Rattle.std.specs.Prelude.{◌==◌}
 use Rattle.std.specs.List.{AllByRecursion}
 use Rattle.ft12.specs.declared.frame.Frame.{Frame}
+use Rattle.ft12.specs.Spelling.{Fits}
 use Rattle.link.specs.Secondary.{Secondary}
 use Rattle.gateway.specs.Log.{Log, LogEntry, Came, Went, Input, LineIn, Opened, TcpIn, CutOff, Ticked, LineOut, TcpOut, Closed, last_moment}
 use Rattle.session.specs.declared.kinds.Close.{Close}
@@ -57,6 +58,7 @@ came_with plan log stations at now event e f few k = record {
   answers = k.answers;
   played = record {
     lived = k.played.lived;
+    fit = k.played.fit;
     follows = (
       e ∙ ap (λ (n : ℕ). event_at plan.directives (n + 1) at.centre at.waiting) k.call
           ∙ ap (λ (c : Centre). event_at plan.directives (calls_in log + 1) c at.waiting) k.centre
@@ -88,13 +90,14 @@ stands_came plan log stations at entry e few k =
 
 -- a request
 pub stands_asked : (plan : Plan) (log : Log) (stations new : List Secondary) (at : Standing) (now : ℕ) (octets : List ℕ) (answer : Option Frame) →
-    IsPutOut (fate_of plan.directives (at.requests + 1)) octets stations answer new → AllByRecursion (λ s. s.size ≡ plan.size) new → Stands plan log stations at →
+    IsPutOut (fate_of plan.directives (at.requests + 1)) octets stations answer new → AllByRecursion (λ s. s.size ≡ plan.size) new → IfSome answer (Fits plan.size) → Stands plan log stations at →
     Stands plan (Went now (LineOut octets) ∷ log) new
     (record { waiting = arriving plan.size (fate_of plan.directives (at.requests + 1)) answer; centre = at.centre; call = at.call; moment = at.moment; requests = at.requests + 1 })
-stands_asked plan log stations new at now octets answer out sizes k = record {
+stands_asked plan log stations new at now octets answer out sizes fits k = record {
   answers = answer ∷ k.answers;
   played = record {
     lived = (stations, subst (λ (n : ℕ). IsPutOut (fate_of plan.directives (n + 1)) octets stations answer new) k.requests out, k.played.lived);
+    fit = (fits, k.played.fit);
     follows = k.played.follows;
   };
   waiting = ap (λ (n : ℕ). arriving plan.size (fate_of plan.directives (n + 1)) answer) k.requests;
@@ -129,7 +132,7 @@ pub stands_handed : (plan : Plan) (log : Log) (stations : List Secondary) (at : 
     Stands plan (Went now (TcpOut octets) ∷ log) stations (record at { centre = after_receiving octets at.centre })
 stands_handed plan log stations at now octets k = record {
   answers = k.answers;
-  played = record { lived = k.played.lived; follows = k.played.follows };
+  played = record { lived = k.played.lived; fit = k.played.fit; follows = k.played.follows };
   waiting = k.waiting;
   centre = ap (after_receiving octets) k.centre;
   call = k.call;
@@ -148,7 +151,7 @@ pub stands_closed : (plan : Plan) (log : Log) (stations : List Secondary) (at : 
     Stands plan (Went now (Closed cause) ∷ log) stations (record at { centre = shut })
 stands_closed plan log stations at now cause k = record {
   answers = k.answers;
-  played = record { lived = k.played.lived; follows = k.played.follows };
+  played = record { lived = k.played.lived; fit = k.played.fit; follows = k.played.follows };
   waiting = k.waiting;
   centre = refl;
   call = k.call;
@@ -167,7 +170,7 @@ pub stands_fresh : (plan : Plan) (stations : List Secondary) (centre : Centre) �
     Stands plan [] stations (record { waiting = None; centre = centre; call = 0; moment = 0; requests = 0 })
 stands_fresh plan stations centre c e sizes = subst (λ (d : Centre). Stands plan [] stations (record { waiting = None; centre = d; call = 0; moment = 0; requests = 0 })) (sym c) (record {
   answers = [];
-  played = record { lived = e; follows = tt };
+  played = record { lived = e; fit = tt; follows = tt };
   waiting = refl;
   centre = refl;
   call = refl;

@@ -4,7 +4,7 @@ use Rattle.std.proofs.lemmas.List.{append-nil, take_more, take_all, drop_more, d
 use Rattle.std.specs.List.{flat_map}
 use Rattle.asdu.specs.Asdu.{AsduValue, Info}
 use Rattle.asdu.specs.InformationObjects.{InformationObject, object_in, only_if, is_passed_on, value_objects}
-use Rattle.std.specs.Io.KnownBytes.{Appends}
+use Rattle.std.specs.Io.KnownBytes.{Appends, Keeps}
 use Rattle.gateway.specs.declared.entries.Told.{Told}
 use Rattle.link.specs.Secondary.{Secondary}
 use Rattle.sim.specs.declared.directive.Directive.{Directive}
@@ -86,6 +86,12 @@ pub written_more : (a b c : Option (List ℕ)) (xs : List ℕ) (done n : ℕ) �
 written_more a b c xs done n p q =
     let all : take (length xs - done) (drop done xs) ≡ drop done xs = take_all (length xs - done) (drop done xs) (omega (arith, length-drop done xs)) in
     subst (Appends a c) (sym (take_add done n (done + n) xs refl)) (appends_more a b c (take done xs) (take n (drop done xs)) p (subst (λ (l : List ℕ). Appends b c (take n l)) all q))
+
+pub kept_more : (a b c : Option (List ℕ)) (xs : List ℕ) → Appends a b xs → Keeps b c → Appends a c xs
+kept_more None b c xs p q = tt
+kept_more (Some a) None c xs p q = absurd p
+kept_more (Some a) (Some b) None xs p q = absurd q
+kept_more (Some a) (Some b) (Some c) xs p q = q ∙ p
 
 length-objects : (u : AsduValue) (infos : List Info) → length (map (object_in u) infos) ≡ length infos
 length-objects u [] = refl

@@ -7,4 +7,6 @@ pub mod Calls
 pub mod Dues
 pub mod Played
 pub mod Texts
+pub mod Outstations
+pub mod Closing
 pub mod Runs

@@ -1,7 +1,8 @@
 -- Runs of a simulated line.
-use Rattle.std.specs.Prelude.{◌≡◌, ℕ, ◌+◌, ◌≤◌, min, nat_le, Bool, true, false, if◌then◌else◌, List, [], Option, None, length}
+use Rattle.std.specs.Prelude.{◌≡◌, ℕ, ◌+◌, ◌≤◌, min, nat_le, Bool, true, false, if◌then◌else◌, List, [], Option, None, IfSome, length}
 use Rattle.std.specs.List.{AllByRecursion}
 use Rattle.ft12.specs.declared.frame.Frame.{Frame}
+use Rattle.ft12.specs.Spelling.{Fits}
 use Rattle.link.specs.Secondary.{Secondary}
 use Rattle.gateway.specs.Log.{Log, LogEntry, Came, Went, LineIn, last_moment}
 use Rattle.sim.specs.declared.centre.Centre.{Centre}
@@ -10,9 +11,11 @@ use Rattle.sim.specs.Losses.{turns_of}
 use Rattle.sim.specs.Lives.{Plan, AreLived, waiting_in, requests_in}
 use Rattle.sim.specs.Calls.{calls_in, moment_of, event_at, lasting, FollowsPlan}
 
--- The log is a run of the plan, in which the stations answered the requests so, the newest first, and which leaves them so.
+-- The log is a run of the plan, in which the stations answered the requests so, the newest first, each answer by a frame that has
+-- a spelling; and which leaves them so.
 pub record IsPlayed (plan : Plan) (log : Log) (answers : List (Option Frame)) (stations : List Secondary) : Type 0 where
   pub lived : AreLived plan log answers stations
+  pub fit : AllByRecursion (λ answer. IfSome answer (Fits plan.size)) answers
   pub follows : FollowsPlan plan log answers
 
 -- where a run stands: what waits, what the control centre knows, and how many calls and requests there were

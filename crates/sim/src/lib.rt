@@ -9,8 +9,16 @@
 //! nothing, or what no script can have beside the lines before it. It is an invariant of [`Sim`] that each event of its log is
 //! what the script gives at that call (the first of seven that applies, `specs/Calls.antt`), and that its stations have heard each
 //! request that isn't lost, by every step of `link`'s machine, and nothing else (`specs/Lives.antt`): an answer waits until it is
-//! given, or a next request goes out. What [`simulate`] writes is the text of such a run, of as many calls as the script says, in
-//! which the gateway keeps every promise of a gateway.
+//! given, or a next request goes out.
+//!
+//! So in such a run each station is an honest outstation, whatever is lost or spoilt ([`stations_are_honest`],
+//! `specs/Outstations.antt`): no answer comes late or altered unseen, it gives the script's reports of each class in order, each once,
+//! and what is taken from it is what it gave, or all but the last: in each session of its link, and where unanswered services are held
+//! in the whole run. The closing lines have the numbers of that run ([`connections_are_counted`], `specs/Closing.antt`). What
+//! [`simulate`] writes is the text of such a run, of as many calls as the script says, in which the gateway keeps every promise of a
+//! gateway and delivers what was taken; where a write fails it is the beginning of that text (`specs/Runs.antt`).
+//!
+//! Not proved: that a report is ever asked for, or that want of memory is the only cause of `NoMemory`.
 #![tactic(auto)]
 
 mod beginning;
@@ -18,6 +26,7 @@ mod centre;
 mod directive;
 mod due;
 mod hearing;
+mod laws;
 mod line;
 mod reading;
 mod script;
@@ -26,6 +35,7 @@ mod simulation;
 mod text;
 
 pub use directive::{Class, Directive, Fate};
+pub use laws::{connections_are_counted, stations_are_honest};
 pub use reading::read_script;
 pub use script::Script;
 pub use sim::Sim;

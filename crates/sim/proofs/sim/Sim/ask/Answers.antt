@@ -35,5 +35,6 @@ invariant_of-self-2 c =
           (written c.self.inside.stations.items c.put_out-answer.new.stations c.self.inside.stations.len (omega (arith, same, c.self.inside.stations.ok.0, c.self.inside.stations.ok.1)))
           (c.arriving-self-inside.ensures ∙ ap (λ (l : LineSettings). arriving l.link c.fate-fate.result c.put_out-answer.result) c.line.ensures
           ∙ ap (λ (f : Fate). arriving c.self.inside.config.now.line.link f c.put_out-answer.result) fate)
+          (c.put_out-answer.ensures.fits c.self.inside.config.now.line.link (subst (λ (ss : List Secondary). AllByRecursion (λ s. s.size ≡ c.self.inside.config.now.line.link) ss) (sym c.as_mut_slice.ensures.value) c.self.invariant.1.sizes))
           c.self.invariant.1,
     )

@@ -1,0 +1,175 @@
+-- What each station did, put together.
+use Rattle.std.proofs.Common.{◌≡◌, ◌≢◌, ℕ, zero, suc, ◌+◌, ◌<◌, Bool, true, false, List, [], ◌∷◌, ◌++◌, length, get_or, map, Option, Some, refl, sym, ap, subst, ◌∙◌, arith, zero-add, if◌then◌else◌}
+use Rattle.std.specs.Prelude.{option_map, cond, count_by, ◌&&◌, ◌==◌}
+use Rattle.std.specs.List.{AllByRecursion, flat_map}
+use Rattle.std.proofs.lemmas.List.{length-append, length-map}
+use Rattle.std.proofs.lemmas.List.Sums.{sum_by-cons}
+use Rattle.std.proofs.lemmas.Bool.{eq-eqb, ne_eqb}
+use Rattle.ft12.specs.declared.frame.LinkSize.{LinkSize}
+use Rattle.ft12.specs.declared.frame.Frame.{Frame}
+use Rattle.link.specs.declared.answer.Answer.TheVariants.{Unable}
+use Rattle.link.specs.declared.service.Asked.{Asked}
+use Rattle.link.specs.Delivery.{requests_of, reports}
+use Rattle.link.specs.Exchanges.{answer_to, all_of}
+use Rattle.link.specs.Life.{given1, given2, saturated}
+use Rattle.link.specs.Outstation.{Turn, OutstationRun, unreset, all_done}
+use Rattle.link.specs.Secondary.{Secondary, fresh_station, outstation_of}
+use Rattle.gateway.specs.declared.settings.Station.{Station}
+use Rattle.gateway.specs.declared.settings.Silence.TheVariants.{Hold}
+use Rattle.gateway.specs.Config.{Settings, AreApart, AreDistinct}
+use Rattle.gateway.specs.Log.{Log}
+use Rattle.gateway.specs.Reports.{Setup, address_at, index_of, AreFound, exchanges_of, exchanges_with}
+use Rattle.gateway.specs.Setups.{setup_of, holds}
+use Rattle.gateway.specs.Traffic.{IsFaithful}
+use Rattle.delivery.specs.Delivery.{IsHonest, IsSteady, Delivers}
+use Rattle.sim.specs.declared.directive.Class.TheVariants.{One, Two}
+use Rattle.sim.specs.declared.directive.Directive.{Directive}
+use Rattle.sim.specs.declared.directive.Directive.TheVariants.{Turns, Ack, Report, LoseRequest, LoseAnswer, SpoilAnswer, Cut, Send}
+use Rattle.sim.specs.Losses.{report_said}
+use Rattle.sim.specs.Lives.{begun_from, plan_of, waiting_in}
+use Rattle.sim.specs.Outstations.{requests_to, first_station, HasSessions, HasServed, HaveServed}
+use Rattle.sim.specs.Texts.{reports_for}
+use Rattle.sim.specs.Played.{IsPlayed}
+use Rattle.sim.proofs.Below.{Laws}
+use Rattle.sim.proofs.BeginningLemmas.{begun_sizes}
+use Rattle.sim.proofs.HearingLemmas.{length_lived}
+use Rattle.sim.proofs.Turns.{asked_of, DidAll, did_all}
+use Rattle.sim.proofs.Fronts.{HasFronts, all_fronts}
+use Rattle.sim.proofs.Honest.{FitsPlan, Serves, serves, same_asked}
+use Rattle.sim.proofs.Serviceable.{never_unable, willing_turns}
+
+-- The settings fit the plan
+
+begun_addresses : (size : LinkSize) (n : ℕ) (ds : List Directive) (ss : List Station) → map (λ (s : Secondary). s.address) (begun_from size n ds ss) ≡ map (λ (s : Station). s.address) ss
+begun_addresses size n ds [] = refl
+begun_addresses size n ds (s ∷ ss) = ap (λ (l : List ℕ). s.address ∷ l) (begun_addresses size (n + 1) ds ss)
+
+-- an address is none of the other stations'
+none_of : (a : ℕ) (ss : List Station) (i : ℕ) → ((t : Station) → AllByRecursion (AreApart t) ss → t.address ≡ a → i < length ss → a ≢ address_at (map (λ (s : Station). s.address) ss) i)
+none_of a [] i t all is lt = absurd (omega arith)
+none_of a (s ∷ ss) zero t all is lt = λ e. all.0.0 (is ∙ e)
+none_of a (s ∷ ss) (suc i) t all is lt = none_of a ss i t all.1 is (omega arith)
+
+found_apart : (ss : List Station) → AreDistinct ss → AreFound (map (λ (s : Station). s.address) ss)
+found_apart [] h i lt = absurd (omega (arith, lt))
+found_apart (s ∷ ss) h zero lt = ap (λ (b : Bool). if b then Some 0 else option_map suc (index_of s.address (map (λ (t : Station). t.address) ss))) (eq-eqb s.address s.address refl)
+found_apart (s ∷ ss) h (suc i) lt =
+    let a : ℕ = address_at (map (λ (t : Station). t.address) ss) i in
+    let within : i < length ss = omega (arith, lt, length-map ss (λ (t : Station). t.address)) in
+    ap (λ (b : Bool). if b then Some 0 else option_map suc (index_of a (map (λ (t : Station). t.address) ss))) (ne_eqb s.address a (none_of s.address ss i s h.0 refl within))
+    ∙ ap (option_map suc) (found_apart ss h.1 i (omega (arith, lt)))
+
+fits_plan : (c : Settings) (ds : List Directive) → AreDistinct c.stations → FitsPlan (setup_of c) (plan_of c ds)
+fits_plan c ds apart = record {
+  size = refl;
+  addresses = begun_addresses c.line.link 0 ds c.stations;
+  found = found_apart c.stations apart;
+  sizes = begun_sizes c.line.link 0 ds c.stations;
+}
+
+begun_at : (size : LinkSize) (n m : ℕ) (ds : List Directive) (ss : List Station) (i : ℕ) (d : Secondary) → i < length ss → m ≡ n + i →
+    get_or (begun_from size n ds ss) i d ≡ record (fresh_station size (address_at (map (λ (s : Station). s.address) ss) i)) {
+      class1 = flat_map (report_said m One) ds;
+      class2 = flat_map (report_said m Two) ds;
+    }
+begun_at size n m ds [] i d lt e = absurd (omega arith)
+begun_at size n m ds (s ∷ ss) zero d lt e =
+    let same : n ≡ m = omega arith in
+    ap (λ (k : ℕ). record (fresh_station size s.address) { class1 = flat_map (report_said k One) ds; class2 = flat_map (report_said k Two) ds }) same
+begun_at size n m ds (s ∷ ss) (suc i) d lt e = begun_at size (n + 1) m ds ss i d (omega arith) (omega arith)
+
+-- One station
+
+-- the laws of `delivery`
+abbrev pub Delivered : Type 0
+Delivered = (p : Setup) (log : Log) → IsFaithful p log → Delivers p log
+
+abbrev pub Steadied : Type 0
+Steadied = (p : Setup) (log : Log) (i : ℕ) → IsFaithful p log → i < length p.addresses → p.link.hold ≡ true →
+    AllByRecursion (λ x. answer_to (address_at p.addresses i) x ≢ Some Unable) (exchanges_with p i log) → IsSteady p log i
+
+-- what it says of sessions
+abbrev pub SessionsKnown : Type 0
+SessionsKnown = (p : Setup) (log : Log) (i : ℕ) (turns : List Turn) → IsFaithful p log → i < length p.addresses → IsHonest p log i turns → HasSessions p log i turns
+
+-- the reports that a line of a script gives it
+reported_by : (index : ℕ) (d : Directive) → cond (reports_for index d) 1 0 ≡ length (report_said index One d) + length (report_said index Two d)
+reported_by index (Report i One octets) = go (i == index)
+  where
+    go : (b : Bool) → cond b 1 0 ≡ length (if b && true then octets ∷ [] else []) + length (if b && false then octets ∷ [] else [])
+    go true = omega arith
+    go false = omega arith
+reported_by index (Report i Two octets) = go (i == index)
+  where
+    go : (b : Bool) → cond b 1 0 ≡ length (if b && false then octets ∷ [] else []) + length (if b && true then octets ∷ [] else [])
+    go true = omega arith
+    go false = omega arith
+reported_by index (Turns n) = omega arith
+reported_by index (Ack n) = omega arith
+reported_by index (LoseRequest n) = omega arith
+reported_by index (LoseAnswer n) = omega arith
+reported_by index (SpoilAnswer n place) = omega arith
+reported_by index (Cut n) = omega arith
+reported_by index (Send n octets) = omega arith
+
+reported_all : (index : ℕ) (ds : List Directive) → count_by (reports_for index) ds ≡ length (flat_map (report_said index One) ds) + length (flat_map (report_said index Two) ds)
+reported_all index [] = refl
+reported_all index (d ∷ ds) =
+    sum_by-cons (λ (x : Directive). cond (reports_for index x) 1 0) d ds
+    ∙ omega (arith, reported_by index d, reported_all index ds, length-append (report_said index One d) (flat_map (report_said index One) ds), length-append (report_said index Two d) (flat_map (report_said index Two) ds))
+
+served_so : (laws : Laws) → Delivered → Steadied → SessionsKnown → (c : Settings) (ds : List Directive) (log : Log) (waiting : Option (List ℕ)) (i : ℕ) (s : Secondary) → IsFaithful (setup_of c) log → i < length (setup_of c).addresses →
+    Serves (setup_of c) (requests_to (setup_of c) ds i log) (exchanges_of (setup_of c) log) waiting i (first_station c ds i) s → HasServed c ds log i s
+served_so laws delivers steadies known c ds log waiting i s faithful lt h =
+    let p : Setup = setup_of c in
+    let a : ℕ = address_at p.addresses i in
+    let asked : requests_of (exchanges_with p i log) ≡ asked_of (requests_to p ds i log) = same_asked p ds i log in
+    let fronts : HasFronts p.link.size i (all_of (exchanges_of p log)) h.turns = all_fronts p.link.size i (exchanges_of p log) h.turns waiting h.fronts in
+    let all : DidAll (first_station c ds i) (asked_of (requests_to p ds i log)) h.turns s = did_all laws (first_station c ds i) s (requests_to p ds i log) h.turns (omega arith) h.readable h.took in
+    let honest : IsHonest p log i h.turns = record {
+      end = outstation_of s;
+      run = subst (λ (rs : List Asked). OutstationRun a unreset rs h.turns (outstation_of s)) (sym asked) all.run;
+      fronts = fronts.fronts;
+    } in
+    let steady : c.line.silence ≡ Hold → IsSteady p log i = λ (held : c.line.silence ≡ Hold). steadies p log i faithful lt (ap holds held)
+    (never_unable a (exchanges_with p i log) h.turns fronts.long (willing_turns (first_station c ds i) s (requests_to p ds i log) h.turns tt h.took) fronts.fronts) in
+    record {
+      turns = h.turns;
+      took = h.took;
+      honest = honest;
+      class1 = (s.class1, ap (λ (rs : List Asked). given1 rs h.turns ++ s.class1) asked ∙ all.class1);
+      class2 = (s.class2, ap (λ (rs : List Asked). given2 rs h.turns ++ s.class2) asked ∙ all.class2);
+      reported = reported_all i ds;
+      given = all.given ∙ ap saturated (zero-add (length (reports (all_done h.turns))));
+      accepted = sym all.accepted;
+      sessions_known = known p log i h.turns faithful lt honest;
+      steady = steady;
+      relayed = λ (held : c.line.silence ≡ Hold). let given_on = delivers p log faithful in given_on.relayed i h.turns lt honest (steady held);
+    }
+
+-- All stations
+
+have_served : (c : Settings) (ds : List Directive) (log : Log) (n : ℕ) (ss : List Secondary) (d : Secondary) → ((i : ℕ) → i < length ss → HasServed c ds log (n + i) (get_or ss i d)) → HaveServed c ds log n ss
+have_served c ds log n [] d h = tt
+have_served c ds log n (s ∷ ss) d h =
+    let same : n + 0 ≡ n = omega arith in (
+      subst (λ (k : ℕ). HasServed c ds log k s) same (h 0 (omega arith)),
+      have_served c ds log (n + 1) ss d (λ i lt. let one : n + suc i ≡ (n + 1) + i = omega arith in subst (λ (k : ℕ). HasServed c ds log k (get_or ss i d)) one (h (suc i) (omega arith))),
+    )
+
+pub all_served : (laws : Laws) → Delivered → Steadied → SessionsKnown → (c : Settings) (ds : List Directive) (log : Log) (answers : List (Option Frame)) (stations : List Secondary) → AreDistinct c.stations → IsPlayed (plan_of c ds) log answers stations →
+    IsFaithful (setup_of c) log → HaveServed c ds log 0 stations
+all_served laws delivers steadies known c ds log answers stations apart played faithful =
+    let p : Setup = setup_of c in
+    let d : Secondary = fresh_station c.line.link 0 in
+    let fits : FitsPlan p (plan_of c ds) = fits_plan c ds apart in
+    have_served c ds log 0 stations d (λ i lt.
+    let short : length stations ≡ length (plan_of c ds).stations = length_lived (plan_of c ds) log answers stations played.lived in
+    let within : i < length p.addresses = omega (arith, lt, short, ap length fits.addresses, length-map (plan_of c ds).stations (λ (s : Secondary). s.address)) in
+    let set : i < length c.stations = omega (arith, within, length-map c.stations (λ (s : Station). s.address)) in
+    let same : 0 + i ≡ i = omega arith in
+    let begins : get_or (plan_of c ds).stations i d ≡ first_station c ds i = begun_at c.line.link 0 i ds c.stations i d set (omega arith) in
+    subst (λ (k : ℕ). HasServed c ds log k (get_or stations i d)) (sym same)
+    (served_so laws delivers steadies known c ds log (waiting_in (plan_of c ds) log answers) i (get_or stations i d) faithful within
+    (subst (λ (f : Secondary). Serves p (requests_to p ds i log) (exchanges_of p log) (waiting_in (plan_of c ds) log answers) i f (get_or stations i d)) begins
+    (serves laws p (plan_of c ds) log answers stations i d fits within played.lived played.fit played.follows faithful.acts))))

@@ -1,0 +1,25 @@
+use Rattle.sim.proofs.Below.{Laws}
+use Rattle.sim.proofs.Served.{SessionsKnown, all_served}
+use Rattle.sim.proofs.laws.stations_are_honest.Goals as goal
+
+pub returns : goal.returns
+returns c =
+    let laws : Laws = record {
+      right = c.front_is_computed.ensures.right;
+      nothing = c.front_is_computed.ensures.nothing;
+      whole = c.front_is_computed.ensures.whole;
+      spelled = c.front_is_computed.ensures.spelled;
+      spoils = c.spoilt_lines_are_no_lines.ensures.front;
+      run = c.station_is_an_outstation.ensures.run;
+      class1 = c.station_is_an_outstation.ensures.class1;
+      class2 = c.station_is_an_outstation.ensures.class2;
+      accepted = c.station_is_an_outstation.ensures.accepted;
+      given = c.station_is_an_outstation.ensures.given;
+    } in
+    let known : SessionsKnown = λ p log i turns faithful lt honest. record {
+      each_report = c.each_session_is_known.ensures.reports p log i turns faithful lt honest;
+      each_command = c.each_session_is_known.ensures.commands p log i turns faithful lt honest;
+      joined = c.each_session_is_known.ensures.joined p log i turns faithful lt honest;
+    } in
+    λ settings ds log answers stations apart played faithful.
+    all_served laws c.nothing_is_lost.ensures c.silence_is_no_reset.ensures known settings ds log answers stations apart played faithful

@@ -1,0 +1,48 @@
+//! What holds of every run over a simulated line.
+ghost use Rattle.std.specs.Prelude.{◌≡◌, List, Option};
+ghost use Rattle.ft12.specs.declared.frame.Frame.{Frame};
+ghost use Rattle.link.specs.Secondary.{Secondary};
+ghost use Rattle.gateway.specs.declared.entries.Told.{Told};
+ghost use Rattle.gateway.specs.Config.{Settings, AreDistinct};
+ghost use Rattle.gateway.specs.Entries.{log_of};
+ghost use Rattle.gateway.specs.Log.{Log};
+ghost use Rattle.gateway.specs.Reports.{Setup};
+ghost use Rattle.gateway.specs.Setups.{setup_of};
+ghost use Rattle.gateway.specs.Traffic.{IsFaithful};
+ghost use Rattle.delivery.specs.Delivery.{Delivers};
+ghost use Rattle.sim.specs.declared.directive.Directive.{Directive};
+ghost use Rattle.sim.specs.Lives.{plan_of};
+ghost use Rattle.sim.specs.Played.{IsPlayed};
+ghost use Rattle.sim.specs.Outstations.{HaveServed};
+ghost use Rattle.sim.specs.Texts.{connection_lines};
+ghost use Rattle.sim.specs.Closing.{connections_in, lines_of_connections};
+
+use apci::spellings_cancel;
+use delivery::{each_session_is_known, nothing_is_lost, silence_is_no_reset};
+use ft12::{front_is_computed, spoilt_lines_are_no_lines};
+use link::station_is_an_outstation;
+
+/// Whatever requests and answers a script loses or spoils, each simulated station is an honest outstation: it took its turns as the
+/// standard has it, no answer of it came late, and none was altered unseen. It gave the script's reports of each class in order,
+/// each once. In each session of its link what was taken from it is what it gave, or all but the last; and so for the commands that it
+/// accepted. Where unanswered services are held its link is never reset, and this holds of the whole run.
+pub fn stations_are_honest()
+    ensures { (c : Settings) (ds : List Directive) (log : Log) (answers : List (Option Frame)) (stations : List Secondary) → AreDistinct c.stations →
+        IsPlayed (plan_of c ds) log answers stations → IsFaithful (setup_of c) log → HaveServed c ds log 0 stations }
+{
+    front_is_computed();
+    spoilt_lines_are_no_lines();
+    station_is_an_outstation();
+    nothing_is_lost();
+    each_session_is_known();
+    silence_is_no_reset();
+}
+
+/// The closing lines of a run's connections, which the text counts from its actions, have the numbers of the monitor objects that
+/// the frames of the connections bear.
+pub fn connections_are_counted()
+    ensures { (p : Setup) (told : List Told) → IsFaithful p (log_of told) → (d : Delivers p (log_of told)) →
+        connection_lines 1 told ≡ lines_of_connections (connections_in (log_of told) d.here d.earlier) }
+{
+    spellings_cancel();
+}
