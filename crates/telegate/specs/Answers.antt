@@ -13,7 +13,7 @@ use Rattle.traces.specs.Actions.{lines_of_actions}
 use Rattle.traces.specs.Trace.{IsTraceOf}
 use Rattle.traces.specs.declared.reading.TextFault.TheVariants.{Line as WrongLine}
 use Rattle.gateway.specs.Config.{Settings}
-use Rattle.gateway.specs.Entries.{script_of, log_of}
+use Rattle.gateway.specs.Entries.{script_of}
 use Rattle.gateway.specs.Log.{Log, events_of}
 use Rattle.gateway.specs.Setups.{setup_of}
 use Rattle.gateway.specs.Traffic.{IsFaithful, HasRested}
@@ -129,11 +129,9 @@ IsRunFault config trace _ = ⊥
 abbrev pub IsReplayed : List ℕ → List ℕ → Result Answer Fault → Type 0
 IsReplayed config trace result = MatchResult result (IsRunAnswer config trace) (IsRunFault config trace)
 
--- The text of a run of the script over a simulated line: the log keeps every promise of a gateway with these settings, and so delivers
--- what the stations reported.
+-- the text of a run of the script over a simulated line, whatever it loses
 pub record IsSimulation (settings : Settings) (script : List Directive) (answer : Answer) : Type 0 where
   pub run : IsSimulated settings script (Some []) (Some answer.text.items)
-  pub delivers : Delivers (setup_of settings) (log_of run.told)
   pub status : answer.status ≡ 0
 
 pub record IsSimulationAnswer (config text : List ℕ) (answer : Answer) : Type 0 where

@@ -5,7 +5,6 @@ ghost use Rattle.telegate.specs.Answers.{IsSimulatedBy, IsSimulationOf};
 use crate::answer::Answer;
 use crate::check::read_config;
 use crate::fault::{DONE, Fault};
-use delivery::nothing_is_lost;
 use gateway::Config;
 use sim::{Script, TextFault, read_script};
 use std::alloc::Global;
@@ -28,7 +27,6 @@ fn run(alloc: Global, config: &Config, script: &Script) -> Result<Answer, Fault>
     requires { FitsSettings config.now script.now }
     ensures { IsSimulationOf config.now script.now result }
 {
-    nothing_is_lost();
     let mut text = Vec::new(alloc);
     match sim::simulate(alloc, config, script, &mut text) {
         Ok(()) => Ok(Answer { text, status: DONE }),
