@@ -11,3 +11,5 @@ pub mod Runs
 pub mod Ruled
 pub mod Passing
 pub mod Full
+pub mod Staying
+pub mod OwnAnswers

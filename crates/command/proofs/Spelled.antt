@@ -29,19 +29,20 @@ pub record Names (octet : ℕ) : Type 0 where
   pub code : (row type).code ≡ octet
   pub size : (row type).size ≡ element_len octet
   pub tagged : (row type).tagged ≡ false
+  pub monitor : (row type).monitor ≡ false
 
 process_at : (d code : ℕ) → code ≡ 45 + d → d < 5 → Names code
 unfolding type_of
-process_at zero code e h = subst Names (sym e) (record { type = CScNa1; named = refl; code = refl; size = refl; tagged = refl })
-process_at (suc zero) code e h = subst Names (sym e) (record { type = CDcNa1; named = refl; code = refl; size = refl; tagged = refl })
-process_at (suc (suc zero)) code e h = subst Names (sym e) (record { type = CRcNa1; named = refl; code = refl; size = refl; tagged = refl })
-process_at (suc (suc (suc zero))) code e h = subst Names (sym e) (record { type = CSeNa1; named = refl; code = refl; size = refl; tagged = refl })
-process_at (suc (suc (suc (suc zero)))) code e h = subst Names (sym e) (record { type = CSeNb1; named = refl; code = refl; size = refl; tagged = refl })
+process_at zero code e h = subst Names (sym e) (record { type = CScNa1; named = refl; code = refl; size = refl; tagged = refl; monitor = refl })
+process_at (suc zero) code e h = subst Names (sym e) (record { type = CDcNa1; named = refl; code = refl; size = refl; tagged = refl; monitor = refl })
+process_at (suc (suc zero)) code e h = subst Names (sym e) (record { type = CRcNa1; named = refl; code = refl; size = refl; tagged = refl; monitor = refl })
+process_at (suc (suc (suc zero))) code e h = subst Names (sym e) (record { type = CSeNa1; named = refl; code = refl; size = refl; tagged = refl; monitor = refl })
+process_at (suc (suc (suc (suc zero)))) code e h = subst Names (sym e) (record { type = CSeNb1; named = refl; code = refl; size = refl; tagged = refl; monitor = refl })
 process_at (suc (suc (suc (suc (suc d))))) code e h = absurd (omega (arith, h))
 
 interrogation : (code : ℕ) → code ≡ 100 → Names code
 unfolding type_of
-interrogation code e = subst Names (sym e) (record { type = CIcNa1; named = refl; code = refl; size = refl; tagged = refl })
+interrogation code e = subst Names (sym e) (record { type = CIcNa1; named = refl; code = refl; size = refl; tagged = refl; monitor = refl })
 
 process : (code : ℕ) → is_process_command code ≡ true → Names code
 process code h =

@@ -3,16 +3,20 @@
 //! The history has what came from the control centre and what became of it, what went to the stations and what they
 //! answered, and the own answers. Each law says what the calls do by what the rules make of that history.
 
-ghost use Rattle.std.specs.Prelude.{◌≡◌, ◌≤◌, ◌++◌, ℕ, List, true, option_map};
+ghost use Rattle.std.specs.Prelude.{◌≡◌, ◌≤◌, ◌<◌, ◌==◌, ◌++◌, ℕ, List, [], length, slice_index, Some, false, true, option_map};
 ghost use Rattle.std.specs.List.{list_any};
+ghost use Rattle.asdu.specs.Asdu.{AsduValue};
+ghost use Rattle.asdu.specs.InformationObjects.{monitor_objects_of};
+ghost use Rattle.asdu.specs.Sizes.{tcp};
 ghost use Rattle.asdu.specs.declared.sizes.Sizes.{Sizes};
 ghost use Rattle.command.specs.declared.station.StationInfo.{StationInfo};
 ghost use Rattle.command.specs.declared.content.Command.{Command};
 ghost use Rattle.command.specs.Octets.{answer};
 ghost use Rattle.command.specs.Selection.{lets_through};
 ghost use Rattle.command.specs.Calls.{Call, run, latest, NeverFall};
-ghost use Rattle.command.specs.State.{State, octets_waiting};
+ghost use Rattle.command.specs.State.{State, octets_waiting, sent, line_of, refusal_of};
 ghost use Rattle.command.specs.Judging.{judged};
+ghost use Rattle.command.specs.Mirrors.{mirrored};
 ghost use Rattle.command.specs.Rules.{rules_for, first_cause};
 ghost use Rattle.command.specs.History.{ForwardsCommands, next_octets, ExecutesAreSelected, IsSelected, GivesOwnAnswers, own_kept, own_sent, KeepsOwnAnswers};
 ghost use Rattle.command.specs.Laws.{AfterEachRun};
@@ -53,4 +57,22 @@ pub fn settings_stay()
     ensures stations { AfterEachRun (λ stations sizes select_ms s h. s.stations ≡ stations) }
     ensures sizes { AfterEachRun (λ stations sizes select_ms s h. s.sizes ≡ sizes) }
     ensures select_ms { AfterEachRun (λ stations sizes select_ms s h. s.select_ms ≡ select_ms) }
+{}
+
+/// What waits for a station first stays so until it goes out or its connection ends: no ASDU, no station's answer and nothing
+/// that goes out to another station changes it. Nor do they change the own answers that are kept.
+pub fn waiting_commands_stay()
+    ensures judged { (xs : List ℕ) (now k : ℕ) (s : State) (octets : List ℕ) → octets_waiting k s ≡ Some octets → octets_waiting k (judged xs now s).1 ≡ Some octets }
+    ensures mirrored { (v : AsduValue) (now : ℕ) (s : State) → (mirrored v now s).waiting ≡ s.waiting }
+    ensures sent { (j k : ℕ) (s : State) → (k == j) ≡ false → octets_waiting k (sent j s) ≡ octets_waiting k s }
+    ensures answers_judged { (xs : List ℕ) (now : ℕ) (s : State) → (judged xs now s).1.answers ≡ s.answers }
+    ensures answers_mirrored { (v : AsduValue) (now : ℕ) (s : State) → (mirrored v now s).answers ≡ s.answers }
+    ensures answers_sent { (j : ℕ) (s : State) → (sent j s).answers ≡ s.answers }
+{}
+
+/// An own answer has no object that is passed on as a station's report: its type is a command's, or its cause is 'unknown type'
+/// with P/N set. So it is no report to the control centre.
+pub fn own_answers_bear_no_objects()
+    ensures judged { (xs : List ℕ) (now : ℕ) (s : State) (a : List ℕ) → 9 ≤ length xs → slice_index xs 2 < 256 → (judged xs now s).0 ≡ Some a → monitor_objects_of tcp a ≡ [] }
+    ensures busy { AfterEachRun (λ stations sizes select_ms s h. (k : ℕ) (a : List ℕ) → refusal_of (line_of k s) ≡ Some a → monitor_objects_of tcp a ≡ []) }
 {}

@@ -13,7 +13,8 @@
 //! each once, and only while their connection is open; before each forwarded execute to a station that asks for selects
 //! its select stands, accepted on the line and confirmed in time, with nothing between that ends it, and where that is so
 //! the execute is refused for no want of a selection (as long as moments never fall); each answer is the
-//! ASDU that came with its cause octet replaced; own answers go out first in, first out, 16 of them at most wait; and
+//! ASDU that came with its cause octet replaced, and bears no object that is passed on as a station's report; own answers
+//! go out first in, first out, 16 of them at most wait; what waits for a station stays what is next until it goes out; and
 //! the settings stay. Only `new` takes memory.
 #![tactic(auto)]
 
@@ -32,7 +33,8 @@ pub use act::{Act, Answer};
 pub use commands::{Commands, NoMemory};
 pub use laws::{
     commands_are_forwarded, executes_are_selected, judgement_is_the_first_rule_that_applies,
-    own_answers_are_given, selected_executes_pass, settings_stay,
+    own_answers_are_given, own_answers_bear_no_objects, selected_executes_pass, settings_stay,
+    waiting_commands_stay,
 };
 pub use station::StationInfo;
 

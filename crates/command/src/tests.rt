@@ -105,6 +105,20 @@ pub fn count_of_answers(commands: &mut Commands, steps: &[Step]) -> usize {
     count
 }
 
+/// Of how many of these ASDUs, in their order, the answer is the ASDU with this cause octet.
+pub fn count_of_refusals(commands: &mut Commands, table: &[([u8; 10], u8)]) -> usize {
+    let mut count: usize = 0;
+    for (octets, cause) in table {
+        let mut wanted = *octets;
+        wanted[2] = *cause;
+        if !is_answered(commands, octets, 1, &wanted) {
+            return count;
+        }
+        count = count.wrapping_add(1);
+    }
+    count
+}
+
 /// Makes the call, and says whether the answer was the one.
 fn is_right(commands: &mut Commands, step: &Step) -> bool {
     match step {
@@ -126,7 +140,7 @@ fn is_right(commands: &mut Commands, step: &Step) -> bool {
     true
 }
 
-fn forwards(commands: &mut Commands, octets: &[u8], now: u64) -> bool {
+pub fn forwards(commands: &mut Commands, octets: &[u8], now: u64) -> bool {
     if octets.len() < 9 || octets.len() > 249 {
         return false;
     }

@@ -1,18 +1,21 @@
 -- Each thing that is told keeps the agreement of state and log.
-use Rattle.std.proofs.Common.{◌≡◌, ℕ, ◌-◌, ◌%◌, ◌<◌, ◌≤◌, ◌&&◌, Bool, true, false, not, nat_lt, List, [], ◌∷◌, ◌++◌, length, take, drop, refl, ap, sym, ◌∙◌, subst, arith, append_assoc, length-append, Option, Some, None, zero-add}
+use Rattle.std.proofs.Common.{◌≡◌, ℕ, ◌+◌, ◌-◌, ◌%◌, ◌<◌, ◌≤◌, ◌&&◌, Bool, true, false, not, nat_lt, List, [], ◌∷◌, ◌++◌, length, take, drop, refl, ap, sym, ◌∙◌, subst, arith, append_assoc, length-append, Option, Some, None, zero-add, inl, inr}
 use Rattle.std.specs.Prelude.{if◌then◌else◌, map}
 use Rattle.std.specs.List.{flat_map}
-use Rattle.std.proofs.lemmas.List.{append-nil}
-use Rattle.std.proofs.lemmas.Bool.{false≢true, lt-ltb}
+use Rattle.std.specs.Prelude.{◌⊎◌}
+use Rattle.std.proofs.lemmas.List.{append-nil, take-append-le}
+use Rattle.std.proofs.lemmas.Bool.{false≢true, lt-ltb, le-ltb, cases_lt}
 use Rattle.asdu.specs.InformationObjects.{InformationObject}
 use Rattle.apci.specs.declared.apdu.Apdu.{Apdu}
+use Rattle.apci.specs.declared.apdu.Apdu.TheVariants.{I, S, U}
 use Rattle.apci.specs.Spelling.{spelling, Fits}
 use Rattle.apci.specs.Reading.{IsMore}
-use Rattle.link.specs.Primary.{Primary, asked}
+use Rattle.link.specs.Primary.{Primary, Outstanding}
 use Rattle.link.specs.Primary as primary
 use Rattle.session.specs.declared.kinds.Close.{Close}
 use Rattle.session.specs.declared.kinds.Close.TheVariants.{Grammar, SendNumber, ReceiveNumber, Stopped, Timeout, OwnAnswers, Replaced}
-use Rattle.session.specs.declared.kinds.Kind.TheVariants.{Queue as FromQueue}
+use Rattle.session.specs.declared.kinds.Kind.{Kind}
+use Rattle.session.specs.declared.kinds.Kind.TheVariants.{Queue as FromQueue, Own}
 use Rattle.session.specs.Session as session
 use Rattle.session.specs.Session.{Session, may_send, is_running, is_from_queue, refuses}
 use Rattle.events.specs.Queue as queue
@@ -20,23 +23,32 @@ use Rattle.events.specs.Queue.{Queue, free_places}
 use Rattle.gateway.specs.Objects.{objects, has_objects}
 use Rattle.gateway.specs.Log.{Log, Went, TcpOut, Closed, latest}
 use Rattle.gateway.specs.Streams.{spelled, IsRefused}
-use Rattle.gateway.specs.Frames.{Sent, Connection, new_connection, data_frames, acknowledged_count, fault_of, objects_of_frames, IsNumberedFrom, IsInOrder, AreInOrder}
-use Rattle.gateway.specs.Connections.{Channel, no_channel, sending, ends, present, past, over, IsBehind, BeginsWithFault, IsConnection, AreConnections}
-use Rattle.gateway.specs.Reports.{Setup, taken_objects, reports_in, parts_of_all}
+use Rattle.gateway.specs.Frames.{Sent, Connection, new_connection, data_frames, acknowledged_count, acknowledged_reports, reports_among, fault_of, objects_of_frames, IsNumberedFrom, IsInOrder, AreInOrder}
+use Rattle.gateway.specs.Connections.{Channel, no_channel, sending, ends, present, past, over, closed_by, IsBehind, BeginsWithFault, IsConnection, AreConnections}
+use Rattle.gateway.specs.Reports.{Setup, exchanges_of, taken_objects, reports_in, parts_of_all}
 use Rattle.gateway.specs.Polls.{has_room}
 use Rattle.gateway.specs.Room.{IsFull}
 use Rattle.gateway.specs.Traffic.{is_replaced, replaces, HasCause, IsAtRest, IsFaithful}
-use Rattle.gateway.specs.State.{State, disconnected, framed, next_frame, piece_sent}
+use Rattle.command.specs.State as tasks
+use Rattle.gateway.specs.State.{State, disconnected, framed, next_frame, piece_sent, own_sent}
+use Rattle.gateway.specs.Steps.{IsCloseAt, after_closing}
+use Rattle.gateway.specs.Works.{Works, tasks_of, with_call, cut_works, ready_works, unasked_works, IsOwnDue}
+use Rattle.command.specs.Calls.{SendOwn}
+use Rattle.gateway.specs.Course.{Course, here_of, came_frames, room_by, room_in, kind_of, told_sent, with_sent, with_frame, ended_course, works_at, closed_course, Runs}
+use Rattle.gateway.specs.Phases.{Phase, Fresh, Taking, Idle, Timed, Asked, IsPhase, works_in, IsAsked, IsOut}
+use Rattle.session.specs.History as talk
 use Rattle.session.specs.History.{History, frame_due, has_timed_out}
 use Rattle.session.specs.Runs.{Call, Send, after_call}
 use Rattle.session.specs.Ends.{IsConfirmed}
-use Rattle.gateway.specs.Conversation.{with_sent, NothingOr, Happens, KeepsTalk}
-use Rattle.gateway.specs.Agrees.{Presently, Carries, Past, Talks, Agrees, IsLine, Tied, IsSpent, IsQuiet, pieces_of}
-use Rattle.gateway.proofs.Talking.{at, HasNoData, sends, kept_talk, talk_out, talk_heard, talk_cut, all_taken, confirmed_by, due_by, late_by}
+use Rattle.gateway.specs.Conversation.{KeepsTalk}
+use Rattle.gateway.specs.Agrees.{Presently, Carries, Past, Talks, Agrees, Does, Tied, ArePlain, IsSpent, IsQuiet, pieces_of}
+use Rattle.gateway.proofs.Working.{answers_in, does_same, does_heard, does_cut, does_cut_again, does_own, asked_own, heard_due, settled_due}
+use Rattle.gateway.proofs.Offering.{offers_heard, offers_cut, heard_plain}
+use Rattle.gateway.proofs.Talking.{at, HasNoData, no_own, sends, kept_talk, talk_out, talk_heard, talk_cut, all_taken, confirmed_by, due_by, late_by}
 use Rattle.gateway.proofs.Unconfirmed.{numbered_more}
-use Rattle.gateway.proofs.Tied.{tied_taken, tied_piece, heard_more, sent_more, SameWindow, tied_same, fault_cases}
+use Rattle.gateway.proofs.Tied.{tied_taken, tied_piece, tied_own, sent_more, SameWindow, tied_same, fault_cases}
 use Rattle.gateway.proofs.Frames.{pass_grows, taken_stays, nothing_waits}
-use Rattle.gateway.proofs.Objects.{carries_piece, carries_end, first_whole, run_now, split_reports}
+use Rattle.gateway.proofs.Objects.{carries_piece, carries_own, carries_end, first_whole, run_now, split_reports}
 use Rattle.gateway.proofs.Sound.{no_room_means}
 use Rattle.gateway.specs.LineLaws.{LineLaws}
 use Rattle.gateway.proofs.Stations.{keeps_links, line_rests}
@@ -44,16 +56,14 @@ use Rattle.gateway.proofs.Stations.{keeps_links, line_rests}
 pub in_order : (objs : List InformationObject) (parts : ℕ) (c : Connection) (earlier : List Connection) (unsent : List (List ℕ)) → IsNumberedFrom 0 c.sent_frames → Carries objs parts earlier c.sent_frames unsent → IsInOrder objs c earlier
 in_order objs parts c earlier unsent numbered carries = record { run = run_now objs parts earlier c.sent_frames unsent carries; numbered = numbered }
 
-pub faithful : (p : Setup) (s : State) (log : Log) (unjudged : List ℕ) (is_asked : Bool) → Agrees p s log unjudged is_asked → IsFaithful p log
-faithful p s log unjudged is_asked a = record {
-  here = a.c;
+pub faithful : (p : Setup) (s : State) (log : Log) (unjudged : List ℕ) (phase : Phase) → Agrees p s log unjudged phase → IsFaithful p log
+faithful p s log unjudged phase a = record {
+  course = a.course;
+  course_runs = a.talk.course_runs;
   begun = record { put = a.here.put; handed = a.here.handed; sent = a.here.sent; rest = a.here.so_far ++ unjudged; joined = a.here.joined; fit = a.here.fit; pass = a.here.pass };
-  earlier = a.earlier;
   are = a.before.are;
-  orders = (in_order (taken_objects p log) (parts_of_all p.sizes (reports_in p log)) a.c a.earlier s.queue.unsent a.here.numbered a.carries, a.before.orders);
+  orders = (in_order (taken_objects p log) (parts_of_all p.sizes (reports_in p log)) (here_of a.course) a.course.earlier s.queue.unsent a.here.numbered a.carries, a.before.orders);
   links = keeps_links p s.line log a.line;
-  primary = a.primary;
-  turns = a.turns;
   times = a.before.times;
   acts = a.before.acts;
   rests = a.before.rests;
@@ -61,23 +71,52 @@ faithful p s log unjudged is_asked a = record {
 
 -- What the queue's room shows of the log, and what stays of the line's part.
 
-pub is_full : (p : Setup) (s : State) (log : Log) (unjudged : List ℕ) (is_asked : Bool) (a : Agrees p s log unjudged is_asked) → free_places s.queue < 3 → IsFull p log (a.c ∷ a.earlier)
-is_full p s log unjudged is_asked a few = omega (arith, few, a.places, a.carries.count, split_reports a.c s.session s.queue.sent a.here.tied, length-append s.queue.sent s.queue.unsent)
+pub is_full : (p : Setup) (s : State) (log : Log) (unjudged : List ℕ) (phase : Phase) (a : Agrees p s log unjudged phase) → free_places s.queue < 3 → IsFull p log (here_of a.course ∷ a.course.earlier)
+is_full p s log unjudged phase a few = omega (arith, few, a.places, a.carries.count, split_reports (here_of a.course) s.session s.queue.sent a.here.tied, length-append s.queue.sent s.queue.unsent)
 
-pub has_places : (p : Setup) (s : State) (log : Log) (unjudged : List ℕ) (is_asked : Bool) (a : Agrees p s log unjudged is_asked) → 3 ≤ free_places s.queue → IsFull p log (a.c ∷ a.earlier) → ⊥
-has_places p s log unjudged is_asked a free full = omega (arith, full, free, a.places, a.carries.count, split_reports a.c s.session s.queue.sent a.here.tied, length-append s.queue.sent s.queue.unsent)
+pub has_places : (p : Setup) (s : State) (log : Log) (unjudged : List ℕ) (phase : Phase) (a : Agrees p s log unjudged phase) → 3 ≤ free_places s.queue → IsFull p log (here_of a.course ∷ a.course.earlier) → ⊥
+has_places p s log unjudged phase a free full = omega (arith, full, free, a.places, a.carries.count, split_reports (here_of a.course) s.session s.queue.sent a.here.tied, length-append s.queue.sent s.queue.unsent)
 
-stays_asked : (is_asked : Bool) (s t : State) (q : Primary) → t.line ≡ s.line → t.moment ≡ s.moment → has_room t.queue ≡ has_room s.queue → IsLine is_asked s q → IsLine is_asked t q
-stays_asked false s t q line moment room h = line ∙ h
-stays_asked true s t q line moment room h = (ap (primary.sending q) room ∙ h.0, line ∙ h.1 ∙ ap (λ m. asked q m (has_room s.queue)) (sym moment) ∙ ap (asked q t.moment) (sym room))
-
--- a piece that is sent keeps its place
-piece_room : (q : Queue) → has_room (queue.marked_sent q) ≡ has_room q
-piece_room q = ap (λ n. not (nat_lt (q.places - n) 3)) (same q.sent q.unsent)
+-- the room that the log shows is the queue's
+pub same_room : (p : Setup) (s : State) (log : Log) (unjudged : List ℕ) (phase : Phase) (a : Agrees p s log unjudged phase) → room_in p log a.course ≡ has_room s.queue
+same_room p s log unjudged phase a = by_places (cases_lt (free_places s.queue) 3)
   where
-    same : (xs ys : List (List ℕ)) → length ((xs ++ take 1 ys) ++ drop 1 ys) ≡ length (xs ++ ys)
-    same xs [] = ap length (append_assoc xs [] [])
-    same xs (y ∷ ys) = ap length (append_assoc xs (y ∷ []) ys)
+    used : ℕ
+    used = p.places + acknowledged_reports (here_of a.course ∷ a.course.earlier)
+
+    parts : ℕ
+    parts = parts_of_all p.sizes (reports_in p log)
+
+    by_places : (free_places s.queue < 3) ⊎ (3 ≤ free_places s.queue) → room_in p log a.course ≡ has_room s.queue
+    by_places (inl few) = ap not (lt-ltb used (parts + 3) (is_full p s log unjudged phase a few) ∙ sym (lt-ltb (free_places s.queue) 3 few))
+    by_places (inr free) = ap not (le-ltb used (parts + 3) (not-less used (parts + 3) (has_places p s log unjudged phase a free)) ∙ sym (le-ltb (free_places s.queue) 3 free))
+      where
+        not-less : (m n : ℕ) → (m < n → ⊥) → n ≤ m
+        not-less m n h = elim (cases_lt m n) [ inl lt ↦ absurd (h lt) | inr le ↦ le ]
+
+-- as more is sent the same is acknowledged
+pub room_more : (p : Setup) (parts : ℕ) (received : List Apdu) (sent more : List Sent) (earlier : List Connection) → acknowledged_count received ≤ length sent →
+    room_by p parts (record { sent_frames = sent ++ more; received_frames = received }) earlier ≡ room_by p parts (record { sent_frames = sent; received_frames = received }) earlier
+room_more p parts received sent more earlier within =
+    ap (λ (fs : List Sent). not (nat_lt (p.places + (reports_among fs + acknowledged_reports earlier)) (parts + 3))) (take-append-le (acknowledged_count received) sent more within)
+
+-- Works in a phase, of another state and course
+
+pub same_does : (p : Setup) (phase : Phase) (at : ℕ) (room other : Bool) (w : Works) (s t : State) → other ≡ room → t.line ≡ s.line → t.commands ≡ s.commands → t.counts ≡ s.counts → t.silent ≡ s.silent → Does p s (works_in phase p at room w) → Does p t (works_in phase p at other w)
+same_does p phase at room other w s t same line commands counts silent d = subst (λ r. Does p t (works_in phase p at r w)) (sym same) (does_same p s t (works_in phase p at room w) line commands counts silent d)
+
+pub same_asks : (p : Setup) (phase : Phase) (at : ℕ) (room other : Bool) (w : Works) → other ≡ room → IsAsked phase p at room w → IsAsked phase p at other w
+same_asks p phase at room other w same h = subst (λ r. IsAsked phase p at r w) (sym same) h
+
+pub phase_out : (phase : Phase) (log : Log) (now : ℕ) (octets : List ℕ) → (present log).is_open ≡ true → IsPhase phase log → IsPhase phase (Went now (TcpOut octets) ∷ log)
+phase_out Fresh log now octets on h = let no : false ≡ true = sym (ap (λ l. (present l).is_open) h) ∙ on in cc
+phase_out Taking log now octets on h = h
+phase_out Idle log now octets on h = tt
+phase_out Timed log now octets on h = tt
+phase_out Asked log now octets on h = tt
+
+acknowledged_within : (p : Setup) (s : State) (log : Log) (unjudged : List ℕ) (phase : Phase) (a : Agrees p s log unjudged phase) → acknowledged_count (came_frames a.course.talk) ≤ length a.course.sent
+acknowledged_within p s log unjudged phase a = omega (arith, a.here.tied.unconfirmed.count)
 
 -- a frame is handed to TCP
 went_out : (s t : State) (octets : Channel) (unjudged : List ℕ) (c : Connection) (fs : List Sent) (f : Apdu) (h : Presently s octets unjudged c) → Fits f → s.session.connected ≡ true → t.session.connected ≡ s.session.connected → t.so_far ≡ s.so_far →
@@ -110,87 +149,175 @@ past_put p log earlier now f e settled on fits talk b = record {
   rests = b.rests;
 }
 
-pub after_piece : (p : Setup) (s : State) (log : Log) (unjudged asdu : List ℕ) (rest : List (List ℕ)) (is_asked : Bool) → Agrees p s log unjudged is_asked → may_send s.session ≡ true → s.session.connected ≡ true → s.queue.unsent ≡ asdu ∷ rest → Fits (next_frame s.session asdu) →
-    Agrees p (piece_sent s) (Went s.moment (TcpOut (spelling (next_frame s.session asdu))) ∷ log) unjudged is_asked
-after_piece p s log unjudged asdu rest is_asked a may on unsent fits =
+-- An I frame goes out
+
+-- the course once an I frame of this kind has gone out
+abbrev data_course : State → List ℕ → Kind → (moment : ℕ) → Works → Course → Course
+data_course s asdu kind moment w c = record {
+  talk = talk.Sent s.session.next_sent s.session.next_received kind moment ∷ c.talk;
+  sent = c.sent ++ record { ns = s.session.next_sent; nr = s.session.next_received; asdu = asdu } ∷ [];
+  earlier = c.earlier;
+  works = w;
+}
+
+data_queue : (s : State) (asdu : List ℕ) (moment : ℕ) (c : Course) → has_objects asdu ≡ true → with_sent (next_frame s.session asdu) moment c ≡ data_course s asdu FromQueue moment c.works c
+data_queue s asdu moment c has = ap (λ b. data_course s asdu (if b then FromQueue else Own) moment (if b then c.works else with_call SendOwn c.works) c) has
+
+data_own : (s : State) (asdu : List ℕ) (moment : ℕ) (c : Course) → has_objects asdu ≡ false → with_sent (next_frame s.session asdu) moment c ≡ data_course s asdu Own moment (with_call SendOwn c.works) c
+data_own s asdu moment c none = ap (λ b. data_course s asdu (if b then FromQueue else Own) moment (if b then c.works else with_call SendOwn c.works) c) none
+
+-- an I frame with this ASDU goes out
+module _ (p : Setup) (s t : State) (log : Log) (unjudged asdu : List ℕ) (kind : Kind) (phase : Phase) (w : Works) (a : Agrees p s log unjudged phase) where
+  abbrev data_log : Log
+  data_log = Went s.moment (TcpOut (spelling (next_frame s.session asdu))) ∷ log
+
+  abbrev after_data : Course
+  after_data = data_course s asdu kind s.moment w a.course
+
+  data_room : room_in p data_log after_data ≡ room_in p log a.course
+  data_room = room_more p (parts_of_all p.sizes (reports_in p log)) (came_frames a.course.talk) a.course.sent _ a.course.earlier (acknowledged_within p s log unjudged phase a)
+
+  data_talk : may_send s.session ≡ true → kind_of asdu ≡ kind → IsOwnDue p a.course.works (next_frame s.session asdu) → Fits (next_frame s.session asdu) → with_sent (next_frame s.session asdu) s.moment a.course ≡ after_data → Talks p (session.sent kind s.moment s.session) data_log after_data
+  data_talk may is own fits same =
+      subst (Talks p (session.sent kind s.moment s.session) data_log) same
+      (talk_out p s.session (session.sent kind s.moment s.session) log a.course s.moment s.moment (next_frame s.session asdu) (Send kind s.moment) a.talk fits a.clock own (sends s.session a.course.talk asdu kind s.moment may is) (a.here.so_far ++ unjudged, a.here.joined))
+
+pub after_piece : (p : Setup) (s : State) (log : Log) (unjudged asdu : List ℕ) (rest : List (List ℕ)) (phase : Phase) → Agrees p s log unjudged phase → may_send s.session ≡ true → s.session.connected ≡ true → s.queue.unsent ≡ asdu ∷ rest → Fits (next_frame s.session asdu) →
+    Agrees p (piece_sent s) (Went s.moment (TcpOut (spelling (next_frame s.session asdu))) ∷ log) unjudged phase
+after_piece p s log unjudged asdu rest phase a may on unsent fits =
     let f : Sent = record { ns = s.session.next_sent; nr = s.session.next_received; asdu = asdu } in
-    let has : has_objects asdu ≡ true = first_whole (taken_objects p log) (parts_of_all p.sizes (reports_in p log)) a.earlier a.c.sent_frames s.queue.unsent rest asdu unsent a.carries in
-    let talk : Talks p (session.sent FromQueue s.moment s.session) (Went s.moment (TcpOut (spelling (next_frame s.session asdu))) ∷ log) (sent_more f a.c) =
-    talk_out p s.session (session.sent FromQueue s.moment s.session) log a.c s.moment s.moment (a.c.sent_frames ++ f ∷ []) (next_frame s.session asdu) (Send FromQueue s.moment) a.talk fits a.clock (sends s.session a.talk.history asdu s.moment may has) (a.here.so_far ++ unjudged, a.here.joined) in
+    let has : has_objects asdu ≡ true = first_whole (taken_objects p log) (parts_of_all p.sizes (reports_in p log)) a.course.earlier a.course.sent s.queue.unsent rest asdu unsent a.carries in
+    let talk = data_talk p s (piece_sent s) log unjudged asdu FromQueue phase a.course.works a may (ap (λ b. if b then FromQueue else Own) has) (λ none. absurd (false≢true (sym none ∙ has))) fits (data_queue s asdu s.moment a.course has) in
+    let room = data_room p s (piece_sent s) log unjudged asdu FromQueue phase a.course.works a in
     record {
       k = a.k;
       sizes = a.sizes;
       places = a.places;
       clock = a.clock;
-      counts = a.counts;
       settled = refl;
       found = a.found;
       line = a.line;
-      primary = a.primary;
-      turns = a.turns;
+      course = data_course s asdu FromQueue s.moment a.course.works a.course;
       talk = talk;
-      asks = stays_asked is_asked s (piece_sent s) a.primary refl refl (piece_room s.queue) a.asks;
-      c = record { sent_frames = a.c.sent_frames ++ f ∷ []; received_frames = a.c.received_frames };
-      here = went_out s (piece_sent s) (present log) unjudged a.c (a.c.sent_frames ++ f ∷ []) (next_frame s.session asdu) a.here fits on refl refl
-          (ap (λ xs. xs ++ f ∷ []) a.here.sent) (omega (arith, length-append a.c.sent_frames (f ∷ [])))
-          (subst (λ u. Tied (sent_more f a.c) (session.sent FromQueue s.moment s.session) (s.queue.sent ++ take 1 u)) (sym unsent) (tied_piece f s.moment a.c s.session s.queue.sent a.here.tied may has))
-          (numbered_more 0 a.c.sent_frames f (a.here.tied.next ∙ ap (λ n. n % 32768) (sym (zero-add (length a.c.sent_frames)))) a.here.numbered);
-      earlier = a.earlier;
-      carries = carries_piece (taken_objects p log) (parts_of_all p.sizes (reports_in p log)) a.earlier a.c.sent_frames s.queue.unsent rest f unsent has a.carries;
-      before = past_put p log a.earlier s.moment (next_frame s.session asdu) a.clock a.settled (sym a.here.link ∙ on) fits (kept_talk p _ _ _ talk) a.before;
+      stands = record { does = same_does p phase (latest log) _ _ a.course.works s (piece_sent s) room refl refl refl refl a.stands.does; asks = same_asks p phase (latest log) _ _ a.course.works room a.stands.asks; phase_is = phase_out phase log s.moment _ (sym a.here.link ∙ on) a.stands.phase_is };
+      offers = a.offers;
+      plain = a.plain;
+      here = went_out s (piece_sent s) (present log) unjudged (here_of a.course) (a.course.sent ++ f ∷ []) (next_frame s.session asdu) a.here fits on refl refl
+          (ap (λ xs. xs ++ f ∷ []) a.here.sent) (omega (arith, length-append a.course.sent (f ∷ [])))
+          (subst (λ u. Tied (sent_more f (here_of a.course)) (session.sent FromQueue s.moment s.session) (s.queue.sent ++ take 1 u)) (sym unsent) (tied_piece f s.moment (here_of a.course) s.session s.queue.sent a.here.tied may has))
+          (numbered_more 0 a.course.sent f (a.here.tied.next ∙ ap (λ n. n % 32768) (sym (zero-add (length a.course.sent)))) a.here.numbered);
+      carries = carries_piece (taken_objects p log) (parts_of_all p.sizes (reports_in p log)) a.course.earlier a.course.sent s.queue.unsent rest f unsent has a.carries;
+      before = past_put p log a.course.earlier s.moment (next_frame s.session asdu) a.clock a.settled (sym a.here.link ∙ on) fits (kept_talk p _ _ _ talk) a.before;
+    }
+
+first_plain : (answers : List (List ℕ)) (asdu : List ℕ) → tasks.first_answer answers ≡ Some asdu → ArePlain answers → has_objects asdu ≡ false
+first_plain [] asdu e h = cc
+first_plain (x ∷ xs) asdu e h = subst (λ y. has_objects y ≡ false) (same e) h.0
+  where
+    same : Some x ≡ Some asdu → x ≡ asdu
+    same e = cc
+
+fewer_plain : (answers : List (List ℕ)) → ArePlain answers → ArePlain (drop 1 answers)
+fewer_plain [] h = tt
+fewer_plain (x ∷ xs) h = h.1
+
+pub after_own : (p : Setup) (s : State) (log : Log) (unjudged asdu : List ℕ) (phase : Phase) → Agrees p s log unjudged phase → may_send s.session ≡ true → s.session.connected ≡ true → tasks.first_answer s.commands.answers ≡ Some asdu → Fits (next_frame s.session asdu) →
+    Agrees p (own_sent s) (Went s.moment (TcpOut (spelling (next_frame s.session asdu))) ∷ log) unjudged phase
+after_own p s log unjudged asdu phase a may on first fits =
+    let f : Sent = record { ns = s.session.next_sent; nr = s.session.next_received; asdu = asdu } in
+    let none : has_objects asdu ≡ false = first_plain s.commands.answers asdu first a.plain in
+    let oldest : tasks.first_answer (tasks_of p a.course.works).state.answers ≡ Some asdu =
+    ap tasks.first_answer (sym (ap (λ (c : tasks.State). c.answers) a.stands.does.commands ∙ answers_in p phase (latest log) (room_in p log a.course) a.course.works)) ∙ first in
+    let w : Works = with_call SendOwn a.course.works in
+    let talk = data_talk p s (own_sent s) log unjudged asdu Own phase w a may (ap (λ b. if b then FromQueue else Own) none) (λ same. oldest) fits (data_own s asdu s.moment a.course none) in
+    let room = data_room p s (own_sent s) log unjudged asdu Own phase w a in
+    record {
+      k = a.k;
+      sizes = a.sizes;
+      places = a.places;
+      clock = a.clock;
+      settled = refl;
+      found = a.found;
+      line = a.line;
+      course = data_course s asdu Own s.moment w a.course;
+      talk = talk;
+      stands = record {
+        does = same_does p phase (latest log) _ _ w (record s { commands = tasks.answered s.commands }) (own_sent s) room refl refl refl refl (does_own p a.course.works asdu oldest phase s (latest log) (room_in p log a.course) a.stands.does);
+        asks = same_asks p phase (latest log) _ _ w room (asked_own p a.course.works asdu oldest phase (latest log) (room_in p log a.course) a.stands.asks);
+        phase_is = phase_out phase log s.moment _ (sym a.here.link ∙ on) a.stands.phase_is;
+      };
+      offers = a.offers;
+      plain = fewer_plain s.commands.answers a.plain;
+      here = went_out s (own_sent s) (present log) unjudged (here_of a.course) (a.course.sent ++ f ∷ []) (next_frame s.session asdu) a.here fits on refl refl
+          (ap (λ xs. xs ++ f ∷ []) a.here.sent) (omega (arith, length-append a.course.sent (f ∷ [])))
+          (tied_own f s.moment (here_of a.course) s.session s.queue.sent a.here.tied may none)
+          (numbered_more 0 a.course.sent f (a.here.tied.next ∙ ap (λ n. n % 32768) (sym (zero-add (length a.course.sent)))) a.here.numbered);
+      carries = carries_own (taken_objects p log) (parts_of_all p.sizes (reports_in p log)) a.course.earlier a.course.sent s.queue.unsent f none a.carries;
+      before = past_put p log a.course.earlier s.moment (next_frame s.session asdu) a.clock a.settled (sym a.here.link ∙ on) fits (kept_talk p _ _ _ talk) a.before;
     }
 
 -- A call of the session leads from this session to that, and this frame goes out.
 pub record GoesOut (s t : Session) (moment : ℕ) (f : Apdu) : Type 0 where
   pub call : Call
-  pub made : (h : History) → after_call call (at s h) ≡ at t (with_sent f moment h)
+  pub made : (h : History) → after_call call (at s h) ≡ at t (told_sent f moment h)
 
-pub after_due : (p : Setup) (s : State) (t : Session) (log : Log) (unjudged : List ℕ) (f : Apdu) (is_asked : Bool) → Agrees p s log unjudged is_asked → s.session.connected ≡ true → Fits f → HasNoData f → GoesOut s.session t s.moment f → SameWindow s.session t →
-    Agrees p (record s { session = t }) (Went s.moment (TcpOut (spelling f)) ∷ log) unjudged is_asked
-after_due p s t log unjudged f is_asked a on fits none goes same = record {
+-- the course once a frame without ASDU has gone out
+abbrev due_course : Apdu → (moment : ℕ) → Course → Course
+due_course f moment c = record { talk = talk.Went f moment ∷ c.talk; sent = c.sent; earlier = c.earlier; works = c.works }
+
+due_same : (f : Apdu) (moment : ℕ) (c : Course) → HasNoData f → with_sent f moment c ≡ due_course f moment c
+due_same (I ns nr asdu) moment c none = let no : data_frames (I ns nr asdu ∷ []) ≡ [] = none [] in cc
+due_same (S nr) moment c none = refl
+due_same (U u) moment c none = refl
+
+pub after_due : (p : Setup) (s : State) (t : Session) (log : Log) (unjudged : List ℕ) (f : Apdu) (phase : Phase) → Agrees p s log unjudged phase → s.session.connected ≡ true → Fits f → HasNoData f → GoesOut s.session t s.moment f → SameWindow s.session t →
+    Agrees p (record s { session = t }) (Went s.moment (TcpOut (spelling f)) ∷ log) unjudged phase
+after_due p s t log unjudged f phase a on fits none goes same = record {
   k = same.same_k ∙ a.k;
   sizes = a.sizes;
   places = a.places;
   clock = a.clock;
-  counts = a.counts;
   settled = refl;
   found = a.found;
   line = a.line;
-  primary = a.primary;
-  turns = a.turns;
+  course = due_course f s.moment a.course;
   talk = talk_due;
-  asks = stays_asked is_asked s (record s { session = t }) a.primary refl refl refl a.asks;
-  c = a.c;
-  here = went_out s (record s { session = t }) (present log) unjudged a.c a.c.sent_frames f a.here fits on same.same_connected refl (a.here.sent ∙ sym (none a.here.put)) (omega arith)
-      (tied_same a.c s.session t s.queue.sent same a.here.tied) a.here.numbered;
-  earlier = a.earlier;
+  stands = record { does = does_same p s (record s { session = t }) _ refl refl refl refl a.stands.does; asks = a.stands.asks; phase_is = phase_out phase log s.moment _ (sym a.here.link ∙ on) a.stands.phase_is };
+  offers = a.offers;
+  plain = a.plain;
+  here = went_out s (record s { session = t }) (present log) unjudged (here_of a.course) a.course.sent f a.here fits on same.same_connected refl (a.here.sent ∙ sym (none a.here.put)) (omega arith)
+      (tied_same (here_of a.course) s.session t s.queue.sent same a.here.tied) a.here.numbered;
   carries = a.carries;
-  before = past_put p log a.earlier s.moment f a.clock a.settled (sym a.here.link ∙ on) fits (kept_talk p _ _ _ talk_due) a.before;
+  before = past_put p log a.course.earlier s.moment f a.clock a.settled (sym a.here.link ∙ on) fits (kept_talk p _ _ _ talk_due) a.before;
 }
   where
-    talk_due : Talks p t (Went s.moment (TcpOut (spelling f)) ∷ log) a.c
-    talk_due = talk_out p s.session t log a.c s.moment s.moment a.c.sent_frames f goes.call a.talk fits a.clock (goes.made a.talk.history) (a.here.so_far ++ unjudged, a.here.joined)
+    talk_due : Talks p t (Went s.moment (TcpOut (spelling f)) ∷ log) (due_course f s.moment a.course)
+    talk_due = subst (Talks p t (Went s.moment (TcpOut (spelling f)) ∷ log)) (due_same f s.moment a.course none)
+        (talk_out p s.session t log a.course s.moment s.moment f goes.call a.talk fits a.clock (no_own p a.course.works f none) (goes.made a.course.talk) (a.here.so_far ++ unjudged, a.here.joined))
 
 -- a whole frame without fault is taken
-pub after_heard : (p : Setup) (s : State) (log : Log) (unjudged rest : List ℕ) (f : Apdu) (a : Agrees p s log unjudged false) → s.session.connected ≡ true → IsConfirmed s.session → s.so_far ≡ Some [] → Fits f → a.here.so_far ++ unjudged ≡ spelling f ++ rest → refuses s.session f ≡ false → fault_of (length a.c.sent_frames) a.c.received_frames f ≡ None →
-    Agrees p (framed f s) log rest false
+pub after_heard : (p : Setup) (s : State) (log : Log) (unjudged rest : List ℕ) (f : Apdu) (a : Agrees p s log unjudged Taking) → s.session.connected ≡ true → IsConfirmed s.session → s.so_far ≡ Some [] → Fits f → a.here.so_far ++ unjudged ≡ spelling f ++ rest → refuses s.session f ≡ false → fault_of (length a.course.sent) (came_frames a.course.talk) f ≡ None →
+    Agrees p (framed f s) log rest Taking
 after_heard p s log unjudged rest f a on ready so fits whole passes faultless =
-    let joined : (present log).received ≡ spelled (f ∷ a.c.received_frames) ++ rest = a.here.joined ∙ ap (λ x. spelled a.c.received_frames ++ x) whole ∙ sym (append_assoc (spelled a.c.received_frames) (spelling f) rest) in
+    let joined : (present log).received ≡ spelled (f ∷ came_frames a.course.talk) ++ rest = a.here.joined ∙ ap (λ x. spelled (came_frames a.course.talk) ++ x) whole ∙ sym (append_assoc (spelled (came_frames a.course.talk)) (spelling f) rest) in
     let stays = taken_stays f s.moment s.session in
     record {
       k = stays.k ∙ a.k;
       sizes = a.sizes;
       places = a.places;
       clock = a.clock;
-      counts = a.counts;
       settled = a.settled;
       found = a.found;
       line = a.line;
-      primary = a.primary;
-      turns = a.turns;
-      asks = a.asks;
-      talk = talk_heard p s.session log a.c s.moment f rest a.talk a.clock on ready passes joined;
-      c = heard_more f a.c;
+      course = with_frame p f s.moment a.course;
+      talk = talk_heard p s.session log a.course s.moment f rest a.talk a.stands.phase_is a.clock on ready passes joined;
+      stands = record {
+        does = does_heard p s (framed f s) f s.moment a.course.works refl refl refl refl a.stands.does;
+        asks = heard_due p f s.moment a.course.works ∙ a.stands.asks;
+        phase_is = a.stands.phase_is;
+      };
+      offers = offers_heard a.talk.command_laws s.line s.line s.commands (framed f s).commands f s.moment refl refl a.offers;
+      plain = heard_plain a.talk.command_laws f s.moment s.commands fits a.plain;
       here = record {
         link = stays.connected ∙ a.here.link;
         none = λ off. absurd (false≢true (sym off ∙ sym a.here.link ∙ on));
@@ -203,82 +330,119 @@ after_heard p s log unjudged rest f a on ready so fits whole passes faultless =
         joined = joined;
         fit = (fits, a.here.fit);
         pass = (faultless, a.here.pass);
-        tied = tied_taken f s.moment a.c s.session s.queue.sent on a.here.tied passes;
+        tied = tied_taken f s.moment (here_of a.course) s.session s.queue.sent on a.here.tied passes;
         numbered = a.here.numbered;
       };
-      earlier = a.earlier;
       carries = a.carries;
       before = a.before;
     }
 
--- the octets left are the beginning of a frame
-pub after_more : (p : Setup) (s t : State) (log : Log) (unjudged : List ℕ) (a : Agrees p s log unjudged false) → IsMore (a.here.so_far ++ unjudged) → t ≡ record s { so_far = Some (a.here.so_far ++ unjudged) } → Agrees p t log [] false
-after_more p s t log unjudged a waits e = subst (λ x. Agrees p x log [] false) (sym e) (record {
+pub heard_course : (p : Setup) (s : State) (log : Log) (unjudged rest : List ℕ) (f : Apdu) (a : Agrees p s log unjudged Taking) (on : s.session.connected ≡ true) (ready : IsConfirmed s.session) (so : s.so_far ≡ Some []) (fits : Fits f) (whole : a.here.so_far ++ unjudged ≡ spelling f ++ rest) (passes : refuses s.session f ≡ false) (faultless : fault_of (length a.course.sent) (came_frames a.course.talk) f ≡ None) →
+    (after_heard p s log unjudged rest f a on ready so fits whole passes faultless).course ≡ with_frame p f s.moment a.course
+unfolding after_heard
+heard_course p s log unjudged rest f a on ready so fits whole passes faultless = refl
+
+-- the same of another assembler's state
+pub with_so_far : (p : Setup) (s : State) (log : Log) (unjudged rest so_far : List ℕ) (phase : Phase) (a : Agrees p s log unjudged phase) → IsMore so_far → (present log).received ≡ spelled (came_frames a.course.talk) ++ (so_far ++ rest) → Agrees p (record s { so_far = Some so_far }) log rest phase
+with_so_far p s log unjudged rest so_far phase a waits joined = record {
   k = a.k;
   sizes = a.sizes;
   places = a.places;
   clock = a.clock;
-  counts = a.counts;
   settled = a.settled;
   found = a.found;
   line = a.line;
-  primary = a.primary;
-  turns = a.turns;
-  asks = a.asks;
+  course = a.course;
   talk = a.talk;
-  c = a.c;
+  stands = record { does = does_same p s (record s { so_far = Some so_far }) _ refl refl refl refl a.stands.does; asks = a.stands.asks; phase_is = a.stands.phase_is };
+  offers = a.offers;
+  plain = a.plain;
   here = record {
     link = a.here.link;
     none = a.here.none;
     put = a.here.put;
     handed = a.here.handed;
     sent = a.here.sent;
-    so_far = a.here.so_far ++ unjudged;
+    so_far = so_far;
     assembler = refl;
     waits = waits;
-    joined = a.here.joined ∙ ap (λ x. spelled a.c.received_frames ++ x) (sym (append-nil (a.here.so_far ++ unjudged)));
+    joined = joined;
     fit = a.here.fit;
     pass = a.here.pass;
     tied = a.here.tied;
     numbered = a.here.numbered;
   };
-  earlier = a.earlier;
   carries = a.carries;
   before = a.before;
-})
+}
+
+-- the octets left are the beginning of a frame
+pub after_more : (p : Setup) (s t : State) (log : Log) (unjudged : List ℕ) (phase : Phase) (a : Agrees p s log unjudged phase) → IsMore (a.here.so_far ++ unjudged) → t ≡ record s { so_far = Some (a.here.so_far ++ unjudged) } → Agrees p t log [] phase
+after_more p s t log unjudged phase a waits e =
+    subst (λ x. Agrees p x log [] phase) (sym e)
+    (with_so_far p s log unjudged [] (a.here.so_far ++ unjudged) phase a waits (a.here.joined ∙ ap (λ x. spelled (came_frames a.course.talk) ++ x) (sym (append-nil (a.here.so_far ++ unjudged)))))
+
+-- The event is taken.
+pub now_idle : (p : Setup) (s : State) (log : Log) → Agrees p s log [] Taking → Agrees p s log [] Idle
+now_idle p s log a = record {
+  k = a.k;
+  sizes = a.sizes;
+  places = a.places;
+  clock = a.clock;
+  settled = a.settled;
+  found = a.found;
+  line = a.line;
+  course = a.course;
+  talk = a.talk;
+  stands = record { does = a.stands.does; asks = a.stands.asks; phase_is = tt };
+  offers = a.offers;
+  plain = a.plain;
+  here = a.here;
+  carries = a.carries;
+  before = a.before;
+}
 
 -- what stands on the connection
-stands : (p : Setup) (s : State) (log : Log) (unjudged : List ℕ) (is_asked : Bool) (a : Agrees p s log unjudged is_asked) (fault : Option Close) → IsBehind (length a.c.sent_frames) a.c.received_frames fault (a.here.so_far ++ unjudged) → IsConnection (present log) a.c fault
-stands p s log unjudged is_asked a fault behind = record { put = a.here.put; handed = a.here.handed; sent = a.here.sent; rest = a.here.so_far ++ unjudged; joined = a.here.joined; fit = a.here.fit; pass = a.here.pass; behind = behind }
+stands : (p : Setup) (s : State) (log : Log) (unjudged : List ℕ) (phase : Phase) (a : Agrees p s log unjudged phase) (fault : Option Close) → IsBehind (present log).overfull (length a.course.sent) (came_frames a.course.talk) fault (a.here.so_far ++ unjudged) → IsConnection (present log) (here_of a.course) fault
+stands p s log unjudged phase a fault behind = record { put = a.here.put; handed = a.here.handed; sent = a.here.sent; rest = a.here.so_far ++ unjudged; joined = a.here.joined; fit = a.here.fit; pass = a.here.pass; behind = behind }
 
-pub stands_now : (p : Setup) (s : State) (log : Log) (is_asked : Bool) (a : Agrees p s log [] is_asked) → IsConnection (present log) a.c None
-stands_now p s log is_asked a = stands p s log [] is_asked a None (subst IsMore (sym (append-nil a.here.so_far)) a.here.waits)
+pub stands_now : (p : Setup) (s : State) (log : Log) (phase : Phase) (a : Agrees p s log [] phase) → IsConnection (present log) (here_of a.course) None
+stands_now p s log phase a = stands p s log [] phase a None (subst IsMore (sym (append-nil a.here.so_far)) a.here.waits)
 
-pub stands_garbled : (p : Setup) (s : State) (log : Log) (unjudged : List ℕ) (a : Agrees p s log unjudged false) → IsRefused (a.here.so_far ++ unjudged) → IsConnection (present log) a.c (Some Grammar)
-stands_garbled p s log unjudged a refused = stands p s log unjudged false a (Some Grammar) refused
+pub stands_garbled : (p : Setup) (s : State) (log : Log) (unjudged : List ℕ) (phase : Phase) (a : Agrees p s log unjudged phase) → IsRefused (a.here.so_far ++ unjudged) → IsConnection (present log) (here_of a.course) (Some Grammar)
+stands_garbled p s log unjudged phase a refused = stands p s log unjudged phase a (Some Grammar) refused
 
-pub stands_faulty : (p : Setup) (s : State) (log : Log) (unjudged more : List ℕ) (f : Apdu) (cause : Close) (a : Agrees p s log unjudged false) → Fits f → a.here.so_far ++ unjudged ≡ spelling f ++ more → fault_of (length a.c.sent_frames) a.c.received_frames f ≡ Some cause →
-    IsConnection (present log) a.c (Some cause)
-stands_faulty p s log unjudged more f cause a fits whole fault =
-    let begins : (cause : Close) → fault_of (length a.c.sent_frames) a.c.received_frames f ≡ Some cause → BeginsWithFault (length a.c.sent_frames) a.c.received_frames cause (a.here.so_far ++ unjudged) = λ cause e. record { frame = f; more = more; fits = fits; joined = whole; fault = e } in
-    fault_cases (λ cause. fault_of (length a.c.sent_frames) a.c.received_frames f ≡ Some cause → IsConnection (present log) a.c (Some cause))
-    (λ e. stands p s log unjudged false a (Some Stopped) (begins Stopped e))
-    (λ e. stands p s log unjudged false a (Some SendNumber) (begins SendNumber e))
-    (λ e. stands p s log unjudged false a (Some ReceiveNumber) (begins ReceiveNumber e))
-    (length a.c.sent_frames) a.c.received_frames f cause fault fault
+-- an own answer found no place
+pub stands_overfull : (p : Setup) (s : State) (log : Log) (unjudged : List ℕ) (phase : Phase) (a : Agrees p s log unjudged phase) → IsConnection (closed_by OwnAnswers (present log)) (here_of a.course) (Some OwnAnswers)
+stands_overfull p s log unjudged phase a = record { put = a.here.put; handed = a.here.handed; sent = a.here.sent; rest = a.here.so_far ++ unjudged; joined = a.here.joined; fit = a.here.fit; pass = a.here.pass; behind = refl }
+
+pub stands_faulty : (p : Setup) (s : State) (log : Log) (unjudged more : List ℕ) (f : Apdu) (cause : Close) (phase : Phase) (a : Agrees p s log unjudged phase) → Fits f → a.here.so_far ++ unjudged ≡ spelling f ++ more → fault_of (length a.course.sent) (came_frames a.course.talk) f ≡ Some cause →
+    IsConnection (present log) (here_of a.course) (Some cause)
+stands_faulty p s log unjudged more f cause phase a fits whole fault =
+    let sent : ℕ = length a.course.sent in
+    let came : List Apdu = came_frames a.course.talk in
+    let begins : (cause : Close) → fault_of sent came f ≡ Some cause → BeginsWithFault sent came cause (a.here.so_far ++ unjudged) = λ cause e. record { frame = f; more = more; fits = fits; joined = whole; fault = e } in
+    fault_cases (λ cause. fault_of sent came f ≡ Some cause → IsConnection (present log) (here_of a.course) (Some cause))
+    (λ e. stands p s log unjudged phase a (Some Stopped) (begins Stopped e))
+    (λ e. stands p s log unjudged phase a (Some SendNumber) (begins SendNumber e))
+    (λ e. stands p s log unjudged phase a (Some ReceiveNumber) (begins ReceiveNumber e))
+    sent came f cause fault fault
 
 pub fault_ends : (sent : ℕ) (older : List Apdu) (f : Apdu) (cause : Close) → fault_of sent older f ≡ Some cause → ends cause ≡ true
 fault_ends sent older f cause fault = fault_cases (λ cause. ends cause ≡ true) refl refl refl sent older f cause fault
 
--- the open connection, if any, joins those that are over
-pub record Ended (p : Setup) (s : State) (log : Log) : Type 0 where
-  pub earlier : List Connection
-  pub are : AreConnections (over (present log) (past log)) earlier
-  pub orders : AreInOrder (taken_objects p log) earlier
-  pub carries : Carries (taken_objects p log) (parts_of_all p.sizes (reports_in p log)) earlier [] (queue.rewound s.queue).unsent
+-- such a cause leaves the channel as it is, and shows while octets are taken
+pub fault_closes_so : (sent : ℕ) (older : List Apdu) (f : Apdu) (cause : Close) (c : Channel) → fault_of sent older f ≡ Some cause → (closed_by cause c ≡ c) × IsCloseAt cause Taking
+fault_closes_so sent older f cause c fault = fault_cases (λ cause. (closed_by cause c ≡ c) × IsCloseAt cause Taking) (refl, tt) (refl, tt) (refl, tt) sent older f cause fault
 
-pub ended : (p : Setup) (s : State) (log : Log) (unjudged : List ℕ) (is_asked : Bool) (a : Agrees p s log unjudged is_asked) (fault : Option Close) → IsConnection (present log) a.c fault → Ended p s log
-ended p s log unjudged is_asked a fault stands = by_case (present log).is_open refl
+-- the open connection, if any, joins those that are over
+pub record Ended (p : Setup) (s : State) (log : Log) (c : Course) (octets : Channel) : Type 0 where
+  pub are : AreConnections (over octets (past log)) (if octets.is_open then here_of c ∷ c.earlier else c.earlier)
+  pub orders : AreInOrder (taken_objects p log) (if octets.is_open then here_of c ∷ c.earlier else c.earlier)
+  pub carries : Carries (taken_objects p log) (parts_of_all p.sizes (reports_in p log)) (if octets.is_open then here_of c ∷ c.earlier else c.earlier) [] (queue.rewound s.queue).unsent
+
+pub ended : (p : Setup) (s : State) (log : Log) (unjudged : List ℕ) (phase : Phase) (a : Agrees p s log unjudged phase) (octets : Channel) (fault : Option Close) → octets.is_open ≡ (present log).is_open → IsConnection octets (here_of a.course) fault → Ended p s log a.course octets
+ended p s log unjudged phase a octets fault as_now stands = by_case octets.is_open refl
   where
     objs : List InformationObject
     objs = taken_objects p log
@@ -286,24 +450,28 @@ ended p s log unjudged is_asked a fault stands = by_case (present log).is_open r
     parts : ℕ
     parts = parts_of_all p.sizes (reports_in p log)
 
-    by_case : (b : Bool) → (present log).is_open ≡ b → Ended p s log
+    c : Course
+    c = a.course
+
+    by_case : (b : Bool) → octets.is_open ≡ b → Ended p s log c octets
     by_case true h =
-        let is : over (present log) (past log) ≡ present log ∷ past log = ap (λ b. if b then present log ∷ past log else past log) h in
+        let is : (if octets.is_open then here_of c ∷ c.earlier else c.earlier) ≡ here_of c ∷ c.earlier = ap (λ b. if b then here_of c ∷ c.earlier else c.earlier) h in
+        let gone : over octets (past log) ≡ octets ∷ past log = ap (λ b. if b then octets ∷ past log else past log) h in
         record {
-          earlier = a.c ∷ a.earlier;
-          are = subst (λ cs. AreConnections cs (a.c ∷ a.earlier)) (sym is) (fault, stands, a.before.are);
-          orders = (in_order objs parts a.c a.earlier s.queue.unsent a.here.numbered a.carries, a.before.orders);
-          carries = carries_end objs parts a.earlier a.c s.session s.queue.sent s.queue.unsent a.here.tied a.carries;
+          are = subst (AreConnections (over octets (past log))) (sym is) (subst (λ cs. AreConnections cs (here_of c ∷ c.earlier)) (sym gone) (fault, stands, a.before.are));
+          orders = subst (AreInOrder objs) (sym is) (in_order objs parts (here_of c) c.earlier s.queue.unsent a.here.numbered a.carries, a.before.orders);
+          carries = subst (λ cs. Carries objs parts cs [] (queue.rewound s.queue).unsent) (sym is) (carries_end objs parts c.earlier (here_of c) s.session s.queue.sent s.queue.unsent a.here.tied a.carries);
         }
     by_case false h =
-        let is : over (present log) (past log) ≡ past log = ap (λ b. if b then present log ∷ past log else past log) h in
-        let new : a.c ≡ new_connection = (a.here.none h).1 in
+        let is : (if octets.is_open then here_of c ∷ c.earlier else c.earlier) ≡ c.earlier = ap (λ b. if b then here_of c ∷ c.earlier else c.earlier) h in
+        let gone : over octets (past log) ≡ past log = ap (λ b. if b then octets ∷ past log else past log) h in
+        let new : here_of c ≡ new_connection = (a.here.none (sym as_now ∙ h)).1 in
         let none : s.queue.sent ≡ [] = a.here.tied.unconfirmed.pieces_are ∙ ap (λ (c : Connection). pieces_of (drop (acknowledged_count c.received_frames) c.sent_frames)) new in
         record {
-          earlier = a.earlier;
-          are = subst (λ cs. AreConnections cs a.earlier) (sym is) a.before.are;
-          orders = a.before.orders;
-          carries = subst (λ q. Carries objs parts a.earlier [] (q ++ s.queue.unsent)) (sym none) (subst (λ (c : Connection). Carries objs parts a.earlier c.sent_frames s.queue.unsent) new a.carries);
+          are = subst (AreConnections (over octets (past log))) (sym is) (subst (λ cs. AreConnections cs c.earlier) (sym gone) a.before.are);
+          orders = subst (AreInOrder objs) (sym is) a.before.orders;
+          carries = subst (λ cs. Carries objs parts cs [] (queue.rewound s.queue).unsent) (sym is)
+              (subst (λ q. Carries objs parts c.earlier [] (q ++ s.queue.unsent)) (sym none) (subst (λ (d : Connection). Carries objs parts c.earlier d.sent_frames s.queue.unsent) new a.carries));
         }
 
 -- the state of a connection that has just begun, or of none
@@ -332,32 +500,131 @@ fresh s octets small link none sent received stopped first next us queued so = r
   numbered = tt;
 }
 
-pub after_close : (p : Setup) (s : State) (log : Log) (unjudged : List ℕ) (cause : Close) (fault : Option Close) (a : Agrees p s log unjudged false) → s.session.connected ≡ true → ends cause ≡ true → IsConnection (present log) a.c fault → HasCause p cause log →
-    Agrees p (disconnected s) (Went s.moment (Closed cause) ∷ log) [] false
-after_close p s log unjudged cause fault a on last stands why =
-    let end = ended p s log unjudged false a fault stands in
-    let talk : Talks p (session.closed s.session) (Went s.moment (Closed cause) ∷ log) new_connection = talk_cut p s.session s.session log (Went s.moment (Closed cause) ∷ log) a.c a.talk refl (subst (λ b. NothingOr b [] (Happens log [])) (sym last) refl) in
-    let shut : present (Went s.moment (Closed cause) ∷ log) ≡ no_channel = ap (λ b. if b then no_channel else present log) last in
-    let gone : past (Went s.moment (Closed cause) ∷ log) ≡ over (present log) (past log) = ap (λ b. if b then over (present log) (past log) else past log) last in
+-- The connection is closed
+
+not_fresh : (cause : Close) → IsCloseAt cause Fresh → ⊥
+not_fresh Timeout h = h
+not_fresh Grammar h = h
+not_fresh SendNumber h = h
+not_fresh ReceiveNumber h = h
+not_fresh Stopped h = h
+not_fresh OwnAnswers h = h
+not_fresh Replaced h = h
+
+-- the cut takes place where the step is
+closed_does : (p : Setup) (s : State) (cause : Close) (phase : Phase) (at : ℕ) (room other : Bool) (w : Works) → IsCloseAt cause phase → Does p s (works_in phase p at room w) → Does p (disconnected s) (works_in (after_closing phase) p at other (cut_works (works_at p cause at w)))
+closed_does p s Grammar Taking at room other w timely d = does_cut p s w d
+closed_does p s SendNumber Taking at room other w timely d = does_cut p s w d
+closed_does p s ReceiveNumber Taking at room other w timely d = does_cut p s w d
+closed_does p s Stopped Taking at room other w timely d = does_cut p s w d
+closed_does p s OwnAnswers Taking at room other w timely d = does_cut p s w d
+closed_does p s Replaced Taking at room other w timely d = does_cut p s w d
+closed_does p s Timeout Taking at room other w timely d = absurd timely
+closed_does p s Grammar Idle at room other w timely d = does_cut p s w d
+closed_does p s SendNumber Idle at room other w timely d = does_cut p s w d
+closed_does p s ReceiveNumber Idle at room other w timely d = does_cut p s w d
+closed_does p s Stopped Idle at room other w timely d = does_cut p s w d
+closed_does p s OwnAnswers Idle at room other w timely d = does_cut p s w d
+closed_does p s Replaced Idle at room other w timely d = does_cut p s w d
+closed_does p s Timeout Idle at room other w timely d = absurd timely
+closed_does p s Timeout Timed at room other w timely d = does_cut_again p s at w d
+closed_does p s Grammar Timed at room other w timely d = absurd timely
+closed_does p s SendNumber Timed at room other w timely d = absurd timely
+closed_does p s ReceiveNumber Timed at room other w timely d = absurd timely
+closed_does p s Stopped Timed at room other w timely d = absurd timely
+closed_does p s OwnAnswers Timed at room other w timely d = absurd timely
+closed_does p s Replaced Timed at room other w timely d = absurd timely
+closed_does p s cause Fresh at room other w timely d = absurd (not_fresh cause timely)
+closed_does p s Timeout Asked at room other w timely d = absurd timely
+closed_does p s Grammar Asked at room other w timely d = absurd timely
+closed_does p s SendNumber Asked at room other w timely d = absurd timely
+closed_does p s ReceiveNumber Asked at room other w timely d = absurd timely
+closed_does p s Stopped Asked at room other w timely d = absurd timely
+closed_does p s OwnAnswers Asked at room other w timely d = absurd timely
+closed_does p s Replaced Asked at room other w timely d = absurd timely
+
+works_due : (p : Setup) (cause : Close) (at : ℕ) (w : Works) → (works_at p cause at w).is_due ≡ w.is_due
+works_due p Timeout at w = settled_due p at w
+works_due p Grammar at w = refl
+works_due p SendNumber at w = refl
+works_due p ReceiveNumber at w = refl
+works_due p Stopped at w = refl
+works_due p OwnAnswers at w = refl
+works_due p Replaced at w = refl
+
+closed_asks : (p : Setup) (cause : Close) (phase : Phase) (at : ℕ) (room other : Bool) (w : Works) → IsCloseAt cause phase → IsAsked phase p at room w → IsAsked (after_closing phase) p at other (cut_works (works_at p cause at w))
+closed_asks p cause Taking at room other w timely h = works_due p cause at w ∙ h
+closed_asks p cause Idle at room other w timely h = works_due p cause at w ∙ h
+closed_asks p cause Timed at room other w timely h = works_due p cause at w ∙ h
+closed_asks p cause Fresh at room other w timely h = absurd (not_fresh cause timely)
+closed_asks p cause Asked at room other w timely h = absurd (never cause timely)
+  where
+    never : (cause : Close) → IsCloseAt cause Asked → ⊥
+    never Timeout h = h
+    never Grammar h = h
+    never SendNumber h = h
+    never ReceiveNumber h = h
+    never Stopped h = h
+    never OwnAnswers h = h
+    never Replaced h = h
+
+closed_phase : (phase : Phase) (log : Log) (now : ℕ) (cause : Close) → IsCloseAt cause phase → IsPhase (after_closing phase) (Went now (Closed cause) ∷ log)
+closed_phase Fresh log now cause timely = absurd (not_fresh cause timely)
+closed_phase Taking log now cause timely = tt
+closed_phase Idle log now cause timely = tt
+closed_phase Timed log now cause timely = tt
+closed_phase Asked log now cause timely = tt
+
+closed_is : (p : Setup) (cause : Close) (is_open : Bool) (at : ℕ) (c : Course) → ends cause ≡ true → closed_course p cause is_open at c ≡ ended_course is_open (works_at p cause at c.works) c
+closed_is p Grammar is_open at c h = refl
+closed_is p SendNumber is_open at c h = refl
+closed_is p ReceiveNumber is_open at c h = refl
+closed_is p Stopped is_open at c h = refl
+closed_is p Timeout is_open at c h = refl
+closed_is p OwnAnswers is_open at c h = refl
+closed_is p Replaced is_open at c h = cc
+
+same_open : (cause : Close) (c : Channel) → (closed_by cause c).is_open ≡ c.is_open
+same_open Grammar c = refl
+same_open SendNumber c = refl
+same_open ReceiveNumber c = refl
+same_open Stopped c = refl
+same_open Timeout c = refl
+same_open OwnAnswers c = refl
+same_open Replaced c = refl
+
+pub after_close : (laws : LineLaws) (p : Setup) (s : State) (log : Log) (unjudged : List ℕ) (cause : Close) (phase : Phase) (fault : Option Close) (a : Agrees p s log unjudged phase) → s.session.connected ≡ true → ends cause ≡ true → IsCloseAt cause phase → IsConnection (closed_by cause (present log)) (here_of a.course) fault → HasCause p cause log →
+    Agrees p (disconnected s) (Went s.moment (Closed cause) ∷ log) [] (after_closing phase)
+after_close laws p s log unjudged cause phase fault a on last timely stands why =
+    let new : Log = Went s.moment (Closed cause) ∷ log in
+    let octets : Channel = closed_by cause (present log) in
+    let course : Course = ended_course octets.is_open (works_at p cause (latest log) a.course.works) a.course in
+    let end = ended p s log unjudged phase a octets fault (same_open cause (present log)) stands in
+    let runs : Runs p new course = (a.course, a.talk.course_runs, sym (closed_is p cause (present log).is_open (latest log) a.course last ∙ ap (λ b. ended_course b (works_at p cause (latest log) a.course.works) a.course) (sym (same_open cause (present log))))) in
+    let talk : Talks p (session.closed s.session) new course = talk_cut p s.session s.session log new a.course course a.talk refl refl runs in
+    let shut : present new ≡ no_channel = ap (λ b. if b then no_channel else present log) last in
+    let gone : past new ≡ over octets (past log) = ap (λ b. if b then over octets (past log) else past log) last in
     record {
       k = a.k;
       sizes = a.sizes;
       places = a.places;
       clock = a.clock;
-      counts = a.counts;
       settled = refl;
       found = a.found;
-      line = a.line;
-      primary = a.primary;
-      turns = a.turns;
-      asks = a.asks;
+      line = laws.withdraw p.link p.addresses s.line (exchanges_of p log) a.line;
+      course = course;
       talk = talk;
-      c = new_connection;
+      stands = record {
+        does = closed_does p s cause phase (latest log) (room_in p log a.course) (room_in p new course) a.course.works timely a.stands.does;
+        asks = closed_asks p cause phase (latest log) (room_in p log a.course) (room_in p new course) a.course.works timely a.stands.asks;
+        phase_is = closed_phase phase log s.moment cause timely;
+      };
+      offers = offers_cut laws s.line (tasks.closed s.commands);
+      plain = tt;
       here = subst (λ octets. Presently (disconnected s) octets [] new_connection) (sym shut) (fresh (disconnected s) no_channel a.here.tied.small refl (λ h. refl) refl refl refl refl refl refl refl refl);
-      earlier = end.earlier;
       carries = end.carries;
       before = record {
-        are = subst (λ cs. AreConnections cs end.earlier) (sym gone) end.are;
+        are = subst (λ cs. AreConnections cs course.earlier) (sym gone) end.are;
         orders = end.orders;
         times = (kept_talk p _ _ _ talk, a.before.times);
         acts = (record { moment = a.clock; replaced = no_replaced cause last ∙ sym a.settled; may = why }, a.before.acts);
@@ -375,28 +642,47 @@ after_close p s log unjudged cause fault a on last stands why =
     no_replaced Replaced h = cc
 
 -- where nothing can be sent any more, the step has done all that it could
-pub rested : (laws : LineLaws) (p : Setup) (s : State) (log : Log) (a : Agrees p s log [] true) → IsSpent s → IsQuiet s → IsAtRest p log
+pub rested : (laws : LineLaws) (p : Setup) (s : State) (log : Log) (a : Agrees p s log [] Asked) → IsSpent s → IsQuiet s → IsAtRest p log
 rested laws p s log a spent quiet = record {
-  here = a.c;
-  before = a.earlier;
-  are = record { open_one = stands_now p s log true a; earlier = a.before.are };
+  course = a.course;
+  course_runs = a.talk.course_runs;
+  are = record { open_one = stands_now p s log Asked a; earlier = a.before.are };
   settled = a.settled;
   eager = λ on started room.
       let may : may_send s.session ≡ true = can (is_running s.session) (a.here.tied.running ∙ started) (omega (arith, room, a.here.tied.unconfirmed.count, a.k)) in
       let all = spent may in
-      omega (arith, a.carries.front, ap length a.carries.joined, length-append a.carries.gone (objects_of_frames a.c.sent_frames ++ flat_map objects s.queue.unsent), length-append (objects_of_frames a.c.sent_frames) (flat_map objects s.queue.unsent), ap (λ xs. length (flat_map objects xs)) all);
-  line = line_rests laws p s.line log (has_room s.queue) a.line
-      (subst (λ l. primary.sending l (has_room s.queue) ≡ None) (sym a.asks.1) (laws.over a.primary s.moment (has_room s.queue) a.asks.0)) (a.c ∷ a.earlier) (λ none. is_full p s log [] true a (no_room_means s.queue none));
+      record {
+        objects = omega (arith, a.carries.front, ap length a.carries.joined, length-append a.carries.gone (objects_of_frames a.course.sent ++ flat_map objects s.queue.unsent), length-append (objects_of_frames a.course.sent) (flat_map objects s.queue.unsent), ap (λ xs. length (flat_map objects xs)) all.0);
+        answers = sym (ap (λ (c : tasks.State). c.answers) a.stands.does.commands ∙ answers_in p Asked (latest log) (room_in p log a.course) a.course.works) ∙ all.1;
+      };
+  line = line_rests laws p s.line log a.course (room_in p log a.course) a.line (none_left a.course.works.is_due refl) (here_of a.course ∷ a.course.earlier)
+      (λ none. is_full p s log [] Asked a (no_room_means s.queue (sym (same_room p s log [] Asked a) ∙ none)));
   talk = record {
-    history = a.talk.history;
-    happens = a.talk.happens;
-    all = all_taken p s.session log a.c a.here.so_far a.talk a.here.joined a.here.waits;
-    confirmed = sym (confirmed_by p s.session log a.c a.talk) ∙ quiet.confirmed;
-    none_due = subst (λ m. frame_due p.session.w p.session.t2 p.session.t3 m a.talk.history ≡ None) a.clock (sym (due_by p s.session log a.c a.talk s.moment) ∙ quiet.pulled_all);
-    in_time = subst (λ m. has_timed_out p.session.t1 m a.talk.history ≡ false) a.clock (sym (late_by p s.session log a.c a.talk s.moment) ∙ quiet.in_time);
+    all = all_taken log a.course a.here.so_far a.here.joined a.here.waits;
+    confirmed = sym (confirmed_by p s.session log a.course a.talk) ∙ quiet.confirmed;
+    none_due = subst (λ m. frame_due p.session.w p.session.t2 p.session.t3 m a.course.talk ≡ None) a.clock (sym (due_by p s.session log a.course a.talk s.moment) ∙ quiet.pulled_all);
+    in_time = subst (λ m. has_timed_out p.session.t1 m a.course.talk ≡ false) a.clock (sym (late_by p s.session log a.course a.talk s.moment) ∙ quiet.in_time);
   };
 }
   where
     can : (b : Bool) → b ≡ true → length s.session.unacknowledged < s.session.k → (b && nat_lt (length s.session.unacknowledged) s.session.k) ≡ true
     can true h lt = lt-ltb (length s.session.unacknowledged) s.session.k lt
     can false h lt = cc
+
+    w : Works
+    w = a.course.works
+
+    room : Bool
+    room = room_in p log a.course
+
+    out_none : (o : Option Outstanding) → IsOut o → primary.sending_from w.line o room ≡ None
+    out_none None h = absurd h
+    out_none (Some o) h = refl
+
+    none_left : (b : Bool) → w.is_due ≡ b → primary.sending s.line room ≡ None
+    none_left true due =
+        let is : s.line ≡ primary.asked (ready_works p (latest log) w).line (latest log) room = a.stands.does.line ∙ ap (λ b. (if b then unasked_works (latest log) room (ready_works p (latest log) w) else w).line) due in
+        subst (λ q. primary.sending q room ≡ None) (sym is) (laws.over (ready_works p (latest log) w).line (latest log) room (a.stands.asks.0 due))
+    none_left false due =
+        let is : s.line ≡ w.line = a.stands.does.line ∙ ap (λ b. (if b then unasked_works (latest log) room (ready_works p (latest log) w) else w).line) due in
+        subst (λ q. primary.sending q room ≡ None) (sym is) (out_none w.line.outstanding (a.stands.asks.1 due))

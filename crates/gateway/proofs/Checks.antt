@@ -1,6 +1,6 @@
 -- The definitions, computed on the log of one report: the start of the link, a poll answered by a single point, and a
 -- connection with STARTDT on which the point goes out.
-use Rattle.std.proofs.Common.{◌≡◌, [], ◌∷◌, true, None, refl}
+use Rattle.std.proofs.Common.{◌≡◌, [], ◌∷◌, true, false, None, refl}
 use Rattle.ft12.specs.declared.frame.LinkSize.TheVariants.{One}
 use Rattle.ft12.specs.Fronts.{front_of}
 use Rattle.elements.specs.declared.types.TypeId.TheVariants.{MSpNa1}
@@ -23,6 +23,8 @@ setup = record {
   sizes = record { cause = causes.One; ca = cas.One; ioa = ioas.Two };
   places = 100;
   session = record { k = 12; w = 8; t1 = 15000; t2 = 10000; t3 = 20000 };
+  stations = record { ca = 1; select = false } ∷ [];
+  select_ms = 20000;
 }
 
 -- newest first

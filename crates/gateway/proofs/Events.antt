@@ -1,162 +1,240 @@
 -- The line's lemmas where a port may tell no log, in the form that answers cite.
-use Rattle.std.proofs.Common.{◌≡◌, ℕ, ◌≤◌, ◌+◌, Bool, true, false, List, [], ◌∷◌, length, refl, ap, sym, ◌∙◌, subst, arith, Option, Some, None, length-append}
+use Rattle.std.proofs.Common.{◌≡◌, ℕ, ◌<◌, ◌≤◌, ◌+◌, Bool, true, false, not, List, [], ◌∷◌, length, refl, ap, sym, ◌∙◌, subst, arith, Option, Some, None, length-append}
 use Rattle.std.specs.Prelude.{IfSome, if◌then◌else◌, option_map}
 use Rattle.std.specs.Bool.{OnTrue}
 use Rattle.std.proofs.lemmas.List.{append-nil}
+use Rattle.std.proofs.lemmas.Bool.{and_parts}
+use Rattle.link.specs.declared.service.Service.TheVariants.{Command}
+use Rattle.link.specs.declared.service.Asked.TheVariants.{Counted}
+use Rattle.link.specs.Procedure.{is_held}
+use Rattle.link.specs.declared.turn.Chosen.{Chosen}
+use Rattle.link.specs.Turns.{station_at}
 use Rattle.link.specs.Exchanges.{Exchanges, Sending, begun_by}
-use Rattle.link.specs.Primary.{Primary, start, asked, sending, request_of, timed_out}
+use Rattle.link.specs.Primary.{Primary, Outstanding, asked, asked_from, after_choice, choice, sending, sending_from, sending_by, request_of, is_command}
 use Rattle.link.specs.declared.request.Request.{Request}
 use Rattle.link.specs.Telling.{Tells}
-use Rattle.session.specs.declared.kinds.Close.TheVariants.{Replaced}
+use Rattle.session.specs.declared.kinds.Close.TheVariants.{OwnAnswers, Replaced}
+use Rattle.command.specs.State as tasks
+use Rattle.command.specs.State.{octets_waiting}
 use Rattle.events.specs.Queue.{free_places}
 use Rattle.session.specs.Ends.{IsConfirmed}
 use Rattle.gateway.proofs.Talking.{kept_talk, talk_on}
-use Rattle.gateway.specs.Log.{Log, LogEntry, events_of, Input, Opened, TcpIn, CutOff, Ticked, LineIn, Came, Went, LineOut, Closed, tell}
+use Rattle.gateway.specs.Log.{Log, LogEntry, events_of, Input, Opened, TcpIn, CutOff, Ticked, LineIn, Came, Went, LineOut, Closed, latest, tell}
 use Rattle.gateway.specs.Frames.{AreInOrder}
+use Rattle.gateway.specs.Connections.{present}
 use Rattle.gateway.specs.Reports.{Setup, exchanges_of, taken_objects, reports_in, parts_of_all}
 use Rattle.link.specs.Leave.{is_poll_request}
 use Rattle.gateway.specs.Polls.{has_room}
-use Rattle.gateway.specs.Counting.{nothing_counted}
-use Rattle.gateway.specs.Line.{TurnsTo}
+use Rattle.gateway.specs.Works.{Works, tasks_of, is_overfull, offered_upto, settled_works, ready_works, unasked_works, asked_works, is_first_command}
+use Rattle.gateway.specs.Course.{Course, first_course, here_of, room_in, with_works, Comes, Runs}
+use Rattle.gateway.specs.Phases.{Phase, Fresh, Taking, Idle, Timed, Asked, IsOut}
 use Rattle.gateway.specs.LineLaws.{LineLaws}
 use Rattle.gateway.specs.Traffic.{IsFaithful}
 use Rattle.gateway.specs.Runs.{events_told, MoreEvents}
-use Rattle.gateway.specs.State.{State, at_moment, disconnected, connected}
-use Rattle.gateway.specs.Steps.{HearsEvent, Begins}
-use Rattle.gateway.specs.Agrees.{Agrees, Tracks, Awaits, Leaves, Follows, HasCome, Rests, Carries}
-use Rattle.gateway.proofs.Agreement.{stands_now, has_places}
+use Rattle.gateway.specs.State.{State, at_moment, disconnected, connected, put_on_line, commands_after, after_request as after_next}
+use Rattle.gateway.specs.Steps as steps
+use Rattle.gateway.specs.Steps.{HearsEvent, line_timed, settled, Begins, MayClose}
+use Rattle.gateway.specs.Agrees.{Presently, Talks, Agrees, Does, OffersWait, ArePlain, Tracks, Awaits, Leaves, Follows, HasCome, Rests, Carries}
+use Rattle.gateway.proofs.Working.{does_settled, put_state}
+use Rattle.gateway.proofs.Offering.{offers_stay, offers_made, offers_asked, offers_unasked}
+use Rattle.gateway.proofs.Agreement.{stands_now, stands_overfull, has_places, same_room, now_idle}
 use Rattle.gateway.proofs.Put.{told_faithful}
-use Rattle.gateway.proofs.Stations.{octets_of, taken_grows, parts_grow, counts_grow, after_request}
-use Rattle.gateway.proofs.Come.{Heard, heard_event, shows, come_other, come_open, come_replaced, come_cut, come_bytes, opened_faithful}
+use Rattle.gateway.proofs.Stations.{octets_of, taken_grows, parts_grow, after_request}
+use Rattle.gateway.proofs.Come.{Heard, left_of, heard_event, Worked, come_other, come_course, come_open, come_replaced, come_cut, come_bytes, opened_faithful}
 
--- A request goes out
+-- The request is asked for, once commands were offered.
 
-after_asked : (laws : LineLaws) (p : Setup) (s : State) (log : Log) (x : Sending) → sending s.line (has_room s.queue) ≡ Some x → (is_poll_request x.request ≡ true → 3 ≤ free_places s.queue) → Agrees p s log [] false →
-    Agrees p (record s { line = asked s.line s.moment (has_room s.queue) }) (Went s.moment (LineOut (octets_of p x)) ∷ log) [] true
-after_asked laws p s log x is poll a =
-    let may : Bool = has_room s.queue in
-    let new : Log = Went s.moment (LineOut (octets_of p x)) ∷ log in
-    let goes = after_request laws p s.line log s.moment may x a.found a.line is in
-    let fits = laws.fit p.link p.addresses s.line (exchanges_of p log) may x a.line is in
-    let same : taken_objects p new ≡ taken_objects p log = taken_grows p log new [] goes.reported ∙ append-nil (taken_objects p log) in
-    let parts : parts_of_all p.sizes (reports_in p new) ≡ parts_of_all p.sizes (reports_in p log) = omega (arith, parts_grow p log new [] goes.reported) in
-    record {
-      k = a.k;
-      sizes = a.sizes;
-      places = a.places;
-      clock = a.clock;
-      counts = a.counts ∙ sym (counts_grow p log new nothing_counted [] goes.reported);
-      settled = refl;
-      found = a.found;
-      line = goes.tells;
-      primary = asked s.line s.moment may;
-      turns = (s.line, subst (TurnsTo p log) (sym a.asks) a.turns, record { room = may; shows = shows p s log false a may refl; request = x; next = is; spelled = refl; after_is = refl });
-      talk = talk_on p s.session s.session log new a.c a.c a.talk refl refl a.talk.happens;
-      asks = (laws.out s.line s.moment may x is may, sym (laws.same s.line s.moment may x is s.moment may));
-      c = a.c;
-      here = record {
-        link = a.here.link;
-        none = a.here.none;
-        put = a.here.put;
-        handed = a.here.handed;
-        sent = a.here.sent;
-        so_far = a.here.so_far;
-        assembler = a.here.assembler;
-        waits = a.here.waits;
-        joined = a.here.joined;
-        fit = a.here.fit;
-        pass = a.here.pass;
-        tied = a.here.tied;
-        numbered = a.here.numbered;
-      };
-      earlier = a.earlier;
-      carries = subst (λ objs. Carries objs (parts_of_all p.sizes (reports_in p new)) a.earlier a.c.sent_frames s.queue.unsent) (sym same)
-          (subst (λ n. Carries (taken_objects p log) n a.earlier a.c.sent_frames s.queue.unsent) (sym parts) a.carries);
-      before = record {
-        are = a.before.are;
-        orders = subst (λ objs. AreInOrder objs a.earlier) (sym same) a.before.orders;
-        times = (kept_talk p _ _ _ (talk_on p s.session s.session log new a.c a.c a.talk refl refl a.talk.happens), a.before.times);
-        acts = (
-          record {
-            moment = a.clock;
-            replaced = sym a.settled;
-            may = record {
-              station = x.station;
-              within = fits.station;
-              request = x.request;
-              spelled = refl;
-              alone = λ w. laws.alone p.link p.addresses s.line (exchanges_of p log) may x w.exchange a.line is w.latest_is w.waits;
-              room = λ polls. record {
-                here = a.c;
-                before = a.earlier;
-                are = record { open_one = stands_now p s log false a; earlier = a.before.are };
-                room = has_places p s log [] false a (poll polls);
+-- the state once commands were offered
+pub record IsReady (p : Setup) (s t : State) (told : Option Log) : Type 0 where
+  pub is : t ≡ record s { line = offered_upto (length s.line.stations) s.commands.waiting s.line }
+  pub tells : (e : Exchanges) → Tells p.link p.addresses s.line e → Tells p.link p.addresses t.line e
+
+-- and once a request was asked for
+abbrev pub asked_state : State → Primary → Option Sending → State
+asked_state s q x = record s { line = asked q s.moment (has_room s.queue); commands = commands_after q x s.commands }
+
+module _ (laws : LineLaws) (p : Setup) (s : State) (q : Primary) (log : Log) (a : Agrees p s log [] Timed) (is : q ≡ offered_upto (length s.line.stations) s.commands.waiting s.line) (tells : Tells p.link p.addresses q (exchanges_of p log)) where
+  abbrev at : ℕ
+  at = latest log
+
+  abbrev w : Works
+  w = a.course.works
+
+  abbrev ready : Works
+  ready = ready_works p at w
+
+  -- what is offered
+  same_line : q ≡ ready.line
+  same_line = is ∙ ap (λ (l : Primary). offered_upto (length l.stations) s.commands.waiting l) a.stands.does.line
+      ∙ ap (λ (c : tasks.State). offered_upto (length (settled_works p at w).line.stations) c.waiting (settled_works p at w).line) a.stands.does.commands
+
+  offers : OffersWait q s.commands
+  offers = subst (λ l. OffersWait l s.commands) (sym is) (offers_made laws s.line s.commands a.offers)
+
+  room : room_in p log a.course ≡ has_room s.queue
+  room = same_room p s log [] Timed a
+
+  same_next : (x : Option Sending) → sending q (has_room s.queue) ≡ x → sending ready.line (room_in p log a.course) ≡ x
+  same_next x h = ap (sending ready.line) room ∙ ap (λ l. sending l (has_room s.queue)) (sym same_line) ∙ h
+
+  same_asked : asked q s.moment (has_room s.queue) ≡ asked ready.line at (room_in p log a.course)
+  same_asked = ap (λ m. asked q m (has_room s.queue)) a.clock ∙ ap (λ l. asked l at (has_room s.queue)) same_line ∙ ap (asked ready.line at) (sym room)
+
+  command_waits : (x : Sending) → sending q (has_room s.queue) ≡ Some x → (fcb : Bool) (asdu : List ℕ) → x.request ≡ Counted fcb (Command asdu) → is_first_command ready.line x ≡ true → octets_waiting x.station (tasks_of p ready).state ≡ Some asdu
+  command_waits x next fcb asdu request first =
+      let new : is_first_command q x ≡ true = ap (λ l. is_first_command l x) same_line ∙ first in
+      let fresh : is_held (station_at q.stations x.station).link ≡ false = not-true _ (and_parts (is_command x.request) _ new).1 in
+      ap (octets_waiting x.station) (sym a.stands.does.commands) ∙ offers x.station asdu (laws.begun q (has_room s.queue) x fcb asdu next request fresh)
+    where
+      not-true : (b : Bool) → not b ≡ true → b ≡ false
+      not-true true h = cc
+      not-true false h = refl
+
+  is_out : (x : Sending) → sending q (has_room s.queue) ≡ Some x → IsOut (asked q s.moment (has_room s.queue)).outstanding
+  is_out x next = by_outstanding q.outstanding next
+    where
+      by_choice : (c : Option Chosen) → sending_by c ≡ Some x → IsOut (after_choice q s.moment c).outstanding
+      by_choice None h = cc
+      by_choice (Some c) h = tt
+
+      by_outstanding : (o : Option Outstanding) → sending_from q o (has_room s.queue) ≡ Some x → IsOut (asked_from q o s.moment (has_room s.queue)).outstanding
+      by_outstanding None h = by_choice (choice q (has_room s.queue)) h
+      by_outstanding (Some o) h = cc
+
+  pub after_asked : (x : Sending) → sending q (has_room s.queue) ≡ Some x → (is_poll_request x.request ≡ true → 3 ≤ free_places s.queue) → Agrees p (asked_state s q (Some x)) (Went s.moment (LineOut (octets_of p x)) ∷ log) [] Asked
+  after_asked x next poll =
+      let may : Bool = has_room s.queue in
+      let new : Log = Went s.moment (LineOut (octets_of p x)) ∷ log in
+      let goes = after_request laws p q log s.moment may x a.found tells next in
+      let fits = laws.fit p.link p.addresses q (exchanges_of p log) may x tells next in
+      let same : taken_objects p new ≡ taken_objects p log = taken_grows p log new [] goes.reported ∙ append-nil (taken_objects p log) in
+      let parts : parts_of_all p.sizes (reports_in p new) ≡ parts_of_all p.sizes (reports_in p log) = omega (arith, parts_grow p log new [] goes.reported) in
+      let d : Course = with_works (asked_works at (room_in p log a.course) x ready) a.course in
+      let course_runs : Runs p new d = (a.course, a.talk.course_runs, record {
+        due = a.stands.asks;
+        request = x;
+        next = same_next (Some x) next;
+        spelled_so = refl;
+        waits = command_waits x next;
+        is = refl;
+      }) in
+      let talk : Talks p s.session new d = talk_on p s.session s.session log new a.course d a.talk refl refl course_runs in
+      record {
+        k = a.k;
+        sizes = a.sizes;
+        places = a.places;
+        clock = a.clock;
+        settled = refl;
+        found = a.found;
+        line = goes.tells;
+        course = d;
+        talk = talk;
+        stands = record {
+          does = record {
+            line = same_asked;
+            commands = ap (λ l. put_on_line (is_first_command l x) x.station s.commands) same_line ∙ ap (put_on_line (is_first_command ready.line x) x.station) a.stands.does.commands ∙ sym (put_state p (is_first_command ready.line x) x.station ready.calls);
+            counts = a.stands.does.counts;
+            silent = a.stands.does.silent;
+          };
+          asks = (λ due. cc, λ none. subst (λ (l : Primary). IsOut l.outstanding) same_asked (is_out x next));
+          phase_is = tt;
+        };
+        offers = offers_asked laws a.talk.command_laws q s.commands s.moment may x next (omega (arith, fits.station, tells.count)) offers;
+        plain = subst ArePlain (sym (put_answers (is_first_command q x))) a.plain;
+        here = with_line_out;
+        carries = subst (λ objs. Carries objs (parts_of_all p.sizes (reports_in p new)) a.course.earlier a.course.sent s.queue.unsent) (sym same)
+            (subst (λ n. Carries (taken_objects p log) n a.course.earlier a.course.sent s.queue.unsent) (sym parts) a.carries);
+        before = record {
+          are = a.before.are;
+          orders = subst (λ objs. AreInOrder objs a.course.earlier) (sym same) a.before.orders;
+          times = (kept_talk p _ _ _ talk, a.before.times);
+          acts = (
+            record {
+              moment = a.clock;
+              replaced = sym a.settled;
+              may = record {
+                station = x.station;
+                within = fits.station;
+                request = x.request;
+                spelled = refl;
+                alone = λ z. laws.alone p.link p.addresses q (exchanges_of p log) may x z.exchange tells next z.latest_is z.waits;
+                room = λ polls. record {
+                  course = a.course;
+                  runs = a.talk.course_runs;
+                  are = record { open_one = stands_now p s log Timed a; earlier = a.before.are };
+                  room = has_places p s log [] Timed a (poll polls);
+                };
               };
-            };
-          },
-          a.before.acts,
-        );
-        rests = a.before.rests;
-      };
-    }
+            },
+            a.before.acts,
+          );
+          rests = a.before.rests;
+        };
+      }
+    where
+      put_answers : (b : Bool) → (put_on_line b x.station s.commands).answers ≡ s.commands.answers
+      put_answers true = a.talk.command_laws.sent_answers x.station s.commands
+      put_answers false = refl
 
--- no request is left
-none_asked : (laws : LineLaws) (p : Setup) (s : State) (log : Log) → sending s.line (has_room s.queue) ≡ None → Agrees p s log [] false → Agrees p (record s { line = asked s.line s.moment (has_room s.queue) }) log [] true
-none_asked laws p s log none a =
-    let may : Bool = has_room s.queue in
-    let e : Exchanges = exchanges_of p log in
-    record {
-      k = a.k;
-      sizes = a.sizes;
-      places = a.places;
-      clock = a.clock;
-      counts = a.counts;
-      settled = a.settled;
-      found = a.found;
-      line = subst (λ o. Tells p.link p.addresses (asked s.line s.moment may) (begun_by s.moment o e)) none (laws.next p.link p.addresses s.line e s.moment may a.line);
-      primary = s.line;
-      turns = subst (TurnsTo p log) (sym a.asks) a.turns;
-      asks = (none, refl);
-      talk = a.talk;
-      c = a.c;
-      here = record {
-        link = a.here.link;
-        none = a.here.none;
-        put = a.here.put;
-        handed = a.here.handed;
-        sent = a.here.sent;
-        so_far = a.here.so_far;
-        assembler = a.here.assembler;
-        waits = a.here.waits;
-        joined = a.here.joined;
-        fit = a.here.fit;
-        pass = a.here.pass;
-        tied = a.here.tied;
-        numbered = a.here.numbered;
-      };
-      earlier = a.earlier;
-      carries = a.carries;
-      before = a.before;
-    }
+      with_line_out : Presently (asked_state s q (Some x)) (present log) [] (here_of a.course)
+      with_line_out = record { link = a.here.link; none = a.here.none; put = a.here.put; handed = a.here.handed; sent = a.here.sent; so_far = a.here.so_far; assembler = a.here.assembler; waits = a.here.waits; joined = a.here.joined; fit = a.here.fit; pass = a.here.pass; tied = a.here.tied; numbered = a.here.numbered }
 
-pub asked_none : (laws : LineLaws) (p : Setup) (told : Option Log) (s t : State) → sending s.line (has_room s.queue) ≡ None → t ≡ record s { line = asked s.line s.moment (has_room s.queue) } → Tracks p s told [] false → Tracks p t told [] true
-asked_none laws p None s t none is h = tt
-asked_none laws p (Some log) s t none is a = subst (λ x. Agrees p x log [] true) (sym is) (none_asked laws p s log none a)
+  -- no request is left
+  pub none_asked : sending q (has_room s.queue) ≡ None → Agrees p (asked_state s q None) log [] Asked
+  none_asked none = record {
+    k = a.k;
+    sizes = a.sizes;
+    places = a.places;
+    clock = a.clock;
+    settled = a.settled;
+    found = a.found;
+    line = subst (λ o. Tells p.link p.addresses (asked q s.moment (has_room s.queue)) (begun_by s.moment o (exchanges_of p log))) none (laws.next p.link p.addresses q (exchanges_of p log) s.moment (has_room s.queue) tells);
+    course = a.course;
+    talk = a.talk;
+    stands = record {
+      does = subst (λ b. Does p (asked_state s q None) (if b then unasked_works at (room_in p log a.course) ready else w)) (sym a.stands.asks) (record { line = same_asked; commands = a.stands.does.commands; counts = a.stands.does.counts; silent = a.stands.does.silent });
+      asks = (λ due. same_next None none, λ off. let no : false ≡ true = sym off ∙ a.stands.asks in cc);
+      phase_is = tt;
+    };
+    offers = offers_unasked laws q s.commands s.moment (has_room s.queue) none offers;
+    plain = a.plain;
+    here = record { link = a.here.link; none = a.here.none; put = a.here.put; handed = a.here.handed; sent = a.here.sent; so_far = a.here.so_far; assembler = a.here.assembler; waits = a.here.waits; joined = a.here.joined; fit = a.here.fit; pass = a.here.pass; tied = a.here.tied; numbered = a.here.numbered };
+    carries = a.carries;
+    before = a.before;
+  }
 
-told_asked : (laws : LineLaws) (p : Setup) (told after : Option Log) (s t : State) (x : Sending) (octets : List ℕ) (now : ℕ) → sending s.line (has_room s.queue) ≡ Some x → (is_poll_request x.request ≡ true → 3 ≤ free_places s.queue) → octets ≡ (request_of s.line x).octets.items →
-    now ≡ s.moment → t ≡ record s { line = asked s.line s.moment (has_room s.queue) } → after ≡ tell told (Went now (LineOut octets) ∷ []) → Tracks p s told [] false → Tracks p t after [] true
-told_asked laws p told after s t x octets now is poll spelled same next e h = rw (e, same, next) (by_log told h)
+ready_state : (s r : State) (p : Setup) (told : Option Log) → IsReady p s r told → (x : Option Sending) → after_next r x ≡ asked_state s r.line x
+ready_state s r p told ready x = ap (λ (z : State). asked_state z r.line x) ready.is
+
+-- the same where a port may tell no log: s is the state before commands were offered, r the one after, t the one once asked
+
+pub asked_none : (laws : LineLaws) (p : Setup) (told : Option Log) (s r t : State) → IsReady p s r told → sending r.line (has_room r.queue) ≡ None → t ≡ after_next r None → Tracks p s told [] Timed → Tracks p t told [] Asked
+asked_none laws p None s r t made none is h = tt
+asked_none laws p (Some log) s r t made none is a =
+    let q : r.line ≡ offered_upto (length s.line.stations) s.commands.waiting s.line = ap (λ (x : State). x.line) made.is in
+    let same : t ≡ asked_state s r.line None = is ∙ ready_state s r p (Some log) made None in
+    subst (λ x. Agrees p x log [] Asked) (sym same) (none_asked laws p s r.line log a q (made.tells (exchanges_of p log) a.line) (ap (λ (x : State). sending r.line (has_room x.queue)) (sym made.is) ∙ none))
+
+told_asked : (laws : LineLaws) (p : Setup) (told after : Option Log) (s r t : State) (x : Sending) (octets : List ℕ) (now : ℕ) → IsReady p s r told → sending r.line (has_room r.queue) ≡ Some x → (is_poll_request x.request ≡ true → 3 ≤ free_places r.queue) → octets ≡ (request_of r.line x).octets.items →
+    now ≡ r.moment → t ≡ after_next r (Some x) → after ≡ tell told (Went now (LineOut octets) ∷ []) → Tracks p s told [] Timed → Tracks p t after [] Asked
+told_asked laws p told after s r t x octets now made next poll spelled same is e h =
+    let moment : now ≡ s.moment = same ∙ ap (λ (x : State). x.moment) made.is in
+    let state : t ≡ asked_state s r.line (Some x) = is ∙ ready_state s r p told made (Some x) in
+    rw (e, moment, state) (by_log told made h)
   where
-    by_log : (told : Option Log) → Tracks p s told [] false → Tracks p (record s { line = asked s.line s.moment (has_room s.queue) }) (tell told (Went s.moment (LineOut octets) ∷ [])) [] true
-    by_log None h = tt
-    by_log (Some log) a =
-        let written : octets ≡ octets_of p x = spelled ∙ laws.spelled p.link p.addresses s.line (exchanges_of p log) x a.line in
-        subst (λ o. Agrees p (record s { line = asked s.line s.moment (has_room s.queue) }) (Went s.moment (LineOut o) ∷ log) [] true) (sym written) (after_asked laws p s log x is poll a)
+    by_log : (told : Option Log) → IsReady p s r told → Tracks p s told [] Timed → Tracks p (asked_state s r.line (Some x)) (tell told (Went s.moment (LineOut octets) ∷ [])) [] Asked
+    by_log None made h = tt
+    by_log (Some log) made a =
+        let q : r.line ≡ offered_upto (length s.line.stations) s.commands.waiting s.line = ap (λ (x : State). x.line) made.is in
+        let tells : Tells p.link p.addresses r.line (exchanges_of p log) = made.tells (exchanges_of p log) a.line in
+        let written : octets ≡ octets_of p x = spelled ∙ laws.spelled p.link p.addresses r.line (exchanges_of p log) x tells in
+        subst (λ o. Agrees p (asked_state s r.line (Some x)) (Went s.moment (LineOut o) ∷ log) [] Asked) (sym written)
+        (after_asked laws p s r.line log a q tells x (ap (λ (z : State). sending r.line (has_room z.queue)) (sym made.is) ∙ next) (λ polls. subst (λ (z : State). 3 ≤ free_places z.queue) made.is (poll polls)))
 
-pub asked_leaves : (laws : LineLaws) (result : Bool) (p : Setup) (told after : Option Log) (s t : State) (x : Sending) (octets : List ℕ) (now : ℕ) → sending s.line (has_room s.queue) ≡ Some x → (is_poll_request x.request ≡ true → 3 ≤ free_places s.queue) → octets ≡ (request_of s.line x).octets.items →
-    now ≡ s.moment → t ≡ record s { line = asked s.line s.moment (has_room s.queue) } → after ≡ (if result then tell told (Went now (LineOut octets) ∷ []) else told) → Tracks p s told [] false → Leaves result p t after [] true
-asked_leaves laws true p told after s t x octets now is poll spelled same next e h = told_asked laws p told after s t x octets now is poll spelled same next e h
-asked_leaves laws false p told after s t x octets now is poll spelled same next e h = subst (λ l. IfSome l (IsFaithful p)) (sym e) (told_faithful p told s [] false h)
+pub asked_leaves : (laws : LineLaws) (result : Bool) (p : Setup) (told after : Option Log) (s r t : State) (x : Sending) (octets : List ℕ) (now : ℕ) → IsReady p s r told → sending r.line (has_room r.queue) ≡ Some x → (is_poll_request x.request ≡ true → 3 ≤ free_places r.queue) → octets ≡ (request_of r.line x).octets.items →
+    now ≡ r.moment → t ≡ after_next r (Some x) → after ≡ (if result then tell told (Went now (LineOut octets) ∷ []) else told) → Tracks p s told [] Timed → Leaves result p t after [] Asked
+asked_leaves laws true p told after s r t x octets now made next poll spelled same is e h = told_asked laws p told after s r t x octets now made next poll spelled same is e h
+asked_leaves laws false p told after s r t x octets now made next poll spelled same is e h = subst (λ l. IfSome l (IsFaithful p)) (sym e) (told_faithful p told s [] Timed h)
 
 -- what a request says of what is next
 pub next_is : (q : Primary) (o : Option Sending) (r : Request) → Some r ≡ option_map (request_of q) o → (x : Sending) × (o ≡ Some x) × (r ≡ request_of q x)
@@ -167,64 +245,141 @@ pub none_is : (q : Primary) (o : Option Sending) → None ≡ option_map (reques
 none_is q None e = refl
 none_is q (Some x) e = cc
 
+-- The timers
+
+now_settled : (p : Setup) (s : State) (log : Log) → Agrees p s log [] Idle → Agrees p (settled s) log [] Timed
+now_settled p s log a = subst (λ x. Agrees p x log [] Timed) (sym (settled_parts s)) (record {
+  k = a.k;
+  sizes = a.sizes;
+  places = a.places;
+  clock = a.clock;
+  settled = a.settled;
+  found = a.found;
+  line = a.line;
+  course = a.course;
+  talk = a.talk;
+  stands = record { does = subst (λ x. Does p x (settled_works p (latest log) a.course.works)) (settled_parts s) (does_settled p s (latest log) a.course.works a.clock a.stands.does); asks = a.stands.asks; phase_is = tt };
+  offers = offers_stay s.line s.line s.commands (settled s).commands (λ k. refl) (settled_waiting s.silent) a.offers;
+  plain = subst ArePlain (sym (settled_answers s.silent)) a.plain;
+  here = record { link = a.here.link; none = a.here.none; put = a.here.put; handed = a.here.handed; sent = a.here.sent; so_far = a.here.so_far; assembler = a.here.assembler; waits = a.here.waits; joined = a.here.joined; fit = a.here.fit; pass = a.here.pass; tied = a.here.tied; numbered = a.here.numbered };
+  carries = a.carries;
+  before = a.before;
+})
+  where
+    settled_waiting : (o : Option ℕ) → (tasks.timed (steps.unless_silent o s).moment (steps.unless_silent o s).commands).waiting ≡ s.commands.waiting
+    settled_waiting None = refl
+    settled_waiting (Some i) = refl
+
+    settled_answers : (o : Option ℕ) → (tasks.timed (steps.unless_silent o s).moment (steps.unless_silent o s).commands).answers ≡ s.commands.answers
+    settled_answers None = refl
+    settled_answers (Some i) = refl
+
+    -- it changes nothing but commands and what is counted
+    settled_parts : (s : State) → settled s ≡ record s { commands = (settled s).commands; counts = (settled s).counts; silent = None }
+    settled_parts s = by_silent s.silent
+      where
+        by_silent : (o : Option ℕ) → (let t : State = steps.unless_silent o s in let made : State = record t { commands = tasks.timed t.moment t.commands; silent = None } in made)
+            ≡ (let t : State = steps.unless_silent o s in let made : State = record s { commands = tasks.timed t.moment t.commands; counts = t.counts; silent = None } in made)
+        by_silent None = refl
+        by_silent (Some i) = refl
+
+pub told_settled : (p : Setup) (told : Option Log) (s t : State) → t ≡ settled s → Tracks p s told [] Idle → Tracks p t told [] Timed
+told_settled p None s t is h = tt
+told_settled p (Some log) s t is a = subst (λ x. Agrees p x log [] Timed) (sym is) (now_settled p s log a)
+
 -- An event comes
 
-pub begins : (s a m t : State) (now : ℕ) (event : Input) → a ≡ at_moment s now → HearsEvent a event m → t ≡ record m { line = timed_out m.line m.moment } → Begins s now event t
-begins s a m t now event e hears times = record { middle = m; hears = subst (λ x. HearsEvent x event m) e hears; times = times }
+pub begins : (s a m t : State) (now : ℕ) (event : Input) (fits : Bool) → a ≡ at_moment s now → HearsEvent a event fits m → t ≡ line_timed m → Begins s now event fits t
+begins s a m t now event fits e hears times = record { middle = m; hears = subst (λ x. HearsEvent x event fits m) e hears; times = times }
 
-heard_in : (laws : LineLaws) (p : Setup) (s t : State) (now : ℕ) (event : Input) (log : Log) → Begins s now event t → (h : HasCome p s now event log) → Heard p s t h.before (Came now event ∷ h.before)
-heard_in laws p s t now event log b h = heard_event laws p s t h.before now event h.agrees b
+heard_in : (laws : LineLaws) (p : Setup) (s t : State) (now : ℕ) (event : Input) (fits : Bool) (log : Log) → Begins s now event fits t → (h : HasCome p s now event log) → Heard p s t h.before now event (left_of p h.before h.agrees.course) fits
+heard_in laws p s t now event fits log b h = heard_event laws p s t h.before now event fits h.agrees b
 
-as_log : (p : Setup) (t : State) (now : ℕ) (event : Input) (log before : Log) (unjudged : List ℕ) → log ≡ Came now event ∷ before → Agrees p t (Came now event ∷ before) unjudged false → Agrees p t log unjudged false
-as_log p t now event log before unjudged is a = subst (λ l. Agrees p t l unjudged false) (sym is) a
+as_log : (p : Setup) (t : State) (now : ℕ) (event : Input) (log before : Log) (unjudged : List ℕ) (phase : Phase) → log ≡ Came now event ∷ before → Agrees p t (Came now event ∷ before) unjudged phase → Agrees p t log unjudged phase
+as_log p t now event log before unjudged phase is a = subst (λ l. Agrees p t l unjudged phase) (sym is) a
 
-pub told_line : (p : Setup) (told : Option Log) (s t : State) (now : ℕ) (octets : List ℕ) → LineLaws → Begins s now (LineIn octets) t → IfSome told (HasCome p s now (LineIn octets)) → Tracks p t told [] false
-told_line p None s t now octets laws b h = tt
-told_line p (Some log) s t now octets laws b h = as_log p t now (LineIn octets) log h.before [] h.is (come_other p s t h.before now (LineIn octets) refl refl refl (λ x y z u. (x, y, z, u)) h.rested h.agrees (heard_in laws p s t now (LineIn octets) log b h))
+-- the line's octets are taken
+line_taken : (p : Setup) (s t : State) (now : ℕ) (octets : List ℕ) (fits : Bool) (log : Log) → LineLaws → Begins s now (LineIn octets) fits t → (h : HasCome p s now (LineIn octets) log) → Agrees p t (Came now (LineIn octets) ∷ h.before) [] Idle
+line_taken p s t now octets fits log laws b h = come_other p s t h.before now (LineIn octets) fits (refl, refl, refl) (λ p c z w. (z, w, refl)) h.rested h.agrees (heard_in laws p s t now (LineIn octets) fits log b h)
 
-pub told_tick : (p : Setup) (told : Option Log) (s t : State) (now : ℕ) → LineLaws → Begins s now Ticked t → IfSome told (HasCome p s now Ticked) → Tracks p t told [] false
-told_tick p None s t now laws b h = tt
-told_tick p (Some log) s t now laws b h = as_log p t now Ticked log h.before [] h.is (come_other p s t h.before now Ticked refl refl refl (λ x y z u. (x, y, z, u)) h.rested h.agrees (heard_in laws p s t now Ticked log b h))
+pub told_line : (p : Setup) (told : Option Log) (s t : State) (now : ℕ) (octets : List ℕ) (fits : Bool) → LineLaws → Begins s now (LineIn octets) fits t → IfSome told (HasCome p s now (LineIn octets)) → Tracks p t told [] Idle
+told_line p None s t now octets fits laws b h = tt
+told_line p (Some log) s t now octets fits laws b h = as_log p t now (LineIn octets) log h.before [] Idle h.is (line_taken p s t now octets fits log laws b h)
 
-pub told_cut : (p : Setup) (told : Option Log) (s t u : State) (now : ℕ) → LineLaws → Begins s now CutOff t → u ≡ disconnected t → IfSome told (HasCome p s now CutOff) → Tracks p u told [] false
-told_cut p None s t u now laws b is h = tt
-told_cut p (Some log) s t u now laws b is h = subst (λ x. Agrees p x log [] false) (sym is) (as_log p (disconnected t) now CutOff log h.before [] h.is (come_cut p s t h.before now h.rested h.agrees (heard_in laws p s t now CutOff log b h)))
+-- an own answer found no place
+pub told_overfull : (p : Setup) (told : Option Log) (s t : State) (now : ℕ) (octets : List ℕ) (fits : Bool) → LineLaws → fits ≡ false → t.session.connected ≡ true → Begins s now (LineIn octets) fits t → IfSome told (HasCome p s now (LineIn octets)) → IfSome told (MayClose p t OwnAnswers Idle)
+told_overfull p None s t now octets fits laws off on b h = tt
+told_overfull p (Some log) s t now octets fits laws off on b h =
+    let heard = heard_in laws p s t now (LineIn octets) fits log b h in
+    let on_line : (p : Setup) (c : Course) (z : Works) → Worked p h.before (latest (Came now (LineIn octets) ∷ h.before)) (LineIn octets) c z → Comes p h.before (latest (Came now (LineIn octets) ∷ h.before)) (LineIn octets) c (with_works z c) = λ p c z w. (z, w, refl) in
+    let a = come_other p s t h.before now (LineIn octets) fits (refl, refl, refl) on_line h.rested h.agrees heard in
+    subst (MayClose p t OwnAnswers Idle) (sym h.is) (record {
+      last = refl;
+      state = t;
+      same = refl;
+      open_is = on;
+      unjudged = [];
+      phase = Idle;
+      leads = refl;
+      timely = tt;
+      agrees = a;
+      fault = Some OwnAnswers;
+      stands = stands_overfull p t (Came now (LineIn octets) ∷ h.before) [] Idle a;
+      why = record { open_is = sym a.here.link ∙ on; course = a.course; runs = a.talk.course_runs; full = subst (λ (c : Course). is_overfull (tasks_of p c.works).history ≡ true) (sym (come_course p s t h.before now (LineIn octets) fits (refl, refl, refl) on_line h.rested h.agrees heard)) (heard.full off) };
+    })
 
-pub told_open : (p : Setup) (told : Option Log) (s t u : State) (now : ℕ) → LineLaws → Begins s now Opened t → t.session.connected ≡ false → u ≡ connected (disconnected t) → IfSome told (HasCome p s now Opened) → Tracks p u told [] false
-told_open p None s t u now laws b off is h = tt
-told_open p (Some log) s t u now laws b off is h = subst (λ x. Agrees p x log [] false) (sym is) (as_log p (connected (disconnected t)) now Opened log h.before [] h.is (come_open p s t h.before now h.rested h.agrees (heard_in laws p s t now Opened log b h) off))
+pub told_tick : (p : Setup) (told : Option Log) (s t : State) (now : ℕ) (fits : Bool) → LineLaws → Begins s now Ticked fits t → IfSome told (HasCome p s now Ticked) → Tracks p t told [] Idle
+told_tick p None s t now fits laws b h = tt
+told_tick p (Some log) s t now fits laws b h = as_log p t now Ticked log h.before [] Idle h.is (come_other p s t h.before now Ticked fits (refl, refl, refl) (λ p c z w. ap (λ x. with_works x c) w) h.rested h.agrees (heard_in laws p s t now Ticked fits log b h))
 
-pub told_replaced : (p : Setup) (told after : Option Log) (s t u : State) (now moment : ℕ) → LineLaws → Begins s now Opened t → t.session.connected ≡ true → u ≡ connected (disconnected t) → after ≡ tell told (Went moment (Closed Replaced) ∷ []) → moment ≡ t.moment → IfSome told (HasCome p s now Opened) → Tracks p u after [] false
-told_replaced p told after s t u now moment laws b on is e same h = rw (e, same, is) (by_log told h)
+pub told_cut : (p : Setup) (told : Option Log) (s t u : State) (now : ℕ) (fits : Bool) → LineLaws → Begins s now CutOff fits t → u ≡ disconnected t → IfSome told (HasCome p s now CutOff) → Tracks p u told [] Idle
+told_cut p None s t u now fits laws b is h = tt
+told_cut p (Some log) s t u now fits laws b is h = subst (λ x. Agrees p x log [] Idle) (sym is) (as_log p (disconnected t) now CutOff log h.before [] Idle h.is (come_cut laws p s t h.before now fits h.rested h.agrees (heard_in laws p s t now CutOff fits log b h)))
+
+pub told_open : (p : Setup) (told : Option Log) (s t u : State) (now : ℕ) (fits : Bool) → LineLaws → Begins s now Opened fits t → t.session.connected ≡ false → u ≡ connected (disconnected t) → IfSome told (HasCome p s now Opened) → Tracks p u told [] Idle
+told_open p None s t u now fits laws b off is h = tt
+told_open p (Some log) s t u now fits laws b off is h = subst (λ x. Agrees p x log [] Idle) (sym is) (as_log p (connected (disconnected t)) now Opened log h.before [] Idle h.is (come_open laws p s t h.before now fits h.rested h.agrees (heard_in laws p s t now Opened fits log b h) off))
+
+pub told_replaced : (p : Setup) (told after : Option Log) (s t u : State) (now moment : ℕ) (fits : Bool) → LineLaws → Begins s now Opened fits t → t.session.connected ≡ true → u ≡ connected (disconnected t) → after ≡ tell told (Went moment (Closed Replaced) ∷ []) → moment ≡ t.moment → IfSome told (HasCome p s now Opened) → Tracks p u after [] Idle
+told_replaced p told after s t u now moment fits laws b on is e same h = rw (e, same, is) (by_log told h)
   where
-    by_log : (told : Option Log) → IfSome told (HasCome p s now Opened) → Tracks p (connected (disconnected t)) (tell told (Went t.moment (Closed Replaced) ∷ [])) [] false
+    by_log : (told : Option Log) → IfSome told (HasCome p s now Opened) → Tracks p (connected (disconnected t)) (tell told (Went t.moment (Closed Replaced) ∷ [])) [] Idle
     by_log None h = tt
-    by_log (Some log) h = subst (λ l. Agrees p (connected (disconnected t)) (Went t.moment (Closed Replaced) ∷ l) [] false) (sym h.is) (come_replaced p s t h.before now h.rested h.agrees (heard_in laws p s t now Opened log b h) on)
+    by_log (Some log) h = subst (λ l. Agrees p (connected (disconnected t)) (Went t.moment (Closed Replaced) ∷ l) [] Idle) (sym h.is) (come_replaced laws p s t h.before now fits h.rested h.agrees (heard_in laws p s t now Opened fits log b h) on)
 
 -- where the close couldn't be put out
-pub told_unreplaced : (p : Setup) (told : Option Log) (s t : State) (now : ℕ) → LineLaws → Begins s now Opened t → IfSome told (HasCome p s now Opened) → IfSome told (IsFaithful p)
-told_unreplaced p None s t now laws b h = tt
-told_unreplaced p (Some log) s t now laws b h = subst (IsFaithful p) (sym h.is) (opened_faithful p s t h.before now h.rested h.agrees (heard_in laws p s t now Opened log b h))
+pub told_unreplaced : (p : Setup) (told : Option Log) (s t : State) (now : ℕ) (fits : Bool) → LineLaws → Begins s now Opened fits t → IfSome told (HasCome p s now Opened) → IfSome told (IsFaithful p)
+told_unreplaced p None s t now fits laws b h = tt
+told_unreplaced p (Some log) s t now fits laws b h = subst (IsFaithful p) (sym h.is) (opened_faithful laws p s t h.before now fits h.rested h.agrees (heard_in laws p s t now Opened fits log b h))
 
-pub told_bytes : (b : Bool) (p : Setup) (told : Option Log) (s t : State) (now : ℕ) (octets : List ℕ) → LineLaws → Begins s now (TcpIn octets) t → t.session.connected ≡ b → IfSome told (HasCome p s now (TcpIn octets)) → Awaits p t told (if b then octets else [])
-told_bytes b p None s t now octets laws begins is h = tt
-told_bytes b p (Some log) s t now octets laws begins is h =
-    let both = come_bytes p s t h.before now octets h.rested h.agrees (heard_in laws p s t now (TcpIn octets) log begins h) h.confirmed in
-    (subst (λ b. Agrees p t log (if b then octets else []) false) is (as_log p t now (TcpIn octets) log h.before (if t.session.connected then octets else []) h.is both.0), both.1)
+pub told_bytes : (b : Bool) (p : Setup) (told : Option Log) (s t : State) (now : ℕ) (octets : List ℕ) (fits : Bool) → LineLaws → Begins s now (TcpIn octets) fits t → t.session.connected ≡ b → IfSome told (HasCome p s now (TcpIn octets)) → Awaits p t told (if b then octets else [])
+told_bytes b p None s t now octets fits laws begun is h = tt
+told_bytes b p (Some log) s t now octets fits laws begun is h =
+    let both = come_bytes p s t h.before now octets fits h.rested h.agrees (heard_in laws p s t now (TcpIn octets) fits log begun h) h.confirmed in
+    (subst (λ b. Agrees p t log (if b then octets else []) Taking) is (as_log p t now (TcpIn octets) log h.before (if t.session.connected then octets else []) Taking h.is both.0), both.1)
+
+-- the octets are taken
+pub told_idle : (p : Setup) (told : Option Log) (s : State) → Awaits p s told [] → Tracks p s told [] Idle
+told_idle p None s h = tt
+told_idle p (Some log) s h = now_idle p s log h.0
 
 -- Runs
 
--- after a step some event has come
-pub follows : (laws : LineLaws) (p : Setup) (told : Option Log) (s : State) → IsConfirmed s.session → Tracks p s told [] true → Follows p s told
-follows laws p None s ready h = tt
-follows laws p (Some []) s ready a =
-    let primary : a.primary ≡ start p.link p.addresses = a.turns in
-    absurd (laws.begins p.link p.addresses (has_room s.queue) (omega (arith, a.line.fits.turn, a.line.count)) (subst (λ q. sending q (has_room s.queue) ≡ None) primary a.asks.0))
-follows laws p (Some (entry ∷ log)) s ready a = (a, ready)
+-- after a step some event has come, so a log without entries has works that nothing is due of
+started : (p : Setup) (s : State) → Agrees p s [] [] Asked → Agrees p s [] [] Fresh
+started p s a =
+    let first : a.course ≡ first_course p = a.talk.course_runs in
+    let none : a.course.works.is_due ≡ false = ap (λ (c : Course). c.works.is_due) first in
+    absurd (subst (λ (c : Course). IsOut c.works.line.outstanding) first (a.stands.asks.1 none))
 
-pub step_follows : (laws : LineLaws) (p : Setup) (result : Bool) (told : Option Log) (s : State) → OnTrue result (IsConfirmed s.session) → Leaves result p s told [] true → OnTrue result (Follows p s told)
-step_follows laws p true told s ready h = follows laws p told s ready h
-step_follows laws p false told s ready h = tt
+pub follows : (laws : LineLaws) (p : Setup) (told : Option Log) (s : State) → IsConfirmed s.session → Tracks p s told [] Asked → Follows p s told
+follows laws p None s last h = tt
+follows laws p (Some []) s last a = (started p s a, last)
+follows laws p (Some (entry ∷ log)) s last a = (a, last)
+
+pub step_follows : (laws : LineLaws) (p : Setup) (result : Bool) (told : Option Log) (s : State) → OnTrue result (IsConfirmed s.session) → Leaves result p s told [] Asked → OnTrue result (Follows p s told)
+step_follows laws p true told s last h = follows laws p told s last h
+step_follows laws p false told s last h = tt
 
 -- an event that a port told has come
 pub come : (p : Setup) (told after : Option Log) (s : State) (now : ℕ) (event : Input) (news : List LogEntry) → after ≡ tell told news → news ≡ Came now event ∷ [] → Follows p s told → Rests p told → IfSome after (HasCome p s now event)

@@ -1,5 +1,5 @@
 -- The pieces of a report in the queue.
-use Rattle.std.proofs.Common.{◌≡◌, ℕ, ◌≤◌, ◌==◌, Bool, true, false, not, List, [], ◌∷◌, ◌++◌, length, map, refl, ap, sym, ◌∙◌, arith}
+use Rattle.std.proofs.Common.{◌≡◌, ℕ, ◌≤◌, ◌==◌, Bool, true, false, not, List, [], ◌∷◌, ◌++◌, length, map, refl, ap, sym, subst, ◌∙◌, arith}
 use Rattle.std.specs.Prelude.{if◌then◌else◌, ◌&&◌}
 use Rattle.std.specs.List.{flat_map, list_all, AllByRecursion}
 use Rattle.std.proofs.lemmas.List.{append-nil}
@@ -7,17 +7,18 @@ use Rattle.arrayvec.specs.ArrayVec.{ArrayVec}
 use Rattle.asdu.specs.declared.sizes.Sizes.{Sizes}
 use Rattle.asdu.specs.Sizes.{tcp}
 use Rattle.asdu.specs.InformationObjects.{InformationObject, object_in, value_objects, objects_of, monitor_objects_of, is_passed_on}
-use Rattle.asdu.specs.Translation.{parts}
+use Rattle.asdu.specs.Translation.{parts, IsPiece}
 use Rattle.events.specs.Queue as queue
-use Rattle.events.specs.Queue.{Queue, octets_of, free_places}
+use Rattle.events.specs.Queue.{octets_of}
 use Rattle.gateway.specs.Objects.{objects, has_objects, monitor_objects, parts_of}
-use Rattle.elements.specs.declared.types.TypeId.{TypeId}
 use Rattle.elements.specs.Types.{row}
-use Rattle.asdu.specs.Asdu.{AsduValue, Info}
+use Rattle.asdu.specs.Asdu.{AsduValue, Info, IsAsdu}
 use Rattle.gateway.specs.declared.counts.Counts.{Counts}
-use Rattle.gateway.specs.Counting.{counted, counted_by, one_skipped, one_mirrored}
+use Rattle.gateway.specs.Counting.{counted, counted_by, one_skipped}
 use Rattle.gateway.specs.State.{State}
-use Rattle.gateway.specs.Steps.{Keeps}
+use Rattle.session.specs.Session.{is_running}
+use Rattle.gateway.specs.Steps.{Keeps, Mirrors, LearnsReport, mirrored_state, mirror_fits}
+use Rattle.gateway.specs.Works.{is_command_by, is_command_report, IsPassedOn}
 
 objects_map : (ps : List (ArrayVec ℕ)) → flat_map objects (octets_of ps) ≡ flat_map (λ p. monitor_objects_of tcp p.items) ps
 objects_map [] = refl
@@ -65,21 +66,82 @@ keeps_none s t report octets sizes same is none after =
 
 -- How a report is counted: by its type and cause, where it is read.
 
-read_counts : (infos : List Info) (u : AsduValue) (c : Counts) → u.infos ≡ infos → 1 ≤ length infos → counted_by (value_objects u) c ≡ (if (row u.kind).monitor then (if is_passed_on u.kind u.cause then c else one_skipped c) else one_mirrored c)
+read_counts : (infos : List Info) (u : AsduValue) (c : Counts) → u.infos ≡ infos → 1 ≤ length infos → counted_by (value_objects u) c ≡ (if (row u.kind).monitor then (if is_passed_on u.kind u.cause then c else one_skipped c) else c)
 read_counts [] u c is some = absurd (omega (arith, some))
 read_counts (i ∷ infos) u c is some = ap (λ is. counted_by (map (object_in u) is) c) is
 
 -- in the sizes and octets as the gateway has them
 pub counted_as : (s : State) (report octets : List ℕ) (sizes : Sizes) (u : AsduValue) → sizes ≡ s.sizes → octets ≡ report → objects_of s.sizes report ≡ value_objects u → 1 ≤ length u.infos →
-    counted s.sizes report s.counts ≡ (if (row u.kind).monitor then (if is_passed_on u.kind u.cause then s.counts else one_skipped s.counts) else one_mirrored s.counts)
+    counted s.sizes report s.counts ≡ (if (row u.kind).monitor then (if is_passed_on u.kind u.cause then s.counts else one_skipped s.counts) else s.counts)
 counted_as s report octets sizes u same is objects some = ap (λ os. counted_by os s.counts) objects ∙ read_counts u.infos u s.counts refl some
 
-pub passed_counts : (monitor passed : Bool) (c : Counts) (kind : TypeId) (cause : ℕ) → passed ≡ true → (monitor && not (cause == 108) && not (cause == 236)) ≡ passed → (if monitor then (if passed then c else one_skipped c) else one_mirrored c) ≡ c
-passed_counts true passed c kind cause on is = ap (λ b. if b then c else one_skipped c) on
-passed_counts false passed c kind cause on is = let no : false ≡ true = is ∙ on in cc
+pub passed_counts : (monitor passed : Bool) (c : Counts) → passed ≡ true → (if monitor then (if passed then c else one_skipped c) else c) ≡ c
+passed_counts true passed c on = ap (λ b. if b then c else one_skipped c) on
+passed_counts false passed c on = refl
 
-pub skipped_counts : (monitor passed : Bool) (c : Counts) → monitor ≡ true → passed ≡ false → (if monitor then (if passed then c else one_skipped c) else one_mirrored c) ≡ one_skipped c
-skipped_counts monitor passed c on off = ap (λ b. if b then (if passed then c else one_skipped c) else one_mirrored c) on ∙ ap (λ b. if b then c else one_skipped c) off
+pub skipped_counts : (monitor passed : Bool) (c : Counts) → monitor ≡ true → passed ≡ false → (if monitor then (if passed then c else one_skipped c) else c) ≡ one_skipped c
+skipped_counts monitor passed c on off = ap (λ b. if b then (if passed then c else one_skipped c) else c) on ∙ ap (λ b. if b then c else one_skipped c) off
 
-pub mirrored_counts : (monitor passed : Bool) (c : Counts) → monitor ≡ false → (if monitor then (if passed then c else one_skipped c) else one_mirrored c) ≡ one_mirrored c
-mirrored_counts monitor passed c off = ap (λ b. if b then (if passed then c else one_skipped c) else one_mirrored c) off
+-- Whether a report is of a command type
+
+read_command : (infos : List Info) (u : AsduValue) → u.infos ≡ infos → 1 ≤ length infos → is_command_by (value_objects u) ≡ not (row u.kind).monitor
+read_command [] u is some = absurd (omega (arith, some))
+read_command (i ∷ infos) u is some = ap (λ is. is_command_by (map (object_in u) is)) is
+
+pub command_as : (sizes : Sizes) (report : List ℕ) (u : AsduValue) → objects_of sizes report ≡ value_objects u → 1 ≤ length u.infos → is_command_report sizes report ≡ not (row u.kind).monitor
+command_as sizes report u objects some = ap is_command_by objects ∙ read_command u.infos u refl some
+
+pub passed_monitor : (monitor passed a b : Bool) → (monitor && a && b) ≡ passed → passed ≡ true → not monitor ≡ false
+passed_monitor true passed a b is on = refl
+passed_monitor false passed a b is on = let no : false ≡ true = is ∙ on in cc
+
+pub learns_kept : (of_command : Bool) (s t : State) (report : List ℕ) (fits : Bool) → of_command ≡ false → Keeps s report t → fits ≡ true → LearnsReport of_command s report fits t
+learns_kept false s t report fits is kept all = (kept, all)
+learns_kept true s t report fits is kept all = cc
+
+-- The pieces of a report of a command type
+
+pieces_map : (v : AsduValue) (ps : List (ArrayVec ℕ)) → AllByRecursion (λ p. IsPiece v p.items) ps → AllByRecursion (λ piece. IsPiece v piece) (octets_of ps)
+pieces_map v [] h = h
+pieces_map v (p ∷ ps) h = (h.0, pieces_map v ps h.1)
+
+joined_map : (ps : List (ArrayVec ℕ)) → flat_map (λ piece. objects_of tcp piece) (octets_of ps) ≡ flat_map (λ p. objects_of tcp p.items) ps
+joined_map [] = refl
+joined_map (p ∷ ps) = ap (λ xs. objects_of tcp p.items ++ xs) (joined_map ps)
+
+pub passed_on : (sizes known : Sizes) (v : AsduValue) (report : List ℕ) (ps : List (ArrayVec ℕ)) → sizes ≡ known → IsAsdu sizes v report → flat_map (λ p. objects_of tcp p.items) ps ≡ objects_of sizes report → AllByRecursion (λ p. IsPiece v p.items) ps →
+    length ps ≡ parts sizes report → IsPassedOn known v report (octets_of ps)
+passed_on sizes known v report ps same found joined each number = subst (λ z. IsPassedOn z v report (octets_of ps)) same (record {
+  value = found;
+  joined = joined_map ps ∙ joined;
+  each = pieces_map v ps each;
+  number = length_map ps ∙ number;
+})
+
+-- none of them has an object of the queue's, where the report has none
+
+first_none : (xs ys : List InformationObject) → xs ++ ys ≡ [] → xs ≡ []
+first_none [] ys none = refl
+first_none (x ∷ xs) ys none = cc
+
+rest_none : (xs ys : List InformationObject) → xs ++ ys ≡ [] → ys ≡ []
+rest_none [] ys none = none
+rest_none (x ∷ xs) ys none = cc
+
+plain_map : (ps : List (ArrayVec ℕ)) → flat_map (λ p. monitor_objects_of tcp p.items) ps ≡ [] → AllByRecursion (λ piece. has_objects piece ≡ false) (octets_of ps)
+plain_map [] none = tt
+plain_map (p ∷ ps) none =
+    let others : List InformationObject = flat_map (λ p. monitor_objects_of tcp p.items) ps in
+    (ap (λ (os : List InformationObject). not (length os == 0)) (first_none (objects p.items) others none), plain_map ps (rest_none (objects p.items) others none))
+
+pub mirrors : (s t : State) (sizes : Sizes) (v : AsduValue) (report : List ℕ) (ps : List (ArrayVec ℕ)) (fits : Bool) → sizes ≡ s.sizes → IsPassedOn s.sizes v report (octets_of ps) → flat_map (λ p. monitor_objects_of tcp p.items) ps ≡ monitor_objects_of sizes report → monitor_objects_of sizes report ≡ [] →
+    t ≡ mirrored_state (is_running s.session) v (octets_of ps) s → fits ≡ mirror_fits (is_running s.session) v (octets_of ps) s → Mirrors s report fits t
+mirrors s t sizes v report ps fits same passed monitored none after all = record {
+  v = v;
+  pieces = octets_of ps;
+  passed = passed;
+  none = sym (ap (λ z. monitor_objects_of z report) same) ∙ none;
+  plain = plain_map ps (monitored ∙ none);
+  after = after;
+  all = all;
+}

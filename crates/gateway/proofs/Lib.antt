@@ -5,6 +5,8 @@ pub mod Tied
 pub mod Frames
 pub mod Objects
 pub mod Acknowledging
+pub mod Working
+pub mod Offering
 pub mod Talking
 pub mod Agreement
 pub mod Stations

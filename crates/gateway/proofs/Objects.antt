@@ -1,10 +1,11 @@
 -- Where the objects taken are: acknowledged, sent, or unsent.
-use Rattle.std.proofs.Common.{◌≡◌, ℕ, suc, ◌+◌, ◌-◌, ◌≤◌, Bool, true, false, cond, List, [], ◌∷◌, ◌++◌, length, take, drop, refl, ap, sym, subst, ◌∙◌, arith, inl, inr, append_assoc}
+use Rattle.std.proofs.Common.{◌≡◌, ℕ, suc, ◌+◌, ◌-◌, ◌≤◌, Bool, true, false, not, ◌==◌, cond, List, [], ◌∷◌, ◌++◌, length, take, drop, refl, ap, sym, subst, ◌∙◌, arith, inl, inr, append_assoc}
 use Rattle.std.specs.List.{flat_map, list_all}
 use Rattle.std.proofs.lemmas.List.{length-drop, length-append, length-take, take_at, drop_at, take-append-le, drop-append-le, take-append-drop, append-nil, nil_from_length}
 use Rattle.std.proofs.lemmas.List.Folds.{list_all-append}
 use Rattle.std.proofs.lemmas.Grind.{flat_map-append}
 use Rattle.std.proofs.lemmas.Bool.{cases_lt, and_parts, and_from}
+use Rattle.std.proofs.lemmas.Bool.Decides.{nat_tests}
 use Rattle.session.specs.Session.{Session}
 use Rattle.gateway.specs.Objects.{objects, has_objects}
 use Rattle.asdu.specs.InformationObjects.{InformationObject}
@@ -81,6 +82,26 @@ carries_piece objs parts earlier sent unsent rest f e has h = record {
       let after : length (drop 1 unsent) ≡ length rest = ap (λ u. length (drop 1 u)) e in
       omega (arith, h.count, before, after, reports_among-append sent (f ∷ []), one_report f has);
 }
+
+-- the frame of an own answer
+no_objects : (asdu : List ℕ) → has_objects asdu ≡ false → objects asdu ≡ []
+no_objects asdu h = nil_from_length (objects asdu) (zero_length (length (objects asdu)) h)
+  where
+    zero_length : (n : ℕ) → not (n == 0) ≡ false → n ≡ 0
+    zero_length n h = grind (arith, nat_tests)
+
+pub carries_own : (objs : List InformationObject) (parts : ℕ) (earlier : List Connection) (sent : List Sent) (unsent : List (List ℕ)) (f : Sent) → has_objects f.asdu ≡ false → Carries objs parts earlier sent unsent → Carries objs parts earlier (sent ++ f ∷ []) unsent
+carries_own objs parts earlier sent unsent f none h = record {
+  whole = h.whole;
+  gone = h.gone;
+  front = h.front;
+  joined = h.joined ∙ ap (λ xs. h.gone ++ (xs ++ flat_map objects unsent))
+      (sym (flat_map-append (λ (f : Sent). objects f.asdu) sent (f ∷ []) ∙ ap (λ os. objects_of_frames sent ++ (os ++ [])) (no_objects f.asdu none) ∙ append-nil (objects_of_frames sent)));
+  count = omega (arith, h.count, reports_among-append sent (f ∷ []), none_reported);
+}
+  where
+    none_reported : reports_among (f ∷ []) ≡ 0
+    none_reported = ap {B = ℕ} (λ b. cond b 1 0) none
 
 pub first_whole : (objs : List InformationObject) (parts : ℕ) (earlier : List Connection) (sent : List Sent) (unsent rest : List (List ℕ)) (asdu : List ℕ) → unsent ≡ asdu ∷ rest → Carries objs parts earlier sent unsent → has_objects asdu ≡ true
 first_whole objs parts earlier sent unsent rest asdu e h = (and_parts (has_objects asdu) (list_all has_objects rest) (subst (λ u. list_all has_objects u ≡ true) e h.whole)).0

@@ -1,5 +1,5 @@
 -- The lemmas of Agreement where a port may tell no log, in the form that answers cite.
-use Rattle.std.proofs.Common.{◌≡◌, ℕ, ◌<◌, ◌&&◌, ◌||◌, Bool, true, false, not, cond, List, [], ◌∷◌, length, refl, ap, sym, ◌∙◌, subst, Option, Some, None}
+use Rattle.std.proofs.Common.{◌≡◌, ℕ, ◌<◌, ◌&&◌, ◌||◌, Bool, true, false, not, cond, List, [], ◌∷◌, length, refl, ap, sym, ◌∙◌, subst, Option, Some, None, inl, inr}
 use Rattle.std.specs.Prelude.{IfSome, IfNone, nat_lt, if◌then◌else◌, ◌==◌}
 use Rattle.std.specs.Bool.{OnTrue}
 use Rattle.std.proofs.lemmas.Bool.{and_parts, not-false}
@@ -15,17 +15,18 @@ use Rattle.gateway.specs.Traffic.{IsFaithful}
 use Rattle.gateway.specs.Runs.{events_told}
 use Rattle.gateway.specs.LineLaws.{LineLaws}
 use Rattle.session.specs.declared.kinds.Kind.{Kind}
-use Rattle.session.specs.declared.kinds.Kind.TheVariants.{Queue as FromQueue}
-use Rattle.gateway.specs.State.{State, disconnected, piece_sent}
+use Rattle.session.specs.declared.kinds.Kind.TheVariants.{Queue as FromQueue, Own}
+use Rattle.gateway.specs.State.{State, disconnected, piece_sent, own_sent}
+use Rattle.gateway.specs.Phases.{Phase, Timed, Asked, Taking}
 use Rattle.session.specs.declared.kinds.Close.TheVariants.{Timeout}
 use Rattle.session.specs.History.{has_timed_out}
 use Rattle.session.specs.Runs.{Confirm, Pull}
 use Rattle.session.specs.Ends.{after_confirm, after_pull, IsConfirmed, IsInTime}
 use Rattle.gateway.specs.Agrees.{Agrees, Tracks, Awaits, Leaves, Rests, IsSpent, IsQuiet, StaysInTime}
-use Rattle.gateway.specs.Steps.{SendsPiece, MayClose}
+use Rattle.gateway.specs.Steps.{SendsPiece, SendsOwn, SendsData, MayClose, after_closing}
 use Rattle.gateway.proofs.Tied.{SameWindow}
 use Rattle.gateway.proofs.Talking.{HasNoData, confirms, pulls, patient, all_taken, late_by, confirm_t1, pull_t1}
-use Rattle.gateway.proofs.Agreement.{GoesOut, faithful, stands_now, after_piece, after_due, after_close, rested}
+use Rattle.gateway.proofs.Agreement.{GoesOut, faithful, stands_now, after_piece, after_own, after_due, after_close, rested}
 
 -- The events of a log stay as actions go out.
 pub events_went : (told : Option Log) (now : ℕ) (action : Output) → events_told (tell told (Went now action ∷ [])) ≡ events_told told
@@ -36,24 +37,24 @@ pub events_put : (b : Bool) (told after : Option Log) (now : ℕ) (action : Outp
 events_put true told after now action e = ap events_told e ∙ events_went told now action
 events_put false told after now action e = ap events_told e
 
-pub told_faithful : (p : Setup) (told : Option Log) (s : State) (unjudged : List ℕ) (is_asked : Bool) → Tracks p s told unjudged is_asked → IfSome told (IsFaithful p)
-told_faithful p None s unjudged is_asked h = tt
-told_faithful p (Some log) s unjudged is_asked a = faithful p s log unjudged is_asked a
+pub told_faithful : (p : Setup) (told : Option Log) (s : State) (unjudged : List ℕ) (phase : Phase) → Tracks p s told unjudged phase → IfSome told (IsFaithful p)
+told_faithful p None s unjudged phase h = tt
+told_faithful p (Some log) s unjudged phase a = faithful p s log unjudged phase a
 
-pub told_leaves : (p : Setup) (result : Bool) (told : Option Log) (s : State) (is_asked : Bool) → Leaves result p s told [] is_asked → IfSome told (IsFaithful p)
-told_leaves p true told s is_asked h = told_faithful p told s [] is_asked h
-told_leaves p false told s is_asked h = h
+pub told_leaves : (p : Setup) (result : Bool) (told : Option Log) (s : State) (phase : Phase) → Leaves result p s told [] phase → IfSome told (IsFaithful p)
+told_leaves p true told s phase h = told_faithful p told s [] phase h
+told_leaves p false told s phase h = h
 
 -- handing this frame to TCP leads from one state to the other
 abbrev pub Sends : State → Apdu → State → Type 0
-Sends s f t = (p : Setup) (log : Log) (unjudged : List ℕ) (is_asked : Bool) → Agrees p s log unjudged is_asked → Agrees p t (Went s.moment (TcpOut (spelling f)) ∷ log) unjudged is_asked
+Sends s f t = (p : Setup) (log : Log) (unjudged : List ℕ) (phase : Phase) → Agrees p s log unjudged phase → Agrees p t (Went s.moment (TcpOut (spelling f)) ∷ log) unjudged phase
 
-pub told_sent : (p : Setup) (told after : Option Log) (s t : State) (f : Apdu) (now : ℕ) (unjudged : List ℕ) (is_asked : Bool) → after ≡ tell told (Went now (TcpOut (spelling f)) ∷ []) → now ≡ s.moment → Sends s f t → Tracks p s told unjudged is_asked → Tracks p t after unjudged is_asked
-told_sent p told after s t f now unjudged is_asked e same sends h = rw (e, same) (by_log told h)
+pub told_sent : (p : Setup) (told after : Option Log) (s t : State) (f : Apdu) (now : ℕ) (unjudged : List ℕ) (phase : Phase) → after ≡ tell told (Went now (TcpOut (spelling f)) ∷ []) → now ≡ s.moment → Sends s f t → Tracks p s told unjudged phase → Tracks p t after unjudged phase
+told_sent p told after s t f now unjudged phase e same sends h = rw (e, same) (by_log told h)
   where
-    by_log : (told : Option Log) → Tracks p s told unjudged is_asked → Tracks p t (tell told (Went s.moment (TcpOut (spelling f)) ∷ [])) unjudged is_asked
+    by_log : (told : Option Log) → Tracks p s told unjudged phase → Tracks p t (tell told (Went s.moment (TcpOut (spelling f)) ∷ [])) unjudged phase
     by_log None h = tt
-    by_log (Some log) a = sends p log unjudged is_asked a
+    by_log (Some log) a = sends p log unjudged phase a
 
 pub open_of : (s : Session) → may_send s ≡ true → s.connected ≡ true
 open_of s may =
@@ -62,7 +63,24 @@ open_of s may =
     (and_parts s.connected s.started two).0
 
 pub sends_piece : (s : State) (f : Apdu) (t : State) → SendsPiece s f t → Sends s f t
-sends_piece s f t h p log unjudged is_asked a = rw (h.after, h.frame) (after_piece p s log unjudged h.asdu h.rest is_asked a h.may (open_of s.session h.may) h.first (subst Fits h.frame h.fits))
+sends_piece s f t h p log unjudged phase a = rw (h.after, h.frame) (after_piece p s log unjudged h.asdu h.rest phase a h.may (open_of s.session h.may) h.first (subst Fits h.frame h.fits))
+
+pub sends_own : (s : State) (f : Apdu) (t : State) → SendsOwn s f t → Sends s f t
+sends_own s f t h p log unjudged phase a = rw (h.after, h.frame) (after_own p s log unjudged h.asdu phase a h.may (open_of s.session h.may) h.first (subst Fits h.frame h.fits))
+
+pub sends_data : (s : State) (f : Apdu) (t : State) → SendsData s f t → Sends s f t
+sends_data s f t (inl h) = sends_own s f t h
+sends_data s f t (inr h) = sends_piece s f t h.1
+
+-- what every I frame leaves of the state
+pub record IsData (s t : State) (kind : Kind) : Type 0 where
+  pub may : may_send s.session ≡ true
+  pub session : t.session ≡ session.sent kind s.moment s.session
+  pub moment : t.moment ≡ s.moment
+
+pub data_sent : (s : State) (f : Apdu) (t : State) → SendsData s f t → (kind : Kind) × IsData s t kind
+data_sent s f t (inl h) = (Own, record { may = h.may; session = ap (λ (x : State). x.session) h.after; moment = ap (λ (x : State). x.moment) h.after })
+data_sent s f t (inr h) = (FromQueue, record { may = h.1.may; session = ap (λ (x : State). x.session) h.1.after; moment = ap (λ (x : State). x.moment) h.1.after })
 
 -- what is due leaves the window as it was, and is no I frame
 record LeavesWindow (s : Session) (d : Option Apdu × Session) : Type 0 where
@@ -113,13 +131,13 @@ pulled_leaves now s =
     (λ k. nothing_leaves s)))
 
 sends_due : (s : State) (f : Apdu) (t : Session) → Fits f → GoesOut s.session t s.moment f → LeavesWindow s.session (Some f, t) → Sends s f (record s { session = t })
-sends_due s f t fits goes h p log unjudged is_asked a = after_due p s t log unjudged f is_asked a h.sends.0 fits h.sends.1 goes h.same
+sends_due s f t fits goes h p log unjudged phase a = after_due p s t log unjudged f phase a h.sends.0 fits h.sends.1 goes h.same
 
 pub sends_confirmation : (s t : State) (f : Apdu) → Fits f → ◌≡◌ {A = Option Apdu × Session} (Some f, t.session) (session.confirmed s.session) → t ≡ record s { session = t.session } → Sends s f t
-sends_confirmation s t f fits e rest p log unjudged is_asked a = rw rest (sends_due s f t.session fits (record { call = Confirm s.moment; made = λ h. confirms s.session t.session h f s.moment (subst (LeavesWindow s.session) (sym e) (confirmed_leaves s.session)).sends.1 e }) (subst (LeavesWindow s.session) (sym e) (confirmed_leaves s.session)) p log unjudged is_asked a)
+sends_confirmation s t f fits e rest p log unjudged phase a = rw rest (sends_due s f t.session fits (record { call = Confirm s.moment; made = λ h. confirms s.session t.session h f s.moment (subst (LeavesWindow s.session) (sym e) (confirmed_leaves s.session)).sends.1 e }) (subst (LeavesWindow s.session) (sym e) (confirmed_leaves s.session)) p log unjudged phase a)
 
 pub sends_pulled : (s t : State) (f : Apdu) → Fits f → ◌≡◌ {A = Option Apdu × Session} (Some f, t.session) (session.pulled s.moment s.session) → t ≡ record s { session = t.session } → Sends s f t
-sends_pulled s t f fits e rest p log unjudged is_asked a = rw rest (sends_due s f t.session fits (record { call = Pull s.moment; made = λ h. pulls s.session t.session h f s.moment (subst (LeavesWindow s.session) (sym e) (pulled_leaves s.moment s.session)).sends.1 e }) (subst (LeavesWindow s.session) (sym e) (pulled_leaves s.moment s.session)) p log unjudged is_asked a)
+sends_pulled s t f fits e rest p log unjudged phase a = rw rest (sends_due s f t.session fits (record { call = Pull s.moment; made = λ h. pulls s.session t.session h f s.moment (subst (LeavesWindow s.session) (sym e) (pulled_leaves s.moment s.session)).sends.1 e }) (subst (LeavesWindow s.session) (sym e) (pulled_leaves s.moment s.session)) p log unjudged phase a)
 
 -- where nothing is due, nothing changes
 pub no_confirmation : (s t : State) → ◌≡◌ {A = Option Apdu × Session} (None, t.session) (session.confirmed s.session) → t ≡ record s { session = t.session } → t ≡ s
@@ -142,35 +160,36 @@ pub pulled_spent : (r : Option Apdu) (s t : State) → ◌≡◌ {A = Option Apd
 pulled_spent r s t e rest spent may =
     let same = (subst (LeavesWindow s.session) (sym e) (pulled_leaves s.moment s.session)).same in
     let before : may_send s.session ≡ true = sym (ap (λ b. b && nat_lt (length t.session.unacknowledged) t.session.k) same.same_running ∙ ap (λ us. is_running s.session && nat_lt (length us) t.session.k) same.same_frames ∙ ap (λ k. is_running s.session && nat_lt (length s.session.unacknowledged) k) same.same_k) ∙ may in
-    ap (λ (x : State). x.queue.unsent) rest ∙ spent before
+    let both = spent before in
+    (ap (λ (x : State). x.queue.unsent) rest ∙ both.0, ap (λ (x : State). x.commands.answers) rest ∙ both.1)
 
-pub told_closed : (p : Setup) (told after : Option Log) (s t : State) (cause : Close) (now : ℕ) → after ≡ tell told (Went now (Closed cause) ∷ []) → now ≡ s.moment → t ≡ disconnected s → IfSome told (MayClose p s cause) → Tracks p t after [] false
-told_closed p told after s t cause now e same is h = rw (e, same, is) (by_log told h)
+pub told_closed : (laws : LineLaws) (p : Setup) (told after : Option Log) (s t : State) (cause : Close) (now : ℕ) (phase : Phase) → after ≡ tell told (Went now (Closed cause) ∷ []) → now ≡ s.moment → t ≡ disconnected s → IfSome told (MayClose p s cause phase) → Tracks p t after [] phase
+told_closed laws p told after s t cause now phase e same is h = rw (e, same, is) (by_log told h)
   where
-    by_log : (told : Option Log) → IfSome told (MayClose p s cause) → Tracks p (disconnected s) (tell told (Went s.moment (Closed cause) ∷ [])) [] false
+    by_log : (told : Option Log) → IfSome told (MayClose p s cause phase) → Tracks p (disconnected s) (tell told (Went s.moment (Closed cause) ∷ [])) [] phase
     by_log None h = tt
     by_log (Some log) h =
         let moment : s.moment ≡ h.state.moment = ap (λ (x : State). x.moment) h.same in
-        rw (h.same, moment) (after_close p h.state log h.unjudged cause h.fault h.agrees h.open_is h.last h.stands h.why)
+        rw (h.same, moment, ← h.leads) (after_close laws p h.state log h.unjudged cause h.phase h.fault h.agrees h.open_is h.last h.timely h.stands h.why)
 
-pub may_close_faithful : (p : Setup) (told : Option Log) (s : State) (cause : Close) → IfSome told (MayClose p s cause) → IfSome told (IsFaithful p)
-may_close_faithful p None s cause h = tt
-may_close_faithful p (Some log) s cause h = faithful p h.state log h.unjudged false h.agrees
+pub may_close_faithful : (p : Setup) (told : Option Log) (s : State) (cause : Close) (phase : Phase) → IfSome told (MayClose p s cause phase) → IfSome told (IsFaithful p)
+may_close_faithful p None s cause phase h = tt
+may_close_faithful p (Some log) s cause phase h = faithful p h.state log h.unjudged h.phase h.agrees
 
 -- A step is done
 
-pub told_rested : (laws : LineLaws) (p : Setup) (told : Option Log) (s : State) → IsSpent s → IsQuiet s → Tracks p s told [] true → Rests p told
+pub told_rested : (laws : LineLaws) (p : Setup) (told : Option Log) (s : State) → IsSpent s → IsQuiet s → Tracks p s told [] Asked → Rests p told
 told_rested laws p None s spent quiet h = tt
 told_rested laws p (Some []) s spent quiet a = tt
 told_rested laws p (Some (t ∷ log)) s spent quiet a = rested laws p s (t ∷ log) a spent quiet
 
 -- t1 is some time
-told_patient : (p : Setup) (told after : Option Log) (log : Log) (s : State) → events_told after ≡ events_told told → after ≡ Some log → Tracks p s told [] true → 0 < s.session.t1
+told_patient : (p : Setup) (told after : Option Log) (log : Log) (s : State) → events_told after ≡ events_told told → after ≡ Some log → Tracks p s told [] Asked → 0 < s.session.t1
 told_patient p None after log s same is a = let e : Some (events_of log) ≡ None = sym (ap events_told is) ∙ same in cc
-told_patient p (Some first) after log s same is a = patient p s.session first a.c a.talk
+told_patient p (Some first) after log s same is a = patient p s.session first a.course a.talk
 
-pub told_done : (laws : LineLaws) (p : Setup) (result : Bool) (told after : Option Log) (s t : State) → events_told after ≡ events_told told → IsInTime s.moment s.session → Tracks p s told [] true →
-    OnTrue result (IsSpent t) → OnTrue result (IsConfirmed t.session) → OnTrue result ((session.pulled t.moment t.session).0 ≡ None) → OnTrue result (StaysInTime s t) → Leaves result p t after [] true → OnTrue result (Rests p after)
+pub told_done : (laws : LineLaws) (p : Setup) (result : Bool) (told after : Option Log) (s t : State) → events_told after ≡ events_told told → IsInTime s.moment s.session → Tracks p s told [] Asked →
+    OnTrue result (IsSpent t) → OnTrue result (IsConfirmed t.session) → OnTrue result ((session.pulled t.moment t.session).0 ≡ None) → OnTrue result (StaysInTime s t) → Leaves result p t after [] Asked → OnTrue result (Rests p after)
 told_done laws p true told None s t same early a spent confirmed pulled stays h = tt
 told_done laws p true told (Some log) s t same early a spent confirmed pulled stays h =
     told_rested laws p (Some log) t spent (record { confirmed = confirmed; pulled_all = pulled; in_time = (stays (told_patient p told (Some log) log s same refl a) early).0 }) h
@@ -186,7 +205,7 @@ late_some : (b : Bool) (cause : Close) → Some cause ≡ (if b then Some Timeou
 late_some true cause e = let is : cause ≡ Timeout = cc in (is, refl)
 late_some false cause e = cc
 
-late_closes : (p : Setup) (s : State) (log : Log) → session.timed_out s.moment s.session ≡ true → Agrees p s log [] false → MayClose p s Timeout log
+late_closes : (p : Setup) (s : State) (log : Log) → session.timed_out s.moment s.session ≡ true → Agrees p s log [] Timed → MayClose p s Timeout Timed log
 late_closes p s log late a =
     let on : s.session.connected ≡ true = (and_parts s.session.connected (session.is_late s.moment s.session s.session.unacknowledged || session.is_test_late s.moment s.session s.session.test_sent) late).0 in
     record {
@@ -195,27 +214,30 @@ late_closes p s log late a =
       same = refl;
       open_is = on;
       unjudged = [];
+      phase = Timed;
+      leads = refl;
+      timely = tt;
       agrees = a;
       fault = None;
-      stands = stands_now p s log false a;
+      stands = stands_now p s log Timed a;
       why = record {
         open_is = sym a.here.link ∙ on;
-        history = a.talk.history;
-        happens = a.talk.happens;
-        all = all_taken p s.session log a.c a.here.so_far a.talk a.here.joined a.here.waits;
-        late = subst (λ m. has_timed_out p.session.t1 m a.talk.history ≡ true) a.clock (sym (late_by p s.session log a.c a.talk s.moment) ∙ late);
+        course = a.course;
+        runs = a.talk.course_runs;
+        all = all_taken log a.course a.here.so_far a.here.joined a.here.waits;
+        late = subst (λ m. has_timed_out p.session.t1 m a.course.talk ≡ true) a.clock (sym (late_by p s.session log a.course a.talk s.moment) ∙ late);
       };
     }
 
-pub told_late : (p : Setup) (told : Option Log) (s : State) (cause : Close) → Some cause ≡ (if session.timed_out s.moment s.session then Some Timeout else None) → Tracks p s told [] false → IfSome told (MayClose p s cause)
+pub told_late : (p : Setup) (told : Option Log) (s : State) (cause : Close) → Some cause ≡ (if session.timed_out s.moment s.session then Some Timeout else None) → Tracks p s told [] Timed → IfSome told (MayClose p s cause Timed)
 told_late p None s cause e h = tt
 told_late p (Some log) s cause e a =
     let late = late_some (session.timed_out s.moment s.session) cause e in
-    subst (λ x. MayClose p s x log) (sym late.0) (late_closes p s log late.1 a)
+    subst (λ x. MayClose p s x Timed log) (sym late.0) (late_closes p s log late.1 a)
 
 -- Confirmations
 
-pub awaits : (p : Setup) (told : Option Log) (s : State) (unjudged : List ℕ) → IsConfirmed s.session → Tracks p s told unjudged false → Awaits p s told unjudged
+pub awaits : (p : Setup) (told : Option Log) (s : State) (unjudged : List ℕ) → IsConfirmed s.session → Tracks p s told unjudged Taking → Awaits p s told unjudged
 awaits p None s unjudged ready h = tt
 awaits p (Some log) s unjudged ready a = (a, ready)
 
@@ -231,13 +253,13 @@ pub stays_by : (s : State) (t : Session) (u : State) → u ≡ record s { sessio
 stays_by s t u is early same some h = subst (λ (x : State). IsInTime x.moment x.session × (0 < x.session.t1)) (sym is) (early some h, subst (λ n. 0 < n) (sym same) some)
 
 -- where the frame goes out, and where the device fails
-pub told_put : (result : Bool) (p : Setup) (told after : Option Log) (s t : State) (f : Apdu) (now : ℕ) (unjudged : List ℕ) (is_asked : Bool) → after ≡ (if result then tell told (Went now (TcpOut (spelling f)) ∷ []) else told) → now ≡ s.moment → Sends s f t → Tracks p s told unjudged is_asked →
-    Leaves result p t after unjudged is_asked
-told_put true p told after s t f now unjudged is_asked e same sends h = told_sent p told after s t f now unjudged is_asked e same sends h
-told_put false p told after s t f now unjudged is_asked e same sends h = subst (λ l. IfSome l (IsFaithful p)) (sym e) (told_faithful p told s unjudged is_asked h)
+pub told_put : (result : Bool) (p : Setup) (told after : Option Log) (s t : State) (f : Apdu) (now : ℕ) (unjudged : List ℕ) (phase : Phase) → after ≡ (if result then tell told (Went now (TcpOut (spelling f)) ∷ []) else told) → now ≡ s.moment → Sends s f t → Tracks p s told unjudged phase →
+    Leaves result p t after unjudged phase
+told_put true p told after s t f now unjudged phase e same sends h = told_sent p told after s t f now unjudged phase e same sends h
+told_put false p told after s t f now unjudged phase e same sends h = subst (λ l. IfSome l (IsFaithful p)) (sym e) (told_faithful p told s unjudged phase h)
 
-pub unsent_faithful : (p : Setup) (told after : Option Log) (s : State) (unjudged : List ℕ) (is_asked : Bool) → after ≡ told → Tracks p s told unjudged is_asked → IfSome after (IsFaithful p)
-unsent_faithful p told after s unjudged is_asked e h = subst (λ l. IfSome l (IsFaithful p)) (sym e) (told_faithful p told s unjudged is_asked h)
+pub unsent_faithful : (p : Setup) (told after : Option Log) (s : State) (unjudged : List ℕ) (phase : Phase) → after ≡ told → Tracks p s told unjudged phase → IfSome after (IsFaithful p)
+unsent_faithful p told after s unjudged phase e h = subst (λ l. IfSome l (IsFaithful p)) (sym e) (told_faithful p told s unjudged phase h)
 
 pub on_true : (b : Bool) (P : Type 0) → P → OnTrue b P
 on_true true P h = h
@@ -275,8 +297,9 @@ pull_confirmed law s t is h = subst (λ (x : State). IsConfirmed x.session) (sym
 pub pull_spent : (s t : State) → t ≡ record s { session = after_pull s.moment s.session } → IsSpent s → IsSpent t
 pull_spent s t is spent = subst IsSpent (sym is) (pulled_spent (session.pulled s.moment s.session).0 s (record s { session = after_pull s.moment s.session }) refl refl spent)
 
-pub piece_confirmed : ((kind : Kind) (now : ℕ) (s : Session) → may_send s ≡ true → IsConfirmed s → IsConfirmed (session.sent kind now s)) → (s t : State) → t ≡ piece_sent s → may_send s.session ≡ true → IsConfirmed s.session → IsConfirmed t.session
-piece_confirmed law s t is may h = subst (λ (x : State). IsConfirmed x.session) (sym is) (law FromQueue s.moment s.session may h)
+pub data_confirmed : ((kind : Kind) (now : ℕ) (s : Session) → may_send s ≡ true → IsConfirmed s → IsConfirmed (session.sent kind now s)) → (s t : State) (kind : Kind) → IsData s t kind → IsConfirmed s.session → IsConfirmed t.session
+data_confirmed law s t kind d h = subst IsConfirmed (sym d.session) (law kind s.moment s.session d.may h)
 
-pub piece_in_time : ((kind : Kind) (now : ℕ) (s : Session) → 0 < s.t1 → IsInTime now s → IsInTime now (session.sent kind now s)) → (s t : State) → t ≡ piece_sent s → StaysInTime s t
-piece_in_time law s t is some h = subst (λ (x : State). IsInTime x.moment x.session × (0 < x.session.t1)) (sym is) (law FromQueue s.moment s.session some h, some)
+pub data_in_time : ((kind : Kind) (now : ℕ) (s : Session) → 0 < s.t1 → IsInTime now s → IsInTime now (session.sent kind now s)) → (s t : State) (kind : Kind) → IsData s t kind → StaysInTime s t
+data_in_time law s t kind d some h =
+    (subst (λ m. IsInTime m t.session) (sym d.moment) (subst (IsInTime s.moment) (sym d.session) (law kind s.moment s.session some h)), subst (λ (x : Session). 0 < x.t1) (sym d.session) some)

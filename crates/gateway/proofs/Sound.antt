@@ -15,18 +15,6 @@ use Rattle.gateway.specs.State.{IsSound}
 pub less_kept : (n : ℕ) (q r : Queue) → r ≡ queue.acknowledged n q → 3 ≤ free_places q → 3 ≤ free_places r
 less_kept n q r e h = omega (arith, h, ap (λ (x : Queue). x.places) e, ap (λ (x : Queue). length (x.sent ++ x.unsent)) e, length-append q.sent q.unsent, length-append (drop n q.sent) q.unsent, length-drop n q.sent)
 
--- more pieces come where no poll is out
-pub pushed_sound : (l : Primary) (q r : Queue) (s : Session) (so_far : Option (List ℕ)) (pieces : List (List ℕ)) → is_polling l ≡ false → r ≡ queue.pushed pieces q → IsSound l q s so_far → IsSound l r s so_far
-pushed_sound l q r s so_far pieces none e h = subst (λ x. IsSound l x s so_far) (sym e) (record {
-  counted = h.counted;
-  listens = h.listens;
-  room = λ out. absurd (false≢true (sym none ∙ out));
-})
-
--- another state of the line that polls only where this one does
-pub line_sound : (l m : Primary) (q : Queue) (s : Session) (so_far : Option (List ℕ)) → (is_polling m ≡ true → is_polling l ≡ true) → IsSound l q s so_far → IsSound m q s so_far
-line_sound l m q s so_far only h = record { counted = h.counted; listens = h.listens; room = λ out. h.room (only out) }
-
 pub room_means : (q : Queue) → has_room q ≡ true → 3 ≤ free_places q
 room_means q h = elim (cases_lt (free_places q) 3) [ inl lt ↦ absurd (false≢true (sym (ap not (lt-ltb (free_places q) 3 lt)) ∙ h)) | inr le ↦ le ]
 

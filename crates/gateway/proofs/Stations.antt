@@ -21,8 +21,7 @@ use Rattle.gateway.specs.Objects.{monitor_objects}
 use Rattle.gateway.specs.Log.{Log, LineIn, Came, Went, LineOut, latest}
 use Rattle.gateway.specs.Frames.{Connection}
 use Rattle.gateway.specs.Reports.{Setup, address_at, AreFound, sent_to, sending_in, exchanges_of, exchanges_with, reports_in, taken_objects, parts_of_all, KeepsLinks}
-use Rattle.gateway.specs.Counting.{counted, counts_after}
-use Rattle.gateway.specs.declared.counts.Counts.{Counts}
+use Rattle.gateway.specs.Course.{Course}
 use Rattle.gateway.specs.Room.{IsFull}
 use Rattle.gateway.specs.Line.{IsWaiting, LacksOnlyRoom, IsLineAtRest}
 use Rattle.gateway.specs.LineLaws.{LineLaws}
@@ -41,13 +40,6 @@ parts-append sizes (x ∷ xs) ys = omega (arith, parts-append sizes xs ys)
 
 pub parts_grow : (p : Setup) (old new : Log) (reports : List (ℕ × List ℕ)) → reports_in p new ≡ reports_in p old ++ reports → parts_of_all p.sizes (reports_in p new) ≡ parts_of_all p.sizes (reports_in p old) + parts_of_all p.sizes reports
 parts_grow p old new reports e = ap (parts_of_all p.sizes) e ∙ parts-append p.sizes (reports_in p old) reports
-
-counts-append : (sizes : Sizes) (c : Counts) (xs ys : List (ℕ × List ℕ)) → counts_after sizes c (xs ++ ys) ≡ counts_after sizes (counts_after sizes c xs) ys
-counts-append sizes c [] ys = refl
-counts-append sizes c (x ∷ xs) ys = counts-append sizes (counted sizes x.1 c) xs ys
-
-pub counts_grow : (p : Setup) (old new : Log) (c : Counts) (reports : List (ℕ × List ℕ)) → reports_in p new ≡ reports_in p old ++ reports → counts_after p.sizes c (reports_in p new) ≡ counts_after p.sizes (counts_after p.sizes c (reports_in p old)) reports
-counts_grow p old new c reports e = ap (counts_after p.sizes c) e ∙ counts-append p.sizes c (reports_in p old) reports
 
 -- The line's part of an event: its octets, if it has any, then its moment
 
@@ -101,8 +93,8 @@ after_request laws p q log now may s found h is =
 
 -- Nothing is left to be asked
 
-asks_alone : (laws : LineLaws) (p : Setup) (q : Primary) (log : Log) (may : Bool) → Tells p.link p.addresses q (exchanges_of p log) → q.outstanding ≡ None → sending q may ≡ None → (connections : List Connection) → (may ≡ false → IsFull p log connections) → LacksOnlyRoom p log connections
-asks_alone laws p q log may h out none connections full =
+asks_alone : (laws : LineLaws) (p : Setup) (q : Primary) (log : Log) (course : Course) (may : Bool) → Tells p.link p.addresses q (exchanges_of p log) → q.outstanding ≡ None → sending q may ≡ None → (connections : List Connection) → (may ≡ false → IsFull p log connections) → LacksOnlyRoom p log course connections
+asks_alone laws p q log course may h out none connections full =
     let link : (i : ℕ) → link_after p.link (address_at p.addresses i) Down (exchanges_with p i log) ≡ (station_at q.stations i).link = λ i.
     subst (λ (o : Option Outstanding). telling.AreLinks (front_of p.link.size) p.link p.addresses q.stations (telling.past o (exchanges_of p log))) out h.links i in
     record {
@@ -130,9 +122,9 @@ waits_for p q log o h out = go (exchanges_of p log).current refl
         let w : IsAwaited (front_of p.link.size) (address_at p.addresses q.turn) q.turn o x = subst (telling.IsCurrent (front_of p.link.size) p.addresses q.turn (Some o)) is current in
         record { exchange = x; latest_is = is; waits = (at_station x w, w.waits) }
 
-pub line_rests : (laws : LineLaws) (p : Setup) (q : Primary) (log : Log) (may : Bool) → Tells p.link p.addresses q (exchanges_of p log) → sending q may ≡ None → (connections : List Connection) → (may ≡ false → IsFull p log connections) → IsLineAtRest p log connections
-line_rests laws p q log may h none connections full = go q.outstanding refl
+pub line_rests : (laws : LineLaws) (p : Setup) (q : Primary) (log : Log) (course : Course) (may : Bool) → Tells p.link p.addresses q (exchanges_of p log) → sending q may ≡ None → (connections : List Connection) → (may ≡ false → IsFull p log connections) → IsLineAtRest p log course connections
+line_rests laws p q log course may h none connections full = go q.outstanding refl
   where
-    go : (o : Option Outstanding) → q.outstanding ≡ o → IsLineAtRest p log connections
-    go None out = inr (asks_alone laws p q log may h out none connections full)
+    go : (o : Option Outstanding) → q.outstanding ≡ o → IsLineAtRest p log course connections
+    go None out = inr (asks_alone laws p q log course may h out none connections full)
     go (Some o) out = inl (waits_for p q log o h out)

@@ -1,5 +1,5 @@
 -- What is stored, and the start of a run.
-use Rattle.std.proofs.Common.{◌≡◌, ◌≢◌, ℕ, zero, suc, ◌<◌, Bool, true, false, ◌&&◌, All, List, [], ◌∷◌, ◌++◌, length, map, Option, Some, refl, ap, sym, ◌∙◌, subst, arith, append_assoc, eq-eqb}
+use Rattle.std.proofs.Common.{◌≡◌, ◌≢◌, ℕ, zero, suc, ◌<◌, Bool, true, false, ◌&&◌, All, List, [], ◌∷◌, ◌++◌, length, map, Option, Some, None, refl, ap, sym, ◌∙◌, subst, arith, append_assoc, eq-eqb}
 use Rattle.std.specs.Prelude.{if◌then◌else◌, option_map}
 use Rattle.std.specs.List.{AllByRecursion}
 use Rattle.std.proofs.lemmas.List.{append-nil, length-map}
@@ -27,6 +27,12 @@ use Rattle.gateway.specs.Connections.{no_channel}
 use Rattle.gateway.specs.Reports.{Setup, address_at, index_of, AreFound}
 use Rattle.session.specs.Ends.{IsConfirmed}
 use Rattle.gateway.specs.SessionLaws.{SessionLaws}
+use Rattle.gateway.specs.CommandLaws.{CommandLaws}
+use Rattle.gateway.specs.Course.{first_course}
+use Rattle.gateway.specs.Phases.{Fresh}
+use Rattle.link.specs.Turns.{station_at}
+use Rattle.link.specs.Primary.{station_down}
+use Rattle.link.specs.Offers.{offered_at}
 use Rattle.gateway.specs.Setups.{link_of, session_of, setup_of}
 use Rattle.gateway.specs.State.{State, first_state}
 use Rattle.gateway.specs.Agrees.{IsTimely, Agrees, Follows, Rests}
@@ -68,26 +74,32 @@ abbrev pub StartTells : Type 0
 StartTells = (settings : LinkSettings) (addresses : List ℕ) → 0 < length addresses → All (FitsAddress settings.size) addresses → Tells settings addresses (start settings addresses) no_exchanges
 
 -- nothing has been told yet
-pub at_first : (c : Settings) → StartTells → SessionLaws → AreStations c.line.link c.line.sizes.ca c.stations → IsTimely (session_of c.tcp) → Agrees (setup_of c) (first_state c) [] [] false
-at_first c starts laws rules timely = record {
+pub at_first : (c : Settings) → StartTells → SessionLaws → CommandLaws → AreStations c.line.link c.line.sizes.ca c.stations → IsTimely (session_of c.tcp) → Agrees (setup_of c) (first_state c) [] [] Fresh
+at_first c starts laws commands rules timely = record {
   k = refl;
   sizes = refl;
   places = refl;
   clock = refl;
-  counts = refl;
   settled = refl;
   found = first_found c.stations rules.distinct;
   line = starts (link_of c.line) (map (λ (s : Station). s.address) c.stations) (omega (arith, rules.some, length-map c.stations (λ (s : Station). s.address))) (first_fits c.line.link c.line.sizes.ca c.stations rules.each);
-  primary = start (link_of c.line) (map (λ (s : Station). s.address) c.stations);
-  turns = refl;
-  asks = refl;
-  talk = talk_first (setup_of c) timely laws;
-  c = new_connection;
+  course = first_course (setup_of c);
+  talk = talk_first (setup_of c) timely laws commands;
+  stands = record { does = record { line = refl; commands = refl; counts = refl; silent = refl }; asks = refl; phase_is = refl };
+  offers = λ k octets e. absurd (no_offer k octets e);
+  plain = tt;
   here = fresh (first_state c) no_channel timely.range.k_small refl (λ h. refl) refl refl refl refl refl refl refl refl;
-  earlier = [];
   carries = record { whole = refl; gone = []; front = refl; joined = refl; count = refl };
   before = record { are = tt; orders = tt; times = tt; acts = tt; rests = tt };
 }
+  where
+    none_offered : (stations : List ℕ) (k : ℕ) → (station_at (map station_down stations) k).offered ≡ None
+    none_offered [] k = refl
+    none_offered (a ∷ stations) zero = refl
+    none_offered (a ∷ stations) (suc k) = none_offered stations k
+
+    no_offer : (k : ℕ) (octets : List ℕ) → offered_at (start (link_of c.line) (map (λ (s : Station). s.address) c.stations)) k ≡ Some octets → ⊥
+    no_offer k octets e = let no : None ≡ Some octets = sym (none_offered (map (λ (s : Station). s.address) c.stations) k) ∙ e in cc
 
 -- An event is stored: the rest of the script is still to come.
 
@@ -141,8 +153,8 @@ timely t = record { range = record { k_small = omega (arith, t.k_in_range.1); w_
 
 -- at the start, of a port that tells an empty log
 
-pub first_follows : (c : Settings) (s : State) (told : Option Log) → StartTells → SessionLaws → AreStations c.line.link c.line.sizes.ca c.stations → IsTimely (session_of c.tcp) → s ≡ first_state c → told ≡ Some [] → Follows (setup_of c) s told
-first_follows c s told starts laws rules timely is e = subst (λ o. Follows (setup_of c) s o) (sym e) (subst (λ x. Agrees (setup_of c) x [] [] false × IsConfirmed x.session) (sym is) (at_first c starts laws rules timely, refl))
+pub first_follows : (c : Settings) (s : State) (told : Option Log) → StartTells → SessionLaws → CommandLaws → AreStations c.line.link c.line.sizes.ca c.stations → IsTimely (session_of c.tcp) → s ≡ first_state c → told ≡ Some [] → Follows (setup_of c) s told
+first_follows c s told starts laws commands rules timely is e = subst (λ o. Follows (setup_of c) s o) (sym e) (subst (λ x. Agrees (setup_of c) x [] [] Fresh × IsConfirmed x.session) (sym is) (at_first c starts laws commands rules timely, refl))
 
 pub nothing_rests : (p : Setup) (told : Option Log) → told ≡ Some [] → Rests p told
 nothing_rests p told e = subst (Rests p) (sym e) tt

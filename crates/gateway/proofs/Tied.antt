@@ -10,7 +10,7 @@ use Rattle.session.specs.declared.kinds.Taken.TheVariants.{Nothing, Asdu, Close 
 use Rattle.session.specs.declared.kinds.Close.{Close}
 use Rattle.session.specs.declared.kinds.Taken.{Taken}
 use Rattle.session.specs.declared.kinds.Close.TheVariants.{SendNumber, ReceiveNumber, Stopped}
-use Rattle.session.specs.declared.kinds.Kind.TheVariants.{Queue as FromQueue}
+use Rattle.session.specs.declared.kinds.Kind.TheVariants.{Queue as FromQueue, Own}
 use Rattle.session.specs.Session as session
 use Rattle.session.specs.Session.{Session, is_close, outcome_of, after_frame, from_queue, is_running, may_send, is_valid, newly, newly_by, left_by, refuses, taken}
 use Rattle.session.specs.History.{reached}
@@ -18,7 +18,7 @@ use Rattle.gateway.specs.Frames.{Connection, Sent, runs, i_frames, acknowledged_
 use Rattle.gateway.specs.Objects.{has_objects}
 use Rattle.gateway.specs.Agrees.{Unconfirmed, Tied}
 use Rattle.gateway.proofs.Counters.{reached-valid, reached-invalid}
-use Rattle.gateway.proofs.Unconfirmed.{unconfirmed_more, unconfirmed_piece}
+use Rattle.gateway.proofs.Unconfirmed.{unconfirmed_more, unconfirmed_piece, unconfirmed_own}
 
 valid_agrees : (a u nr next sent : ℕ) → u < 32768 → a + u ≡ sent → next ≡ sent % 32768 → not (nat_le ((next + (32768 - nr % 32768)) % 32768) u) ≡ nat_lt sent (reached a nr)
 valid_agrees a u nr next sent small count counter =
@@ -215,4 +215,15 @@ tied_piece f now c s ps h may has = record {
   small = h.small;
   bound = room_for s _ may;
   unconfirmed = unconfirmed_piece (acknowledged_count c.received_frames) c.sent_frames s.unacknowledged ps f _ refl has h.unconfirmed;
+}
+
+-- an own answer
+pub tied_own : (f : Sent) (now : ℕ) (c : Connection) (s : Session) (ps : List (List ℕ)) → Tied c s ps → may_send s ≡ true → has_objects f.asdu ≡ false → Tied (sent_more f c) (session.sent Own now s) ps
+tied_own f now c s ps h may none = record {
+  running = h.running;
+  received = h.received;
+  next = counted c.sent_frames f s.next_sent h.next;
+  small = h.small;
+  bound = room_for s _ may;
+  unconfirmed = unconfirmed_own (acknowledged_count c.received_frames) c.sent_frames s.unacknowledged ps f _ refl none h.unconfirmed;
 }

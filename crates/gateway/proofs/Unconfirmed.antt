@@ -1,8 +1,8 @@
 -- The sent frames that are not acknowledged, what the session keeps of them, and the pieces among them.
-use Rattle.std.proofs.Common.{suc, ◌%◌, add-zero, ◌≡◌, ℕ, ◌+◌, ◌≤◌, true, cond, List, [], ◌∷◌, ◌++◌, length, take, drop, refl, ap, sym, subst, ◌∙◌, arith}
-use Rattle.std.proofs.lemmas.List.{map-append, drop-map, drop-drop, length-drop, length-append, drop-append-le}
+use Rattle.std.proofs.Common.{suc, ◌%◌, add-zero, ◌≡◌, ℕ, ◌+◌, ◌≤◌, true, false, cond, List, [], ◌∷◌, ◌++◌, length, take, drop, refl, ap, sym, subst, ◌∙◌, arith}
+use Rattle.std.proofs.lemmas.List.{map-append, drop-map, drop-drop, length-drop, length-append, drop-append-le, append-nil}
 use Rattle.session.specs.declared.kinds.Unacknowledged.{Unacknowledged}
-use Rattle.session.specs.declared.kinds.Kind.TheVariants.{Queue as FromQueue}
+use Rattle.session.specs.declared.kinds.Kind.TheVariants.{Queue as FromQueue, Own}
 use Rattle.session.specs.Session.{is_from_queue, from_queue}
 use Rattle.gateway.specs.Frames.{IsNumberedFrom, Sent}
 use Rattle.gateway.specs.Objects.{has_objects}
@@ -40,3 +40,9 @@ pub unconfirmed_piece : (n : ℕ) (sent : List Sent) (us : List Unacknowledged) 
 unconfirmed_piece n sent us pieces f u kind has h =
     subst (λ b. Unconfirmed n (sent ++ f ∷ []) (us ++ u ∷ []) (pieces ++ cond b (f.asdu ∷ []) [])) has
     (sent_one n sent us pieces f u (ap is_from_queue kind ∙ sym has) h)
+
+pub unconfirmed_own : (n : ℕ) (sent : List Sent) (us : List Unacknowledged) (pieces : List (List ℕ)) (f : Sent) (u : Unacknowledged) → u.kind ≡ Own → has_objects f.asdu ≡ false → Unconfirmed n sent us pieces → Unconfirmed n (sent ++ f ∷ []) (us ++ u ∷ []) pieces
+unconfirmed_own n sent us pieces f u kind none h =
+    subst (Unconfirmed n (sent ++ f ∷ []) (us ++ u ∷ [])) (append-nil pieces)
+    (subst (λ b. Unconfirmed n (sent ++ f ∷ []) (us ++ u ∷ []) (pieces ++ cond b (f.asdu ∷ []) [])) none
+    (sent_one n sent us pieces f u (ap is_from_queue kind ∙ sym none) h))

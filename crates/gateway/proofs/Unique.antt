@@ -1,5 +1,5 @@
 -- The octets of a connection have one reading.
-use Rattle.std.proofs.Common.{◌≡◌, ℕ, List, [], ◌∷◌, ◌++◌, length, take, refl, ap, sym, ◌∙◌, subst, arith, Option, Some, None, inl, inr, append_assoc, length-append}
+use Rattle.std.proofs.Common.{false, ◌≡◌, ℕ, List, [], ◌∷◌, ◌++◌, length, take, refl, ap, sym, ◌∙◌, subst, arith, Option, Some, None, inl, inr, append_assoc, length-append}
 use Rattle.std.specs.Prelude.{◌⊎◌}
 use Rattle.std.proofs.lemmas.List.{append-nil, take_at}
 use Rattle.apci.specs.declared.apdu.Apdu.{Apdu}
@@ -54,14 +54,14 @@ Stands n received fault r =
     ⊎ (((fault ≡ Some Grammar) × IsRefused r)
     ⊎ ((cause : Close) × (fault ≡ Some cause) × BeginsWithFault n received cause r))
 
-stands : (n : ℕ) (received : List Apdu) (fault : Option Close) (r : List ℕ) → IsBehind n received fault r → Stands n received fault r
+stands : (n : ℕ) (received : List Apdu) (fault : Option Close) (r : List ℕ) → IsBehind false n received fault r → Stands n received fault r
 stands n received None r h = inl (refl, h)
 stands n received (Some Grammar) r h = inr (inl (refl, h))
 stands n received (Some SendNumber) r h = inr (inr (SendNumber, refl, h))
 stands n received (Some ReceiveNumber) r h = inr (inr (ReceiveNumber, refl, h))
 stands n received (Some Stopped) r h = inr (inr (Stopped, refl, h))
 stands n received (Some Timeout) r h = inr (inr (Timeout, refl, h))
-stands n received (Some OwnAnswers) r h = inr (inr (OwnAnswers, refl, h))
+stands n received (Some OwnAnswers) r h = cc
 stands n received (Some Replaced) r h = inr (inr (Replaced, refl, h))
 
 whole_front : (f : Apdu) (more r : List ℕ) → Fits f → r ≡ spelling f ++ more → IsFront r (Whole f (length (spelling f)))
@@ -133,18 +133,18 @@ back h = grown-turned h []
 spelled-oldest : (h : List Apdu) → spelled h ≡ joined (oldest h)
 spelled-oldest h = ap spelled (sym (back h)) ∙ spelled-grown [] (oldest h)
 
-pub one_reading : AreUnique → (octets : Channel) (c d : Connection) (fault other : Option Close) → IsConnection octets c fault → IsConnection octets d other → (c ≡ d) × (fault ≡ other)
-one_reading u octets c d fault other h k =
+pub one_reading : AreUnique → (octets : Channel) (c d : Connection) (fault other : Option Close) → octets.overfull ≡ false → IsConnection octets c fault → IsConnection octets d other → (c ≡ d) × (fault ≡ other)
+one_reading u octets c d fault other within h k =
     let put : h.put ≡ k.put = sym (back h.put) ∙ ap (grown []) (same_put u (oldest h.put) (oldest k.put) (sym (spelled-oldest h.put) ∙ sym h.handed.joined ∙ k.handed.joined ∙ spelled-oldest k.put)) ∙ back k.put in
     let sent : c.sent_frames ≡ d.sent_frames = h.sent ∙ ap data_frames put ∙ sym k.sent in
     let n = length d.sent_frames in
     let pass : Passes n c.received_frames = subst (λ x. Passes (length x) c.received_frames) sent h.pass in
-    let behind : IsBehind n c.received_frames fault h.rest = subst (λ x. IsBehind (length x) c.received_frames fault h.rest) sent h.behind in
+    let behind : IsBehind false n c.received_frames fault h.rest = subst (λ b. IsBehind b n c.received_frames fault h.rest) within (subst (λ x. IsBehind octets.overfull (length x) c.received_frames fault h.rest) sent h.behind) in
     let both = same_frames u n [] (oldest c.received_frames) (oldest d.received_frames) h.rest k.rest fault other
     (ap (λ x. x ++ h.rest) (sym (spelled-oldest c.received_frames)) ∙ sym h.joined ∙ k.joined ∙ ap (λ x. x ++ k.rest) (spelled-oldest d.received_frames))
     (subst AllFit (sym (back c.received_frames)) h.fit) (subst AllFit (sym (back d.received_frames)) k.fit)
     (subst (Passes n) (sym (back c.received_frames)) pass) (subst (Passes n) (sym (back d.received_frames)) k.pass)
     (subst (λ x. Stands n x fault h.rest) (sym (back c.received_frames)) (stands n c.received_frames fault h.rest behind))
-    (subst (λ x. Stands n x other k.rest) (sym (back d.received_frames)) (stands n d.received_frames other k.rest k.behind)) in
+    (subst (λ x. Stands n x other k.rest) (sym (back d.received_frames)) (stands n d.received_frames other k.rest (subst (λ b. IsBehind b n d.received_frames other k.rest) within k.behind))) in
     let received : c.received_frames ≡ d.received_frames = sym (back c.received_frames) ∙ ap (grown []) both.0 ∙ back d.received_frames in
     (ap (λ x. record { sent_frames = x; received_frames = c.received_frames }) sent ∙ ap (λ x. record { sent_frames = d.sent_frames; received_frames = x }) received, both.1)

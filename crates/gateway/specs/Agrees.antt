@@ -1,10 +1,13 @@
 -- What a gateway's state says of the log so far.
 use Rattle.std.specs.Prelude.{◌≡◌, ℕ, ◌+◌, ◌%◌, ◌<◌, ◌≤◌, Bool, true, false, cond, List, [], ◌∷◌, ◌++◌, length, drop, map, Option, Some, None, IfSome}
-use Rattle.std.specs.List.{flat_map, list_all}
+use Rattle.std.specs.List.{flat_map, list_all, AllByRecursion}
 use Rattle.asdu.specs.InformationObjects.{InformationObject}
 use Rattle.apci.specs.declared.apdu.Apdu.{Apdu}
 use Rattle.apci.specs.Reading.{IsMore}
-use Rattle.link.specs.Primary.{Primary, asked, sending}
+use Rattle.link.specs.Primary.{Primary}
+use Rattle.link.specs.Offers.{offered_at}
+use Rattle.command.specs.State as tasks
+use Rattle.command.specs.State.{octets_waiting}
 use Rattle.link.specs.Telling.{Tells}
 use Rattle.session.specs.Session.{Session, is_running, is_from_queue, may_send, pulled}
 use Rattle.session.specs.History.{History}
@@ -18,19 +21,36 @@ use Rattle.gateway.specs.Frames.{Sent, Connection, new_connection, data_frames, 
 use Rattle.gateway.specs.Connections.{Channel, no_channel, present, past, Passes, AreConnections}
 use Rattle.gateway.specs.Reports.{Setup, AreFound, exchanges_of, taken_objects, reports_in, parts_of_all}
 use Rattle.gateway.specs.Traffic.{is_replaced, ActsRightly, RestsBetweenSteps, HasRested, IsFaithful}
-use Rattle.gateway.specs.Polls.{has_room}
-use Rattle.gateway.specs.Counting.{nothing_counted, counts_after}
-use Rattle.gateway.specs.Line.{TurnsTo}
-use Rattle.gateway.specs.Conversation.{came_frames, Happens, KeepsTimes}
+use Rattle.gateway.specs.Works.{Works, tasks_of}
+use Rattle.gateway.specs.Course.{Course, here_of, room_in, Runs}
+use Rattle.gateway.specs.Conversation.{KeepsTimes}
+use Rattle.gateway.specs.Phases.{Phase, Taking, resting, IsPhase, works_in, IsAsked}
+use Rattle.gateway.specs.CommandLaws.{CommandLaws}
 use Rattle.gateway.specs.SessionLaws.{SessionLaws}
 use Rattle.gateway.specs.State.{State}
 
--- The line
+-- The line and commands
 
--- Before the step's request is asked for, the turns of the log are the state's. After it no request is left that may go out.
-abbrev pub IsLine : (is_asked : Bool) → State → Primary → Type 0
-IsLine false s q = s.line ≡ q
-IsLine true s q = (sending q (has_room s.queue) ≡ None) × (s.line ≡ asked q s.moment (has_room s.queue))
+-- the state has these works
+pub record Does (p : Setup) (s : State) (w : Works) : Type 0 where
+  pub line : s.line ≡ w.line
+  pub commands : s.commands ≡ (tasks_of p w).state
+  pub counts : s.counts ≡ w.counts
+  pub silent : s.silent ≡ w.silent
+
+-- the works that the log shows, as far as the step is
+pub record IsAt (p : Setup) (log : Log) (phase : Phase) (s : State) (c : Course) : Type 0 where
+  pub does : Does p s (works_in phase p (latest log) (room_in p log c) c.works)
+  pub asks : IsAsked phase p (latest log) (room_in p log c) c.works
+  pub phase_is : IsPhase phase log
+
+-- what is offered to a station is the oldest command that waits for it
+abbrev pub OffersWait : Primary → tasks.State → Type 0
+OffersWait q s = (k : ℕ) (octets : List ℕ) → offered_at q k ≡ Some octets → octets_waiting k s ≡ Some octets
+
+-- own answers have no objects of the queue's
+abbrev pub ArePlain : List (List ℕ) → Type 0
+ArePlain answers = AllByRecursion (λ answer. has_objects answer ≡ false) answers
 
 -- The connection
 
@@ -99,64 +119,55 @@ pub record Past (p : Setup) (log : Log) (earlier : List Connection) : Type 0 whe
 
 -- The session
 
--- The session is what the calls of the history made it, and the history is the log's.
-pub record Talks (p : Setup) (s : Session) (log : Log) (c : Connection) : Type 0 where
+-- The course is the log's, and the session is what the calls of its history made it.
+pub record Talks (p : Setup) (s : Session) (log : Log) (c : Course) : Type 0 where
   pub timely : IsTimely p.session
   pub laws : SessionLaws
+  pub command_laws : CommandLaws
   pub calls : List Call
-  pub history : History
-  pub runs : run p.session calls ≡ record { session = s; history = history }
-  pub happens : Happens log history
-  pub came : came_frames history ≡ c.received_frames
+  pub called : run p.session calls ≡ record { session = s; history = c.talk }
+  pub course_runs : Runs p log c
 
--- The state agrees with the log, as if these octets of the open connection had not come yet; the step's request has been asked
--- for, or not yet.
-pub record Agrees (p : Setup) (s : State) (log : Log) (unjudged : List ℕ) (is_asked : Bool) : Type 0 where
+-- The state agrees with the log, as if these octets of the open connection had not come yet, so far in a step.
+pub record Agrees (p : Setup) (s : State) (log : Log) (unjudged : List ℕ) (phase : Phase) : Type 0 where
   pub k : s.session.k ≡ p.session.k
   pub sizes : s.sizes ≡ p.sizes
   pub places : s.queue.places ≡ p.places
   pub clock : s.moment ≡ latest log
-  pub counts : s.counts ≡ counts_after p.sizes nothing_counted (reports_in p log)
   pub settled : is_replaced log ≡ false
   pub found : AreFound p.addresses
   pub line : Tells p.link p.addresses s.line (exchanges_of p log)
-  pub primary : Primary
-  pub turns : TurnsTo p log primary
-  pub asks : IsLine is_asked s primary
-  pub c : Connection
-  pub here : Presently s (present log) unjudged c
-  pub talk : Talks p s.session log c
-  pub earlier : List Connection
-  pub carries : Carries (taken_objects p log) (parts_of_all p.sizes (reports_in p log)) earlier c.sent_frames s.queue.unsent
-  pub before : Past p log earlier
+  pub course : Course
+  pub here : Presently s (present log) unjudged (here_of course)
+  pub talk : Talks p s.session log course
+  pub stands : IsAt p log phase s course
+  pub offers : OffersWait s.line s.commands
+  pub plain : ArePlain s.commands.answers
+  pub carries : Carries (taken_objects p log) (parts_of_all p.sizes (reports_in p log)) course.earlier course.sent s.queue.unsent
+  pub before : Past p log course.earlier
 
 -- the same where the port tells its log
-abbrev pub Tracks : Setup → State → Option Log → List ℕ → Bool → Type 0
-Tracks p s told unjudged is_asked = IfSome told (λ log. Agrees p s log unjudged is_asked)
+abbrev pub Tracks : Setup → State → Option Log → List ℕ → Phase → Type 0
+Tracks p s told unjudged phase = IfSome told (λ log. Agrees p s log unjudged phase)
 
 -- the same with no confirmation left to be sent
 abbrev pub Awaits : Setup → State → Option Log → List ℕ → Type 0
-Awaits p s told unjudged = IfSome told (λ log. Agrees p s log unjudged false × IsConfirmed s.session)
+Awaits p s told unjudged = IfSome told (λ log. Agrees p s log unjudged Taking × IsConfirmed s.session)
 
 -- what is left of the log by a call that puts actions out: all of it went out, or the log is faithful so far
-abbrev pub Leaves : Bool → Setup → State → Option Log → List ℕ → Bool → Type 0
-Leaves true p s told unjudged is_asked = Tracks p s told unjudged is_asked
-Leaves false p s told unjudged is_asked = IfSome told (IsFaithful p)
-
--- whether an event has come
-abbrev pub has_begun : Log → Bool
-has_begun [] = false
-has_begun (entry ∷ log) = true
+abbrev pub Leaves : Bool → Setup → State → Option Log → List ℕ → Phase → Type 0
+Leaves true p s told unjudged phase = Tracks p s told unjudged phase
+Leaves false p s told unjudged phase = IfSome told (IsFaithful p)
 
 -- between steps
 abbrev pub Follows : Setup → State → Option Log → Type 0
-Follows p s told = IfSome told (λ log. Agrees p s log [] (has_begun log) × IsConfirmed s.session)
+Follows p s told = IfSome told (λ log. Agrees p s log [] (resting log) × IsConfirmed s.session)
 
 -- the log ends with this event, and before it the state agreed with the log and had done all that it could
 pub record HasCome (p : Setup) (s : State) (now : ℕ) (event : Input) (log : Log) : Type 0 where
   pub before : Log
   pub is : log ≡ Came now event ∷ before
-  pub agrees : Agrees p s before [] (has_begun before)
+  pub agrees : Agrees p s before [] (resting before)
   pub confirmed : IsConfirmed s.session
   pub rested : HasRested p before
 
@@ -176,4 +187,4 @@ StaysInTime s t = 0 < s.session.t1 → IsInTime s.moment s.session → IsInTime 
 
 -- nothing can be sent any more
 abbrev pub IsSpent : State → Type 0
-IsSpent s = may_send s.session ≡ true → s.queue.unsent ≡ []
+IsSpent s = may_send s.session ≡ true → (s.queue.unsent ≡ []) × (s.commands.answers ≡ [])

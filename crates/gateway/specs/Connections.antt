@@ -4,7 +4,7 @@ use Rattle.apci.specs.declared.apdu.Apdu.{Apdu}
 use Rattle.apci.specs.Spelling.{spelling, Fits}
 use Rattle.apci.specs.Reading.{IsMore}
 use Rattle.session.specs.declared.kinds.Close.{Close}
-use Rattle.session.specs.declared.kinds.Close.TheVariants.{Grammar, Replaced}
+use Rattle.session.specs.declared.kinds.Close.TheVariants.{Grammar, OwnAnswers, Replaced}
 use Rattle.gateway.specs.Log.{Log, Opened, TcpIn, CutOff, TcpOut, Closed, Came, Went}
 use Rattle.gateway.specs.Streams.{spelled, AllFit, AreFrames, IsRefused}
 use Rattle.gateway.specs.Frames.{Connection, data_frames, fault_of}
@@ -14,20 +14,22 @@ pub record Channel : Type 0 where
   pub is_open : Bool
   pub sent : List ℕ
   pub received : List ℕ
+  -- it was closed for want of a place for an own answer
+  pub overfull : Bool
 
 -- where there is no connection
 abbrev pub no_channel : Channel
-no_channel = record { is_open = false; sent = []; received = [] }
+no_channel = record { is_open = false; sent = []; received = []; overfull = false }
 
 abbrev pub new_channel : Channel
-new_channel = record { is_open = true; sent = []; received = [] }
+new_channel = record { is_open = true; sent = []; received = []; overfull = false }
 
 -- octets of no connection count for nothing
 abbrev pub receiving : Channel → List ℕ → Channel
-receiving c octets = if c.is_open then record { is_open = true; sent = c.sent; received = c.received ++ octets } else c
+receiving c octets = if c.is_open then record { is_open = true; sent = c.sent; received = c.received ++ octets; overfull = c.overfull } else c
 
 abbrev pub sending : Channel → List ℕ → Channel
-sending c octets = record { is_open = c.is_open; sent = c.sent ++ octets; received = c.received }
+sending c octets = record { is_open = c.is_open; sent = c.sent ++ octets; received = c.received; overfull = c.overfull }
 
 -- the causes 1 to 6 end the connection of their step, and 7 the one before it, which the new one has ended
 abbrev pub ends : Close → Bool
@@ -48,12 +50,17 @@ present (entry ∷ log) = present log
 abbrev pub over : Channel → List Channel → List Channel
 over c past = if c.is_open then c ∷ past else past
 
+-- the gateway closes it with this cause
+abbrev pub closed_by : Close → Channel → Channel
+closed_by OwnAnswers c = record { is_open = c.is_open; sent = c.sent; received = c.received; overfull = true }
+closed_by cause c = c
+
 -- the connections that are over, the newest first
 abbrev pub past : Log → List Channel
 past [] = []
 past (Came now Opened ∷ log) = over (present log) (past log)
 past (Came now CutOff ∷ log) = over (present log) (past log)
-past (Went now (Closed cause) ∷ log) = if ends cause then over (present log) (past log) else past log
+past (Went now (Closed cause) ∷ log) = if ends cause then over (closed_by cause (present log)) (past log) else past log
 past (entry ∷ log) = past log
 
 -- each of the frames came without fault
@@ -69,15 +76,17 @@ pub record BeginsWithFault (sent : ℕ) (received : List Apdu) (cause : Close) (
   pub joined : rest ≡ spelling frame ++ more
   pub fault : fault_of sent received frame ≡ Some cause
 
--- what stands behind the frames received: the beginning of a frame, or what closes the connection
-abbrev pub IsBehind : ℕ → List Apdu → Option Close → List ℕ → Type 0
-IsBehind sent received None rest = IsMore rest
-IsBehind sent received (Some Grammar) rest = IsRefused rest
-IsBehind sent received (Some cause) rest = BeginsWithFault sent received cause rest
+-- What stands behind the frames received: the beginning of a frame, or what closes the connection. Where that is an own answer
+-- without a place, what is left of the octets was dropped; which frames came, `Course` tells.
+abbrev pub IsBehind : Bool → ℕ → List Apdu → Option Close → List ℕ → Type 0
+IsBehind overfull sent received None rest = IsMore rest
+IsBehind overfull sent received (Some Grammar) rest = IsRefused rest
+IsBehind overfull sent received (Some OwnAnswers) rest = overfull ≡ true
+IsBehind overfull sent received (Some cause) rest = BeginsWithFault sent received cause rest
 
 -- The frames of a connection are those that the grammar finds, one after another, in its joined octets. In the octets
 -- handed to TCP there is nothing else. In those received they go up to what closes the connection, if anything does.
--- (The law `one_reading`: there are no other frames, and no other cause.)
+-- (The law `one_reading`: but for want of a place for an own answer there are no other frames, and no other cause.)
 pub record IsConnection (octets : Channel) (c : Connection) (fault : Option Close) : Type 0 where
   pub put : List Apdu
   pub handed : AreFrames octets.sent put
@@ -86,7 +95,7 @@ pub record IsConnection (octets : Channel) (c : Connection) (fault : Option Clos
   pub joined : octets.received ≡ spelled c.received_frames ++ rest
   pub fit : AllFit c.received_frames
   pub pass : Passes (length c.sent_frames) c.received_frames
-  pub behind : IsBehind (length c.sent_frames) c.received_frames fault rest
+  pub behind : IsBehind octets.overfull (length c.sent_frames) c.received_frames fault rest
 
 -- the frames of each
 abbrev pub AreConnections : List Channel → List Connection → Type 0

@@ -18,16 +18,14 @@ one_skipped c = record { skipped = one_more c.skipped; mirrors = c.mirrors; lost
 abbrev pub one_mirrored : Counts → Counts
 one_mirrored c = record { skipped = c.skipped; mirrors = one_more c.mirrors; lost = c.lost }
 
+abbrev pub one_lost : Counts → Counts
+one_lost c = record { skipped = c.skipped; mirrors = c.mirrors; lost = one_more c.lost }
+
 -- By the first object of the report: one that can't be read has none. Those of monitor types are passed on, save for a
--- negative 'unknown type', and those of command types aren't.
+-- negative 'unknown type'; those of command types are none of the queue's.
 abbrev pub counted_by : List InformationObject → Counts → Counts
 counted_by [] c = one_skipped c
-counted_by (o ∷ objects) c = if (row o.kind).monitor then (if is_passed_on o.kind o.cause then c else one_skipped c) else one_mirrored c
+counted_by (o ∷ objects) c = if (row o.kind).monitor then (if is_passed_on o.kind o.cause then c else one_skipped c) else c
 
 abbrev pub counted : Sizes → List ℕ → Counts → Counts
 counted sizes report c = counted_by (objects_of sizes report) c
-
--- the counts after these reports, the oldest first
-abbrev pub counts_after : Sizes → Counts → List (ℕ × List ℕ) → Counts
-counts_after sizes c [] = c
-counts_after sizes c (report ∷ reports) = counts_after sizes (counted sizes report.1 c) reports

@@ -6,11 +6,12 @@ use Rattle.gateway.specs.Traffic.{IsFaithful}
 use Rattle.gateway.specs.declared.step.Outcome.{Outcome}
 use Rattle.gateway.specs.declared.step.Outcome.TheVariants.{On, Over, Failed}
 use Rattle.gateway.specs.State.{State}
+use Rattle.gateway.specs.Phases.{Idle}
 use Rattle.gateway.specs.Agrees.{Tracks, Awaits}
 
 abbrev pub Goes : Outcome → Setup → State → Option Log → List ℕ → Type 0
 Goes On p s told rest = Awaits p s told rest
-Goes Over p s told rest = Tracks p s told [] false
+Goes Over p s told rest = Tracks p s told [] Idle
 Goes Failed p s told rest = IfSome told (IsFaithful p)
 
 abbrev pub IsOnward : Outcome → Type 0 → Type 0

@@ -1,16 +1,22 @@
 -- What `link` proves of a primary station and the exchanges of its line.
-use Rattle.std.specs.Prelude.{◌≡◌, ℕ, ◌<◌, ◌++◌, Bool, true, false, List, length, slice_index, Option, Some, None}
+use Rattle.std.specs.Prelude.{◌≡◌, ℕ, ◌<◌, ◌++◌, ◌&&◌, ◌==◌, Bool, true, false, if◌then◌else◌, List, length, slice_index, Option, Some, None}
 use Rattle.ft12.specs.declared.frame.LinkSize.{LinkSize}
 use Rattle.ft12.specs.Fronts.{front_of}
 use Rattle.ft12.specs.Spelling.{spelling}
 use Rattle.link.specs.declared.service.Asked.{Asked}
 use Rattle.link.specs.Exchanges.{Exchanges, OpenExchange, Sending, IsOutstanding, heard_current, timed_current, begun_by, view, reports_of_exchanges}
 use Rattle.link.specs.declared.settings.LinkSettings.{LinkSettings}
-use Rattle.link.specs.Requests.{request_frame, request_in, FitsAddress, FitsAsked}
+use Rattle.link.specs.Requests.{request_frame, request_in, FitsAddress, FitsAsked, IsUserData}
 use Rattle.link.specs.Procedure.{is_up, holds_command}
 use Rattle.link.specs.Turns.{station_at}
 use Rattle.link.specs.Holding.{IsFitting}
-use Rattle.link.specs.Primary.{Primary, start, asked, sending, request_of, received, received_outcome, timed_out}
+use Rattle.link.specs.Primary.{Primary, start, asked, sending, request_of, received, received_outcome, timed_out, is_command, may_offer, offered_to, withdrawn}
+use Rattle.link.specs.Offers.{offered_at}
+use Rattle.link.specs.Leave.{IsLeftToPolls}
+use Rattle.ft12.specs.declared.frame.Front.{Front}
+use Rattle.link.specs.declared.service.Service.TheVariants.{Command}
+use Rattle.link.specs.declared.service.Asked.TheVariants.{Counted}
+use Rattle.link.specs.Procedure.{is_held}
 use Rattle.link.specs.Telling.{Tells, report_in, IsFittingSending}
 
 pub record LineLaws : Type 0 where
@@ -38,9 +44,18 @@ pub record LineLaws : Type 0 where
   pub back : (size : LinkSize) (address : ℕ) (request : Asked) → FitsAddress size address → FitsAsked size request →
       request_in size (spelling size (request_frame address request)) ≡ Some (address, request)
   pub over : (q : Primary) (now : ℕ) (may_poll : Bool) → sending q may_poll ≡ None → sending (asked q now may_poll) may_poll ≡ None
-  pub out : (q : Primary) (now : ℕ) (may_poll : Bool) (s : Sending) → sending q may_poll ≡ Some s → (later : Bool) → sending (asked q now may_poll) later ≡ None
-  pub same : (q : Primary) (now : ℕ) (may_poll : Bool) (s : Sending) → sending q may_poll ≡ Some s → (at : ℕ) (later : Bool) → asked (asked q now may_poll) at later ≡ asked q now may_poll
-  pub begins : (settings : LinkSettings) (addresses : List ℕ) (may_poll : Bool) → 0 < length addresses → sending (start settings addresses) may_poll ≡ None → ⊥
   pub leave : (q : Primary) (may_poll : Bool) → IsFitting q → q.outstanding ≡ None → sending q may_poll ≡ None → may_poll ≡ false
   pub up : (q : Primary) (may_poll : Bool) → IsFitting q → q.outstanding ≡ None → sending q may_poll ≡ None → (i : ℕ) → i < length q.stations → is_up (station_at q.stations i).link ≡ true
   pub free : (q : Primary) (may_poll : Bool) → IsFitting q → q.outstanding ≡ None → sending q may_poll ≡ None → (i : ℕ) → i < length q.stations → holds_command (station_at q.stations i).link ≡ false
+  pub left : (q : Primary) (may_poll : Bool) → IsFitting q → q.outstanding ≡ None → sending q may_poll ≡ None → (i : ℕ) → i < length q.stations → IsLeftToPolls (station_at q.stations i) (station_at q.stations i).link
+  pub offer : (settings : LinkSettings) (addresses : List ℕ) (q : Primary) (e : Exchanges) (station : ℕ) (asdu : List ℕ) →
+      station < length q.stations → IsUserData q.settings.size asdu → Tells settings addresses q e → Tells settings addresses (offered_to q station asdu) e
+  pub withdraw : (settings : LinkSettings) (addresses : List ℕ) (q : Primary) (e : Exchanges) → Tells settings addresses q e → Tells settings addresses (withdrawn q) e
+  pub heard_offers : (front : List ℕ → Front) (q : Primary) (octets : List ℕ) (k : ℕ) → offered_at (received front q octets) k ≡ offered_at q k
+  pub timed_offers : (q : Primary) (at : ℕ) (k : ℕ) → offered_at (timed_out q at) k ≡ offered_at q k
+  pub new_offer : (q : Primary) (i : ℕ) (asdu : List ℕ) (k : ℕ) → i < length q.stations → offered_at (offered_to q i asdu) k ≡ (if k == i && may_offer q i then Some asdu else offered_at q k)
+  pub no_offer : (q : Primary) (k : ℕ) → offered_at (withdrawn q) k ≡ None
+  pub unasked_offers : (q : Primary) (now : ℕ) (may_poll : Bool) (k : ℕ) → sending q may_poll ≡ None → offered_at (asked q now may_poll) k ≡ offered_at q k
+  pub asked_offers : (q : Primary) (now : ℕ) (may_poll : Bool) (s : Sending) (k : ℕ) → sending q may_poll ≡ Some s → s.station < length q.stations → offered_at (asked q now may_poll) k ≡ (if k == s.station && is_command s.request then None else offered_at q k)
+  pub begun : (q : Primary) (may_poll : Bool) (s : Sending) (fcb : Bool) (asdu : List ℕ) → sending q may_poll ≡ Some s → s.request ≡ Counted fcb (Command asdu) → is_held (station_at q.stations s.station).link ≡ false → offered_at q s.station ≡ Some asdu
+  pub count : (q : Primary) (i : ℕ) (asdu : List ℕ) → length (offered_to q i asdu).stations ≡ length q.stations

@@ -11,17 +11,20 @@ use Rattle.link.specs.Exchanges.{Exchange, Exchanges, Sending, no_exchanges, hea
 use Rattle.link.specs.Procedure.{KeepsFrameCountBit}
 use Rattle.link.specs.Requests.{request_in}
 use Rattle.session.specs.Runs.{Settings}
+use Rattle.command.specs.declared.station.StationInfo.{StationInfo}
 use Rattle.gateway.specs.Log.{Log, Came, Went, LineIn, LineOut, latest}
 use Rattle.gateway.specs.Objects.{monitor_objects, parts_of}
 
 -- What a gateway is set to: its line, the link addresses of its stations, the sizes of the line's ASDUs, the places of
--- its queue, and the session's numbers and times (k, w, t1, t2, t3).
+-- its queue, the session's numbers and times (k, w, t1, t2, t3), what commands ask of the stations, and how long a selection lasts.
 pub record Setup : Type 0 where
   pub link : LinkSettings
   pub addresses : List ℕ
   pub sizes : Sizes
   pub places : ℕ
   pub session : Settings
+  pub stations : List StationInfo
+  pub select_ms : ℕ
 
 abbrev pub address_at : List ℕ → ℕ → ℕ
 address_at addresses i = slice_index addresses i

@@ -1,9 +1,10 @@
 -- When the queue is full, as the log shows.
-use Rattle.std.specs.Prelude.{◌+◌, ◌<◌, Bool, true, false, List, ◌∷◌, None}
+use Rattle.std.specs.Prelude.{◌+◌, ◌<◌, List, ◌∷◌, None}
 use Rattle.gateway.specs.Log.{Log}
 use Rattle.gateway.specs.Frames.{Connection, acknowledged_reports}
 use Rattle.gateway.specs.Connections.{present, past, IsConnection, AreConnections}
 use Rattle.gateway.specs.Reports.{Setup, reports_in, parts_of_all}
+use Rattle.gateway.specs.Course.{Course, here_of, Runs}
 
 -- the connections of a log, the newest first: the one that is open, or an empty one where there is none, and those before it
 pub record AreConnectionsOf (log : Log) (c : Connection) (before : List Connection) : Type 0 where
@@ -16,18 +17,7 @@ IsFull p log connections = p.places + acknowledged_reports connections < parts_o
 
 -- there are places for the pieces of any report
 pub record HasRoom (p : Setup) (log : Log) : Type 0 where
-  pub here : Connection
-  pub before : List Connection
-  pub are : AreConnectionsOf log here before
-  pub room : IsFull p log (here ∷ before) → ⊥
-
-pub record LacksRoom (p : Setup) (log : Log) : Type 0 where
-  pub here : Connection
-  pub before : List Connection
-  pub are : AreConnectionsOf log here before
-  pub full : IsFull p log (here ∷ before)
-
--- whether there is room, as the log shows
-abbrev pub ShowsRoom : Bool → Setup → Log → Type 0
-ShowsRoom true p log = HasRoom p log
-ShowsRoom false p log = LacksRoom p log
+  pub course : Course
+  pub runs : Runs p log course
+  pub are : AreConnectionsOf log (here_of course) course.earlier
+  pub room : IsFull p log (here_of course ∷ course.earlier) → ⊥

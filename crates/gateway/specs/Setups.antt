@@ -6,6 +6,8 @@ use Rattle.link.specs.declared.settings.LinkSettings.{LinkSettings}
 use Rattle.gateway.specs.declared.settings.LineSettings.{LineSettings}
 use Rattle.session.specs.Runs as session
 use Rattle.gateway.specs.declared.settings.TcpSettings.{TcpSettings}
+use Rattle.command.specs.declared.station.StationInfo.{StationInfo}
+use Rattle.gateway.specs.declared.settings.Station.{Station}
 use Rattle.gateway.specs.Config.{Settings}
 use Rattle.gateway.specs.Reports.{Setup}
 
@@ -19,6 +21,9 @@ link_of l = record { size = l.link; answer_ms = l.answer_ms; retries = l.retries
 abbrev pub session_of : TcpSettings → session.Settings
 session_of t = record { k = t.k; w = t.w; t1 = t.t1_ms; t2 = t.t2_ms; t3 = t.t3_ms }
 
+abbrev pub info_of : Station → StationInfo
+info_of s = record { ca = s.ca; select = s.select }
+
 abbrev pub setup_of : Settings → Setup
 setup_of c = record {
   link = link_of c.line;
@@ -26,4 +31,6 @@ setup_of c = record {
   sizes = c.line.sizes;
   places = c.line.queue;
   session = session_of c.tcp;
+  stations = map info_of c.stations;
+  select_ms = c.tcp.select_ms;
 }

@@ -3,9 +3,8 @@ use Rattle.std.specs.Prelude.{◌≡◌, ℕ, ◌+◌, ◌<◌, Bool, true, fals
 use Rattle.ft12.specs.Spelling.{spelling}
 use Rattle.link.specs.declared.service.Asked.{Asked}
 use Rattle.link.specs.Requests.{request_frame}
-use Rattle.link.specs.Primary.{Primary}
 use Rattle.session.specs.declared.kinds.Close.{Close}
-use Rattle.session.specs.declared.kinds.Close.TheVariants.{Timeout, Replaced}
+use Rattle.session.specs.declared.kinds.Close.TheVariants.{Timeout, OwnAnswers, Replaced}
 use Rattle.gateway.specs.Log.{Log, Opened, Came, Went, Output, LineOut, TcpOut, Closed, latest}
 use Rattle.gateway.specs.Streams.{IsOneFrame}
 use Rattle.gateway.specs.Frames.{Connection, runs, acknowledged_count, first_unacknowledged, monitor_objects_sent, AreInOrder}
@@ -13,8 +12,10 @@ use Rattle.gateway.specs.Connections.{present, past, ends, IsConnection, AreConn
 use Rattle.gateway.specs.Reports.{Setup, address_at, taken_objects, KeepsLinks}
 use Rattle.link.specs.Leave.{is_poll_request}
 use Rattle.gateway.specs.Room.{AreConnectionsOf, HasRoom}
-use Rattle.gateway.specs.Conversation.{KeepsTimes, IsLate, IsTalkAtRest}
-use Rattle.gateway.specs.Line.{TurnsTo, IsWaiting, IsLineAtRest}
+use Rattle.gateway.specs.Works.{tasks_of}
+use Rattle.gateway.specs.Course.{Course, here_of, Runs}
+use Rattle.gateway.specs.Conversation.{KeepsTimes, IsLate, IsOverfull, IsTalkAtRest}
+use Rattle.gateway.specs.Line.{IsWaiting, IsLineAtRest}
 
 -- The octets are a request to a station, while no exchange is outstanding; and a poll only where there is room.
 pub record IsRequest (p : Setup) (log : Log) (octets : List ℕ) : Type 0 where
@@ -30,9 +31,10 @@ abbrev pub is_replaced : Log → Bool
 is_replaced (Came now Opened ∷ log) = (present log).is_open
 is_replaced log = false
 
--- The connection is open, and its octets give the cause; or an answer is late.
+-- The connection is open, and its octets give the cause; or an answer is late; or an own answer found no place.
 abbrev pub HasCause : Setup → Close → Log → Type 0
 HasCause p Timeout log = IsLate p log
+HasCause p OwnAnswers log = IsOverfull p log
 HasCause p cause log = ends cause ≡ true → ((present log).is_open ≡ true) × ((c : Connection) × IsConnection (present log) c (Some cause))
 
 -- to the line whole requests, to TCP one APDU at a time while a connection is open, and a close with its cause
@@ -58,18 +60,23 @@ ActsRightly p [] = Unit {0}
 ActsRightly p (Went now action ∷ log) = GoesOut p log now action × ActsRightly p log
 ActsRightly p (entry ∷ log) = ActsRightly p log
 
+-- All objects taken and all own answers have gone out.
+pub record HasSentAll (p : Setup) (log : Log) (c : Course) : Type 0 where
+  pub objects : first_unacknowledged c.earlier + length (monitor_objects_sent (here_of c)) ≡ length (taken_objects p log)
+  pub answers : (tasks_of p c.works).state.answers ≡ []
+
 -- After a step nothing stands on the connection that closes it, and all that may be sent is sent: on the connection, where
--- data transfer is started and the window isn't full, all objects, and each confirmation, S frame and test that is due; on the
--- line, all but data for which there is no room.
+-- data transfer is started and the window isn't full, all objects and own answers, and each confirmation, S frame and test that is
+-- due; on the line, all but data for which there is no room.
 pub record IsAtRest (p : Setup) (log : Log) : Type 0 where
-  pub here : Connection
-  pub before : List Connection
-  pub are : AreConnectionsOf log here before
+  pub course : Course
+  pub course_runs : Runs p log course
+  pub are : AreConnectionsOf log (here_of course) course.earlier
   pub settled : is_replaced log ≡ false
-  pub eager : (present log).is_open ≡ true → runs here.received_frames ≡ true → length here.sent_frames < acknowledged_count here.received_frames + p.session.k →
-      first_unacknowledged before + length (monitor_objects_sent here) ≡ length (taken_objects p log)
-  pub line : IsLineAtRest p log (here ∷ before)
-  pub talk : IsTalkAtRest p log
+  pub eager : (present log).is_open ≡ true → runs (here_of course).received_frames ≡ true →
+      length (here_of course).sent_frames < acknowledged_count (here_of course).received_frames + p.session.k → HasSentAll p log course
+  pub line : IsLineAtRest p log course (here_of course ∷ course.earlier)
+  pub talk : IsTalkAtRest p log course
 
 -- nothing has come yet, or the last step has done all that it could
 abbrev pub HasRested : Setup → Log → Type 0
@@ -85,14 +92,12 @@ RestsBetweenSteps p (Went now action ∷ log) = RestsBetweenSteps p log
 -- What holds of every log of a gateway. Of what the open connection received perhaps only the first frames are told here,
 -- where the device failed in mid-step; `HasRested` tells them all.
 pub record IsFaithful (p : Setup) (log : Log) : Type 0 where
-  pub here : Connection
-  pub begun : IsBegun (present log) here
-  pub earlier : List Connection
-  pub are : AreConnections (past log) earlier
-  pub orders : AreInOrder (taken_objects p log) (here ∷ earlier)
+  pub course : Course
+  pub course_runs : Runs p log course
+  pub begun : IsBegun (present log) (here_of course)
+  pub are : AreConnections (past log) course.earlier
+  pub orders : AreInOrder (taken_objects p log) (here_of course ∷ course.earlier)
   pub links : KeepsLinks p log
-  pub primary : Primary
-  pub turns : TurnsTo p log primary
   pub times : KeepsTimes p log
   pub acts : ActsRightly p log
   pub rests : RestsBetweenSteps p log

@@ -1,18 +1,28 @@
 //! The gateway's parts, and what each part of a step makes of them.
-ghost use Rattle.std.specs.Prelude.{◌≡◌, ℕ, ◌+◌, ◌<◌, ◌≤◌, true, false, List, [], ◌∷◌, length, map, IfSome, IfNone, IfOk, Some, None, option_map, if◌then◌else◌};
-ghost use Rattle.ft12.specs.Fronts.{front_of};
-ghost use Rattle.link.specs.Exchanges.{Sending};
-ghost use Rattle.link.specs.Primary.{start, asked, sending, request_of, timed_out, received, received_outcome};
+ghost use Rattle.std.specs.Prelude.{◌≡◌, ℕ, ◌<◌, ◌≤◌, true, false, List, [], length, map, IfSome, IfNone, IfOk, Some, None, option_map, if◌then◌else◌};
+ghost use Rattle.link.specs.declared.settings.LinkSettings.{LinkSettings};
+ghost use Rattle.link.specs.Exchanges.{Sending, Exchanges};
+ghost use Rattle.link.specs.Telling.{Tells};
+ghost use Rattle.link.specs.Primary.{start, offered_to, sending, request_of};
 ghost use Rattle.apci.specs.Spelling.{Fits};
-ghost use Rattle.session.specs.Session.{confirmed, pulled, may_send, timed_out as answers_late};
-ghost use Rattle.events.specs.Queue.{free_places};
-ghost use Rattle.link.specs.Leave.{is_poll_request, is_polling};
+ghost use Rattle.session.specs.Session.{new_session, confirmed, pulled, may_send, outcome_of, timed_out as answers_late};
+ghost use Rattle.command.specs.State as tasks;
+ghost use Rattle.command.specs.State.{oldest};
+ghost use Rattle.command.specs.Judging.{judged};
+ghost use Rattle.events.specs.Queue.{empty, free_places, octets_of};
+ghost use Rattle.link.specs.Leave.{is_poll_request, is_polling, is_report};
+ghost use Rattle.std.specs.List.{AllByRecursion};
+ghost use Rattle.asdu.specs.Asdu.{IsAsdu};
+ghost use Rattle.asdu.specs.InformationObjects.{monitor_objects_of};
+ghost use Rattle.asdu.specs.Reading.{value_of};
+ghost use Rattle.gateway.specs.Agrees.{IsSpent};
 ghost use Rattle.gateway.specs.Polls.{has_room};
-ghost use Rattle.gateway.specs.Counting.{nothing_counted, one_skipped, one_mirrored};
-ghost use Rattle.gateway.specs.Setups.{link_of};
+ghost use Rattle.gateway.specs.Counting.{one_skipped, one_mirrored, one_lost};
+ghost use Rattle.gateway.specs.Works.{kept_until, all_kept, listed, is_command_report, offered_by, offered_upto};
+ghost use Rattle.gateway.specs.Setups.{link_of, info_of};
 ghost use Rattle.gateway.specs.declared.settings.Station.{Station};
-ghost use Rattle.gateway.specs.State.{first_state, at_moment, disconnected, connected};
-ghost use Rattle.gateway.specs.Steps.{Judged, SendsPiece, Keeps, Hears, Learns};
+ghost use Rattle.gateway.specs.State.{first_state, after_request, at_moment, disconnected, connected, received as frame_received, heard_commands, has_place};
+ghost use Rattle.gateway.specs.Steps.{Judged, SendsPiece, SendsOwn, SendsData, Mirrors, LearnsReport, Hears, Learns, refused, refusal_fits, given_up, line_timed, settled};
 ghost use Rattle.gateway.specs.Finding.{Finds};
 
 use crate::config::Config;
@@ -20,9 +30,13 @@ use crate::counts::Counts;
 use crate::settings::{LineSettings, Silence};
 use apci::{Apdu, Assembler, Heard};
 use arrayvec::ArrayVec;
-use asdu::{Sizes, read, translate};
+use asdu::{Asdu, Piece, Sizes, read, translate};
+use command::{Act, Commands, StationInfo};
 use events::Events;
-use link::{LinkSettings, Master, Outcome, Request, next_changes_nothing, polls_wait_for_leave};
+use link::{
+    LinkSettings, Master, Outcome, Request, RequestKind, master_tells_the_log,
+    next_changes_nothing, offers_wait, polls_wait_for_leave,
+};
 use session::{Close, Kind, Session, Taken};
 use std::alloc::Global;
 use std::marker::Model;
@@ -57,6 +71,9 @@ pub struct Gateway {
     assembler: Assembler,
     moment: u64,
     counts: Counts,
+    commands: Commands,
+    /// The station whose link the step's silence took down.
+    silent: Option<usize>,
 }
 
 impl Model for Gateway {
@@ -64,7 +81,7 @@ impl Model for Gateway {
 
     ghost Value = { State };
 
-    ghost view = { λ a. record { line = a.line; sizes = a.sizes; queue = a.events; session = a.session; so_far = a.assembler.so_far; moment = a.moment; counts = a.counts } };
+    ghost view = { λ a. record { line = a.line; sizes = a.sizes; queue = a.events; session = a.session; so_far = a.assembler.so_far; moment = a.moment; counts = a.counts; commands = a.commands; silent = a.silent } };
 
     // The pieces sent are those that the session counts as the queue's; the assembler isn't deaf; and while a poll is
     // out, or is sent again at once, three places are free.
@@ -117,6 +134,13 @@ impl Counts {
         self.skipped = self.skipped.saturating_add(1);
     }
 
+    /// One more command that is given up.
+    fn lose(&mut self)
+        ensures { self.new ≡ one_lost self.old }
+    {
+        self.lost = self.lost.saturating_add(1);
+    }
+
     /// One more report of a command type.
     fn mirror(&mut self)
         ensures { self.new ≡ one_mirrored self.old }
@@ -125,22 +149,87 @@ impl Counts {
     }
 }
 
+/// What is known of the stations to which commands go.
+fn station_infos(alloc: Global, config: &Config) -> Result<Vec<StationInfo>, NoMemory>
+    ensures all { IfOk result (λ infos. infos.items ≡ map info_of config.now.stations) }
+    ensures few { IfOk result (λ infos. length infos.items ≤ 32) }
+{
+    let mut infos = Vec::new(alloc);
+    for station in config.stations() {
+        let info = StationInfo {
+            ca: station.ca,
+            select: station.select,
+        };
+        infos.push(info).map_err(|_| NoMemory)?;
+    }
+    Ok(infos)
+}
+
+/// The commands to the stations.
+fn commands(alloc: Global, config: &Config) -> Result<Commands, NoMemory>
+    ensures { IfOk result (λ c. c ≡ tasks.new_state (map info_of config.now.stations) config.now.line.sizes config.now.tcp.select_ms) }
+{
+    let stations = station_infos(alloc, config)?;
+    Commands::new(
+        alloc,
+        &stations,
+        config.line().sizes,
+        config.tcp().select_ms,
+    )
+    .map_err(|_| { NoMemory })
+}
+
+/// Offers a station user data that fit any frame.
+fn offer_to(line: &mut Master, station: usize, octets: &[u8])
+    requires station { station < length line.old.stations }
+    requires some { 1 ≤ length octets.now }
+    requires short { length octets.now ≤ 12 }
+    ensures state { line.new ≡ offered_to line.old station octets.now }
+    ensures tells { (settings : LinkSettings) (addresses : List ℕ) (e : Exchanges) → Tells settings addresses line.old e → Tells settings addresses line.new e }
+{
+    master_tells_the_log();
+    let _is_new = line.offer(station, octets);
+}
+
+/// Keeps own answers, up to the first that finds no place.
+fn keep_all(commands: &mut Commands, pieces: &[Piece]) -> bool
+    requires long { AllByRecursion (λ p. (9 ≤ length p.items) × (length p.items ≤ 249)) pieces.now }
+    ensures state { commands.new ≡ kept_until (octets_of pieces.now) commands.old }
+    ensures all { result ≡ all_kept (octets_of pieces.now) commands.old }
+{
+    for piece in pieces {
+        if !commands.own(piece) {
+            return false;
+        }
+    }
+    true
+}
+
+/// An empty queue.
+fn empty_queue(alloc: Global, config: &Config) -> Result<Events, NoMemory>
+    ensures { IfOk result (λ e. e ≡ empty config.now.line.queue) }
+{
+    Events::new(alloc, usize::from(config.line().queue)).map_err(|_| NoMemory)
+}
+
+/// The session without a connection.
+fn closed_session(alloc: Global, config: &Config) -> Result<Session, NoMemory>
+    ensures { IfOk result (λ s. s ≡ new_session config.now.tcp.k config.now.tcp.w config.now.tcp.t1_ms config.now.tcp.t2_ms config.now.tcp.t3_ms) }
+{
+    let tcp = config.tcp();
+    Session::new(alloc, tcp.k, tcp.w, tcp.t1_ms, tcp.t2_ms, tcp.t3_ms).map_err(|_| NoMemory)
+}
+
 impl Gateway {
     /// A gateway at moment 0, without a connection. Only want of memory is answered by an `Err`.
     pub fn new(alloc: Global, config: &Config) -> Result<Gateway, NoMemory>
         ensures { IfOk result (λ s. s ≡ first_state config.now) }
     {
-        let line = config.line();
-        let tcp = config.tcp();
-        let events = Events::new(alloc, usize::from(line.queue)).map_err(|_| NoMemory)?;
-        let session = Session::new(alloc, tcp.k, tcp.w, tcp.t1_ms, tcp.t2_ms, tcp.t3_ms).map_err(
-            |_| NoMemory,
-        )?;
         Ok(Gateway {
             line: master(alloc, config)?,
-            sizes: line.sizes,
-            events,
-            session,
+            sizes: config.line().sizes,
+            events: empty_queue(alloc, config)?,
+            session: closed_session(alloc, config)?,
             assembler: Assembler::new(),
             moment: 0,
             counts: Counts {
@@ -148,6 +237,8 @@ impl Gateway {
                 mirrors: 0,
                 lost: 0,
             },
+            commands: commands(alloc, config)?,
+            silent: None,
         })
     }
 
@@ -172,66 +263,167 @@ impl Gateway {
         self.moment
     }
 
-    /// Takes octets of the line, and keeps the report that comes with them.
-    pub(crate) fn hear(&mut self, octets: &[u8])
-        ensures { Hears self.old octets.now self.new }
+    /// Takes octets of the line, and keeps what comes with them. `false` says that an own answer found no place.
+    pub(crate) fn hear(&mut self, octets: &[u8]) -> bool
+        ensures { Hears self.old octets.now result self.new }
     {
         polls_wait_for_leave();
         next_changes_nothing();
-        match self.line.octets(octets) {
-            Outcome::Report(_, report) => self.keep(&report),
-            Outcome::None => {}
-            Outcome::Started(_) => {}
-            Outcome::Empty(_) => {}
-            Outcome::Accepted(_) => {}
-            Outcome::Busy(_) => {}
-            Outcome::Down(_) => {}
+        let outcome = self.line.octets(octets);
+        self.learn(&outcome)
+    }
+
+    /// What came of an exchange.
+    fn learn(&mut self, outcome: &Outcome) -> bool
+        requires room { is_report outcome.now ≡ true → (3 ≤ free_places self.old.queue) × (is_polling self.old.line ≡ false) }
+        ensures { Learns self.old outcome.now result self.new }
+    {
+        match outcome {
+            Outcome::Report(_, report) => self.take_report(report),
+            Outcome::Accepted(station) => {
+                self.commands.accepted(*station);
+                true
+            }
+            Outcome::Busy(station) => self.refuse(*station),
+            Outcome::Down(station) => {
+                self.give_up(*station);
+                true
+            }
+            Outcome::None => true,
+            Outcome::Started(_) => true,
+            Outcome::Empty(_) => true,
         }
     }
 
-    /// Keeps the pieces of a report that is passed on. Any other is counted.
-    fn keep(&mut self, report: &[u8])
+    /// Keeps the pieces of a report that is passed on. An answer to a command is passed on as own answers while data transfer
+    /// runs, and any other report is counted.
+    fn take_report(&mut self, report: &[u8]) -> bool
         requires short { length report.now ≤ 253 }
         requires room { 3 ≤ free_places self.old.queue }
         requires done { is_polling self.old.line ≡ false }
-        ensures { Keeps self.old report.now self.new }
+        ensures { LearnsReport (is_command_report self.old.sizes report.now) self.old report.now result self.new }
     {
         let Ok(asdu) = read(self.sizes, report) else {
             self.counts.skip();
-            return;
+            return true;
         };
         if asdu.is_passed_on() {
             self.events.push(translate(&asdu));
-        } else if asdu.kind.monitor() {
+            return true;
+        }
+        if asdu.kind.monitor() {
             self.counts.skip();
-        } else {
-            self.counts.mirror();
+            return true;
+        }
+        self.mirror(&asdu)
+    }
+
+    /// A station answered a command.
+    fn mirror(&mut self, asdu: &Asdu<'_>) -> bool
+        requires short { length asdu.now.octets.now ≤ 253 }
+        requires sizes { asdu.now.sizes ≡ self.old.sizes }
+        requires found { IsAsdu asdu.now.sizes (value_of asdu.now) asdu.now.octets.now }
+        requires plain { monitor_objects_of asdu.now.sizes asdu.now.octets.now ≡ [] }
+        ensures { Mirrors self.old asdu.now.octets.now result self.new }
+    {
+        self.commands.mirror(asdu, self.moment);
+        let pieces = translate(asdu);
+        if self.session.runs() {
+            return keep_all(&mut self.commands, &pieces);
+        }
+        self.counts.mirror();
+        true
+    }
+
+    /// A station was busy: its command is answered, where the connection that sent it is open.
+    fn refuse(&mut self, station: usize) -> bool
+        ensures state { self.new ≡ refused station self.old }
+        ensures all { result ≡ refusal_fits station self.old }
+    {
+        match self.commands.busy(station) {
+            Some(answer) => self.commands.own(&answer),
+            None => true,
+        }
+    }
+
+    /// The command on a station's line, if there is one, is given up.
+    fn give_up(&mut self, station: usize)
+        ensures { self.new ≡ given_up station self.old }
+    {
+        if self.commands.lost(station) {
+            self.counts.lose();
         }
     }
 
     /// Ends the line's exchange where its time is over.
     pub(crate) fn time(&mut self)
-        ensures { self.new ≡ record self.old { line = timed_out self.old.line self.old.moment } }
+        ensures { self.new ≡ line_timed self.old }
     {
         polls_wait_for_leave();
-        let _outcome = self.line.due(self.moment);
+        self.silent = match self.line.due(self.moment) {
+            Outcome::Down(station) => Some(station),
+            _ => None,
+        };
     }
 
-    /// The line's next request. It is a poll only where the queue has room, or where it is sent again at once.
+    /// The timers of commands: the command of a station that fell silent is given up, and selections end.
+    pub(crate) fn settle(&mut self)
+        ensures { self.new ≡ settled self.old }
+    {
+        if let Some(station) = self.silent {
+            self.give_up(station);
+        }
+        self.silent = None;
+        self.commands.due(self.moment);
+    }
+
+    /// Offers to each station the oldest command that waits for it.
+    pub(crate) fn offer_all(&mut self)
+        ensures state { self.new ≡ record self.old { line = offered_upto (length self.old.line.stations) self.old.commands.waiting self.old.line } }
+        ensures tells { (settings : LinkSettings) (addresses : List ℕ) (e : Exchanges) → Tells settings addresses self.old.line e → Tells settings addresses self.new.line e }
+    {
+        offers_wait();
+        for station in 0..self.line.count() {
+            self.offer(station);
+        }
+    }
+
+    /// Offers to a station the oldest command that waits for it.
+    fn offer(&mut self, station: usize)
+        requires { station < length self.old.line.stations }
+        ensures state { self.new ≡ record self.old { line = offered_by (oldest station self.old.commands.waiting) station self.old.line } }
+        ensures tells { (settings : LinkSettings) (addresses : List ℕ) (e : Exchanges) → Tells settings addresses self.old.line e → Tells settings addresses self.new.line e }
+    {
+        polls_wait_for_leave();
+        if let Some(octets) = self.commands.waiting(station) {
+            offer_to(&mut self.line, station, octets);
+        }
+    }
+
+    /// The line's next request. It is a poll only where the queue has room, or where it is sent again at once. A command that
+    /// goes out for the first time waits no more.
     pub(crate) fn next_request(&mut self) -> Option<Request>
-        ensures state { self.new ≡ record self.old { line = asked self.old.line self.old.moment (has_room self.old.queue) } }
+        ensures state { self.new ≡ after_request self.old (sending self.old.line (has_room self.old.queue)) }
         ensures request { result ≡ option_map (request_of self.old.line) (sending self.old.line (has_room self.old.queue)) }
         ensures room { (s : Sending) → sending self.old.line (has_room self.old.queue) ≡ Some s → is_poll_request s.request ≡ true → 3 ≤ free_places self.old.queue }
     {
         polls_wait_for_leave();
         let may_poll = !self.events.is_full();
-        self.line.next(self.moment, may_poll)
+        let request = self.line.next(self.moment, may_poll)?;
+        if request.kind == RequestKind::Command && !request.again {
+            self.commands.on_line(request.station);
+        }
+        Some(request)
     }
 
-    /// Nothing is left of the connection, and all kept pieces are unsent again.
+    /// Nothing is left of the connection: all kept pieces are unsent again, and commands that were never put on the line are
+    /// taken back.
     pub(crate) fn disconnect(&mut self)
         ensures { self.new ≡ disconnected self.old }
     {
+        polls_wait_for_leave();
+        self.line.withdraw();
+        self.commands.cut();
         self.events.rewind();
         self.session.cut();
         self.assembler.clear();
@@ -270,17 +462,58 @@ impl Gateway {
         }
     }
 
-    /// Takes an APDU, and frees the places that it acknowledges. Where it closes the connection, the cause is answered.
+    /// Takes an APDU, and judges its ASDU. Where it closes the connection, the cause is answered.
     pub(crate) fn judge(&mut self, apdu: &Apdu) -> Option<Close>
+        requires { Fits apdu.now }
         ensures { Judged self.old apdu.now result self.new }
+    {
+        match self.take_frame(apdu) {
+            Taken::Close(cause) => Some(cause),
+            Taken::Nothing => self.judge_data(apdu),
+            Taken::Asdu => self.judge_data(apdu),
+        }
+    }
+
+    /// Takes an APDU, and frees the places that it acknowledges.
+    fn take_frame(&mut self, apdu: &Apdu) -> Taken
+        ensures outcome { result ≡ outcome_of self.old.session apdu.now }
+        ensures state { self.new ≡ frame_received apdu.now self.old }
     {
         let taken = self.session.take(apdu, self.moment);
         let (pieces, _own) = self.session.acked();
         self.events.acknowledge(pieces);
-        match taken {
-            Taken::Close(cause) => Some(cause),
-            Taken::Nothing => None,
-            Taken::Asdu => None,
+        taken
+    }
+
+    /// Judges the ASDU of an APDU, if it has one. Where its answer finds no place, that closes the connection.
+    fn judge_data(&mut self, apdu: &Apdu) -> Option<Close>
+        requires { Fits apdu.now }
+        ensures state { self.new ≡ record self.old { commands = heard_commands apdu.now self.old.moment self.old.commands } }
+        ensures close { result ≡ (if has_place apdu.now self.old.moment self.old.commands then None else Some Close.OwnAnswers) }
+    {
+        match apdu {
+            Apdu::I { asdu, .. } => self.judge_asdu(asdu),
+            Apdu::S { .. } => None,
+            Apdu::U(_) => None,
+        }
+    }
+
+    /// Judges an ASDU of the control centre.
+    fn judge_asdu(&mut self, octets: &[u8]) -> Option<Close>
+        requires long { 9 ≤ length octets.now }
+        requires short { length octets.now ≤ 249 }
+        ensures state { self.new ≡ record self.old { commands = kept_until (listed (judged octets.now self.old.moment self.old.commands).0) (judged octets.now self.old.moment self.old.commands).1 } }
+        ensures close { result ≡ (if all_kept (listed (judged octets.now self.old.moment self.old.commands).0) (judged octets.now self.old.moment self.old.commands).1 then None else Some Close.OwnAnswers) }
+    {
+        match self.commands.judge_command(octets, self.moment) {
+            Act::Forward => None,
+            Act::Own(answer) => {
+                if self.commands.own(&answer) {
+                    None
+                } else {
+                    Some(Close::OwnAnswers)
+                }
+            }
         }
     }
 
@@ -309,8 +542,34 @@ impl Gateway {
         self.session.due(self.moment)
     }
 
+    /// The next I frame: own answers go before the queue's pieces.
+    pub(crate) fn next_data(&mut self) -> Option<Apdu>
+        ensures some { IfSome result (λ frame. SendsData self.old frame self.new) }
+        ensures none { IfNone result ((self.new ≡ self.old) × IsSpent self.new) }
+    {
+        if let Some(frame) = self.next_own() {
+            return Some(frame);
+        }
+        self.next_report()
+    }
+
+    /// The frame of the oldest own answer.
+    fn next_own(&mut self) -> Option<Apdu>
+        ensures some { IfSome result (λ frame. SendsOwn self.old frame self.new) }
+        ensures none { IfNone result ((self.new ≡ self.old) × (may_send self.new.session ≡ true → self.new.commands.answers ≡ [])) }
+    {
+        if !self.session.may_send() {
+            return None;
+        }
+        let asdu = self.commands.own_answer()?;
+        let (ns, nr) = self.session.sent(Kind::Own, self.moment);
+        let frame = data_frame(ns, nr, asdu);
+        self.commands.own_sent();
+        Some(frame)
+    }
+
     /// The frame of the oldest piece that isn't sent.
-    pub(crate) fn next_report(&mut self) -> Option<Apdu>
+    fn next_report(&mut self) -> Option<Apdu>
         ensures some { IfSome result (λ frame. SendsPiece self.old frame self.new) }
         ensures none { IfNone result ((self.new ≡ self.old) × (may_send self.new.session ≡ true → self.new.queue.unsent ≡ [])) }
     {

@@ -10,7 +10,7 @@ ghost use Rattle.gateway.specs.Setups.{setup_of};
 
 use crate::config::Config;
 use crate::engine::{Gateway, NoMemory};
-use crate::laws::session_is_told;
+use crate::laws::{command_is_told, session_is_told};
 use crate::ports::{Event, Next, Port};
 use link::master_tells_the_log;
 use std::alloc::Global;
@@ -71,6 +71,7 @@ pub fn drive<P: Port>(
 {
     master_tells_the_log();
     session_is_told();
+    command_is_told();
     let _stations = config.stations();
     let mut gateway = Gateway::new(alloc, config)?;
     Ok(drive_on(&mut gateway, port, turns))

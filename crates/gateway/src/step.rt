@@ -4,13 +4,14 @@ ghost use Rattle.std.specs.Bool.{OnTrue};
 ghost use Rattle.apci.specs.Spelling.{Fits, spelling};
 ghost use Rattle.session.specs.Session.{pulled};
 ghost use Rattle.session.specs.Ends.{after_confirm, after_pull, IsConfirmed, IsInTime};
-ghost use Rattle.gateway.specs.Log.{LogEntry, Went, TcpOut, Opened, tell};
+ghost use Rattle.gateway.specs.Log.{LogEntry, Went, LineIn, TcpOut, Opened, tell};
 ghost use Rattle.gateway.specs.Ports.{input_of};
 ghost use Rattle.gateway.specs.Reports.{Setup};
 ghost use Rattle.gateway.specs.Traffic.{IsFaithful};
 ghost use Rattle.gateway.specs.State.{State, disconnected, connected};
 ghost use Rattle.gateway.specs.Agrees.{Tracks, Awaits, Leaves, Follows, HasCome, Rests, IsSpent, StaysInTime};
 ghost use Rattle.gateway.specs.Steps.{MayClose, HearsEvent, Begins};
+ghost use Rattle.gateway.specs.Phases.{Phase, Idle, Timed, Asked};
 ghost use Rattle.gateway.specs.Judging.{Goes, IsOnward, faults_in};
 ghost use Rattle.gateway.specs.Runs.{events_told};
 
@@ -47,7 +48,7 @@ impl Gateway {
     /// Sends the next confirmation, if one is due.
     fn send_confirmation<P: Port>(&mut self, port: &mut P) -> bool
         requires { P.failed port.old < u64.MAX }
-        ensures kept { (p : Setup) (unjudged : List ℕ) (is_asked : Bool) → Tracks p self.old (P.log port.old) unjudged is_asked → Leaves result p self.new (P.log port.new) unjudged is_asked }
+        ensures kept { (p : Setup) (unjudged : List ℕ) (phase : Phase) → Tracks p self.old (P.log port.old) unjudged phase → Leaves result p self.new (P.log port.new) unjudged phase }
         ensures open { self.new.session.connected ≡ self.old.session.connected }
         ensures next { OnTrue result (self.new ≡ record self.old { session = after_confirm self.old.session }) }
         ensures events { events_told (P.log port.new) ≡ events_told (P.log port.old) }
@@ -63,7 +64,7 @@ impl Gateway {
     /// Sends the confirmations that are due: an S frame, STARTDT con or TESTFR con, and STOPDT con.
     fn send_confirmations<P: Port>(&mut self, port: &mut P) -> bool
         requires { P.failed port.old < u64.MAX }
-        ensures kept { (p : Setup) (unjudged : List ℕ) (is_asked : Bool) → Tracks p self.old (P.log port.old) unjudged is_asked → Leaves result p self.new (P.log port.new) unjudged is_asked }
+        ensures kept { (p : Setup) (unjudged : List ℕ) (phase : Phase) → Tracks p self.old (P.log port.old) unjudged phase → Leaves result p self.new (P.log port.new) unjudged phase }
         ensures open { self.new.session.connected ≡ self.old.session.connected }
         ensures confirmed { OnTrue result (IsConfirmed self.new.session) }
         ensures in_time { OnTrue result (StaysInTime self.old self.new) }
@@ -81,10 +82,10 @@ impl Gateway {
         self.send_confirmation(port)
     }
 
-    /// Sends reports while the window is open.
-    fn send_reports<P: Port>(&mut self, port: &mut P) -> bool
+    /// Sends own answers and reports while the window is open.
+    fn send_data<P: Port>(&mut self, port: &mut P) -> bool
         requires { P.failed port.old < u64.MAX }
-        ensures kept { (p : Setup) (unjudged : List ℕ) (is_asked : Bool) → Tracks p self.old (P.log port.old) unjudged is_asked → Leaves result p self.new (P.log port.new) unjudged is_asked }
+        ensures kept { (p : Setup) (unjudged : List ℕ) (phase : Phase) → Tracks p self.old (P.log port.old) unjudged phase → Leaves result p self.new (P.log port.new) unjudged phase }
         ensures open { self.new.session.connected ≡ self.old.session.connected }
         ensures spent { OnTrue result (IsSpent self.new) }
         ensures confirmed { OnTrue result (IsConfirmed self.old.session → IsConfirmed self.new.session) }
@@ -94,7 +95,7 @@ impl Gateway {
         ensures cause { P.failed port.new ≡ P.failed port.old + (if result then 0 else 1) }
     {
         calls_come_to_an_end();
-        while let Some(apdu) = self.next_report() {
+        while let Some(apdu) = self.next_data() {
             if !self.hand(&apdu, port) {
                 return false;
             }
@@ -105,7 +106,7 @@ impl Gateway {
     /// Sends the S frame, or else the TESTFR act, if one is due.
     fn send_due<P: Port>(&mut self, port: &mut P) -> bool
         requires { P.failed port.old < u64.MAX }
-        ensures kept { (p : Setup) (unjudged : List ℕ) (is_asked : Bool) → Tracks p self.old (P.log port.old) unjudged is_asked → Leaves result p self.new (P.log port.new) unjudged is_asked }
+        ensures kept { (p : Setup) (unjudged : List ℕ) (phase : Phase) → Tracks p self.old (P.log port.old) unjudged phase → Leaves result p self.new (P.log port.new) unjudged phase }
         ensures open { self.new.session.connected ≡ self.old.session.connected }
         ensures next { OnTrue result (self.new ≡ record self.old { session = after_pull self.old.moment self.old.session }) }
         ensures events { events_told (P.log port.new) ≡ events_told (P.log port.old) }
@@ -121,7 +122,7 @@ impl Gateway {
     /// Sends the S frame and the TESTFR act that are due.
     fn send_dues<P: Port>(&mut self, port: &mut P) -> bool
         requires { P.failed port.old < u64.MAX }
-        ensures kept { (p : Setup) (unjudged : List ℕ) (is_asked : Bool) → Tracks p self.old (P.log port.old) unjudged is_asked → Leaves result p self.new (P.log port.new) unjudged is_asked }
+        ensures kept { (p : Setup) (unjudged : List ℕ) (phase : Phase) → Tracks p self.old (P.log port.old) unjudged phase → Leaves result p self.new (P.log port.new) unjudged phase }
         ensures open { self.new.session.connected ≡ self.old.session.connected }
         ensures spent { OnTrue result (IsSpent self.old → IsSpent self.new) }
         ensures confirmed { OnTrue result (IsConfirmed self.old.session → IsConfirmed self.new.session) }
@@ -141,7 +142,7 @@ impl Gateway {
     /// Sends what may be sent: confirmations, then reports, then what else is due.
     fn flush<P: Port>(&mut self, port: &mut P) -> bool
         requires { P.failed port.old < u64.MAX }
-        ensures kept { (p : Setup) (unjudged : List ℕ) (is_asked : Bool) → Tracks p self.old (P.log port.old) unjudged is_asked → Leaves result p self.new (P.log port.new) unjudged is_asked }
+        ensures kept { (p : Setup) (unjudged : List ℕ) (phase : Phase) → Tracks p self.old (P.log port.old) unjudged phase → Leaves result p self.new (P.log port.new) unjudged phase }
         ensures open { self.new.session.connected ≡ self.old.session.connected }
         ensures spent { OnTrue result (IsSpent self.new) }
         ensures confirmed { OnTrue result (IsConfirmed self.new.session) }
@@ -154,7 +155,7 @@ impl Gateway {
         if !self.send_confirmations(port) {
             return false;
         }
-        if !self.send_reports(port) {
+        if !self.send_data(port) {
             return false;
         }
         self.send_dues(port)
@@ -163,12 +164,13 @@ impl Gateway {
     /// Closes the connection.
     fn close<P: Port>(&mut self, cause: Close, port: &mut P) -> bool
         requires { P.failed port.old < u64.MAX }
-        ensures kept { (p : Setup) → IfSome (P.log port.old) (MayClose p self.old cause) → Leaves result p self.new (P.log port.new) [] false }
+        ensures kept { (p : Setup) (phase : Phase) → IfSome (P.log port.old) (MayClose p self.old cause phase) → Leaves result p self.new (P.log port.new) [] phase }
         ensures closed { OnTrue result (self.new ≡ disconnected self.old) }
         ensures events { events_told (P.log port.new) ≡ events_told (P.log port.old) }
         ensures script { P.script port.new ≡ P.script port.old }
         ensures cause { P.failed port.new ≡ P.failed port.old + (if result then 0 else 1) }
     {
+        line_is_told();
         let went = port.put(self.moment(), &Action::Close(cause));
         if went {
             self.disconnect();
@@ -220,7 +222,7 @@ impl Gateway {
     /// Closes the connection, and the octets that are left are dropped.
     fn shut<P: Port>(&mut self, cause: Close, port: &mut P) -> Outcome
         requires { P.failed port.old < u64.MAX }
-        ensures kept { (p : Setup) → IfSome (P.log port.old) (MayClose p self.old cause) → (rest : List ℕ) → Goes result p self.new (P.log port.new) rest }
+        ensures kept { (p : Setup) → IfSome (P.log port.old) (MayClose p self.old cause Idle) → (rest : List ℕ) → Goes result p self.new (P.log port.new) rest }
         ensures over { IsOnward result ⊥ }
         ensures events { events_told (P.log port.new) ≡ events_told (P.log port.old) }
         ensures script { P.script port.new ≡ P.script port.old }
@@ -236,7 +238,7 @@ impl Gateway {
     fn receive<P: Port>(&mut self, octets: &[u8], port: &mut P) -> bool
         requires ready { P.failed port.old < u64.MAX }
         requires open { self.old.session.connected ≡ true }
-        ensures kept { (p : Setup) → Awaits p self.old (P.log port.old) octets.now → Leaves result p self.new (P.log port.new) [] false }
+        ensures kept { (p : Setup) → Awaits p self.old (P.log port.old) octets.now → Leaves result p self.new (P.log port.new) [] Idle }
         ensures events { events_told (P.log port.new) ≡ events_told (P.log port.old) }
         ensures script { P.script port.new ≡ P.script port.old }
         ensures cause { P.failed port.new ≡ P.failed port.old + (if result then 0 else 1) }
@@ -256,7 +258,7 @@ impl Gateway {
     /// Begins a connection, in place of one that is open.
     fn begin<P: Port>(&mut self, port: &mut P) -> bool
         requires { P.failed port.old < u64.MAX }
-        ensures kept { (p : Setup) (s : State) (now : ℕ) → Begins s now Opened self.old → IfSome (P.log port.old) (HasCome p s now Opened) → Leaves result p self.new (P.log port.new) [] false }
+        ensures kept { (p : Setup) (s : State) (now : ℕ) (fits : Bool) → Begins s now Opened fits self.old → IfSome (P.log port.old) (HasCome p s now Opened) → Leaves result p self.new (P.log port.new) [] Idle }
         ensures events { events_told (P.log port.new) ≡ events_told (P.log port.old) }
         ensures script { P.script port.new ≡ P.script port.old }
         ensures cause { P.failed port.new ≡ P.failed port.old + (if result then 0 else 1) }
@@ -273,7 +275,7 @@ impl Gateway {
     fn replace<P: Port>(&mut self, port: &mut P) -> bool
         requires ready { P.failed port.old < u64.MAX }
         requires open { self.old.session.connected ≡ true }
-        ensures kept { (p : Setup) (s : State) (now : ℕ) → Begins s now Opened self.old → IfSome (P.log port.old) (HasCome p s now Opened) → Leaves result p self.new (P.log port.new) [] false }
+        ensures kept { (p : Setup) (s : State) (now : ℕ) (fits : Bool) → Begins s now Opened fits self.old → IfSome (P.log port.old) (HasCome p s now Opened) → Leaves result p self.new (P.log port.new) [] Idle }
         ensures events { events_told (P.log port.new) ≡ events_told (P.log port.old) }
         ensures script { P.script port.new ≡ P.script port.old }
         ensures cause { P.failed port.new ≡ P.failed port.old + (if result then 0 else 1) }
@@ -293,30 +295,30 @@ impl Gateway {
         self.connect();
     }
 
-    /// Takes what an event means for the line.
-    fn hear_event(&mut self, event: Event<'_>)
-        ensures { HearsEvent self.old (input_of event.entry) self.new }
+    /// Takes what an event means for the line. `false` says that an own answer found no place.
+    fn hear_event(&mut self, event: Event<'_>) -> bool
+        ensures { HearsEvent self.old (input_of event.entry) result self.new }
     {
         match event {
             Event::Line(octets) => self.hear(octets),
-            Event::Open => {}
-            Event::Bytes(_) => {}
-            Event::Cut => {}
-            Event::Tick => {}
+            Event::Open => true,
+            Event::Bytes(_) => true,
+            Event::Cut => true,
+            Event::Tick => true,
         }
     }
 
-    /// Takes what an event means for the connection.
-    fn take<P: Port>(&mut self, event: Event<'_>, port: &mut P) -> bool
+    /// Takes what an event means for the connection; `fits` says whether what the line brought of own answers found places.
+    fn take<P: Port>(&mut self, event: Event<'_>, fits: bool, port: &mut P) -> bool
         requires { P.failed port.old < u64.MAX }
-        ensures kept { (p : Setup) (s : State) (now : ℕ) → Begins s now (input_of event.entry) self.old → IfSome (P.log port.old) (HasCome p s now (input_of event.entry)) → Leaves result p self.new (P.log port.new) [] false }
+        ensures kept { (p : Setup) (s : State) (now : ℕ) → Begins s now (input_of event.entry) fits self.old → IfSome (P.log port.old) (HasCome p s now (input_of event.entry)) → Leaves result p self.new (P.log port.new) [] Idle }
         ensures events { events_told (P.log port.new) ≡ events_told (P.log port.old) }
         ensures script { P.script port.new ≡ P.script port.old }
         ensures cause { P.failed port.new ≡ P.failed port.old + (if result then 0 else 1) }
     {
         line_is_told();
         match event {
-            Event::Line(_) => true,
+            Event::Line(octets) => self.end_line(octets, fits, port),
             Event::Open => self.begin(port),
             Event::Bytes(octets) => self.take_bytes(octets, port),
             Event::Cut => {
@@ -327,10 +329,28 @@ impl Gateway {
         }
     }
 
+    /// Closes the connection where the line brought an own answer that found no place.
+    fn end_line<P: Port>(&mut self, octets: &[u8], fits: bool, port: &mut P) -> bool
+        requires { P.failed port.old < u64.MAX }
+        ensures kept { (p : Setup) (s : State) (now : ℕ) → Begins s now (LineIn octets.now) fits self.old → IfSome (P.log port.old) (HasCome p s now (LineIn octets.now)) → Leaves result p self.new (P.log port.new) [] Idle }
+        ensures events { events_told (P.log port.new) ≡ events_told (P.log port.old) }
+        ensures script { P.script port.new ≡ P.script port.old }
+        ensures cause { P.failed port.new ≡ P.failed port.old + (if result then 0 else 1) }
+    {
+        line_is_told();
+        if fits {
+            return true;
+        }
+        if !self.is_open() {
+            return true;
+        }
+        self.close(Close::OwnAnswers, port)
+    }
+
     /// Takes the octets of a piece, where a connection is open.
     fn take_bytes<P: Port>(&mut self, octets: &[u8], port: &mut P) -> bool
         requires { P.failed port.old < u64.MAX }
-        ensures kept { (p : Setup) → Awaits p self.old (P.log port.old) (if self.old.session.connected then octets.now else []) → Leaves result p self.new (P.log port.new) [] false }
+        ensures kept { (p : Setup) → Awaits p self.old (P.log port.old) (if self.old.session.connected then octets.now else []) → Leaves result p self.new (P.log port.new) [] Idle }
         ensures events { events_told (P.log port.new) ≡ events_told (P.log port.old) }
         ensures script { P.script port.new ≡ P.script port.old }
         ensures cause { P.failed port.new ≡ P.failed port.old + (if result then 0 else 1) }
@@ -344,7 +364,7 @@ impl Gateway {
     /// Closes the connection where an answer is late.
     fn watch<P: Port>(&mut self, port: &mut P) -> bool
         requires { P.failed port.old < u64.MAX }
-        ensures kept { (p : Setup) → Tracks p self.old (P.log port.old) [] false → Leaves result p self.new (P.log port.new) [] false }
+        ensures kept { (p : Setup) → Tracks p self.old (P.log port.old) [] Timed → Leaves result p self.new (P.log port.new) [] Timed }
         ensures in_time { OnTrue result (IsInTime self.new.moment self.new.session) }
         ensures events { events_told (P.log port.new) ≡ events_told (P.log port.old) }
         ensures script { P.script port.new ≡ P.script port.old }
@@ -359,7 +379,7 @@ impl Gateway {
     /// Puts out the line's next request, if there is one.
     fn ask<P: Port>(&mut self, port: &mut P) -> bool
         requires { P.failed port.old < u64.MAX }
-        ensures kept { (p : Setup) → Tracks p self.old (P.log port.old) [] false → Leaves result p self.new (P.log port.new) [] true }
+        ensures kept { (p : Setup) → Tracks p self.old (P.log port.old) [] Timed → Leaves result p self.new (P.log port.new) [] Asked }
         ensures session { self.new.session ≡ self.old.session }
         ensures moment { self.new.moment ≡ self.old.moment }
         ensures events { events_told (P.log port.new) ≡ events_told (P.log port.old) }
@@ -367,13 +387,14 @@ impl Gateway {
         ensures cause { P.failed port.new ≡ P.failed port.old + (if result then 0 else 1) }
     {
         line_is_told();
+        self.offer_all();
         let Some(request) = self.next_request() else {
             return true;
         };
         port.put(self.moment(), &Action::Line(&request.octets))
     }
 
-    /// Takes one event, and puts out what follows from it: of the line, then of the connection. After `false` the device
+    /// Takes one event, and puts out what follows from it: of the connection, then of the line, then what else may be sent. After `false` the device
     /// has failed, and the gateway is given up.
     pub fn step<P: Port>(&mut self, now: u64, event: Event<'_>, port: &mut P) -> bool
         requires { P.failed port.old < u64.MAX }
@@ -386,11 +407,12 @@ impl Gateway {
     {
         line_is_told();
         self.advance_to(now);
-        self.hear_event(event);
+        let fits = self.hear_event(event);
         self.time();
-        if !self.take(event, port) {
+        if !self.take(event, fits, port) {
             return false;
         }
+        self.settle();
         if !self.watch(port) {
             return false;
         }

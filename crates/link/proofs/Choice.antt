@@ -1,77 +1,67 @@
 -- What is chosen to be sent fits the line, and may be sent.
-use Rattle.std.proofs.Common.{◌≡◌, ℕ, zero, suc, ◌<◌, ◌⊎◌, inl, inr, ◌&&◌, ◌||◌, nat_lt, Bool, true, false, not, List, length, Option, Some, None, refl, if◌then◌else◌, arith}
+use Rattle.std.proofs.Common.{◌≡◌, ℕ, zero, suc, ◌<◌, ◌&&◌, ◌||◌, nat_lt, Bool, true, false, not, List, length, Option, Some, None, refl, if◌then◌else◌, arith}
 use Rattle.std.proofs.lemmas.Bool.{ltb-true}
 use Rattle.ft12.specs.declared.frame.LinkSize.{LinkSize}
-use Rattle.link.specs.Answers.{Service, Class1, Class2, Command, Asked, Counted}
-use Rattle.link.specs.Procedure.{Link, Down, Available, Next, Held, MaySend, is_held}
+use Rattle.link.specs.Answers.{Class1, Command, Counted}
+use Rattle.link.specs.Procedure.{Link, Down, Available, Next, Held, MaySend}
 use Rattle.link.specs.Requests.{FitsAsked}
 use Rattle.link.specs.Turns.{StationState, Phase, Starting, Commanding, Polling, Class1Polling, Over, station_at, Wanted, wants, is_poll, wanted_poll, polls_from, commands_from, next_of, wanted_by, Chosen, place_after, chosen_or, first_after}
 use Rattle.link.specs.Primary.{Primary, choice}
 use Rattle.link.specs.Holding.{FitsLink, FitsOffer, IsFitting, IsFittingChoice}
 use Rattle.link.proofs.Fitting.{FitStations, station_fits}
 
--- A command is the one that is held, or that is offered.
-abbrev pub IsKnownCommand : Link → (offered : Option (List ℕ)) → Asked → Type 0
-IsKnownCommand link offered (Counted fcb (Command asdu)) = (is_held link ≡ true) ⊎ (offered ≡ Some asdu)
-IsKnownCommand link offered request = Unit {0}
-
-held_known : (fcb : Bool) (service : Service) (missed : ℕ) (offered : Option (List ℕ)) → IsKnownCommand (Held fcb service missed) offered (Counted fcb service)
-held_known fcb Class1 missed offered = tt
-held_known fcb Class2 missed offered = tt
-held_known fcb (Command asdu) missed offered = inl refl
-
 -- What is wanted fits, and may be sent.
-abbrev pub MayWant : LinkSize → Link → (offered : Option (List ℕ)) → Option Wanted → Type 0
-MayWant size link offered None = Unit {0}
-MayWant size link offered (Some w) = FitsAsked size w.request × MaySend link w.request × IsKnownCommand link offered w.request
+abbrev pub MayWant : LinkSize → Link → Option Wanted → Type 0
+MayWant size link None = Unit {0}
+MayWant size link (Some w) = FitsAsked size w.request × MaySend link w.request
 
-poll_may : (size : LinkSize) (burst : ℕ) (fcb acd : Bool) (offered : Option (List ℕ)) (phase : Phase) → MayWant size (Next fcb) offered (wanted_poll burst fcb acd phase)
-poll_may size burst fcb true offered Polling = (tt, refl, tt)
-poll_may size burst fcb false offered Polling = (tt, refl, tt)
-poll_may size burst fcb acd offered (Class1Polling sent) = go (acd && nat_lt sent burst)
+poll_may : (size : LinkSize) (burst : ℕ) (fcb acd : Bool) (phase : Phase) → MayWant size (Next fcb) (wanted_poll burst fcb acd phase)
+poll_may size burst fcb true Polling = (tt, refl)
+poll_may size burst fcb false Polling = (tt, refl)
+poll_may size burst fcb acd (Class1Polling sent) = go (acd && nat_lt sent burst)
   where
-    go : (b : Bool) → MayWant size (Next fcb) offered (if b then wants (Counted fcb Class1) (Class1Polling (suc sent)) else None)
-    go true = (tt, refl, tt)
+    go : (b : Bool) → MayWant size (Next fcb) (if b then wants (Counted fcb Class1) (Class1Polling (suc sent)) else None)
+    go true = (tt, refl)
     go false = tt
-poll_may size burst fcb acd offered Starting = tt
-poll_may size burst fcb acd offered Commanding = tt
-poll_may size burst fcb acd offered Over = tt
+poll_may size burst fcb acd Starting = tt
+poll_may size burst fcb acd Commanding = tt
+poll_may size burst fcb acd Over = tt
 
-polls_may : (size : LinkSize) (burst : ℕ) (may_poll fcb : Bool) (s : StationState) (offered : Option (List ℕ)) (phase : Phase) → MayWant size (Next fcb) offered (polls_from burst may_poll fcb s phase)
-polls_may size burst true fcb s offered phase = poll_may size burst fcb s.acd offered phase
-polls_may size burst false fcb s offered phase = tt
+polls_may : (size : LinkSize) (burst : ℕ) (may_poll fcb : Bool) (s : StationState) (phase : Phase) → MayWant size (Next fcb) (polls_from burst may_poll fcb s phase)
+polls_may size burst true fcb s phase = poll_may size burst fcb s.acd phase
+polls_may size burst false fcb s phase = tt
 
 commands_may : (size : LinkSize) (burst : ℕ) (may_poll fcb : Bool) (s : StationState) (offered : Option (List ℕ)) → FitsOffer size offered →
-    MayWant size (Next fcb) offered (commands_from burst may_poll fcb s offered)
-commands_may size burst may_poll fcb s None fits = polls_may size burst may_poll fcb s None Polling
+    MayWant size (Next fcb) (commands_from burst may_poll fcb s offered)
+commands_may size burst may_poll fcb s None fits = polls_may size burst may_poll fcb s Polling
 commands_may size burst may_poll fcb s (Some asdu) fits = go s.dfc
   where
-    go : (b : Bool) → MayWant size (Next fcb) (Some asdu) (if b then polls_from burst may_poll fcb s Polling else wants (Counted fcb (Command asdu)) Polling)
-    go true = polls_may size burst may_poll fcb s (Some asdu) Polling
-    go false = (fits, refl, inr refl)
+    go : (b : Bool) → MayWant size (Next fcb) (if b then polls_from burst may_poll fcb s Polling else wants (Counted fcb (Command asdu)) Polling)
+    go true = polls_may size burst may_poll fcb s Polling
+    go false = (fits, refl)
 
 next_may : (size : LinkSize) (burst : ℕ) (may_poll fcb : Bool) (s : StationState) (phase : Phase) → FitsOffer size s.offered →
-    MayWant size (Next fcb) s.offered (next_of burst may_poll fcb s phase)
+    MayWant size (Next fcb) (next_of burst may_poll fcb s phase)
 next_may size burst may_poll fcb s Starting fits = commands_may size burst may_poll fcb s s.offered fits
 next_may size burst may_poll fcb s Commanding fits = commands_may size burst may_poll fcb s s.offered fits
-next_may size burst may_poll fcb s Polling fits = polls_may size burst may_poll fcb s s.offered Polling
-next_may size burst may_poll fcb s (Class1Polling sent) fits = polls_may size burst may_poll fcb s s.offered (Class1Polling sent)
+next_may size burst may_poll fcb s Polling fits = polls_may size burst may_poll fcb s Polling
+next_may size burst may_poll fcb s (Class1Polling sent) fits = polls_may size burst may_poll fcb s (Class1Polling sent)
 next_may size burst may_poll fcb s Over fits = tt
 
 pub wanted_may : (size : LinkSize) (burst : ℕ) (may_poll again : Bool) (s : StationState) (link : Link) (phase : Phase) → FitsLink size link → FitsOffer size s.offered →
-    MayWant size link s.offered (wanted_by burst may_poll again s link phase)
-wanted_may size burst may_poll again s Down Starting held fits = (tt, tt, tt)
-wanted_may size burst may_poll again s Available Starting held fits = (tt, tt, tt)
+    MayWant size link (wanted_by burst may_poll again s link phase)
+wanted_may size burst may_poll again s Down Starting held fits = (tt, tt)
+wanted_may size burst may_poll again s Available Starting held fits = (tt, tt)
 wanted_may size burst may_poll again s (Next fcb) phase held fits = next_may size burst may_poll fcb s phase fits
 wanted_may size burst may_poll again s (Held fcb service missed) Starting held fits = go (may_poll || not (is_poll service))
   where
-    go : (b : Bool) → MayWant size (Held fcb service missed) s.offered (if b then wants (Counted fcb service) Commanding else None)
-    go true = (held, (refl, refl), held_known fcb service missed s.offered)
+    go : (b : Bool) → MayWant size (Held fcb service missed) (if b then wants (Counted fcb service) Commanding else None)
+    go true = (held, (refl, refl))
     go false = tt
-wanted_may size burst may_poll true s (Held fcb service missed) Commanding held fits = (held, (refl, refl), held_known fcb service missed s.offered)
-wanted_may size burst may_poll true s (Held fcb service missed) Polling held fits = (held, (refl, refl), held_known fcb service missed s.offered)
-wanted_may size burst may_poll true s (Held fcb service missed) (Class1Polling sent) held fits = (held, (refl, refl), held_known fcb service missed s.offered)
-wanted_may size burst may_poll true s (Held fcb service missed) Over held fits = (held, (refl, refl), held_known fcb service missed s.offered)
+wanted_may size burst may_poll true s (Held fcb service missed) Commanding held fits = (held, (refl, refl))
+wanted_may size burst may_poll true s (Held fcb service missed) Polling held fits = (held, (refl, refl))
+wanted_may size burst may_poll true s (Held fcb service missed) (Class1Polling sent) held fits = (held, (refl, refl))
+wanted_may size burst may_poll true s (Held fcb service missed) Over held fits = (held, (refl, refl))
 wanted_may size burst may_poll false s (Held fcb service missed) Commanding held fits = tt
 wanted_may size burst may_poll false s (Held fcb service missed) Polling held fits = tt
 wanted_may size burst may_poll false s (Held fcb service missed) (Class1Polling sent) held fits = tt
@@ -90,16 +80,15 @@ pub record MayChoose (size : LinkSize) (stations : List StationState) (c : Chose
   pub within : c.station < length stations
   pub fits : FitsAsked size c.wanted.request
   pub may : MaySend (station_at stations c.station).link c.wanted.request
-  pub known : IsKnownCommand (station_at stations c.station).link (station_at stations c.station).offered c.wanted.request
 
 abbrev pub MayChooseIt : LinkSize → List StationState → Option Chosen → Type 0
 MayChooseIt size stations None = Unit {0}
 MayChooseIt size stations (Some c) = MayChoose size stations c
 
 or_may : (size : LinkSize) (stations : List StationState) (w : Option Wanted) (place : ℕ) (other : Option Chosen) → place < length stations →
-    MayWant size (station_at stations place).link (station_at stations place).offered w → MayChooseIt size stations other → MayChooseIt size stations (chosen_or w place other)
+    MayWant size (station_at stations place).link w → MayChooseIt size stations other → MayChooseIt size stations (chosen_or w place other)
 or_may size stations None place other within may rest = rest
-or_may size stations (Some w) place other within may rest = record { within = within; fits = may.0; may = may.1; known = may.2 }
+or_may size stations (Some w) place other within may rest = record { within = within; fits = may.0; may = may.1 }
 
 pub place_fits : (count place : ℕ) → 0 < count → place_after count place < count
 place_fits count place some = go (nat_lt (suc place) count) refl
@@ -110,7 +99,7 @@ place_fits count place some = go (nat_lt (suc place) count) refl
 
 at_may : (size : LinkSize) (burst : ℕ) (may_poll again : Bool) (stations : List StationState) (place : ℕ) (phase : Phase) → FitStations size stations →
     place < length stations →
-    MayWant size (station_at stations place).link (station_at stations place).offered (wanted_by burst may_poll again (station_at stations place) (station_at stations place).link phase)
+    MayWant size (station_at stations place).link (wanted_by burst may_poll again (station_at stations place) (station_at stations place).link phase)
 at_may size burst may_poll again stations place phase fits within =
     let s = station_fits size stations place within fits in
     wanted_may size burst may_poll again (station_at stations place) (station_at stations place).link phase s.link s.offered

@@ -3,7 +3,9 @@ pub mod Choice
 pub mod Choosing
 pub mod Fitting
 pub mod Links
-pub mod Offers
+pub mod Known
+pub mod FirstSendings
+pub mod Offering
 pub mod ReadingBack
 pub mod Reports
 pub mod Waiting

@@ -12,3 +12,4 @@ pub mod Secondary
 pub mod Life
 pub mod Runs
 pub mod Leave
+pub mod Offers

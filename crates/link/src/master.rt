@@ -181,6 +181,13 @@ impl Master {
         })
     }
 
+    /// How many stations the line has.
+    pub fn count(&self) -> usize
+        ensures { result ≡ length self.now.stations }
+    {
+        self.stations.len()
+    }
+
     fn choose(&self, may_poll: bool) -> Option<Chosen>
         ensures chosen { result ≡ choice self.now may_poll }
         ensures fits { IsFittingChoice self.now result }

@@ -13,6 +13,7 @@ use Rattle.asdu.specs.declared.sizes.IoaSize.{IoaSize}
 use Rattle.asdu.specs.declared.sizes.IoaSize.TheVariants as ioa
 use Rattle.settings.specs.Faults.{Path, ◌>>=◌}
 use Rattle.settings.specs.Keys.{given_at, row, whole_of}
+use Rattle.settings.specs.declared.line.Waits.{Waits}
 use Rattle.gateway.specs.declared.settings.LineSettings.{LineSettings}
 use Rattle.gateway.specs.declared.settings.Silence.{Silence}
 use Rattle.gateway.specs.declared.settings.Silence.TheVariants.{Hold, Reset}
@@ -52,15 +53,27 @@ pub record Line : Type 0 where
 abbrev pub line_of : LineSettings → Line
 line_of l = record { link = l.link; sizes = l.sizes; answer_ms = l.answer_ms; retries = l.retries; silence = l.silence; burst = l.burst; queue = l.queue }
 
-abbrev pub line_settings : Option Members → Result Line Path
-line_settings t = do
-  l ← whole_of (row (codes "link") (codes "line.link") 1 2 None) t
+-- the sizes of an ASDU
+abbrev pub sizes_of : Option Members → Result Sizes Path
+sizes_of t = do
   c ← whole_of (row (codes "cause") (codes "line.cause") 1 2 None) t
   a ← whole_of (row (codes "ca") (codes "line.ca") 1 2 None) t
   i ← whole_of (row (codes "ioa") (codes "line.ioa") 1 3 None) t
+  Ok (record { cause = cause_size c; ca = ca_size a; ioa = ioa_size i })
+
+-- how long an answer is waited for, and what follows where none comes
+abbrev pub waits_of : Option Members → Result Waits Path
+waits_of t = do
   m ← whole_of (row (codes "answer_ms") (codes "line.answer_ms") 1 60000 (Some 200)) t
   r ← whole_of (row (codes "retries") (codes "line.retries") 0 10 (Some 3)) t
   h ← silence_of (given_at (codes "silence") t)
+  Ok (record { answer_ms = m; retries = r; silence = h })
+
+abbrev pub line_settings : Option Members → Result Line Path
+line_settings t = do
+  l ← whole_of (row (codes "link") (codes "line.link") 1 2 None) t
+  s ← sizes_of t
+  w ← waits_of t
   b ← whole_of (row (codes "burst") (codes "line.burst") 1 255 (Some 8)) t
   q ← whole_of (row (codes "queue") (codes "line.queue") 3 65535 (Some 1000)) t
-  Ok (record { link = link_size l; sizes = record { cause = cause_size c; ca = ca_size a; ioa = ioa_size i }; answer_ms = m; retries = r; silence = h; burst = b; queue = q })
+  Ok (record { link = link_size l; sizes = s; answer_ms = w.answer_ms; retries = w.retries; silence = w.silence; burst = b; queue = q })

@@ -9,11 +9,14 @@ use Rattle.settings.specs.declared.fault.ConfigFault.TheVariants.{NotToml, Key, 
 use Rattle.settings.specs.declared.unknown.Section.{Section}
 use Rattle.settings.specs.declared.unknown.Section.TheVariants.{Root, Line, Tcp, Station, Live}
 
+-- the keys of sizes that the table `line` may have
+abbrev pub knows_size : List ℕ → Bool
+knows_size k = bytes_eq k (codes "link") || bytes_eq k (codes "cause") || bytes_eq k (codes "ca") || bytes_eq k (codes "ioa")
+
 -- the keys that the table `line` may have
 abbrev pub knows_line : List ℕ → Bool
 knows_line k =
-    bytes_eq k (codes "link") || bytes_eq k (codes "cause") || bytes_eq k (codes "ca") || bytes_eq k (codes "ioa")
-    || bytes_eq k (codes "answer_ms") || bytes_eq k (codes "retries") || bytes_eq k (codes "silence")
+    knows_size k || bytes_eq k (codes "answer_ms") || bytes_eq k (codes "retries") || bytes_eq k (codes "silence")
     || bytes_eq k (codes "burst") || bytes_eq k (codes "queue")
 
 -- the keys that a table may have

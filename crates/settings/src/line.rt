@@ -1,8 +1,9 @@
 //! The settings of the line.
-ghost use Rattle.std.specs.Prelude.{◌≡◌, codes};
+ghost use Rattle.std.specs.Prelude.{◌≡◌, ◌≤◌, IfOk, codes};
+ghost use Rattle.gateway.specs.Settings.{IsWithin};
 ghost use Rattle.settings.specs.Faults.{seen, seen_by};
 ghost use Rattle.settings.specs.Keys.{given_at, members_in};
-ghost use Rattle.settings.specs.Line.{line_settings, line_of, link_size, cause_size, ca_size, ioa_size, silence_of};
+ghost use Rattle.settings.specs.Line.{line_settings, line_of, sizes_of, waits_of, link_size, cause_size, ca_size, ioa_size, silence_of};
 
 use crate::fault::WrongKey;
 use crate::keys::{Whole, given};
@@ -75,27 +76,57 @@ const QUEUE: Whole = Whole {
     default: Some(1000),
 };
 
+/// How long an answer is waited for, in ms, how often a request is sent again, and what a station's silence does.
+struct Waits {
+    answer_ms: u64,
+    retries: u8,
+    silence: Silence,
+}
+
 /// Reads the keys of the table `line` in their order.
 pub(crate) fn read_line(table: Option<&Table>) -> Result<LineSettings, WrongKey>
     ensures { seen_by line_of result ≡ line_settings (members_in table.entry) }
 {
     let link = link_size(LINK.read(table)?);
-    let cause = cause_size(CAUSE.read(table)?);
-    let ca = ca_size(CA.read(table)?);
-    let ioa = ioa_size(IOA.read(table)?);
-    let answer_ms = u64::from(ANSWER_MS.read(table)?);
-    let retries = RETRIES.read(table)? as u8;
-    let silence = read_silence(table)?;
+    let sizes = read_sizes(table)?;
+    let Waits {
+        answer_ms,
+        retries,
+        silence,
+    } = read_waits(table)?;
     let burst = BURST.read(table)? as u8;
     let queue = QUEUE.read(table)? as u16;
     Ok(LineSettings {
         link,
-        sizes: Sizes { cause, ca, ioa },
+        sizes,
         answer_ms,
         retries,
         silence,
         burst,
         queue,
+    })
+}
+
+fn read_sizes(table: Option<&Table>) -> Result<Sizes, WrongKey>
+    ensures { seen result ≡ sizes_of (members_in table.entry) }
+{
+    let cause = cause_size(CAUSE.read(table)?);
+    let ca = ca_size(CA.read(table)?);
+    let ioa = ioa_size(IOA.read(table)?);
+    Ok(Sizes { cause, ca, ioa })
+}
+
+fn read_waits(table: Option<&Table>) -> Result<Waits, WrongKey>
+    ensures value { seen result ≡ waits_of (members_in table.entry) }
+    ensures range { IfOk result (λ waits. IsWithin 1 60000 waits.answer_ms × (waits.retries ≤ 10)) }
+{
+    let answer_ms = u64::from(ANSWER_MS.read(table)?);
+    let retries = RETRIES.read(table)? as u8;
+    let silence = read_silence(table)?;
+    Ok(Waits {
+        answer_ms,
+        retries,
+        silence,
     })
 }
 

@@ -3,7 +3,7 @@ ghost use Rattle.std.specs.Prelude.{◌≡◌, ◌++◌, map, option_map, OnOk, 
 ghost use Rattle.std.specs.Ordering.{is_lt};
 ghost use Rattle.std.specs.String.{string_cmp};
 ghost use Rattle.toml.specs.View.{view, table_view, items_view};
-ghost use Rattle.settings.specs.Unknown.{knows, knows_line, prefix, member_keys, unknown_in, unknown_of, unknown_under, unknown_stations, unknown_items, unknown_paths, IsRefusedFor};
+ghost use Rattle.settings.specs.Unknown.{knows, knows_line, knows_size, prefix, member_keys, unknown_in, unknown_of, unknown_under, unknown_stations, unknown_items, unknown_paths, IsRefusedFor};
 
 use crate::ConfigFault;
 use crate::keys::given;
@@ -57,15 +57,18 @@ impl Section {
 fn knows_line(key: &str) -> bool
     ensures { result ≡ knows_line key.now }
 {
-    key == "link"
-        || key == "cause"
-        || key == "ca"
-        || key == "ioa"
+    knows_size(key)
         || key == "answer_ms"
         || key == "retries"
         || key == "silence"
         || key == "burst"
         || key == "queue"
+}
+
+fn knows_size(key: &str) -> bool
+    ensures { result ≡ knows_size key.now }
+{
+    key == "link" || key == "cause" || key == "ca" || key == "ioa"
 }
 
 /// Refuses a file with an unknown key, and names the one whose dotted path is the least in the order of octets.

@@ -1,6 +1,6 @@
 use Rattle.ft12.specs.Fronts.{front_of}
 use Rattle.link.specs.Telling.{IsStable}
-use Rattle.link.proofs.Offers.{run_in_order}
+use Rattle.link.proofs.FirstSendings.{run_in_order}
 use Rattle.link.proofs.runs.commands_are_sent_in_order.Goals as goal
 
 pub returns : goal.returns

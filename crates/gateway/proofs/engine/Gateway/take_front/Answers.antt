@@ -1,6 +1,6 @@
 use Rattle.std.proofs.Common.{◌++◌, drop}
 use Rattle.apci.specs.Spelling.{spelling}
-use Rattle.gateway.proofs.Judgements.{told_fed, garbled_closes}
+use Rattle.gateway.proofs.Judgements.{told_fed, told_more, garbled_closes}
 use Rattle.gateway.proofs.engine.Gateway.take_front.Goals as goal
 
 pub returns-in-Apdu-clause-kept : goal.returns-in-Apdu-clause-kept
@@ -13,3 +13,8 @@ pub returns-in-Refused-clause-kept : goal.returns-in-Refused-clause-kept
 returns-in-Refused-clause-kept g c = λ p h.
     let f = c.in-Refused.ensures in
     c.shut.ensures.kept p (garbled_closes p _ c.args.self.now c.feed.new.self c.args.octets.now f.0 c.requires.open f.1 f.2.0 f.2.1 h) c.args.octets.now
+
+pub returns-in-More-clause-kept : goal.returns-in-More-clause-kept
+returns-in-More-clause-kept g c = λ p h.
+    let f = c.in-More.ensures in
+    told_more p _ c.args.self.now c.feed.new.self c.args.octets.now f.0 f.1 f.2.0 f.2.1 h

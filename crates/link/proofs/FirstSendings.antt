@@ -17,7 +17,8 @@ use Rattle.link.specs.Runs as runs
 use Rattle.link.specs.Runs.{Call, Octets, Due, Offer, Withdraw, MayCall, MayCallAll, called, exchanged, Deed, Offered, FirstSent, Withdrawn, first_sent, sent_deeds, deeds, all_deeds, AreInOrder}
 use Rattle.link.proofs.Running.{call_tells}
 use Rattle.link.proofs.Telling.{start_tells}
-use Rattle.link.proofs.Choice.{IsKnownCommand, MayChooseIt, choice_may}
+use Rattle.link.proofs.Choice.{MayChooseIt, choice_may}
+use Rattle.link.proofs.Known.{IsKnownCommand, IsKnownChoice, choice_known}
 
 -- the command that waits for the station
 abbrev pub offer_of : Primary → (station : ℕ) → Option (List ℕ)
@@ -29,7 +30,7 @@ pub record WaitAlone (p : Primary) : Type 0 where
   pub sent : is_sending_command p.outstanding ≡ true → (station_at p.stations p.turn).offered ≡ None
 
 -- one station is another
-set_at : (stations : List StationState) (k i : ℕ) (s : StationState) →
+pub set_at : (stations : List StationState) (k i : ℕ) (s : StationState) →
     (i ≡ k) × (station_at (slice_set stations k s) i ≡ s) ⊎ (station_at (slice_set stations k s) i ≡ station_at stations i)
 set_at stations k i s = go (cases_lt k (length stations)) (cases_eq i k)
   where
@@ -53,11 +54,11 @@ abbrev pub HasOneCommand : StationState → Type 0
 HasOneCommand s = holds_command s.link ≡ true → s.offered ≡ None
 
 -- what waits for the others stays
-other_offer : (p : Primary) (k : ℕ) (s : StationState) (i : ℕ) → (i ≡ k → ⊥) → (station_at (slice_set p.stations k s) i).offered ≡ (station_at p.stations i).offered
+pub other_offer : (p : Primary) (k : ℕ) (s : StationState) (i : ℕ) → (i ≡ k → ⊥) → (station_at (slice_set p.stations k s) i).offered ≡ (station_at p.stations i).offered
 other_offer p k s i other = ap (λ (t : StationState). t.offered) (get_or-set_other p.stations k i s no_station other)
 
 -- a station whose offer is as it was
-same_offer : (p : Primary) (k : ℕ) (s : StationState) → s.offered ≡ (station_at p.stations k).offered → (i : ℕ) →
+pub same_offer : (p : Primary) (k : ℕ) (s : StationState) → s.offered ≡ (station_at p.stations k).offered → (i : ℕ) →
     (station_at (slice_set p.stations k s) i).offered ≡ (station_at p.stations i).offered
 same_offer p k s same i = go (set_at p.stations k i s)
   where
@@ -124,9 +125,9 @@ asked_order s (Counted fcb (Command asdu)) rest alone known ok = go (is_held s.l
 next_leaves : (p : Primary) (now : ℕ) (may_poll : Bool) → IsFitting p → WaitAlone p → Leaves p (asked p now may_poll) (λ i. sent_deeds p i (sending p may_poll))
 next_leaves p now may_poll fits alone = go p.outstanding
   where
-    choose : (c : Option Chosen) → MayChooseIt p.settings.size p.stations c → Leaves p (after_choice p now c) (λ i. sent_deeds p i (sending_by c))
-    choose None may = leaves_same p (after_choice p now None) (record { held = alone.held; sent = alone.sent }) (λ i. refl)
-    choose (Some c) may = record {
+    choose : (c : Option Chosen) → MayChooseIt p.settings.size p.stations c → IsKnownChoice p.stations c → Leaves p (after_choice p now c) (λ i. sent_deeds p i (sending_by c))
+    choose None may known = leaves_same p (after_choice p now None) (record { held = alone.held; sent = alone.sent }) (λ i. refl)
+    choose (Some c) may known = record {
       alone = record {
         held = each_set HasOneCommand p.stations c.station new (λ h. none_left c.wanted.request there.offered (alone.held c.station h)) alone.held;
         sent = λ is. ap (λ (t : StationState). t.offered) (get_or-set_same p.stations c.station new no_station may.within) ∙ command_left c.wanted.request there.offered is;
@@ -149,14 +150,14 @@ next_leaves p now may_poll fits alone = go p.outstanding
             let here : c.station ≡ i = eqb-true c.station i e in
             subst (λ (j : ℕ). AreInOrder (station_at p.stations j).offered (first_sent (station_at p.stations j).link c.wanted.request ++ rest)) here
             (asked_order (station_at p.stations c.station) c.wanted.request rest
-            (λ h is. alone.held c.station (held_holds (station_at p.stations c.station).link c.wanted.request may.may h is)) may.known
+            (λ h is. alone.held c.station (held_holds (station_at p.stations c.station).link c.wanted.request may.may h is)) known
             (subst (λ (o : Option (List ℕ)). AreInOrder o rest)
             (ap (λ (t : StationState). t.offered) (get_or-set_same p.stations c.station (station_asked (station_at p.stations c.station) c.wanted.request) no_station may.within))
             (subst (λ (j : ℕ). AreInOrder (station_at (slice_set p.stations c.station (station_asked (station_at p.stations c.station) c.wanted.request)) j).offered rest) (sym here) ok)))
 
     go : (o : Option Outstanding) → Leaves p (asked_from p o now may_poll) (λ i. sent_deeds p i (sending_from p o may_poll))
     go (Some o) = leaves_same p p alone (λ i. refl)
-    go None = choose (choice p may_poll) (choice_may p may_poll fits)
+    go None = choose (choice p may_poll) (choice_may p may_poll fits) (choice_known p may_poll)
 
 -- `octets`
 
@@ -313,16 +314,16 @@ offer_leaves p station asdu within alone = go (may_offer p station) refl
 
 -- `withdraw`
 
+pub none_waits : (ss : List StationState) (i : ℕ) → (station_at (map without_offer ss) i).offered ≡ None
+none_waits [] i = refl
+none_waits (s ∷ ss) zero = refl
+none_waits (s ∷ ss) (suc i) = none_waits ss i
+
 withdraw_leaves : (p : Primary) → Leaves p (withdrawn p) (λ i. Withdrawn ∷ [])
 withdraw_leaves p = record {
-  alone = record { held = λ i h. none p.stations i; sent = λ is. none p.stations p.turn };
-  order = λ i rest ok. subst (λ (o : Option (List ℕ)). AreInOrder o rest) (none p.stations i) ok;
+  alone = record { held = λ i h. none_waits p.stations i; sent = λ is. none_waits p.stations p.turn };
+  order = λ i rest ok. subst (λ (o : Option (List ℕ)). AreInOrder o rest) (none_waits p.stations i) ok;
 }
-  where
-    none : (ss : List StationState) (i : ℕ) → (station_at (map without_offer ss) i).offered ≡ None
-    none [] i = refl
-    none (s ∷ ss) zero = refl
-    none (s ∷ ss) (suc i) = none ss i
 
 call_leaves : (p : Primary) (call : Call) → MayCall p call → IsFitting p → WaitAlone p → Leaves p (called p call) (λ i. deeds p i call)
 call_leaves p (runs.Next now may_poll) may fits alone = next_leaves p now may_poll fits alone

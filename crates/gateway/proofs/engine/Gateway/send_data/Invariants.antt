@@ -1,13 +1,14 @@
-use Rattle.std.proofs.Common.{◌≡◌, ℕ, Bool, List, length}
+use Rattle.std.proofs.Common.{◌≡◌, ℕ, ◌+◌, List, length}
+use Rattle.gateway.specs.Phases.{Phase}
 use Rattle.gateway.specs.Reports.{Setup}
 use Rattle.session.specs.Ends.{IsConfirmed}
 use Rattle.gateway.specs.Agrees.{Tracks, StaysInTime}
 use Rattle.gateway.specs.Runs.{events_told}
-use Rattle.gateway.proofs.engine.Gateway.send_reports.Given as goal
+use Rattle.gateway.proofs.engine.Gateway.send_data.Given as goal
 
 abbrev pub invariant-loop-apdu : goal.invariant-loop-apdu
 invariant-loop-apdu g l = record {
-  kept : (p : Setup) (unjudged : List ℕ) (is_asked : Bool) → Tracks p l.fn.self (g.P.Port.log l.fn.port) unjudged is_asked → Tracks p l.self (g.P.Port.log l.port) unjudged is_asked;
+  kept : (p : Setup) (unjudged : List ℕ) (phase : Phase) → Tracks p l.fn.self (g.P.Port.log l.fn.port) unjudged phase → Tracks p l.self (g.P.Port.log l.port) unjudged phase;
   confirmed : IsConfirmed l.fn.self.session → IsConfirmed l.self.session;
   in_time : StaysInTime l.fn.self l.self;
   on : l.self.session.connected ≡ l.fn.self.session.connected;
@@ -17,4 +18,4 @@ invariant-loop-apdu g l = record {
 }
 
 abbrev pub decreases-loop-apdu : goal.decreases-loop-apdu
-decreases-loop-apdu g l = length l.self.queue.unsent
+decreases-loop-apdu g l = length l.self.commands.answers + length l.self.queue.unsent

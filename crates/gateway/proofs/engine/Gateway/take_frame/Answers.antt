@@ -3,7 +3,7 @@ use Rattle.session.specs.Session.{Session, from_queue}
 use Rattle.events.specs.Queue.{Queue}
 use Rattle.gateway.proofs.Acknowledging.{taken_counts}
 use Rattle.gateway.proofs.Sound.{less_kept}
-use Rattle.gateway.proofs.engine.Gateway.judge.Goals as goal
+use Rattle.gateway.proofs.engine.Gateway.take_frame.Goals as goal
 
 pub invariant_of-self : goal.invariant_of-self
 invariant_of-self c =

@@ -1,0 +1,14 @@
+use Rattle.std.proofs.Common.{sym, ◌∙◌}
+use Rattle.gateway.specs.Phases.{Idle}
+use Rattle.gateway.proofs.Events.{told_line, told_overfull}
+use Rattle.gateway.proofs.engine.Gateway.end_line.Goals as goal
+
+pub returns-then-fits-clause-kept : goal.returns-then-fits-clause-kept
+returns-then-fits-clause-kept g c = λ p s now b h. told_line p _ s c.args.self.now now c.args.octets.now c.args.fits c.line_is_told.ensures b h
+
+pub returns-then-not-is_open-clause-kept : goal.returns-then-not-is_open-clause-kept
+returns-then-not-is_open-clause-kept g c = λ p s now b h. told_line p _ s c.args.self.now now c.args.octets.now c.args.fits c.line_is_told.ensures b h
+
+pub returns-clause-kept : goal.returns-clause-kept
+returns-clause-kept g c = λ p s now b h.
+    c.close.ensures.kept p Idle (told_overfull p _ s c.args.self.now now c.args.octets.now c.args.fits c.line_is_told.ensures c.if-fits.false (sym c.is_open.ensures ∙ c.if-not-is_open.false) b h)

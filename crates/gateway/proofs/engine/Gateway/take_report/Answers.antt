@@ -1,0 +1,42 @@
+use Rattle.std.proofs.Common.{◌≡◌, true, false, not, ◌==◌, refl, ap, sym, ◌∙◌}
+use Rattle.elements.specs.Types.{row}
+use Rattle.asdu.specs.Asdu.{AsduValue}
+use Rattle.asdu.specs.InformationObjects.{is_passed_on}
+use Rattle.asdu.specs.Reading.{value_of}
+use Rattle.events.specs.Queue.{Queue}
+use Rattle.gateway.specs.declared.counts.Counts.{Counts}
+use Rattle.gateway.specs.State.{State}
+use Rattle.gateway.specs.Works.{is_command_report}
+use Rattle.gateway.proofs.Kept.{keeps_report, keeps_none, counted_as, passed_counts, skipped_counts, command_as, passed_monitor, learns_kept}
+use Rattle.gateway.proofs.engine.Gateway.take_report.Goals as goal
+
+pub returns-then-is_passed_on : goal.returns-then-is_passed_on
+returns-then-is_passed_on c =
+    let a = c.self.inside in
+    let s : State = record { line = a.line; sizes = a.sizes; queue = a.events; session = a.session; so_far = a.assembler.so_far; moment = a.moment; counts = a.counts; commands = a.commands; silent = a.silent } in
+    let report = c.args.report.now in
+    let asdu = c.in-Ok.asdu in
+    let u : AsduValue = value_of asdu in
+    let of_command : is_command_report s.sizes report ≡ false = command_as s.sizes report u c.in-Ok.ensures.objects c.in-Ok.ensures.found.value.some
+    ∙ passed_monitor (row u.kind).monitor (is_passed_on u.kind u.cause) (not (u.cause == 108)) (not (u.cause == 236)) refl (sym c.if-is_passed_on.ensures.value) in
+    rw (← c.self.view_is) (learns_kept (is_command_report s.sizes report) s _ report true of_command
+    (keeps_report s _ report asdu.octets.now asdu.sizes c.translate.result.items c.in-Ok.ensures.source.0 c.in-Ok.ensures.source.1 c.translate.ensures.monitored (c.translate.ensures.some_monitored (sym c.if-is_passed_on.ensures.value)) c.translate.ensures.number (c.if-is_passed_on.ensures.passed refl)
+    (counted_as s report asdu.octets.now asdu.sizes u c.in-Ok.ensures.source.0 c.in-Ok.ensures.source.1 c.in-Ok.ensures.objects c.in-Ok.ensures.found.value.some
+    ∙ passed_counts (row u.kind).monitor (is_passed_on u.kind u.cause) s.counts (sym c.if-is_passed_on.ensures.value))
+    (ap (λ (q : Queue). let made : State = record s { queue = q } in made) c.push.ensures))
+    refl)
+
+pub returns-then-monitor : goal.returns-then-monitor
+returns-then-monitor c =
+    let a = c.self.inside in
+    let s : State = record { line = a.line; sizes = a.sizes; queue = a.events; session = a.session; so_far = a.assembler.so_far; moment = a.moment; counts = a.counts; commands = a.commands; silent = a.silent } in
+    let report = c.args.report.now in
+    let asdu = c.in-Ok.asdu in
+    let u : AsduValue = value_of asdu in
+    let of_command : is_command_report s.sizes report ≡ false = command_as s.sizes report u c.in-Ok.ensures.objects c.in-Ok.ensures.found.value.some ∙ ap not (sym c.if-monitor.ensures) in
+    rw (← c.self.view_is) (learns_kept (is_command_report s.sizes report) s _ report true of_command
+    (keeps_none s _ report asdu.octets.now asdu.sizes c.in-Ok.ensures.source.0 c.in-Ok.ensures.source.1 (c.if-is_passed_on.ensures.kept refl)
+    (ap (λ (n : Counts). let made : State = record s { counts = n } in made) (c.skip-then-monitor.ensures
+    ∙ sym (counted_as s report asdu.octets.now asdu.sizes u c.in-Ok.ensures.source.0 c.in-Ok.ensures.source.1 c.in-Ok.ensures.objects c.in-Ok.ensures.found.value.some
+    ∙ skipped_counts (row u.kind).monitor (is_passed_on u.kind u.cause) s.counts (sym c.if-monitor.ensures) (sym c.if-is_passed_on.ensures.value)))))
+    refl)

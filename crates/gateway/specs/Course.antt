@@ -1,0 +1,167 @@
+-- The course of a run, as its log shows it: what was said on the open connection, what the connections before it were, the line's
+-- primary station and what became of commands (IEC 60870-5-104, 5; IEC 60870-5-2, unbalanced transmission procedures; when a step
+-- takes a frame and whose turn it is, is this gateway's own profile).
+use Rattle.std.specs.Prelude.{◌≡◌, ℕ, ◌+◌, Bool, true, false, not, nat_lt, if◌then◌else◌, List, [], ◌∷◌, ◌++◌, Option, Some, None}
+use Rattle.ft12.specs.Spelling as line
+use Rattle.apci.specs.declared.apdu.Apdu.{Apdu}
+use Rattle.apci.specs.declared.apdu.Apdu.TheVariants.{I}
+use Rattle.apci.specs.Spelling.{spelling, Fits}
+use Rattle.apci.specs.Reading.{IsMore}
+use Rattle.ft12.specs.Fronts.{front_of}
+use Rattle.link.specs.declared.service.Service.TheVariants.{Command}
+use Rattle.link.specs.declared.service.Asked.TheVariants.{Counted}
+use Rattle.link.specs.Exchanges.{Sending}
+use Rattle.link.specs.Requests.{request_frame}
+use Rattle.link.specs.Primary.{sending, received_outcome}
+use Rattle.session.specs.declared.kinds.Close.{Close}
+use Rattle.session.specs.declared.kinds.Close.TheVariants.{Timeout, Replaced}
+use Rattle.session.specs.declared.kinds.Kind.{Kind}
+use Rattle.session.specs.declared.kinds.Kind.TheVariants.{Queue, Own}
+use Rattle.session.specs.History as talk
+use Rattle.session.specs.History.{History}
+use Rattle.command.specs.State.{octets_waiting}
+use Rattle.gateway.specs.Objects.{has_objects}
+use Rattle.gateway.specs.Log.{Log, LogEntry, Input, LineIn, Opened, TcpIn, CutOff, Ticked, Came, Went, LineOut, TcpOut, Closed, latest}
+use Rattle.gateway.specs.Streams.{spelled}
+use Rattle.gateway.specs.Frames.{Sent, Connection, runs, acknowledged_reports}
+use Rattle.gateway.specs.Connections.{Channel, present}
+use Rattle.gateway.specs.Reports.{Setup, address_at, reports_in, parts_of_all}
+use Rattle.gateway.specs.Works.{Works, first_works, tasks_of, LearnsOf, heard_works, sent_works, IsOwnDue, cut_works, begun_works, settled_works, ready_works, is_first_command, asked_works, done_works}
+
+pub record Course : Type 0 where
+  -- what was said on the open connection: frames that came and frames that went out, each with its moment, the latest first
+  pub talk : History
+  -- its I frames that went out, the oldest first
+  pub sent : List Sent
+  -- the connections before it, the latest first
+  pub earlier : List Connection
+  pub works : Works
+
+abbrev pub first_course : Setup → Course
+first_course p = record { talk = []; sent = []; earlier = []; works = first_works p }
+
+-- the frames that came, the latest first
+abbrev pub came_frames : History → List Apdu
+came_frames [] = []
+came_frames (talk.Came frame now ∷ older) = frame ∷ came_frames older
+came_frames (_ ∷ older) = came_frames older
+
+-- the open connection
+abbrev pub here_of : Course → Connection
+here_of c = record { sent_frames = c.sent; received_frames = came_frames c.talk }
+
+-- There are places for the pieces of any report: each piece of a report taken has one until it is acknowledged.
+abbrev pub room_by : Setup → (parts : ℕ) → Connection → List Connection → Bool
+room_by p parts here earlier = not (nat_lt (p.places + acknowledged_reports (here ∷ earlier)) (parts + 3))
+
+abbrev pub room_in : Setup → Log → Course → Bool
+room_in p log c = room_by p (parts_of_all p.sizes (reports_in p log)) (here_of c) c.earlier
+
+-- Frames that come
+
+abbrev pub with_frame : Setup → Apdu → (now : ℕ) → Course → Course
+with_frame p frame now c = record { talk = talk.Came frame now ∷ c.talk; sent = c.sent; earlier = c.earlier; works = heard_works p frame now c.works }
+
+-- frames come at a moment, the latest first
+abbrev pub with_frames : Setup → List Apdu → (now : ℕ) → Course → Course
+with_frames p [] now c = c
+with_frames p (frame ∷ frames) now c = with_frame p frame now (with_frames p frames now c)
+
+-- Frames are taken, one after another, of the octets received.
+pub record TakesFrames (p : Setup) (octets : Channel) (now : ℕ) (before after : Course) : Type 0 where
+  pub frames : List Apdu
+  pub taken : after ≡ with_frames p frames now before
+  pub rest : List ℕ
+  pub joined : octets.received ≡ spelled (came_frames after.talk) ++ rest
+
+-- all whole frames of the octets received are taken
+pub record HasTakenAll (octets : Channel) (h : History) : Type 0 where
+  pub rest : List ℕ
+  pub joined : octets.received ≡ spelled (came_frames h) ++ rest
+  pub more : IsMore rest
+
+-- Frames that go out
+
+-- an ASDU with monitor objects is the queue's, any other an own answer
+abbrev pub kind_of : List ℕ → Kind
+kind_of asdu = if has_objects asdu then Queue else Own
+
+-- what is said where a frame goes out
+abbrev pub told_sent : Apdu → (now : ℕ) → History → History
+told_sent (I ns nr asdu) now h = talk.Sent ns nr (kind_of asdu.items) now ∷ h
+told_sent frame now h = talk.Went frame now ∷ h
+
+abbrev pub more_sent : Apdu → List Sent → List Sent
+more_sent (I ns nr asdu) sent = sent ++ record { ns = ns; nr = nr; asdu = asdu.items } ∷ []
+more_sent frame sent = sent
+
+abbrev pub with_sent : Apdu → (now : ℕ) → Course → Course
+with_sent frame now c = record { talk = told_sent frame now c.talk; sent = more_sent frame c.sent; earlier = c.earlier; works = sent_works frame c.works }
+
+-- these octets go out: one frame; an I frame without monitor objects is the oldest own answer
+pub record HandsOver (p : Setup) (octets : List ℕ) (now : ℕ) (before after : Course) : Type 0 where
+  pub frame : Apdu
+  pub fits : Fits frame
+  pub spelled_so : octets ≡ spelling frame
+  pub own : IsOwnDue p before.works frame
+  pub put : after ≡ with_sent frame now before
+
+-- The ends of connections
+
+-- the connection that was open, if any, is over
+abbrev pub ended_course : (is_open : Bool) → Works → Course → Course
+ended_course is_open w c = record { talk = []; sent = []; earlier = if is_open then here_of c ∷ c.earlier else c.earlier; works = cut_works w }
+
+abbrev pub opened_course : (now : ℕ) → Course → Course
+opened_course now c = record { talk = talk.Opened now ∷ []; sent = c.sent; earlier = c.earlier; works = c.works }
+
+-- where an answer was late, the step's timers come first
+abbrev pub works_at : Setup → Close → (at : ℕ) → Works → Works
+works_at p Timeout at w = settled_works p at w
+works_at p cause at w = w
+
+abbrev pub closed_course : Setup → Close → (is_open : Bool) → (at : ℕ) → Course → Course
+closed_course p Replaced is_open at c = c
+closed_course p cause is_open at c = ended_course is_open (works_at p cause at c.works) c
+
+-- Steps
+
+-- What the step before leaves when an event comes: its timers are done, and no request is left that may go out. A turn that has none
+-- ends.
+pub record IsLeft (p : Setup) (log : Log) (before after : Course) : Type 0 where
+  pub none : before.works.is_due ≡ true → sending (ready_works p (latest log) before.works).line (room_in p log before) ≡ None
+  pub is : after ≡ record { talk = before.talk; sent = before.sent; earlier = before.earlier; works = done_works p (latest log) (room_in p log before) before.works }
+
+abbrev pub with_works : Works → Course → Course
+with_works w c = record { talk = c.talk; sent = c.sent; earlier = c.earlier; works = w }
+
+-- what an event brings
+abbrev pub Comes : Setup → Log → (at : ℕ) → Input → (before after : Course) → Type 0
+Comes p log at (LineIn octets) c d =
+    (z : Works) × LearnsOf p at (runs (came_frames c.talk)) (received_outcome (front_of c.works.line.settings.size) c.works.line octets) (begun_works (LineIn octets) at c.works) z × (d ≡ with_works z c)
+Comes p log at (TcpIn octets) c d = TakesFrames p (present (Came at (TcpIn octets) ∷ log)) at (with_works (begun_works (TcpIn octets) at c.works) c) d
+Comes p log at Ticked c d = d ≡ with_works (begun_works Ticked at c.works) c
+Comes p log at Opened c d = d ≡ opened_course at (ended_course (present log).is_open (begun_works Opened at c.works) c)
+Comes p log at CutOff c d = d ≡ ended_course (present log).is_open (begun_works CutOff at c.works) c
+
+-- The octets are the request that is next, where the queue has the room that the log shows; and a command that goes out for the first
+-- time is the oldest that waits for its station.
+pub record SendsNext (p : Setup) (log : Log) (octets : List ℕ) (before after : Course) : Type 0 where
+  pub due : before.works.is_due ≡ true
+  pub request : Sending
+  pub next : sending (ready_works p (latest log) before.works).line (room_in p log before) ≡ Some request
+  pub spelled_so : octets ≡ line.spelling p.link.size (request_frame (address_at p.addresses request.station) request.request)
+  pub waits : (fcb : Bool) (asdu : List ℕ) → request.request ≡ Counted fcb (Command asdu) → is_first_command (ready_works p (latest log) before.works).line request ≡ true →
+      octets_waiting request.station (tasks_of p (ready_works p (latest log) before.works)).state ≡ Some asdu
+  pub is : after ≡ with_works (asked_works (latest log) (room_in p log before) request (ready_works p (latest log) before.works)) before
+
+-- The course that the log shows. When an event comes all whole frames received before are taken, and the step before has done what
+-- was due. Frames are taken of an event's octets, before and between the frames that go out in its step.
+abbrev pub Runs : Setup → Log → Course → Type 0
+Runs p [] c = c ≡ first_course p
+Runs p (Came now event ∷ log) c =
+    (before : Course) × (left : Course) × Runs p log before × HasTakenAll (present log) before.talk × IsLeft p log before left × Comes p log (latest (Came now event ∷ log)) event left c
+Runs p (Went now (TcpOut octets) ∷ log) c =
+    (before : Course) × (after : Course) × Runs p log before × HandsOver p octets (latest log) before after × TakesFrames p (present (Went now (TcpOut octets) ∷ log)) (latest log) after c
+Runs p (Went now (LineOut octets) ∷ log) c = (before : Course) × Runs p log before × SendsNext p log octets before c
+Runs p (Went now (Closed cause) ∷ log) c = (before : Course) × Runs p log before × (c ≡ closed_course p cause (present log).is_open (latest log) before)

@@ -1,0 +1,49 @@
+-- How far a step is.
+use Rattle.std.specs.Prelude.{◌≡◌, ℕ, Bool, true, false, List, [], ◌∷◌, Option, Some, None}
+use Rattle.link.specs.Primary.{Outstanding, sending}
+use Rattle.gateway.specs.Log.{Log, TcpIn, Came, Went, TcpOut}
+use Rattle.gateway.specs.Reports.{Setup}
+use Rattle.gateway.specs.Works.{Works, settled_works, ready_works, done_works}
+
+-- nothing has come yet; octets of the connection are being taken; the event is taken; the timers are done; the request is asked for
+pub data Phase : Type 0 where
+  Fresh : Phase
+  Taking : Phase
+  Idle : Phase
+  Timed : Phase
+  Asked : Phase
+
+-- the log ends with octets of the connection, or with frames that went out since
+abbrev pub IsTaking : Log → Type 0
+IsTaking (Came now (TcpIn octets) ∷ log) = Unit {0}
+IsTaking (Went now (TcpOut octets) ∷ log) = IsTaking log
+IsTaking log = ⊥
+
+abbrev pub IsPhase : Phase → Log → Type 0
+IsPhase Fresh log = log ≡ []
+IsPhase Taking log = IsTaking log
+IsPhase phase log = Unit {0}
+
+-- The log shows the works before the step's timers and request; so far they have become these.
+abbrev pub works_in : Phase → Setup → (at : ℕ) → (room : Bool) → Works → Works
+works_in Fresh p at room w = w
+works_in Taking p at room w = w
+works_in Idle p at room w = w
+works_in Timed p at room w = settled_works p at w
+works_in Asked p at room w = done_works p at room w
+
+-- a request is outstanding
+abbrev pub IsOut : Option Outstanding → Type 0
+IsOut None = ⊥
+IsOut (Some o) = Unit {0}
+
+-- Until the request is asked for it is due. Then it is out, or there was none that might go out.
+abbrev pub IsAsked : Phase → Setup → (at : ℕ) → (room : Bool) → Works → Type 0
+IsAsked Asked p at room w = (w.is_due ≡ true → sending (ready_works p at w).line room ≡ None) × (w.is_due ≡ false → IsOut w.line.outstanding)
+IsAsked Fresh p at room w = w.is_due ≡ false
+IsAsked phase p at room w = w.is_due ≡ true
+
+-- how far it is between two steps
+abbrev pub resting : Log → Phase
+resting [] = Fresh
+resting (entry ∷ log) = Asked
