@@ -6,6 +6,7 @@ mod line_types;
 mod losses;
 mod numbers;
 mod rows;
+mod selections;
 mod shows;
 mod simulations;
 mod texts;

@@ -1,58 +1,8 @@
 //! Commands of the control centre on their way, and the gateway's own answers.
 use super::{CONFIG_A, goes_on, replays};
 use std::alloc::{AllocError, Global};
+use std::process::Abort;
 use std::test::Fail;
-
-/// One station, whose executes need a select.
-const GUARDED: &str =
-    "[line]\nlink = 1\ncause = 1\nca = 1\nioa = 2\nqueue = 100\n[[station]]\naddress = 1\nca = 1\nselect = true\n";
-
-/// A select is forwarded, accepted by the station and confirmed.
-const SELECTING: &str = "50 R 680E000000002D01060001000A000081
-60 S E5
-70 S E5
-80 S 6809096808012D0107010A0081CA16
-";
-
-const SELECTED: &str = "60 > S 6809096853012D0106010A00811416
-70 > S 107B017C16
-80 > S 105B015C16
-80 > T 680E000002002D01070001000A000081
-";
-
-/// The execute to it, whose first request isn't answered.
-const EXECUTING: &str = "90 R 680E020002002D01060001000A000001
-100 S E5
-300 T
-310 S E5
-";
-
-const EXECUTED: &str = "100 > S 6809096873012D0106010A0001B416
-300 > S 6809096873012D0106010A0001B416
-310 > S 105B015C16
-";
-
-#[test]
-fn a_select_is_executed(rt: HostRuntime) -> Result<(), Fail> {
-    let alloc = rt.alloc();
-    let trace = format!(in alloc; "{SELECTING}{EXECUTING}")?;
-    let lines = format!(in alloc; "{SELECTED}{EXECUTED}")?;
-    goes_on(&rt, alloc, GUARDED, trace.as_str(), lines.as_str())?;
-    Ok(())
-}
-
-#[test]
-fn a_select_ends_with_its_connection(rt: HostRuntime) -> Result<(), Fail> {
-    let alloc = rt.alloc();
-    let trace = format!(in alloc;
-        "{SELECTING}85 C\n86 O\n87 R 680407000000\n88 R 680E000000002D01060001000A000001\n"
-    )?;
-    let lines = format!(in alloc;
-        "{SELECTED}87 > T 68040B000000\n88 > T 680E000002002D01470001000A000001\n"
-    )?;
-    goes_on(&rt, alloc, GUARDED, trace.as_str(), lines.as_str())?;
-    Ok(())
-}
 
 /// What follows the opening, and what it gives.
 static AFTER_OPENING: [(&str, &str); 3] = [
@@ -77,6 +27,50 @@ static AFTER_OPENING: [(&str, &str); 3] = [
 fn commands_after_the_opening(rt: HostRuntime) -> Result<(), Fail> {
     for (more, lines) in &AFTER_OPENING {
         goes_on(&rt, rt.alloc(), CONFIG_A, *more, *lines)?;
+    }
+    Ok(())
+}
+
+/// ASDUs that go to no station, and their answers: the same with the cause replaced, in which the sign is negative.
+static ANSWERED: [(&str, &str); 18] = [
+    // Unknown types (44): a bitstring command, a read, a single point.
+    ("33010600010000000000000000", "33016C00010000000000000000"),
+    ("660106000100640000", "66016C000100640000"),
+    ("01010300010064000001", "01016C00010064000001"),
+    // An unknown cause (45).
+    ("2D01030001000A000001", "2D016D0001000A000001"),
+    // Unknown common addresses (46): no station, and all stations for a single command.
+    ("2D01060002000A000001", "2D016E0002000A000001"),
+    ("2D010600FFFF0A000001", "2D016E00FFFF0A000001"),
+    // Unknown object addresses (47): 1 of an interrogation, 0 and one past the line's two octets of a single command.
+    ("64010600010001000014", "64016F00010001000014"),
+    ("2D010600010000000001", "2D016F00010000000001"),
+    ("2D010600010000000101", "2D016F00010000000101"),
+    // A sequence, two objects, and an octet too much.
+    ("2D81060001000A000001", "2D81470001000A000001"),
+    ("2D02060001000A000001", "2D02470001000A000001"),
+    ("2D01060001000A00000101", "2D01470001000A00000101"),
+    // States that aren't permitted, activated and deactivated, and with the test bit.
+    ("2E01060001000A000000", "2E01470001000A000000"),
+    ("2F01080001000A000003", "2F01490001000A000003"),
+    ("2E01860001000A000003", "2E01C70001000A000003"),
+    // Interrogations of no group.
+    ("64010600010000000013", "64014700010000000013"),
+    ("64010600010000000025", "64014700010000000025"),
+    ("64010800010000000025", "64014900010000000025"),
+];
+
+fn is_answered(rt: &impl Abort, alloc: Global, asdu: &str, answer: &str) -> Result<(), AllocError> {
+    let octets = asdu.len() / 2 + 4;
+    let trace = format!(in alloc; "50 R 68{octets:02X}00000000{asdu}\n")?;
+    let lines = format!(in alloc; "50 > T 68{octets:02X}00000200{answer}\n")?;
+    goes_on(rt, alloc, CONFIG_A, trace.as_str(), lines.as_str())
+}
+
+#[test]
+fn what_goes_to_no_station_is_answered(rt: HostRuntime) -> Result<(), Fail> {
+    for (asdu, answer) in &ANSWERED {
+        is_answered(&rt, rt.alloc(), *asdu, *answer)?;
     }
     Ok(())
 }

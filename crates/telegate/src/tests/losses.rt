@@ -61,15 +61,34 @@ fn a_lost_answer_is_given_again(rt: HostRuntime) -> Result<(), Fail> {
     Ok(())
 }
 
+/// Spoils the answer to this request, at each of 16 places.
+fn is_whole_when_spoilt(
+    rt: &impl Abort,
+    alloc: Global,
+    script: &str,
+    request: u64,
+) -> Result<(), AllocError> {
+    for place in 0..16u64 {
+        let loss = format!(in alloc; "spoil answer {request} {place}")?;
+        is_whole(rt, alloc, script, loss.as_str())?;
+    }
+    Ok(())
+}
+
 #[test]
 fn a_spoilt_answer_is_given_again(rt: HostRuntime) -> Result<(), Fail> {
-    let alloc = rt.alloc();
-    let script = script(alloc)?;
-    for n in 1..61u64 {
-        for place in 0..16u64 {
-            let loss = format!(in alloc; "spoil answer {n} {place}")?;
-            is_whole(&rt, alloc, script.as_str(), loss.as_str())?;
-        }
+    let script = script(rt.alloc())?;
+    for request in 1..31u64 {
+        is_whole_when_spoilt(&rt, rt.alloc(), script.as_str(), request)?;
+    }
+    Ok(())
+}
+
+#[test]
+fn a_spoilt_answer_later_in_the_run_is_given_again(rt: HostRuntime) -> Result<(), Fail> {
+    let script = script(rt.alloc())?;
+    for request in 31..61u64 {
+        is_whole_when_spoilt(&rt, rt.alloc(), script.as_str(), request)?;
     }
     Ok(())
 }
