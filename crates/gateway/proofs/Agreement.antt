@@ -1,6 +1,6 @@
 -- Each thing that is told keeps the agreement of state and log.
 use Rattle.std.proofs.Common.{◌≡◌, ℕ, ◌+◌, ◌-◌, ◌%◌, ◌<◌, ◌≤◌, ◌&&◌, Bool, true, false, not, nat_lt, List, [], ◌∷◌, ◌++◌, length, take, drop, refl, ap, sym, ◌∙◌, subst, arith, append_assoc, length-append, Option, Some, None, zero-add, inl, inr}
-use Rattle.std.specs.Prelude.{if◌then◌else◌, map}
+use Rattle.std.specs.Prelude.{if◌then◌else◌, map, option_map}
 use Rattle.std.specs.List.{flat_map}
 use Rattle.std.specs.Prelude.{◌⊎◌}
 use Rattle.std.proofs.lemmas.List.{append-nil, take-append-le}
@@ -32,7 +32,15 @@ use Rattle.gateway.specs.Traffic.{is_replaced, replaces, HasCause, IsAtRest, IsF
 use Rattle.command.specs.State as tasks
 use Rattle.gateway.specs.State.{State, disconnected, framed, next_frame, piece_sent, own_sent}
 use Rattle.gateway.specs.Steps.{IsCloseAt, after_closing}
-use Rattle.gateway.specs.Works.{Works, tasks_of, with_call, cut_works, ready_works, unasked_works, IsOwnDue}
+use Rattle.gateway.specs.Works.{Works, tasks_of, with_call, cut_works, settled_works, ready_works, unasked_works, IsOwnDue}
+use Rattle.gateway.specs.Line.{IsServed, done_in}
+use Rattle.gateway.proofs.Serving.{upto_leaves, upto_counts, offers_reach, unasked_stays, left_at_rest}
+use Rattle.link.specs.Offers.{offered_at}
+use Rattle.link.specs.Leave.{holds_poll}
+use Rattle.link.specs.Turns.{station_at}
+use Rattle.link.specs.Procedure.{holds_command}
+use Rattle.command.specs.State.{octets_waiting, oldest}
+use Rattle.command.specs.declared.waiting.Waiting.{Waiting}
 use Rattle.command.specs.Calls.{SendOwn}
 use Rattle.gateway.specs.Course.{Course, here_of, came_frames, room_by, room_in, kind_of, told_sent, with_sent, with_frame, ended_course, works_at, closed_course, Runs}
 use Rattle.gateway.specs.Phases.{Phase, Fresh, Taking, Idle, Timed, Asked, IsPhase, works_in, IsAsked, IsOut}
@@ -656,7 +664,7 @@ rested laws p s log a spent quiet = record {
         answers = sym (ap (λ (c : tasks.State). c.answers) a.stands.does.commands ∙ answers_in p Asked (latest log) (room_in p log a.course) a.course.works) ∙ all.1;
       };
   line = line_rests laws p s.line log a.course (room_in p log a.course) a.line (none_left a.course.works.is_due refl) (here_of a.course ∷ a.course.earlier)
-      (λ none. is_full p s log [] Asked a (no_room_means s.queue (sym (same_room p s log [] Asked a) ∙ none)));
+      (λ none. is_full p s log [] Asked a (no_room_means s.queue (sym (same_room p s log [] Asked a) ∙ none))) served;
   talk = record {
     all = all_taken log a.course a.here.so_far a.here.joined a.here.waits;
     confirmed = sym (confirmed_by p s.session log a.course a.talk) ∙ quiet.confirmed;
@@ -686,3 +694,36 @@ rested laws p s log a spent quiet = record {
     none_left false due =
         let is : s.line ≡ w.line = a.stands.does.line ∙ ap (λ b. (if b then unasked_works (latest log) room (ready_works p (latest log) w) else w).line) due in
         subst (λ q. primary.sending q room ≡ None) (sym is) (out_none w.line.outstanding (a.stands.asks.1 due))
+
+    -- a command that waits was offered, and is offered no more only where it went out
+    none_waits : (b : Bool) → w.is_due ≡ b → s.line.outstanding ≡ None → (i : ℕ) → i < length p.addresses → offered_at s.line i ≡ None → holds_command (station_at s.line.stations i).link ≡ false → octets_waiting i s.commands ≡ None
+    none_waits false due out i within none free =
+        let is : s.line ≡ w.line = a.stands.does.line ∙ ap (λ b. (if b then unasked_works (latest log) room (ready_works p (latest log) w) else w).line) due in
+        absurd (subst IsOut (sym (ap (λ (q : primary.Primary). q.outstanding) is) ∙ out) (a.stands.asks.1 due))
+    none_waits true due out i within none free =
+        let r : Works = ready_works p (latest log) w in
+        let is : s.line ≡ primary.asked r.line (latest log) room = a.stands.does.line ∙ ap (λ b. (if b then unasked_works (latest log) room r else w).line) due in
+        let next : primary.sending r.line room ≡ None = a.stands.asks.0 due in
+        let stays = unasked_stays r.line (latest log) room next in
+        let same : s.line.stations ≡ r.line.stations = ap (λ (q : primary.Primary). q.stations) is ∙ stays.0 in
+        let quiet : r.line.outstanding ≡ None = sym stays.1 ∙ sym (ap (λ (q : primary.Primary). q.outstanding) is) ∙ out in
+        let q : primary.Primary = (settled_works p (latest log) w).line in
+        let ws : List Waiting = (tasks_of p (settled_works p (latest log) w)).state.waiting in
+        let kept = upto_leaves laws (length q.stations) ws q (omega arith) in
+        let waits : octets_waiting i s.commands ≡ option_map (λ (z : Waiting). z.octets) (oldest i ws) =
+        ap (octets_waiting i) a.stands.does.commands ∙ ap (λ b. octets_waiting i (tasks_of p (if b then unasked_works (latest log) room r else w)).state) due in
+        let empty : offered_at r.line i ≡ None = sym (ap (λ xs. (station_at xs i).offered) same) ∙ none in
+        let able : holds_command (station_at q.stations i).link ≡ false = ap holds_command (sym (kept.link i)) ∙ ap (λ xs. holds_command (station_at xs i).link) (sym same) ∙ free in
+        let known : i < length q.stations = omega (arith, within, a.line.count, ap length same, upto_counts laws (length q.stations) ws q) in
+        waits ∙ by_oldest (oldest i ws) refl (λ z e. offers_reach laws (length q.stations) ws q i z known (omega arith) e (sym kept.outstanding ∙ quiet) able empty)
+      where
+        by_oldest : (o : Option Waiting) → oldest i (tasks_of p (settled_works p (latest log) w)).state.waiting ≡ o → ((z : Waiting) → oldest i (tasks_of p (settled_works p (latest log) w)).state.waiting ≡ Some z → ⊥) → option_map (λ (z : Waiting). z.octets) o ≡ None
+        by_oldest None e never = refl
+        by_oldest (Some z) e never = absurd (never z e)
+
+    served : s.line.outstanding ≡ None → (i : ℕ) → i < length p.addresses → IsServed p (done_in p log a.course) i
+    served out i within =
+        let left = laws.left s.line room a.line.fits out (none_left w.is_due refl) i (omega (arith, within, a.line.count)) in
+        let here = left_at_rest s.line i (octets_waiting i s.commands) left (none_waits w.is_due refl out i within) in
+        subst (λ (l : primary.Primary). (octets_waiting i (tasks_of p (done_in p log a.course)).state ≡ None) ⊎ ((station_at l.stations i).dfc ≡ true) ⊎ (holds_poll (station_at l.stations i).link ≡ true)) a.stands.does.line
+        (subst (λ (c : tasks.State). (octets_waiting i c ≡ None) ⊎ ((station_at s.line.stations i).dfc ≡ true) ⊎ (holds_poll (station_at s.line.stations i).link ≡ true)) a.stands.does.commands here)

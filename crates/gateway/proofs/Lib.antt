@@ -7,6 +7,7 @@ pub mod Objects
 pub mod Acknowledging
 pub mod Working
 pub mod Offering
+pub mod Serving
 pub mod Talking
 pub mod Agreement
 pub mod Stations

@@ -1,5 +1,5 @@
 -- The line's part of the agreement as the log goes on.
-use Rattle.std.proofs.Common.{◌≡◌, ℕ, ◌+◌, Bool, false, List, [], ◌∷◌, ◌++◌, Option, Some, None, refl, sym, ap, subst, ◌∙◌, inl, inr, arith}
+use Rattle.std.proofs.Common.{◌≡◌, ℕ, ◌+◌, ◌<◌, length, Bool, false, List, [], ◌∷◌, ◌++◌, Option, Some, None, refl, sym, ap, subst, ◌∙◌, inl, inr, arith}
 use Rattle.std.specs.Prelude.{option_and_then, option_map}
 use Rattle.std.specs.List.{flat_map}
 use Rattle.std.proofs.lemmas.List.{append-nil}
@@ -23,7 +23,7 @@ use Rattle.gateway.specs.Frames.{Connection}
 use Rattle.gateway.specs.Reports.{Setup, address_at, AreFound, sent_to, sending_in, exchanges_of, exchanges_with, reports_in, taken_objects, parts_of_all, KeepsLinks}
 use Rattle.gateway.specs.Course.{Course}
 use Rattle.gateway.specs.Room.{IsFull}
-use Rattle.gateway.specs.Line.{IsWaiting, LacksOnlyRoom, IsLineAtRest}
+use Rattle.gateway.specs.Line.{IsWaiting, IsServed, done_in, LacksOnlyRoom, IsLineAtRest}
 use Rattle.gateway.specs.LineLaws.{LineLaws}
 
 -- the exchanges keep the procedure
@@ -93,14 +93,15 @@ after_request laws p q log now may s found h is =
 
 -- Nothing is left to be asked
 
-asks_alone : (laws : LineLaws) (p : Setup) (q : Primary) (log : Log) (course : Course) (may : Bool) → Tells p.link p.addresses q (exchanges_of p log) → q.outstanding ≡ None → sending q may ≡ None → (connections : List Connection) → (may ≡ false → IsFull p log connections) → LacksOnlyRoom p log course connections
-asks_alone laws p q log course may h out none connections full =
+asks_alone : (laws : LineLaws) (p : Setup) (q : Primary) (log : Log) (course : Course) (may : Bool) → Tells p.link p.addresses q (exchanges_of p log) → q.outstanding ≡ None → sending q may ≡ None → (connections : List Connection) → (may ≡ false → IsFull p log connections) → ((i : ℕ) → i < length p.addresses → IsServed p (done_in p log course) i) → LacksOnlyRoom p log course connections
+asks_alone laws p q log course may h out none connections full served =
     let link : (i : ℕ) → link_after p.link (address_at p.addresses i) Down (exchanges_with p i log) ≡ (station_at q.stations i).link = λ i.
     subst (λ (o : Option Outstanding). telling.AreLinks (front_of p.link.size) p.link p.addresses q.stations (telling.past o (exchanges_of p log))) out h.links i in
     record {
       full = full (laws.leave q may h.fits out none);
       up = λ i within. ap is_up (link i) ∙ laws.up q may h.fits out none i (omega (arith, within, h.count));
       free = λ i within. ap holds_command (link i) ∙ laws.free q may h.fits out none i (omega (arith, within, h.count));
+      served = served;
     }
 
 nothing_said : (front : List ℕ → Front) (address : ℕ) (x : OpenExchange) (o : Option (List ℕ)) → IsHeard front address x o → option_and_then (answer_of address x.request) (whole_of (front x.octets)) ≡ None
@@ -122,9 +123,9 @@ waits_for p q log o h out = go (exchanges_of p log).current refl
         let w : IsAwaited (front_of p.link.size) (address_at p.addresses q.turn) q.turn o x = subst (telling.IsCurrent (front_of p.link.size) p.addresses q.turn (Some o)) is current in
         record { exchange = x; latest_is = is; waits = (at_station x w, w.waits) }
 
-pub line_rests : (laws : LineLaws) (p : Setup) (q : Primary) (log : Log) (course : Course) (may : Bool) → Tells p.link p.addresses q (exchanges_of p log) → sending q may ≡ None → (connections : List Connection) → (may ≡ false → IsFull p log connections) → IsLineAtRest p log course connections
-line_rests laws p q log course may h none connections full = go q.outstanding refl
+pub line_rests : (laws : LineLaws) (p : Setup) (q : Primary) (log : Log) (course : Course) (may : Bool) → Tells p.link p.addresses q (exchanges_of p log) → sending q may ≡ None → (connections : List Connection) → (may ≡ false → IsFull p log connections) → (q.outstanding ≡ None → (i : ℕ) → i < length p.addresses → IsServed p (done_in p log course) i) → IsLineAtRest p log course connections
+line_rests laws p q log course may h none connections full served = go q.outstanding refl
   where
     go : (o : Option Outstanding) → q.outstanding ≡ o → IsLineAtRest p log course connections
-    go None out = inr (asks_alone laws p q log course may h out none connections full)
+    go None out = inr (asks_alone laws p q log course may h out none connections full (served out))
     go (Some o) out = inl (waits_for p q log o h out)

@@ -34,6 +34,7 @@ pub record LacksOnlyRoom (p : Setup) (log : Log) (c : Course) (connections : Lis
   pub full : IsFull p log connections
   pub up : (i : ℕ) → i < length p.addresses → IsUp p.link (address_at p.addresses i) (exchanges_with p i log)
   pub free : (i : ℕ) → i < length p.addresses → holds_command (link_after p.link (address_at p.addresses i) Down (exchanges_with p i log)) ≡ false
+  pub served : (i : ℕ) → i < length p.addresses → IsServed p (done_in p log c) i
 
 abbrev pub IsLineAtRest : Setup → Log → Course → List Connection → Type 0
 IsLineAtRest p log c connections = IsWaiting p log ⊎ LacksOnlyRoom p log c connections

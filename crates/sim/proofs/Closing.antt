@@ -20,7 +20,7 @@ use Rattle.gateway.specs.Streams.{spelled, AreFrames, IsOneFrame}
 use Rattle.gateway.specs.Traffic.{ActsRightly, IsFaithful}
 use Rattle.delivery.specs.Delivery.{Delivers}
 use Rattle.sim.specs.Centres.{is_data}
-use Rattle.sim.specs.Texts.{objects_in_apdu, opens, objects_sent, objects_until_next, connection_line, connection_lines}
+use Rattle.sim.specs.Texts.{objects_in_apdu, opens, objects_until_next, connection_line, connection_lines}
 use Rattle.sim.specs.Closing.{connections_in, lines_of_connections}
 
 -- The numbers in the text
