@@ -10,7 +10,9 @@ use Rattle.apci.specs.Spelling.{spelling}
 use Rattle.gateway.specs.declared.entries.Entry.TheVariants as entries
 use Rattle.gateway.specs.declared.entries.Told.{Told}
 use Rattle.gateway.specs.declared.entries.Told.TheVariants as told
-use Rattle.gateway.specs.Connections.{Channel, no_channel, receiving, sending, ends, present, past, over, AreConnections, IsBegun}
+use Rattle.session.specs.declared.kinds.Close.{Close}
+use Rattle.session.specs.declared.kinds.Close.TheVariants.{Grammar, SendNumber, ReceiveNumber, Stopped, Timeout, OwnAnswers, Replaced}
+use Rattle.gateway.specs.Connections.{closed_by, Channel, no_channel, receiving, sending, ends, present, past, over, AreConnections, IsBegun}
 use Rattle.gateway.specs.Entries.{stored_log, log_of, told_of}
 use Rattle.gateway.specs.Frames.{Connection, Sent, data_frames, objects_of_frames, monitor_objects_sent}
 use Rattle.gateway.specs.Log.{Log, Came, Went, LineIn, Opened, TcpIn, CutOff, Ticked, LineOut, TcpOut, Closed}
@@ -187,6 +189,24 @@ counted_closed : (b : Bool) (c d : Channel) (channels : List Channel) (ns : List
 counted_closed true c d channels ns alike same h = counted_like c d channels ns alike same h
 counted_closed false c d channels ns alike same h = h
 
+closed_open : (cause : Close) (c : Channel) → (closed_by cause c).is_open ≡ c.is_open
+closed_open Grammar c = refl
+closed_open SendNumber c = refl
+closed_open ReceiveNumber c = refl
+closed_open Stopped c = refl
+closed_open Timeout c = refl
+closed_open OwnAnswers c = refl
+closed_open Replaced c = refl
+
+closed_sent : (cause : Close) (c : Channel) → (closed_by cause c).sent ≡ c.sent
+closed_sent Grammar c = refl
+closed_sent SendNumber c = refl
+closed_sent ReceiveNumber c = refl
+closed_sent Stopped c = refl
+closed_sent Timeout c = refl
+closed_sent OwnAnswers c = refl
+closed_sent Replaced c = refl
+
 counted_log : (p : Setup) (log : Log) → ActsRightly p log → AreCounted (over (present log) (past log)) (sent_counts log)
 counted_log p [] acts = tt
 counted_log p (Came now Opened ∷ log) acts = (record { put = []; are = record { joined = refl; fit = tt }; number = refl }, counted_log p log acts)
@@ -196,7 +216,7 @@ counted_log p (Came now (LineIn octets) ∷ log) acts = counted_log p log acts
 counted_log p (Came now Ticked ∷ log) acts = counted_log p log acts
 counted_log p (Went now (LineOut octets) ∷ log) acts = counted_log p log acts.1
 counted_log p (Went now (TcpOut octets) ∷ log) acts = counted_sent (present log) octets (past log) (sent_counts log) acts.0.may.0 acts.0.may.1 (counted_log p log acts.1)
-counted_log p (Went now (Closed cause) ∷ log) acts = counted_closed (ends cause) (present log) (present log) (past log) (sent_counts log) refl refl (counted_log p log acts.1)
+counted_log p (Went now (Closed cause) ∷ log) acts = counted_closed (ends cause) (present log) (closed_by cause (present log)) (past log) (sent_counts log) (closed_open cause (present log)) (closed_sent cause (present log)) (counted_log p log acts.1)
 
 -- Octets are one list of frames
 
