@@ -4,16 +4,16 @@
     bench/bench.py [--program FILE] [--events N] [--growth] [--keep FOLDER] [WORKLOAD ..]
 
 For each workload: a trace of about N events is made (the same each time), replayed three times with the output thrown away, and
-the least time counts. Printed are the trace's octets and events a second, what is counted besides (objects or APDUs), and the
-peak of the resident memory in octets for each octet of the trace. `--growth` replays each workload at 10,000, 100,000 and
-1,000,000 events instead, and prints the time and memory an event at each. The program is the one that ./build makes.
+the least processor time counts (user and system, so that other work on the machine disturbs little). Printed are the trace's
+octets and events a second, what is counted besides (objects or APDUs), and the peak of the resident memory in octets for each
+octet of the trace. `--growth` replays each workload at 10,000, 100,000 and 1,000,000 events instead, and prints the time and
+memory an event at each. The program is the one that ./build makes.
 """
 import argparse
 import os
 import subprocess
 import sys
 import tempfile
-import time
 
 TOP = os.path.dirname(os.path.dirname(os.path.abspath(__file__)))
 
@@ -145,16 +145,14 @@ WORKLOADS = {"steady": steady, "stations": stations, "pieces": pieces, "flood": 
 
 
 def replay(program, settings, trace):
-    """The time of one replay in seconds, and its peak memory in octets."""
+    """The processor time of one replay in seconds, and its peak memory in octets."""
     with open(os.devnull, "wb") as nowhere:
-        start = time.perf_counter()
         child = subprocess.Popen([program, "replay", settings, trace], stdout=nowhere)
         _, status, used = os.wait4(child.pid, 0)
-        spent = time.perf_counter() - start
     child.returncode = os.waitstatus_to_exitcode(status)
     if child.returncode != 0:
         sys.exit(f"bench: exit status {child.returncode}")
-    return spent, used.ru_maxrss * 1024
+    return used.ru_utime + used.ru_stime, used.ru_maxrss * 1024
 
 
 def measured(program, folder, name, events):

@@ -1,11 +1,11 @@
 -- The end of a run over the entries of a trace.
-use Rattle.std.proofs.Common.{◌≡◌, ℕ, ◌+◌, Bool, true, false, ◌&&◌, List, [], ◌∷◌, ◌++◌, length, map, Option, Some, IfOk, sym, subst, ◌∙◌, ap, arith, length-append}
-use Rattle.std.proofs.lemmas.List.{append-nil, length-map}
-use Rattle.gateway.specs.Log.{Log, LogEntry, events_of}
+use Rattle.std.proofs.Common.{◌≡◌, ℕ, ◌+◌, Bool, false, List, [], ◌++◌, length, map, Option, Some, IfOk, subst, ◌∙◌, ap, arith, length-append}
+use Rattle.std.proofs.lemmas.List.{length-map}
+use Rattle.gateway.specs.Log.{Log, events_of}
 use Rattle.gateway.specs.Entries.{event_of, script_of}
 use Rattle.gateway.specs.Runs.{MoreEvents}
 use Rattle.gateway.specs.declared.entries.Entry.{Entry}
-use Rattle.traces.specs.Traced.{Traced, coming, is_none_left, whole_script}
+use Rattle.traces.specs.Traced.{Traced, coming, whole_script}
 use Rattle.traces.specs.Trace.{IsTraceOf}
 use Rattle.traces.specs.declared.health.Health.TheVariants.{Good}
 use Rattle.std.specs.Prelude.{Result, Ok, Err, Vec}
@@ -14,10 +14,12 @@ use Rattle.gateway.specs.Config.{Settings}
 use Rattle.gateway.specs.declared.runs.End.{End}
 use Rattle.gateway.specs.declared.runs.End.TheVariants.{Turns}
 use Rattle.settings.specs.Settings.{IsReadOfText}
-use Rattle.telegate.specs.Answers.{IsRunOf, IsReplayed}
+use Rattle.sim.specs.Scripts.{IsScriptOf}
+use Rattle.sim.specs.declared.directive.Directive.{Directive}
+use Rattle.telegate.specs.Answers.{IsRunOf, IsReplayed, IsSimulationOf, IsSimulatedBy}
 use Rattle.telegate.specs.declared.answer.Answer.{Answer}
 use Rattle.telegate.specs.declared.fault.Fault.{Fault}
-use Rattle.telegate.specs.declared.fault.Fault.TheVariants.{Config, Trace, Sizes, Octets, Device, NoMemory}
+use Rattle.telegate.specs.declared.fault.Fault.TheVariants.{Config, Trace, Script, Sizes, Octets, Device, NoMemory}
 
 same_number : (m n : ℕ) → Some m ≡ Some n → m ≡ n
 same_number m n e = cc
@@ -48,6 +50,18 @@ replayed config trace settings entries (Ok answer) read told run = record { sett
 replayed config trace settings entries (Err NoMemory) read told run = tt
 replayed config trace settings entries (Err (Config why)) read told run = absurd run
 replayed config trace settings entries (Err (Trace n)) read told run = absurd run
+replayed config trace settings entries (Err (Script n)) read told run = absurd run
 replayed config trace settings entries (Err Sizes) read told run = absurd run
 replayed config trace settings entries (Err Octets) read told run = absurd run
 replayed config trace settings entries (Err Device) read told run = absurd run
+
+-- the answer to the command over a simulated line, where its files were read
+pub simulated : (config text : List ℕ) (settings : Settings) (script : List Directive) (r : Result Answer Fault) → IsReadOfText config (Ok settings) → IsScriptOf settings text (Ok script) → IsSimulationOf settings script r → IsSimulatedBy config text r
+simulated config text settings script (Ok answer) read said run = record { settings = settings; script = script; read_config = read; read_script = said; simulation = run }
+simulated config text settings script (Err NoMemory) read said run = tt
+simulated config text settings script (Err (Config why)) read said run = absurd run
+simulated config text settings script (Err (Trace n)) read said run = absurd run
+simulated config text settings script (Err (Script n)) read said run = absurd run
+simulated config text settings script (Err Sizes) read said run = absurd run
+simulated config text settings script (Err Octets) read said run = absurd run
+simulated config text settings script (Err Device) read said run = absurd run

@@ -19,13 +19,16 @@ use Rattle.gateway.specs.Setups.{setup_of}
 use Rattle.gateway.specs.Traffic.{IsFaithful, HasRested}
 use Rattle.delivery.specs.Delivery.{Delivers}
 use Rattle.gateway.specs.declared.entries.Entry.{Entry}
+use Rattle.sim.specs.Scripts.{IsScriptOf}
+use Rattle.sim.specs.Runs.{IsSimulated}
+use Rattle.sim.specs.declared.directive.Directive.{Directive}
 use Rattle.settings.specs.Settings.{IsReadOfText}
 use Rattle.telegate.specs.Faults.{status_of}
 use Rattle.telegate.specs.declared.answer.Answer.{Answer}
 use Rattle.telegate.specs.declared.fault.Fault.{Fault}
-use Rattle.telegate.specs.declared.fault.Fault.TheVariants.{Config, Trace, Sizes, Octets, Device, NoMemory}
+use Rattle.telegate.specs.declared.fault.Fault.TheVariants.{Config, Trace, Script, Sizes, Octets, NoMemory}
 use Rattle.telegate.specs.declared.job.Job.{Job}
-use Rattle.telegate.specs.declared.job.Job.TheVariants.{Show101, Show104, Check, Replay}
+use Rattle.telegate.specs.declared.job.Job.TheVariants.{Show101, Show104, Check, Replay, Sim}
 
 -- octets that are as they should be, 0, or not, 1
 abbrev pub status_by : Outcome → ℕ
@@ -126,12 +129,38 @@ IsRunFault config trace _ = ⊥
 abbrev pub IsReplayed : List ℕ → List ℕ → Result Answer Fault → Type 0
 IsReplayed config trace result = MatchResult result (IsRunAnswer config trace) (IsRunFault config trace)
 
+-- the text of a run of the script over a simulated line, whatever it loses
+pub record IsSimulation (settings : Settings) (script : List Directive) (answer : Answer) : Type 0 where
+  pub run : IsSimulated settings script (Some []) (Some answer.text.items)
+  pub status : answer.status ≡ 0
+
+pub record IsSimulationAnswer (config text : List ℕ) (answer : Answer) : Type 0 where
+  pub settings : Settings
+  pub script : List Directive
+  pub read_config : IsReadOfText config (Ok settings)
+  pub read_script : IsScriptOf settings text (Ok script)
+  pub simulation : IsSimulation settings script answer
+
+abbrev pub IsSimulationOf : Settings → List Directive → Result Answer Fault → Type 0
+IsSimulationOf settings script result = MatchResult result (IsSimulation settings script) IsMemory
+
+-- settings are judged before the script
+abbrev pub IsSimulationFault : List ℕ → List ℕ → Fault → Type 0
+IsSimulationFault config text (Config why) = IsReadOfText config (Err why)
+IsSimulationFault config text (Script n) = (s : Settings) × (IsReadOfText config (Ok s) × IsScriptOf s text (Err (WrongLine n)))
+IsSimulationFault config text NoMemory = Unit {0}
+IsSimulationFault config text _ = ⊥
+
+abbrev pub IsSimulatedBy : List ℕ → List ℕ → Result Answer Fault → Type 0
+IsSimulatedBy config text result = MatchResult result (IsSimulationAnswer config text) (IsSimulationFault config text)
+
 -- the answer to a command
 abbrev pub IsAnsweredBy : Job → Result Answer Fault → Type 0
 IsAnsweredBy (Show101 sizes hex) result = IsShown101 sizes.now hex.now result
 IsAnsweredBy (Show104 hex) result = IsShown104 hex.now result
 IsAnsweredBy (Check config) result = IsChecked config.now result
 IsAnsweredBy (Replay config trace) result = IsReplayed config.now trace.now result
+IsAnsweredBy (Sim config script) result = IsSimulatedBy config.now script.now result
 
 -- the command is done: its answer's text was appended to the output, and the status is the answer's
 pub record IsDone (job : Job) (old new : Option (List ℕ)) (exit : ℕ) : Type 0 where

@@ -7,6 +7,7 @@ use crate::fault::Fault;
 use crate::job::Job;
 use crate::replay::replay;
 use crate::showing::{show101, show104};
+use crate::simulating::simulate;
 use std::alloc::Global;
 
 /// What a command prints on standard output, and its exit status.
@@ -25,5 +26,6 @@ pub(crate) fn answer_to(alloc: Global, job: &Job<'_>) -> Result<Answer, Fault>
         Job::Show104(hex) => show104(alloc, *hex),
         Job::Check(config) => check(alloc, *config),
         Job::Replay { config, trace } => replay(alloc, *config, *trace),
+        Job::Sim(config, script) => simulate(alloc, *config, *script),
     }
 }

@@ -11,6 +11,8 @@ pub(crate) enum Request<'a> {
     Check { config: &'a str },
     /// The names of two files.
     Replay { config: &'a str, trace: &'a str },
+    /// The names of two files.
+    Sim { config: &'a str, script: &'a str },
 }
 
 fn word<'a>(alloc: Global, name: &'a str, help: &'a str) -> Arg<'a> {
@@ -50,6 +52,19 @@ fn replay<'a>(alloc: Global) -> Result<Command<'a>, AllocError> {
         .arg(word(alloc, "TRACE", "A file of events, one a line"))
 }
 
+fn sim<'a>(alloc: Global) -> Result<Command<'a>, AllocError> {
+    Command::new(alloc, "sim")
+        .about(
+            "Runs the gateway over simulated stations and a simulated control centre, and prints what it puts out",
+        )
+        .arg(word(alloc, "CONFIG", "A file of settings"))?
+        .arg(word(
+            alloc,
+            "SCRIPT",
+            "A file of reports, losses, cuts and commands, one a line",
+        ))
+}
+
 /// Reads the words, or gives the text that is to be printed in place of a run.
 pub(crate) fn parse<'a>(alloc: Global, words: &'a [String]) -> Result<ArgMatches<'a>, Error> {
     Command::new(alloc, "telegate")
@@ -62,6 +77,7 @@ pub(crate) fn parse<'a>(alloc: Global, words: &'a [String]) -> Result<ArgMatches
         .subcommand(show104(alloc)?)?
         .subcommand(check(alloc)?)?
         .subcommand(replay(alloc)?)?
+        .subcommand(sim(alloc)?)?
         .try_get_matches_from(words)
 }
 
@@ -82,6 +98,10 @@ pub(crate) fn request_of<'a>(matches: &ArgMatches<'a>) -> Option<Request<'a>> {
         "replay" => Some(Request::Replay {
             config: matches.get_str("CONFIG")?,
             trace: matches.get_str("TRACE")?,
+        }),
+        "sim" => Some(Request::Sim {
+            config: matches.get_str("CONFIG")?,
+            script: matches.get_str("SCRIPT")?,
         }),
         _ => None,
     }

@@ -29,6 +29,9 @@ pub(crate) enum Fault {
     /// This line of the trace is wrong.
     #[error("trace: line {0}")]
     Trace(u64),
+    /// This line of the script is wrong.
+    #[error("script: line {0}")]
+    Script(u64),
     /// The sizes of a line's addresses are no such four digits.
     #[error("bad sizes")]
     Sizes,
@@ -48,7 +51,8 @@ impl Fault {
         ensures { result ≡ status_of self.now }
     {
         match self {
-            Fault::Config(_) | Fault::Trace(_) | Fault::Sizes | Fault::Octets => BAD_CONTENT,
+            Fault::Config(_) | Fault::Trace(_) | Fault::Script(_) | Fault::Sizes | Fault::Octets =>
+                BAD_CONTENT,
             Fault::Device => DEVICE_FAILED,
             Fault::NoMemory => NO_MEMORY,
         }

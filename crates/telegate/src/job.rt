@@ -11,4 +11,6 @@ pub enum Job<'a> {
     Check(&'a [u8]),
     /// A run of the gateway over the events of a trace.
     Replay { config: &'a [u8], trace: &'a [u8] },
+    /// A run of the gateway over simulated stations and a simulated control centre: the settings, and the script.
+    Sim(&'a [u8], &'a [u8]),
 }

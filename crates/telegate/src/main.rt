@@ -15,6 +15,7 @@ mod job;
 mod performing;
 mod replay;
 mod showing;
+mod simulating;
 #[cfg(test)]
 mod tests;
 
@@ -87,6 +88,13 @@ fn respond<R: Files + Eprint + AllocGlobal, W: Write, E: Write>(
                     config: config.as_slice(),
                     trace: trace.as_slice(),
                 };
+                perform(rt.alloc(), &job, out, err)
+            }
+            Err(status) => status,
+        },
+        Request::Sim { config, script } => match read_files(rt, *config, *script) {
+            Ok((config, script)) => {
+                let job = Job::Sim(config.as_slice(), script.as_slice());
                 perform(rt.alloc(), &job, out, err)
             }
             Err(status) => status,

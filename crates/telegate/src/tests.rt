@@ -1,17 +1,25 @@
 //! Commands done over texts and writers in memory.
+mod commands;
+mod connection_types;
+mod faults;
+mod line_types;
+mod losses;
+mod numbers;
 mod rows;
+mod selections;
 mod shows;
+mod simulations;
 mod texts;
-mod types;
 mod writers;
 
 use crate::job::Job;
 use crate::performing::perform;
-use std::alloc::Global;
-use std::test::Fail;
+use std::alloc::{AllocError, Global};
+use std::process::Abort;
 
-const CONFIG_A: &[u8] =
-    b"[line]\nlink = 1\ncause = 1\nca = 1\nioa = 2\nqueue = 100\n[[station]]\naddress = 1\nca = 1\n";
+/// One station.
+const CONFIG_A: &str =
+    "[line]\nlink = 1\ncause = 1\nca = 1\nioa = 2\nqueue = 100\n[[station]]\naddress = 1\nca = 1\n";
 
 /// What a command left.
 #[derive(Drop)]
@@ -28,67 +36,57 @@ fn performed(alloc: Global, job: &Job<'_>) -> Done {
     Done { status, out, err }
 }
 
-#[test]
-fn good_settings_are_told(rt: HostRuntime) -> Result<(), Fail> {
-    let done = performed(rt.alloc(), &Job::Check(CONFIG_A));
-    assert_eq!(rt; done.status, 0);
-    assert_eq!(rt; done.out.as_slice(), b"ok\n".as_slice());
-    assert_eq!(rt; done.err.as_slice(), b"".as_slice());
+fn text(octets: &[u8]) -> &str {
+    std::str::from_utf8(octets).unwrap_or("not UTF-8")
+}
+
+/// Does a command, which is to print these lines, nothing on standard error, and to end with this status.
+fn prints(rt: &impl Abort, alloc: Global, job: &Job<'_>, lines: &str, status: u8) {
+    let done = performed(alloc, job);
+    assert_eq!(rt; text(done.out.as_slice()), lines);
+    assert_eq!(rt; text(done.err.as_slice()), "");
+    assert_eq!(rt; done.status, status, "{lines}");
+}
+
+/// Does a command, which is to print nothing but the line of this fault, and to end with status 1.
+fn stops(rt: &impl Abort, alloc: Global, job: &Job<'_>, fault: &str) {
+    let done = performed(alloc, job);
+    assert_eq!(rt; text(done.out.as_slice()), "");
+    assert_eq!(rt; text(done.err.as_slice()), fault);
+    assert_eq!(rt; done.status, 1, "{fault}");
+}
+
+/// Runs the gateway over a trace, which is to print these lines.
+fn replays(rt: &impl Abort, alloc: Global, config: &str, trace: &str, lines: &str) {
+    let job = Job::Replay {
+        config: config.as_bytes(),
+        trace: trace.as_bytes(),
+    };
+    prints(rt, alloc, &job, lines, 0);
+}
+
+/// The station is started, and a connection too.
+const OPENING: &str = "10 S 100B010C16\n20 S E5\n30 O\n40 R 680407000000\n";
+
+const OPENED: &str =
+    "0 > S 1049014A16\n10 > S 1040014116\n20 > S 107B017C16\n40 > T 68040B000000\n";
+
+/// Runs the gateway over a trace that goes on so after the opening, which is to print these lines after those of the opening.
+fn goes_on(
+    rt: &impl Abort,
+    alloc: Global,
+    config: &str,
+    trace: &str,
+    lines: &str,
+) -> Result<(), AllocError> {
+    let trace = joined(alloc, OPENING, trace)?;
+    let lines = joined(alloc, OPENED, lines)?;
+    replays(rt, alloc, config, trace.as_str(), lines.as_str());
     Ok(())
 }
 
-#[test]
-fn refused_files_print_one_line_of_a_fault(rt: HostRuntime) -> Result<(), Fail> {
-    let alloc = rt.alloc();
-    for (config, trace, fault) in [
-        ("[line", "", "config: not TOML\n"),
-        ("", "", "config: line.link\n"),
-        ("", "x", "config: line.link\n"),
-        (
-            "[line]\nlink = 1\ncause = 3\nca = 9\n",
-            "",
-            "config: line.cause\n",
-        ),
-    ] {
-        let job = Job::Replay {
-            config: config.as_bytes(),
-            trace: trace.as_bytes(),
-        };
-        let replayed = performed(alloc, &job);
-        assert_eq!(rt; replayed.status, 1);
-        assert_eq!(rt; replayed.out.as_slice(), b"".as_slice());
-        assert_eq!(rt; replayed.err.as_slice(), fault.as_bytes());
-        let checked = performed(alloc, &Job::Check(config.as_bytes()));
-        assert_eq!(rt; checked.status, 1);
-        assert_eq!(rt; checked.out.as_slice(), b"".as_slice());
-        assert_eq!(rt; checked.err.as_slice(), fault.as_bytes());
-    }
-    for (trace, fault) in [
-        ("x", "trace: line 1\n"),
-        ("10 T\n\n# a comment\n20 T \n", "trace: line 4\n"),
-    ] {
-        let job = Job::Replay {
-            config: CONFIG_A,
-            trace: trace.as_bytes(),
-        };
-        let done = performed(alloc, &job);
-        assert_eq!(rt; done.status, 1);
-        assert_eq!(rt; done.out.as_slice(), b"".as_slice());
-        assert_eq!(rt; done.err.as_slice(), fault.as_bytes());
-    }
-    Ok(())
-}
-
-#[test]
-fn unknown_keys_are_named(rt: HostRuntime) -> Result<(), Fail> {
-    let alloc = rt.alloc();
-    let text =
-        "[line]\nlink = 1\ncause = 1\nca = 1\nioa = 2\nzz = 1\nyy = 2\n[[station]]\naddress = 1\nca = 1\n";
-    let done = performed(alloc, &Job::Check(text.as_bytes()));
-    assert_eq!(rt; done.status, 1);
-    assert_eq!(rt;
-        done.err.as_slice(),
-        b"config: unknown line.yy\n".as_slice()
-    );
-    Ok(())
+fn joined(alloc: Global, first: &str, second: &str) -> Result<String, AllocError> {
+    let mut text = String::from_str(alloc, first)?;
+    text.push_str(second)?;
+    Ok(text)
 }

@@ -1,28 +1,66 @@
 //! The commands that show a frame.
-use super::{performed, texts, types};
+use super::{connection_types, line_types, prints, stops, texts};
 use crate::job::Job;
+use std::alloc::Global;
+use std::process::Abort;
 use std::test::Fail;
 
-#[test]
-fn each_text_of_the_line(rt: HostRuntime) -> Result<(), Fail> {
-    for (sizes, hex, lines, status) in &texts::LINE {
-        let done = performed(rt.alloc(), &Job::Show101(*sizes, *hex));
-        assert_eq!(rt; done.out.as_slice(), lines.as_bytes(), "{hex}");
-        assert_eq!(rt; done.status, *status, "{hex}");
-        assert_eq!(rt; done.err.as_slice(), b"".as_slice());
+/// Octets of the line: the sizes, the octets, the lines and the exit status.
+pub(super) type LineRow = (&'static str, &'static str, &'static str, u8);
+
+/// Octets of the connection, the lines and the exit status.
+pub(super) type TcpRow = (&'static str, &'static str, u8);
+
+fn shows_the_line(rt: &impl Abort, alloc: Global, rows: &[LineRow]) {
+    for (sizes, hex, lines, status) in rows {
+        prints(rt, alloc, &Job::Show101(*sizes, *hex), *lines, *status);
     }
-    Ok(())
+}
+
+fn shows_the_connection(rt: &impl Abort, alloc: Global, rows: &[TcpRow]) {
+    for (hex, lines, status) in rows {
+        prints(rt, alloc, &Job::Show104(*hex), *lines, *status);
+    }
 }
 
 #[test]
-fn each_text_of_the_connection(rt: HostRuntime) -> Result<(), Fail> {
-    for (hex, lines, status) in &texts::TCP {
-        let done = performed(rt.alloc(), &Job::Show104(*hex));
-        assert_eq!(rt; done.out.as_slice(), lines.as_bytes(), "{hex}");
-        assert_eq!(rt; done.status, *status, "{hex}");
-        assert_eq!(rt; done.err.as_slice(), b"".as_slice());
-    }
-    Ok(())
+fn each_text_of_the_line(rt: HostRuntime) {
+    shows_the_line(&rt, rt.alloc(), &texts::LINE);
+}
+
+#[test]
+fn points_on_the_line(rt: HostRuntime) {
+    shows_the_line(&rt, rt.alloc(), &line_types::POINTS);
+}
+
+#[test]
+fn values_on_the_line(rt: HostRuntime) {
+    shows_the_line(&rt, rt.alloc(), &line_types::VALUES);
+}
+
+#[test]
+fn commands_on_the_line(rt: HostRuntime) {
+    shows_the_line(&rt, rt.alloc(), &line_types::COMMANDS);
+}
+
+#[test]
+fn each_text_of_the_connection(rt: HostRuntime) {
+    shows_the_connection(&rt, rt.alloc(), &texts::TCP);
+}
+
+#[test]
+fn points_on_the_connection(rt: HostRuntime) {
+    shows_the_connection(&rt, rt.alloc(), &connection_types::POINTS);
+}
+
+#[test]
+fn values_on_the_connection(rt: HostRuntime) {
+    shows_the_connection(&rt, rt.alloc(), &connection_types::VALUES);
+}
+
+#[test]
+fn commands_on_the_connection(rt: HostRuntime) {
+    shows_the_connection(&rt, rt.alloc(), &connection_types::COMMANDS);
 }
 
 /// Sizes and octets that are wrong, and the fault.
@@ -47,29 +85,21 @@ static WRONG: [(&str, &str, &str); 17] = [
 ];
 
 #[test]
-fn wrong_words_are_faults(rt: HostRuntime) -> Result<(), Fail> {
+fn wrong_words_are_faults(rt: HostRuntime) {
     for (sizes, hex, fault) in &WRONG {
-        let done = performed(rt.alloc(), &Job::Show101(*sizes, *hex));
-        assert_eq!(rt; done.status, 1);
-        assert_eq!(rt; done.out.as_slice(), b"".as_slice());
-        assert_eq!(rt; done.err.as_slice(), fault.as_bytes(), "{sizes} {hex}");
+        stops(&rt, rt.alloc(), &Job::Show101(*sizes, *hex), *fault);
     }
-    let done = performed(rt.alloc(), &Job::Show104("68 04"));
-    assert_eq!(rt; done.status, 1);
-    assert_eq!(rt; done.err.as_slice(), b"bad octets\n".as_slice());
-    Ok(())
+    stops(&rt, rt.alloc(), &Job::Show104("68 04"), "bad octets\n");
 }
 
 #[test]
 fn there_are_at_most_1024_octets(rt: HostRuntime) -> Result<(), Fail> {
     let alloc = rt.alloc();
     let most = "E5".repeat(alloc, 1024)?;
-    let shown = performed(alloc, &Job::Show101("1112", most.as_str()));
-    assert_eq!(rt; shown.status, 1);
-    assert_eq!(rt; shown.out.as_slice(), b"single\nrest 1023\n".as_slice());
+    let job = Job::Show101("1112", most.as_str());
+    prints(&rt, alloc, &job, "single\nrest 1023\n", 1);
     let more = "E5".repeat(alloc, 1025)?;
-    let shown = performed(alloc, &Job::Show101("1112", more.as_str()));
-    assert_eq!(rt; shown.status, 1);
-    assert_eq!(rt; shown.err.as_slice(), b"bad octets\n".as_slice());
+    let job = Job::Show101("1112", more.as_str());
+    stops(&rt, alloc, &job, "bad octets\n");
     Ok(())
 }

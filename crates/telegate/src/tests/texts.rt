@@ -1,8 +1,9 @@
 //! Each text of the commands that show a frame. The octets and the words were put together by hand from the standard's
 //! tables.
+use super::shows::{LineRow, TcpRow};
 
 /// Of the line: the sizes, the octets, the lines and the exit status.
-pub(super) static LINE: [(&str, &str, &str, u8); 40] = [
+pub(super) static LINE: [LineRow; 40] = [
     (
         "1112",
         "680909680801010103016400017416",
@@ -146,7 +147,7 @@ pub(super) static LINE: [(&str, &str, &str, u8); 40] = [
 ];
 
 /// Of the connection: the octets, the lines and the exit status.
-pub(super) static TCP: [(&str, &str, u8); 34] = [
+pub(super) static TCP: [TcpRow; 34] = [
     (
         "6813000000000982030001000A0000008000FFFF80",
         "I ns=0 nr=0 octets=15\nasdu type=9 sq=1 number=2 test=0 negative=0 cause=3 originator=0 ca=1\nobject address=10 value=-32768 element=008000\nobject address=11 value=-1 element=FFFF80\n",

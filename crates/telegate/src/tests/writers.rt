@@ -1,10 +1,11 @@
 //! Outputs that fail.
-use super::CONFIG_A;
+use super::{CONFIG_A, text};
 use crate::job::Job;
 use crate::performing::perform;
+use std::alloc::Global;
 use std::io;
 use std::io::{ErrorKind, Write};
-use std::test::Fail;
+use std::process::Abort;
 
 /// Takes one octet a write, so many times, and then fails.
 #[derive(Drop)]
@@ -40,37 +41,52 @@ impl Write for Unflushed {
     }
 }
 
-#[test]
-fn output_that_fails_at_any_write_is_a_failed_device(rt: HostRuntime) -> Result<(), Fail> {
-    let alloc = rt.alloc();
-    // `ok` and a line feed: three octets.
-    for writes in 0..5u64 {
-        let mut out = Failing { writes };
-        let mut err = Vec::new(alloc);
-        let status = perform(alloc, &Job::Check(CONFIG_A), &mut out, &mut err);
-        if writes < 3 {
-            assert_eq!(rt; status, 3);
-            assert_eq!(rt; err.as_slice(), b"device failed\n".as_slice());
-        } else {
-            assert_eq!(rt; status, 0);
-            assert_eq!(rt; err.as_slice(), b"".as_slice());
-        }
-    }
+/// Does a command over a writer that takes so many octets: that is to be all of its text, or else the device failed.
+fn writes(rt: &impl Abort, alloc: Global, job: &Job<'_>, octets: u64, text_len: u64) {
+    let mut out = Failing { writes: octets };
     let mut err = Vec::new(alloc);
-    assert_eq!(rt;
-        perform(alloc, &Job::Show101("1112", "E5"), &mut Unflushed, &mut err),
-        3
-    );
-    assert_eq!(rt; err.as_slice(), b"device failed\n".as_slice());
-    Ok(())
+    let status = perform(alloc, job, &mut out, &mut err);
+    let (want, fault) = if octets < text_len {
+        (3, "device failed\n")
+    } else {
+        (0, "")
+    };
+    assert_eq!(rt; status, want);
+    assert_eq!(rt; text(err.as_slice()), fault);
 }
 
 #[test]
-fn a_fault_that_cannot_be_told_keeps_its_status(rt: HostRuntime) -> Result<(), Fail> {
-    let alloc = rt.alloc();
-    let mut out = Vec::new(alloc);
+fn output_that_fails_at_any_write_is_a_failed_device(rt: HostRuntime) {
+    // `ok` and a line feed: three octets.
+    let job = Job::Check(CONFIG_A.as_bytes());
+    for octets in 0..5u64 {
+        writes(&rt, rt.alloc(), &job, octets, 3);
+    }
+}
+
+#[test]
+fn a_run_that_cannot_be_written_is_a_failed_device(rt: HostRuntime) {
+    // No calls give the closing line alone, `station 1 reports 0 given 0 accepted 0` and a line feed: 39 octets.
+    let job = Job::Sim(CONFIG_A.as_bytes(), b"turns 0\n");
+    for octets in 0..42u64 {
+        writes(&rt, rt.alloc(), &job, octets, 39);
+    }
+}
+
+#[test]
+fn output_that_does_not_go_out_is_a_failed_device(rt: HostRuntime) {
+    let mut err = Vec::new(rt.alloc());
+    let job = Job::Show101("1112", "E5");
+    let status = perform(rt.alloc(), &job, &mut Unflushed, &mut err);
+    assert_eq!(rt; status, 3);
+    assert_eq!(rt; text(err.as_slice()), "device failed\n");
+}
+
+#[test]
+fn a_fault_that_cannot_be_told_keeps_its_status(rt: HostRuntime) {
+    let mut out = Vec::new(rt.alloc());
     let mut err = Failing { writes: 0 };
-    assert_eq!(rt; perform(alloc, &Job::Check(b""), &mut out, &mut err), 1);
-    assert_eq!(rt; out.as_slice(), b"".as_slice());
-    Ok(())
+    let status = perform(rt.alloc(), &Job::Check(b""), &mut out, &mut err);
+    assert_eq!(rt; status, 1);
+    assert_eq!(rt; text(out.as_slice()), "");
 }

@@ -1,0 +1,118 @@
+#!/usr/bin/env python3
+"""Runs `telegate sim` with one loss at each place, and judges the closing lines.
+
+    bench/losses.py [--program FILE] [--without-command]
+
+Two stations with twenty reports of class 2 each, one single point a report, and an interrogation of the first station at call 30;
+400 calls. In turn each of the first 60 requests is lost, its answer is lost, or its answer is spoilt at each of 16 places: then
+every report is given once, the command is accepted once, and 40 objects go to the control centre. In turn the connection is cut at
+each call: then every report is given once, the command is accepted at most once (a cut may take it back), and the objects of all
+connections are 40 to 52, since at most a window of 12 goes out a second time.
+`--without-command` leaves the interrogation out. Printed is a line for each run that ended otherwise, and how many there were; the
+exit status is 1 where there is one. The program is the one that ./build makes.
+"""
+import argparse
+import os
+import re
+import subprocess
+import sys
+import tempfile
+
+TOP = os.path.dirname(os.path.dirname(os.path.abspath(__file__)))
+
+SETTINGS = """[line]
+link = 1
+cause = 1
+ca = 1
+ioa = 2
+queue = 100
+[[station]]
+address = 1
+ca = 1
+[[station]]
+address = 2
+ca = 2
+"""
+
+REPORTS = 20
+OBJECTS = 2 * REPORTS
+WINDOW = 12
+
+
+def base(with_command):
+    """The script without a loss."""
+    lines = ["turns 400"]
+    for station in (1, 2):
+        for n in range(REPORTS):
+            # A spontaneous single point, each at an address of its own.
+            asdu = bytes([0x01, 0x01, 0x03, station, 100 + n, 0, n % 2])
+            lines.append(f"report {station} 2 {asdu.hex().upper()}")
+    if with_command:
+        lines.append("send 30 64010600010000000014")
+    return "\n".join(lines) + "\n"
+
+
+def run(program, settings, script):
+    """The lines that the program prints."""
+    done = subprocess.run([program, "sim", settings, script], capture_output=True, text=True)
+    if done.returncode != 0:
+        sys.exit(f"losses: exit status {done.returncode}: {done.stderr}")
+    return done.stdout.splitlines()
+
+
+def station(number, accepted):
+    return f"station {number} reports {REPORTS} given {REPORTS} accepted {accepted}"
+
+
+def is_whole(lines, accepted):
+    """Whether nothing is missing, and nothing told twice."""
+    return lines[-3:] == [station(1, accepted), station(2, 0), f"connection 1 objects {OBJECTS}"]
+
+
+def is_cut(lines, accepted):
+    """Whether nothing is missing, and at most a window is told twice."""
+    closing = [line for line in lines if re.match("station |connection ", line)]
+    stations = [line for line in closing if line.startswith("station ")]
+    objects = sum(int(line.split()[3]) for line in closing if line.startswith("connection "))
+    first = [station(1, n) for n in range(accepted + 1)]
+    return len(stations) == 2 and stations[0] in first and stations[1] == station(2, 0) and OBJECTS <= objects <= OBJECTS + WINDOW
+
+
+def losses():
+    """A line for each loss, and what is to hold of the run with it."""
+    for n in range(1, 61):
+        yield f"lose request {n}", is_whole
+        yield f"lose answer {n}", is_whole
+        for place in range(16):
+            yield f"spoil answer {n} {place}", is_whole
+    for n in range(1, 401):
+        yield f"cut {n}", is_cut
+
+
+def main():
+    words = argparse.ArgumentParser()
+    words.add_argument("--program", default=os.path.join(TOP, "crates", "telegate", "out", "telegate"))
+    words.add_argument("--without-command", action="store_true")
+    given = words.parse_args()
+    accepted = 0 if given.without_command else 1
+    script = base(not given.without_command)
+    runs = wrong = 0
+    with tempfile.TemporaryDirectory() as folder:
+        settings = os.path.join(folder, "config.toml")
+        path = os.path.join(folder, "losses.script")
+        with open(settings, "w") as file:
+            file.write(SETTINGS)
+        for loss, is_good in [("", is_whole), *losses()]:
+            with open(path, "w") as file:
+                file.write(f"{script}{loss}\n")
+            lines = run(given.program, settings, path)
+            runs += 1
+            if not is_good(lines, accepted):
+                wrong += 1
+                print(f"{loss or 'no loss'}: {lines[-4:]}")
+    print(f"{runs} runs, {wrong} wrong")
+    sys.exit(1 if wrong else 0)
+
+
+if __name__ == "__main__":
+    main()
