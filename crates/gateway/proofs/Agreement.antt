@@ -30,9 +30,9 @@ use Rattle.gateway.specs.Polls.{has_room}
 use Rattle.gateway.specs.Room.{IsFull}
 use Rattle.gateway.specs.Traffic.{is_replaced, replaces, HasCause, IsAtRest, IsFaithful}
 use Rattle.command.specs.State as tasks
-use Rattle.gateway.specs.State.{State, disconnected, framed, next_frame, piece_sent, own_sent}
+use Rattle.gateway.specs.State.{has_place, State, disconnected, framed, next_frame, piece_sent, own_sent}
 use Rattle.gateway.specs.Steps.{IsCloseAt, after_closing}
-use Rattle.gateway.specs.Works.{Works, tasks_of, with_call, cut_works, settled_works, ready_works, unasked_works, IsOwnDue}
+use Rattle.gateway.specs.Works.{is_overfull, Works, tasks_of, with_call, cut_works, settled_works, ready_works, unasked_works, IsOwnDue}
 use Rattle.gateway.specs.Line.{IsServed, done_in}
 use Rattle.gateway.proofs.Serving.{upto_leaves, upto_counts, offers_reach, unasked_stays, left_at_rest}
 use Rattle.link.specs.Offers.{offered_at}
@@ -42,15 +42,16 @@ use Rattle.link.specs.Procedure.{holds_command}
 use Rattle.command.specs.State.{octets_waiting, oldest}
 use Rattle.command.specs.declared.waiting.Waiting.{Waiting}
 use Rattle.command.specs.Calls.{SendOwn}
+use Rattle.command.specs.History as happened
 use Rattle.gateway.specs.Course.{Course, here_of, came_frames, room_by, room_in, kind_of, told_sent, with_sent, with_frame, ended_course, works_at, closed_course, Runs}
-use Rattle.gateway.specs.Phases.{Phase, Fresh, Taking, Idle, Timed, Asked, IsPhase, works_in, IsAsked, IsOut}
+use Rattle.gateway.specs.Phases.{Phase, Fresh, Taking, Idle, Crowded, Timed, Asked, IsPhase, works_in, IsAsked, IsPlaced, IsOut, after_frame}
 use Rattle.session.specs.History as talk
 use Rattle.session.specs.History.{History, frame_due, has_timed_out}
 use Rattle.session.specs.Runs.{Call, Send, after_call}
 use Rattle.session.specs.Ends.{IsConfirmed}
 use Rattle.gateway.specs.Conversation.{KeepsTalk}
-use Rattle.gateway.specs.Agrees.{Presently, Carries, Past, Talks, Agrees, Does, Tied, ArePlain, IsSpent, IsQuiet, pieces_of}
-use Rattle.gateway.proofs.Working.{answers_in, does_same, does_heard, does_cut, does_cut_again, does_own, asked_own, heard_due, settled_due}
+use Rattle.gateway.specs.Agrees.{IsAt, Presently, Carries, Past, Talks, Agrees, Does, Tied, ArePlain, IsSpent, IsQuiet, pieces_of}
+use Rattle.gateway.proofs.Working.{answers_in, does_same, does_heard, does_cut, does_cut_again, does_own, asked_own, own_placed, heard_placed, heard_due, settled_due}
 use Rattle.gateway.proofs.Offering.{offers_heard, offers_cut, heard_plain}
 use Rattle.gateway.proofs.Talking.{at, HasNoData, no_own, sends, kept_talk, talk_out, talk_heard, talk_cut, all_taken, confirmed_by, due_by, late_by}
 use Rattle.gateway.proofs.Unconfirmed.{numbered_more}
@@ -120,8 +121,27 @@ pub phase_out : (phase : Phase) (log : Log) (now : ℕ) (octets : List ℕ) → 
 phase_out Fresh log now octets on h = let no : false ≡ true = sym (ap (λ l. (present l).is_open) h) ∙ on in cc
 phase_out Taking log now octets on h = h
 phase_out Idle log now octets on h = tt
+phase_out Crowded log now octets on h = tt
 phase_out Timed log now octets on h = tt
 phase_out Asked log now octets on h = tt
+
+-- what found a place before found one still
+pub placed_on : (phase : Phase) (log new : Log) (h g : happened.History) → ((present new).is_open ≡ true → (present log).is_open ≡ true) → is_overfull g ≡ is_overfull h → IsPlaced phase log h → IsPlaced phase new g
+placed_on Crowded log new h g on same k = tt
+placed_on Fresh log new h g on same k = λ o. same ∙ k (on o)
+placed_on Taking log new h g on same k = λ o. same ∙ k (on o)
+placed_on Idle log new h g on same k = λ o. same ∙ k (on o)
+placed_on Timed log new h g on same k = λ o. same ∙ k (on o)
+placed_on Asked log new h g on same k = λ o. same ∙ k (on o)
+
+-- where a connection has just ended nothing is overfull
+pub placed_cut : (phase : Phase) (log : Log) (h : happened.History) → IsPlaced phase log (happened.Ended ∷ h)
+placed_cut Crowded log h = tt
+placed_cut Fresh log h = λ o. refl
+placed_cut Taking log h = λ o. refl
+placed_cut Idle log h = λ o. refl
+placed_cut Timed log h = λ o. refl
+placed_cut Asked log h = λ o. refl
 
 acknowledged_within : (p : Setup) (s : State) (log : Log) (unjudged : List ℕ) (phase : Phase) (a : Agrees p s log unjudged phase) → acknowledged_count (came_frames a.course.talk) ≤ length a.course.sent
 acknowledged_within p s log unjudged phase a = omega (arith, a.here.tied.unconfirmed.count)
@@ -207,7 +227,7 @@ after_piece p s log unjudged asdu rest phase a may on unsent fits =
       line = a.line;
       course = data_course s asdu FromQueue s.moment a.course.works a.course;
       talk = talk;
-      stands = record { does = same_does p phase (latest log) _ _ a.course.works s (piece_sent s) room refl refl refl refl a.stands.does; asks = same_asks p phase (latest log) _ _ a.course.works room a.stands.asks; phase_is = phase_out phase log s.moment _ (sym a.here.link ∙ on) a.stands.phase_is };
+      stands = record { does = same_does p phase (latest log) _ _ a.course.works s (piece_sent s) room refl refl refl refl a.stands.does; asks = same_asks p phase (latest log) _ _ a.course.works room a.stands.asks; phase_is = phase_out phase log s.moment _ (sym a.here.link ∙ on) a.stands.phase_is; placed = placed_on phase log _ _ _ (λ o. o) refl a.stands.placed };
       offers = a.offers;
       plain = a.plain;
       here = went_out s (piece_sent s) (present log) unjudged (here_of a.course) (a.course.sent ++ f ∷ []) (next_frame s.session asdu) a.here fits on refl refl
@@ -253,6 +273,7 @@ after_own p s log unjudged asdu phase a may on first fits =
         does = same_does p phase (latest log) _ _ w (record s { commands = tasks.answered s.commands }) (own_sent s) room refl refl refl refl (does_own p a.course.works asdu oldest phase s (latest log) (room_in p log a.course) a.stands.does);
         asks = same_asks p phase (latest log) _ _ w room (asked_own p a.course.works asdu oldest phase (latest log) (room_in p log a.course) a.stands.asks);
         phase_is = phase_out phase log s.moment _ (sym a.here.link ∙ on) a.stands.phase_is;
+        placed = placed_on phase log _ _ _ (λ o. o) (own_placed p a.course.works asdu oldest) a.stands.placed;
       };
       offers = a.offers;
       plain = fewer_plain s.commands.answers a.plain;
@@ -290,7 +311,7 @@ after_due p s t log unjudged f phase a on fits none goes same = record {
   line = a.line;
   course = due_course f s.moment a.course;
   talk = talk_due;
-  stands = record { does = does_same p s (record s { session = t }) _ refl refl refl refl a.stands.does; asks = a.stands.asks; phase_is = phase_out phase log s.moment _ (sym a.here.link ∙ on) a.stands.phase_is };
+  stands = record { does = does_same p s (record s { session = t }) _ refl refl refl refl a.stands.does; asks = a.stands.asks; phase_is = phase_out phase log s.moment _ (sym a.here.link ∙ on) a.stands.phase_is; placed = placed_on phase log _ _ _ (λ o. o) refl a.stands.placed };
   offers = a.offers;
   plain = a.plain;
   here = went_out s (record s { session = t }) (present log) unjudged (here_of a.course) a.course.sent f a.here fits on same.same_connected refl (a.here.sent ∙ sym (none a.here.put)) (omega arith)
@@ -303,10 +324,25 @@ after_due p s t log unjudged f phase a on fits none goes same = record {
     talk_due = subst (Talks p t (Went s.moment (TcpOut (spelling f)) ∷ log)) (due_same f s.moment a.course none)
         (talk_out p s.session t log a.course s.moment s.moment f goes.call a.talk fits a.clock (no_own p a.course.works f none) (goes.made a.course.talk) (a.here.so_far ++ unjudged, a.here.joined))
 
+-- the works where a frame is taken, by whether its answer finds a place
+heard_stands : (p : Setup) (s : State) (log : Log) (f : Apdu) (c : Course) (kept : Bool) → has_place f s.moment s.commands ≡ kept → IsAt p log Taking s c → IsAt p log (after_frame kept) (framed f s) (with_frame p f s.moment c)
+heard_stands p s log f c true place h = record {
+  does = does_heard p s (framed f s) f s.moment c.works refl refl refl refl h.does;
+  asks = heard_due p f s.moment c.works ∙ h.asks;
+  phase_is = h.phase_is;
+  placed = λ o. heard_placed p f s.moment c.works (ap (has_place f s.moment) (sym h.does.commands) ∙ place) ∙ h.placed o;
+}
+heard_stands p s log f c false place h = record {
+  does = does_heard p s (framed f s) f s.moment c.works refl refl refl refl h.does;
+  asks = heard_due p f s.moment c.works ∙ h.asks;
+  phase_is = tt;
+  placed = tt;
+}
+
 -- a whole frame without fault is taken
 pub after_heard : (p : Setup) (s : State) (log : Log) (unjudged rest : List ℕ) (f : Apdu) (a : Agrees p s log unjudged Taking) → s.session.connected ≡ true → IsConfirmed s.session → s.so_far ≡ Some [] → Fits f → a.here.so_far ++ unjudged ≡ spelling f ++ rest → refuses s.session f ≡ false → fault_of (length a.course.sent) (came_frames a.course.talk) f ≡ None →
-    Agrees p (framed f s) log rest Taking
-after_heard p s log unjudged rest f a on ready so fits whole passes faultless =
+    (kept : Bool) → has_place f s.moment s.commands ≡ kept → Agrees p (framed f s) log rest (after_frame kept)
+after_heard p s log unjudged rest f a on ready so fits whole passes faultless kept place =
     let joined : (present log).received ≡ spelled (f ∷ came_frames a.course.talk) ++ rest = a.here.joined ∙ ap (λ x. spelled (came_frames a.course.talk) ++ x) whole ∙ sym (append_assoc (spelled (came_frames a.course.talk)) (spelling f) rest) in
     let stays = taken_stays f s.moment s.session in
     record {
@@ -319,11 +355,7 @@ after_heard p s log unjudged rest f a on ready so fits whole passes faultless =
       line = a.line;
       course = with_frame p f s.moment a.course;
       talk = talk_heard p s.session log a.course s.moment f rest a.talk a.stands.phase_is a.clock on ready passes joined;
-      stands = record {
-        does = does_heard p s (framed f s) f s.moment a.course.works refl refl refl refl a.stands.does;
-        asks = heard_due p f s.moment a.course.works ∙ a.stands.asks;
-        phase_is = a.stands.phase_is;
-      };
+      stands = heard_stands p s log f a.course kept place a.stands;
       offers = offers_heard a.talk.command_laws s.line s.line s.commands (framed f s).commands f s.moment refl refl a.offers;
       plain = heard_plain a.talk.command_laws f s.moment s.commands fits a.plain;
       here = record {
@@ -345,10 +377,10 @@ after_heard p s log unjudged rest f a on ready so fits whole passes faultless =
       before = a.before;
     }
 
-pub heard_course : (p : Setup) (s : State) (log : Log) (unjudged rest : List ℕ) (f : Apdu) (a : Agrees p s log unjudged Taking) (on : s.session.connected ≡ true) (ready : IsConfirmed s.session) (so : s.so_far ≡ Some []) (fits : Fits f) (whole : a.here.so_far ++ unjudged ≡ spelling f ++ rest) (passes : refuses s.session f ≡ false) (faultless : fault_of (length a.course.sent) (came_frames a.course.talk) f ≡ None) →
-    (after_heard p s log unjudged rest f a on ready so fits whole passes faultless).course ≡ with_frame p f s.moment a.course
+pub heard_course : (p : Setup) (s : State) (log : Log) (unjudged rest : List ℕ) (f : Apdu) (a : Agrees p s log unjudged Taking) (on : s.session.connected ≡ true) (ready : IsConfirmed s.session) (so : s.so_far ≡ Some []) (fits : Fits f) (whole : a.here.so_far ++ unjudged ≡ spelling f ++ rest) (passes : refuses s.session f ≡ false) (faultless : fault_of (length a.course.sent) (came_frames a.course.talk) f ≡ None) (kept : Bool) (place : has_place f s.moment s.commands ≡ kept) →
+    (after_heard p s log unjudged rest f a on ready so fits whole passes faultless kept place).course ≡ with_frame p f s.moment a.course
 unfolding after_heard
-heard_course p s log unjudged rest f a on ready so fits whole passes faultless = refl
+heard_course p s log unjudged rest f a on ready so fits whole passes faultless kept place = refl
 
 -- the same of another assembler's state
 pub with_so_far : (p : Setup) (s : State) (log : Log) (unjudged rest so_far : List ℕ) (phase : Phase) (a : Agrees p s log unjudged phase) → IsMore so_far → (present log).received ≡ spelled (came_frames a.course.talk) ++ (so_far ++ rest) → Agrees p (record s { so_far = Some so_far }) log rest phase
@@ -362,7 +394,7 @@ with_so_far p s log unjudged rest so_far phase a waits joined = record {
   line = a.line;
   course = a.course;
   talk = a.talk;
-  stands = record { does = does_same p s (record s { so_far = Some so_far }) _ refl refl refl refl a.stands.does; asks = a.stands.asks; phase_is = a.stands.phase_is };
+  stands = record { does = does_same p s (record s { so_far = Some so_far }) _ refl refl refl refl a.stands.does; asks = a.stands.asks; phase_is = a.stands.phase_is; placed = a.stands.placed };
   offers = a.offers;
   plain = a.plain;
   here = record {
@@ -402,7 +434,7 @@ now_idle p s log a = record {
   line = a.line;
   course = a.course;
   talk = a.talk;
-  stands = record { does = a.stands.does; asks = a.stands.asks; phase_is = tt };
+  stands = record { does = a.stands.does; asks = a.stands.asks; phase_is = tt; placed = a.stands.placed };
   offers = a.offers;
   plain = a.plain;
   here = a.here;
@@ -525,31 +557,38 @@ closed_does p s Grammar Taking at room other w timely d = does_cut p s w d
 closed_does p s SendNumber Taking at room other w timely d = does_cut p s w d
 closed_does p s ReceiveNumber Taking at room other w timely d = does_cut p s w d
 closed_does p s Stopped Taking at room other w timely d = does_cut p s w d
-closed_does p s OwnAnswers Taking at room other w timely d = does_cut p s w d
-closed_does p s Replaced Taking at room other w timely d = does_cut p s w d
 closed_does p s Timeout Taking at room other w timely d = absurd timely
-closed_does p s Grammar Idle at room other w timely d = does_cut p s w d
-closed_does p s SendNumber Idle at room other w timely d = does_cut p s w d
-closed_does p s ReceiveNumber Idle at room other w timely d = does_cut p s w d
-closed_does p s Stopped Idle at room other w timely d = does_cut p s w d
-closed_does p s OwnAnswers Idle at room other w timely d = does_cut p s w d
-closed_does p s Replaced Idle at room other w timely d = does_cut p s w d
+closed_does p s OwnAnswers Taking at room other w timely d = absurd timely
+closed_does p s Replaced Taking at room other w timely d = does_cut p s w d
+closed_does p s Grammar Idle at room other w timely d = absurd timely
+closed_does p s SendNumber Idle at room other w timely d = absurd timely
+closed_does p s ReceiveNumber Idle at room other w timely d = absurd timely
+closed_does p s Stopped Idle at room other w timely d = absurd timely
 closed_does p s Timeout Idle at room other w timely d = absurd timely
-closed_does p s Timeout Timed at room other w timely d = does_cut_again p s at w d
+closed_does p s OwnAnswers Idle at room other w timely d = absurd timely
+closed_does p s Replaced Idle at room other w timely d = absurd timely
+closed_does p s Grammar Crowded at room other w timely d = absurd timely
+closed_does p s SendNumber Crowded at room other w timely d = absurd timely
+closed_does p s ReceiveNumber Crowded at room other w timely d = absurd timely
+closed_does p s Stopped Crowded at room other w timely d = absurd timely
+closed_does p s Timeout Crowded at room other w timely d = absurd timely
+closed_does p s OwnAnswers Crowded at room other w timely d = does_cut p s w d
+closed_does p s Replaced Crowded at room other w timely d = absurd timely
 closed_does p s Grammar Timed at room other w timely d = absurd timely
 closed_does p s SendNumber Timed at room other w timely d = absurd timely
 closed_does p s ReceiveNumber Timed at room other w timely d = absurd timely
 closed_does p s Stopped Timed at room other w timely d = absurd timely
+closed_does p s Timeout Timed at room other w timely d = does_cut_again p s at w d
 closed_does p s OwnAnswers Timed at room other w timely d = absurd timely
 closed_does p s Replaced Timed at room other w timely d = absurd timely
-closed_does p s cause Fresh at room other w timely d = absurd (not_fresh cause timely)
-closed_does p s Timeout Asked at room other w timely d = absurd timely
 closed_does p s Grammar Asked at room other w timely d = absurd timely
 closed_does p s SendNumber Asked at room other w timely d = absurd timely
 closed_does p s ReceiveNumber Asked at room other w timely d = absurd timely
 closed_does p s Stopped Asked at room other w timely d = absurd timely
+closed_does p s Timeout Asked at room other w timely d = absurd timely
 closed_does p s OwnAnswers Asked at room other w timely d = absurd timely
 closed_does p s Replaced Asked at room other w timely d = absurd timely
+closed_does p s cause Fresh at room other w timely d = absurd (not_fresh cause timely)
 
 works_due : (p : Setup) (cause : Close) (at : ℕ) (w : Works) → (works_at p cause at w).is_due ≡ w.is_due
 works_due p Timeout at w = settled_due p at w
@@ -562,7 +601,17 @@ works_due p Replaced at w = refl
 
 closed_asks : (p : Setup) (cause : Close) (phase : Phase) (at : ℕ) (room other : Bool) (w : Works) → IsCloseAt cause phase → IsAsked phase p at room w → IsAsked (after_closing phase) p at other (cut_works (works_at p cause at w))
 closed_asks p cause Taking at room other w timely h = works_due p cause at w ∙ h
-closed_asks p cause Idle at room other w timely h = works_due p cause at w ∙ h
+closed_asks p cause Idle at room other w timely h = absurd (never cause timely)
+  where
+    never : (cause : Close) → IsCloseAt cause Idle → ⊥
+    never Timeout h = h
+    never Grammar h = h
+    never SendNumber h = h
+    never ReceiveNumber h = h
+    never Stopped h = h
+    never OwnAnswers h = h
+    never Replaced h = h
+closed_asks p cause Crowded at room other w timely h = works_due p cause at w ∙ h
 closed_asks p cause Timed at room other w timely h = works_due p cause at w ∙ h
 closed_asks p cause Fresh at room other w timely h = absurd (not_fresh cause timely)
 closed_asks p cause Asked at room other w timely h = absurd (never cause timely)
@@ -580,6 +629,7 @@ closed_phase : (phase : Phase) (log : Log) (now : ℕ) (cause : Close) → IsClo
 closed_phase Fresh log now cause timely = absurd (not_fresh cause timely)
 closed_phase Taking log now cause timely = tt
 closed_phase Idle log now cause timely = tt
+closed_phase Crowded log now cause timely = tt
 closed_phase Timed log now cause timely = tt
 closed_phase Asked log now cause timely = tt
 
@@ -626,6 +676,7 @@ after_close laws p s log unjudged cause phase fault a on last timely stands why 
         does = closed_does p s cause phase (latest log) (room_in p log a.course) (room_in p new course) a.course.works timely a.stands.does;
         asks = closed_asks p cause phase (latest log) (room_in p log a.course) (room_in p new course) a.course.works timely a.stands.asks;
         phase_is = closed_phase phase log s.moment cause timely;
+        placed = placed_cut (after_closing phase) new _;
       };
       offers = offers_cut laws s.line (tasks.closed s.commands);
       plain = tt;
@@ -656,6 +707,7 @@ rested laws p s log a spent quiet = record {
   course_runs = a.talk.course_runs;
   are = record { open_one = stands_now p s log Asked a; earlier = a.before.are };
   settled = a.settled;
+  placed = a.stands.placed;
   eager = λ on started room.
       let may : may_send s.session ≡ true = can (is_running s.session) (a.here.tied.running ∙ started) (omega (arith, room, a.here.tied.unconfirmed.count, a.k)) in
       let all = spent may in

@@ -34,15 +34,15 @@ use Rattle.gateway.specs.State.{State, at_moment, disconnected, connected}
 use Rattle.gateway.specs.Counting.{counted, one_mirrored, one_lost}
 use Rattle.gateway.specs.Works.{Works, tasks_of, kept_until, all_kept, is_overfull, listed, is_command_report, IsPassedOn, with_call, mirrored_works, LearnsReport, given_up_works, refused_works, LearnsOf, cut_works, heard_by, silent_by, begun_works, ready_works, unasked_works, done_works}
 use Rattle.gateway.specs.Course.{Course, came_frames, here_of, room_in, TakesFrames, HasTakenAll, ended_course, opened_course, IsLeft, with_works, Comes, Runs}
-use Rattle.gateway.specs.Phases.{Idle, Taking, resting}
+use Rattle.gateway.specs.Phases.{Idle, Taking, resting, IsPlaced, after_line}
 use Rattle.gateway.specs.LineLaws.{LineLaws}
 use Rattle.gateway.specs.CommandLaws.{CommandLaws}
 use Rattle.gateway.specs.Steps as steps
 use Rattle.gateway.specs.Steps.{Keeps, Mirrors, mirrored_state, mirror_fits, Learns, HearsEvent}
-use Rattle.gateway.specs.Agrees.{Presently, Carries, Talks, Agrees, Tied, Does, OffersWait, ArePlain}
+use Rattle.gateway.specs.Agrees.{IsAt, Presently, Carries, Talks, Agrees, Tied, Does, OffersWait, ArePlain}
 use Rattle.gateway.proofs.Talking.{kept_talk, talk_on, talk_cut, talk_open, all_taken}
 use Rattle.gateway.proofs.Objects.{orders_grow, carries_more}
-use Rattle.gateway.proofs.Working.{kept_state, kept_overfull, kept_waiting, kept_plain, does_same, does_cut}
+use Rattle.gateway.proofs.Working.{kept_state, kept_overfull, kept_placed, done_placed, kept_waiting, kept_plain, does_same, does_cut}
 use Rattle.gateway.proofs.Offering.{offers_stay, offers_cut, no_monitor}
 use Rattle.gateway.proofs.Agreement.{Ended, ended, fresh, stands_now, in_order}
 use Rattle.gateway.proofs.Stations.{keeps_links, LineGoesOn, taken_grows, parts_grow, after_octets, after_moment}
@@ -70,6 +70,7 @@ pub record Learnt (p : Setup) (at : ℕ) (is_running : Bool) (o : Outcome) (w : 
   pub silent : z.silent ≡ w.silent
   pub due : z.is_due ≡ w.is_due
   pub full : fits ≡ false → is_overfull (tasks_of p z).history ≡ true
+  pub placed : fits ≡ true → is_overfull (tasks_of p z).history ≡ is_overfull (tasks_of p w).history
   pub waiting : t.commands.waiting ≡ s.commands.waiting
   pub plain : ArePlain t.commands.answers
 
@@ -84,6 +85,7 @@ module _ (p : Setup) (at : ℕ) (s : State) (w : Works) (laws : CommandLaws) (cl
     silent = refl;
     due = refl;
     full = λ off. let no : false ≡ true = sym off ∙ h.1 in cc;
+    placed = λ on. refl;
     waiting = refl;
     plain = plain;
   })
@@ -98,6 +100,7 @@ module _ (p : Setup) (at : ℕ) (s : State) (w : Works) (laws : CommandLaws) (cl
     silent = refl;
     due = refl;
     full = λ off. let no : false ≡ true = sym off ∙ h.1 in cc;
+    placed = λ on. refl;
     waiting = refl;
     plain = plain;
   })
@@ -112,6 +115,7 @@ module _ (p : Setup) (at : ℕ) (s : State) (w : Works) (laws : CommandLaws) (cl
     silent = refl;
     due = refl;
     full = λ off. let no : false ≡ true = sym off ∙ h.1 in cc;
+    placed = λ on. refl;
     waiting = refl;
     plain = plain;
   })
@@ -132,6 +136,8 @@ module _ (p : Setup) (at : ℕ) (s : State) (w : Works) (laws : CommandLaws) (cl
     due = refl;
     full = λ off. kept_overfull p.stations p.sizes p.select_ms (listed (refusal_of (line_of i (tasks_of p w).state))) (Busy i ∷ w.calls)
         (ap (λ (c : tasks.State). all_kept (listed (refusal_of (line_of i c))) (tasks.given_up i c)) (sym commands) ∙ sym h.1 ∙ off);
+    placed = λ on. kept_placed p.stations p.sizes p.select_ms (listed (refusal_of (line_of i (tasks_of p w).state))) (Busy i ∷ w.calls)
+        (ap (λ (c : tasks.State). all_kept (listed (refusal_of (line_of i c))) (tasks.given_up i c)) (sym commands) ∙ sym h.1 ∙ on);
     waiting = kept_waiting (listed (refusal_of (line_of i s.commands))) (tasks.given_up i s.commands);
     plain = kept_plain (listed (refusal_of (line_of i s.commands))) (tasks.given_up i s.commands) (refusal_plain i (refusal_of (line_of i s.commands)) refl) plain;
   })
@@ -150,6 +156,7 @@ module _ (p : Setup) (at : ℕ) (s : State) (w : Works) (laws : CommandLaws) (cl
         silent = refl;
         due = refl;
         full = λ off. kept_overfull p.stations p.sizes p.select_ms m.pieces (Mirror m.v at ∷ w.calls) (ap (all_kept m.pieces) (sym heard) ∙ sym (m.all ∙ ap (λ b. mirror_fits b m.v m.pieces s) runs) ∙ off);
+        placed = λ on. kept_placed p.stations p.sizes p.select_ms m.pieces (Mirror m.v at ∷ w.calls) (ap (all_kept m.pieces) (sym heard) ∙ sym (m.all ∙ ap (λ b. mirror_fits b m.v m.pieces s) runs) ∙ on);
         waiting = kept_waiting m.pieces (mirrored m.v s.moment s.commands) ∙ laws.mirrored_waits m.v s.moment s.commands;
         plain = kept_plain m.pieces (mirrored m.v s.moment s.commands) m.plain (subst ArePlain (sym (laws.mirrored_answers m.v s.moment s.commands)) plain);
       })
@@ -165,6 +172,7 @@ module _ (p : Setup) (at : ℕ) (s : State) (w : Works) (laws : CommandLaws) (cl
         silent = refl;
         due = refl;
         full = λ off. let no : false ≡ true = sym off ∙ (m.all ∙ ap (λ b. mirror_fits b m.v m.pieces s) runs) in cc;
+        placed = λ on. refl;
         waiting = laws.mirrored_waits m.v s.moment s.commands;
         plain = subst ArePlain (sym (laws.mirrored_answers m.v s.moment s.commands)) plain;
       })
@@ -179,6 +187,7 @@ module _ (p : Setup) (at : ℕ) (s : State) (w : Works) (laws : CommandLaws) (cl
     silent = refl;
     due = refl;
     full = λ off. let no : false ≡ true = sym off ∙ h.1 in cc;
+    placed = λ on. refl;
     waiting = refl;
     plain = plain;
   })
@@ -289,6 +298,7 @@ pub record Heard (p : Setup) (s t : State) (old : Log) (now : ℕ) (event : Inpu
   pub does : Does p t z
   pub due : z.is_due ≡ true
   pub full : fits ≡ false → is_overfull (tasks_of p z).history ≡ true
+  pub placed : fits ≡ true → is_overfull (tasks_of p z).history ≡ is_overfull (tasks_of p left.works).history
   pub offers : OffersWait t.line t.commands
   pub plain : ArePlain t.commands.answers
   pub more : List InformationObject
@@ -338,6 +348,7 @@ heard_line laws p s t log now octets fits a b =
       };
       due = l.due;
       full = l.full;
+      placed = l.placed;
       offers = offers_stay s.line (timed_out b.middle.line b.middle.moment) s.commands b.middle.commands
           (λ i. laws.timed_offers b.middle.line b.middle.moment i ∙ ap (λ x. offered_at x i) k.line ∙ laws.heard_offers (front_of s.line.settings.size) s.line octets i) l.waiting a.offers;
       plain = l.plain;
@@ -385,6 +396,7 @@ only_time laws p s t log now event fits a other deaf works is b =
       };
       due = refl;
       full = λ off. let no : false ≡ true = sym off ∙ none.1 in cc;
+      placed = λ on. refl;
       offers = offers_stay s.line (timed_out s.line first.moment) s.commands s.commands (λ i. laws.timed_offers s.line first.moment i) refl a.offers;
       plain = a.plain;
       more = [];
@@ -403,6 +415,14 @@ heard_event laws p s t log now Opened fits a b = only_time laws p s t log now Op
 heard_event laws p s t log now (TcpIn octets) fits a b = only_time laws p s t log now (TcpIn octets) fits a (λ middle t fits h. h) (λ q. refl) (λ at c z is. is) refl b
 heard_event laws p s t log now CutOff fits a b = only_time laws p s t log now CutOff fits a (λ middle t fits h. h) (λ q. refl) (λ at c z is. is) refl b
 heard_event laws p s t log now Ticked fits a b = only_time laws p s t log now Ticked fits a (λ middle t fits h. h) (λ q. refl) (λ at c z is. is) refl b
+
+-- what found a place before the event
+placed_before : (p : Setup) (s : State) (log : Log) (a : Agrees p s log [] (resting log)) → (present log).is_open ≡ true → is_overfull (tasks_of p (left_of p log a.course).works).history ≡ false
+placed_before p s log a on = done_placed p (latest log) (room_in p log a.course) a.course.works ∙ at_rest log on a.stands.placed
+  where
+    at_rest : (log : Log) → (present log).is_open ≡ true → IsPlaced (resting log) log (tasks_of p a.course.works).history → is_overfull (tasks_of p a.course.works).history ≡ false
+    at_rest [] on h = h on
+    at_rest (entry ∷ log) on h = h on
 
 -- The connection's part
 
@@ -441,9 +461,18 @@ IsAside now event log = (present (Came now event ∷ log) ≡ present log) × (p
 abbrev GoesOn : ℕ → Input → Log → Type 0
 GoesOn now event log = (p : Setup) (c : Course) (z : Works) → Worked p log (latest (Came now event ∷ log)) event c z → Comes p log (latest (Came now event ∷ log)) event c (with_works z c)
 
-pub come_other : (p : Setup) (s t : State) (log : Log) (now : ℕ) (event : Input) (fits : Bool) → IsAside now event log → GoesOn now event log → HasRested p log → (a : Agrees p s log [] (resting log)) → (h : Heard p s t log now event (left_of p log a.course) fits) →
-    Agrees p t (Came now event ∷ log) [] Idle
-come_other p s t log now event fits aside on rest a h =
+-- the works after such an event, by whether what it brought of own answers found places
+other_stands : (p : Setup) (t : State) (new : Log) (d : Course) (kept : Bool) → Does p t d.works → d.works.is_due ≡ true → (kept ≡ true → (present new).is_open ≡ true → is_overfull (tasks_of p d.works).history ≡ false) → IsAt p new (after_line kept) t d
+other_stands p t new d true does due placed = record { does = does; asks = due; phase_is = tt; placed = placed refl }
+other_stands p t new d false does due placed = record { does = does; asks = due; phase_is = tt; placed = tt }
+
+-- the connection is open where own answers count
+abbrev pub Counts : Bool → Bool → Log → Type 0
+Counts kept fits log = kept ≡ true → (present log).is_open ≡ true → fits ≡ true
+
+pub come_other : (p : Setup) (s t : State) (log : Log) (now : ℕ) (event : Input) (fits kept : Bool) → Counts kept fits log → IsAside now event log → GoesOn now event log → HasRested p log → (a : Agrees p s log [] (resting log)) → (h : Heard p s t log now event (left_of p log a.course) fits) →
+    Agrees p t (Came now event ∷ log) [] (after_line kept)
+come_other p s t log now event fits kept counts aside on rest a h =
     let new : Log = Came now event ∷ log in
     let left : Course = left_of p log a.course in
     let d : Course = with_works h.z left in
@@ -459,7 +488,7 @@ come_other p s t log now event fits aside on rest a h =
       line = h.line;
       course = d;
       talk = talk;
-      stands = record { does = h.does; asks = h.due; phase_is = tt };
+      stands = other_stands p t new d kept h.does h.due (λ yes o. let was : (present log).is_open ≡ true = ap (λ (x : Channel). x.is_open) (sym aside.0) ∙ o in h.placed (counts yes was) ∙ placed_before p s log a was);
       offers = h.offers;
       plain = h.plain;
       here = subst (λ x. Presently t x [] (here_of a.course)) (sym aside.0) (goes_on p s t log now event left fits (present log) [] (here_of a.course) h a.here);
@@ -474,10 +503,10 @@ come_other p s t log now event fits aside on rest a h =
     }
 
 -- with these works
-pub come_course : (p : Setup) (s t : State) (log : Log) (now : ℕ) (event : Input) (fits : Bool) (aside : IsAside now event log) (on : GoesOn now event log) (rest : HasRested p log) (a : Agrees p s log [] (resting log)) → (h : Heard p s t log now event (left_of p log a.course) fits) →
-    (come_other p s t log now event fits aside on rest a h).course ≡ with_works h.z (left_of p log a.course)
+pub come_course : (p : Setup) (s t : State) (log : Log) (now : ℕ) (event : Input) (fits kept : Bool) (counts : Counts kept fits log) (aside : IsAside now event log) (on : GoesOn now event log) (rest : HasRested p log) (a : Agrees p s log [] (resting log)) → (h : Heard p s t log now event (left_of p log a.course) fits) →
+    (come_other p s t log now event fits kept counts aside on rest a h).course ≡ with_works h.z (left_of p log a.course)
 unfolding come_other
-come_course p s t log now event fits aside on rest a h = refl
+come_course p s t log now event fits kept counts aside on rest a h = refl
 
 -- what the ended connection leaves in the queue, with the pieces kept since
 left_over : (p : Setup) (s t : State) (log : Log) (now : ℕ) (event : Input) (left : Course) (fits : Bool) (earlier : List Connection) → Heard p s t log now event left fits → Carries (taken_objects p log) (parts_of_all p.sizes (reports_in p log)) earlier [] (queue.rewound s.queue).unsent →
@@ -534,7 +563,7 @@ come_cut laws p s t log now fits rest a h =
       line = over_line laws p s t log now CutOff fits rest a h;
       course = d;
       talk = talk;
-      stands = record { does = does_cut p t h.z h.does; asks = h.due; phase_is = tt };
+      stands = record { does = does_cut p t h.z h.does; asks = h.due; phase_is = tt; placed = λ o. refl };
       offers = offers_cut laws t.line (tasks.closed t.commands);
       plain = tt;
       here = fresh (disconnected t) no_channel (small laws p s t log now CutOff fits rest a h) refl (λ h. refl) refl refl refl refl refl refl refl refl;
@@ -582,7 +611,7 @@ module _ (laws : LineLaws) (p : Setup) (s t : State) (log : Log) (now : ℕ) (fi
     line = over_line laws p s t log now Opened fits rest a h;
     course = opened;
     talk = opened_talk;
-    stands = record { does = opened_does; asks = h.due; phase_is = tt };
+    stands = record { does = opened_does; asks = h.due; phase_is = tt; placed = λ o. refl };
     offers = offers_cut laws t.line (tasks.closed t.commands);
     plain = tt;
     here = opened_here;
@@ -611,7 +640,7 @@ module _ (laws : LineLaws) (p : Setup) (s t : State) (log : Log) (now : ℕ) (fi
         line = over_line laws p s t log now Opened fits rest a h;
         course = opened;
         talk = talk;
-        stands = record { does = opened_does; asks = h.due; phase_is = tt };
+        stands = record { does = opened_does; asks = h.due; phase_is = tt; placed = λ o. refl };
         offers = offers_cut laws t.line (tasks.closed t.commands);
         plain = tt;
         here = opened_here;
@@ -643,8 +672,8 @@ module _ (laws : LineLaws) (p : Setup) (s t : State) (log : Log) (now : ℕ) (fi
   }
 
 -- octets of no connection count for nothing; else none is judged yet
-pub come_bytes : (p : Setup) (s t : State) (log : Log) (now : ℕ) (octets : List ℕ) (fits : Bool) → HasRested p log → (a : Agrees p s log [] (resting log)) → Heard p s t log now (TcpIn octets) (left_of p log a.course) fits → IsConfirmed s.session → Agrees p t (Came now (TcpIn octets) ∷ log) (if t.session.connected then octets else []) Taking × IsConfirmed t.session
-come_bytes p s t log now octets fits rest a h ready = (
+pub come_bytes : (p : Setup) (s t : State) (log : Log) (now : ℕ) (octets : List ℕ) (fits : Bool) → fits ≡ true → HasRested p log → (a : Agrees p s log [] (resting log)) → Heard p s t log now (TcpIn octets) (left_of p log a.course) fits → IsConfirmed s.session → Agrees p t (Came now (TcpIn octets) ∷ log) (if t.session.connected then octets else []) Taking × IsConfirmed t.session
+come_bytes p s t log now octets fits settled_fits rest a h ready = (
   subst (λ b. Agrees p t (Came now (TcpIn octets) ∷ log) (if b then octets else []) Taking) (sym (ap (λ x. x.connected) h.session)) (record {
     k = ap (λ x. x.k) h.session ∙ a.k;
     sizes = h.sizes ∙ a.sizes;
@@ -655,7 +684,7 @@ come_bytes p s t log now octets fits rest a h ready = (
     line = h.line;
     course = d;
     talk = talk_now;
-    stands = record { does = h.does; asks = h.due; phase_is = tt };
+    stands = record { does = h.does; asks = h.due; phase_is = tt; placed = λ o. h.placed settled_fits ∙ placed_before p s log a (sym (opens (present log)) ∙ o) };
     offers = h.offers;
     plain = h.plain;
     here = subst (λ x. Presently t x more (here_of d)) (sym (bytes_at s.session.connected (present log) (sym a.here.link))) (record {
@@ -700,6 +729,13 @@ come_bytes p s t log now octets fits rest a h ready = (
     bytes_at : (b : Bool) (c : Channel) → c.is_open ≡ b → receiving c octets ≡ record { is_open = c.is_open; sent = c.sent; received = c.received ++ (if b then octets else []); overfull = c.overfull }
     bytes_at true c h = ap (λ b. if b then record { is_open = true; sent = c.sent; received = c.received ++ octets; overfull = c.overfull } else c) h ∙ ap (λ b. record { is_open = b; sent = c.sent; received = c.received ++ octets; overfull = c.overfull }) (sym h)
     bytes_at false c h = ap (λ b. if b then record { is_open = true; sent = c.sent; received = c.received ++ octets; overfull = c.overfull } else c) h ∙ ap (λ l. record { is_open = c.is_open; sent = c.sent; received = l; overfull = c.overfull }) (sym (append-nil c.received))
+
+    opens : (c : Channel) → (receiving c octets).is_open ≡ c.is_open
+    opens c = by_open c.is_open refl
+      where
+        by_open : (b : Bool) → c.is_open ≡ b → (receiving c octets).is_open ≡ c.is_open
+        by_open true e = ap (λ b. (if b then record { is_open = true; sent = c.sent; received = c.received ++ octets; overfull = c.overfull } else c).is_open) e ∙ sym e
+        by_open false e = ap (λ b. (if b then record { is_open = true; sent = c.sent; received = c.received ++ octets; overfull = c.overfull } else c).is_open) e
 
     closed : (b : Bool) → b ≡ false → present log ≡ no_channel → record { is_open = (present log).is_open; sent = (present log).sent; received = (present log).received ++ (if b then octets else []); overfull = (present log).overfull } ≡ no_channel
     closed true h none = cc

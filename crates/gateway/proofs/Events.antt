@@ -27,7 +27,7 @@ use Rattle.link.specs.Leave.{is_poll_request}
 use Rattle.gateway.specs.Polls.{has_room}
 use Rattle.gateway.specs.Works.{Works, tasks_of, is_overfull, offered_upto, settled_works, ready_works, unasked_works, asked_works, is_first_command}
 use Rattle.gateway.specs.Course.{Course, first_course, here_of, room_in, with_works, Comes, Runs}
-use Rattle.gateway.specs.Phases.{Phase, Fresh, Taking, Idle, Timed, Asked, IsOut}
+use Rattle.gateway.specs.Phases.{Phase, Fresh, Taking, Idle, Crowded, Timed, Asked, IsOut}
 use Rattle.gateway.specs.LineLaws.{LineLaws}
 use Rattle.gateway.specs.Traffic.{IsFaithful}
 use Rattle.gateway.specs.Runs.{events_told, MoreEvents}
@@ -35,12 +35,12 @@ use Rattle.gateway.specs.State.{State, at_moment, disconnected, connected, put_o
 use Rattle.gateway.specs.Steps as steps
 use Rattle.gateway.specs.Steps.{HearsEvent, line_timed, settled, Begins, MayClose}
 use Rattle.gateway.specs.Agrees.{Presently, Talks, Agrees, Does, OffersWait, ArePlain, Tracks, Awaits, Leaves, Follows, HasCome, Rests, Carries}
-use Rattle.gateway.proofs.Working.{does_settled, put_state}
+use Rattle.gateway.proofs.Working.{does_settled, settled_placed, put_state, put_placed}
 use Rattle.gateway.proofs.Offering.{offers_stay, offers_made, offers_asked, offers_unasked}
 use Rattle.gateway.proofs.Agreement.{stands_now, stands_overfull, has_places, same_room, now_idle}
 use Rattle.gateway.proofs.Put.{told_faithful}
 use Rattle.gateway.proofs.Stations.{octets_of, taken_grows, parts_grow, after_request}
-use Rattle.gateway.proofs.Come.{Heard, left_of, heard_event, Worked, come_other, come_course, come_open, come_replaced, come_cut, come_bytes, opened_faithful}
+use Rattle.gateway.proofs.Come.{Heard, left_of, heard_event, Worked, Counts, come_other, come_course, come_open, come_replaced, come_cut, come_bytes, opened_faithful}
 
 -- The request is asked for, once commands were offered.
 
@@ -142,6 +142,7 @@ module _ (laws : LineLaws) (p : Setup) (s : State) (q : Primary) (log : Log) (a 
           };
           asks = (λ due. cc, λ none. subst (λ (l : Primary). IsOut l.outstanding) same_asked (is_out x next));
           phase_is = tt;
+          placed = λ o. put_placed p (is_first_command ready.line x) x.station ready.calls ∙ settled_placed p at w ∙ a.stands.placed o;
         };
         offers = offers_asked laws a.talk.command_laws q s.commands s.moment may x next (omega (arith, fits.station, tells.count)) offers;
         plain = subst ArePlain (sym (put_answers (is_first_command q x))) a.plain;
@@ -199,6 +200,7 @@ module _ (laws : LineLaws) (p : Setup) (s : State) (q : Primary) (log : Log) (a 
       does = subst (λ b. Does p (asked_state s q None) (if b then unasked_works at (room_in p log a.course) ready else w)) (sym a.stands.asks) (record { line = same_asked; commands = a.stands.does.commands; counts = a.stands.does.counts; silent = a.stands.does.silent });
       asks = (λ due. same_next None none, λ off. let no : false ≡ true = sym off ∙ a.stands.asks in cc);
       phase_is = tt;
+      placed = a.stands.placed;
     };
     offers = offers_unasked laws q s.commands s.moment (has_room s.queue) none offers;
     plain = a.plain;
@@ -262,7 +264,7 @@ now_settled p s log a = subst (λ x. Agrees p x log [] Timed) (sym (settled_part
   line = a.line;
   course = a.course;
   talk = a.talk;
-  stands = record { does = subst (λ x. Does p x (settled_works p (latest log) a.course.works)) (settled_parts s) (does_settled p s (latest log) a.course.works a.clock a.stands.does); asks = a.stands.asks; phase_is = tt };
+  stands = record { does = subst (λ x. Does p x (settled_works p (latest log) a.course.works)) (settled_parts s) (does_settled p s (latest log) a.course.works a.clock a.stands.does); asks = a.stands.asks; phase_is = tt; placed = a.stands.placed };
   offers = offers_stay s.line s.line s.commands (settled s).commands (λ k. refl) (settled_waiting s.silent) a.offers;
   plain = subst ArePlain (sym (settled_answers s.silent)) a.plain;
   here = record { link = a.here.link; none = a.here.none; put = a.here.put; handed = a.here.handed; sent = a.here.sent; so_far = a.here.so_far; assembler = a.here.assembler; waits = a.here.waits; joined = a.here.joined; fit = a.here.fit; pass = a.here.pass; tied = a.here.tied; numbered = a.here.numbered };
@@ -302,39 +304,48 @@ heard_in laws p s t now event fits log b h = heard_event laws p s t h.before now
 as_log : (p : Setup) (t : State) (now : ℕ) (event : Input) (log before : Log) (unjudged : List ℕ) (phase : Phase) → log ≡ Came now event ∷ before → Agrees p t (Came now event ∷ before) unjudged phase → Agrees p t log unjudged phase
 as_log p t now event log before unjudged phase is a = subst (λ l. Agrees p t l unjudged phase) (sym is) a
 
--- the line's octets are taken
-line_taken : (p : Setup) (s t : State) (now : ℕ) (octets : List ℕ) (fits : Bool) (log : Log) → LineLaws → Begins s now (LineIn octets) fits t → (h : HasCome p s now (LineIn octets) log) → Agrees p t (Came now (LineIn octets) ∷ h.before) [] Idle
-line_taken p s t now octets fits log laws b h = come_other p s t h.before now (LineIn octets) fits (refl, refl, refl) (λ p c z w. (z, w, refl)) h.rested h.agrees (heard_in laws p s t now (LineIn octets) fits log b h)
+-- the line's octets are taken; their own answers found places, or there is no connection to count them
 
-pub told_line : (p : Setup) (told : Option Log) (s t : State) (now : ℕ) (octets : List ℕ) (fits : Bool) → LineLaws → Begins s now (LineIn octets) fits t → IfSome told (HasCome p s now (LineIn octets)) → Tracks p t told [] Idle
-told_line p None s t now octets fits laws b h = tt
-told_line p (Some log) s t now octets fits laws b h = as_log p t now (LineIn octets) log h.before [] Idle h.is (line_taken p s t now octets fits log laws b h)
+on_line : (log : Log) (now : ℕ) (octets : List ℕ) (p : Setup) (c : Course) (z : Works) → Worked p log (latest (Came now (LineIn octets) ∷ log)) (LineIn octets) c z → Comes p log (latest (Came now (LineIn octets) ∷ log)) (LineIn octets) c (with_works z c)
+on_line log now octets p c z w = (z, w, refl)
+
+pub told_line : (p : Setup) (told : Option Log) (s t : State) (now : ℕ) (octets : List ℕ) (fits : Bool) → LineLaws → (t.session.connected ≡ true → fits ≡ true) → Begins s now (LineIn octets) fits t → IfSome told (HasCome p s now (LineIn octets)) → Tracks p t told [] Idle
+told_line p None s t now octets fits laws fit b h = tt
+told_line p (Some log) s t now octets fits laws fit b h =
+    let heard = heard_in laws p s t now (LineIn octets) fits log b h in
+    as_log p t now (LineIn octets) log h.before [] Idle h.is
+    (come_other p s t h.before now (LineIn octets) fits true (λ yes on. fit (ap (λ x. x.connected) heard.session ∙ h.agrees.here.link ∙ on)) (refl, refl, refl) (on_line h.before now octets) h.rested h.agrees heard)
 
 -- an own answer found no place
 pub told_overfull : (p : Setup) (told : Option Log) (s t : State) (now : ℕ) (octets : List ℕ) (fits : Bool) → LineLaws → fits ≡ false → t.session.connected ≡ true → Begins s now (LineIn octets) fits t → IfSome told (HasCome p s now (LineIn octets)) → IfSome told (MayClose p t OwnAnswers Idle)
 told_overfull p None s t now octets fits laws off on b h = tt
 told_overfull p (Some log) s t now octets fits laws off on b h =
     let heard = heard_in laws p s t now (LineIn octets) fits log b h in
-    let on_line : (p : Setup) (c : Course) (z : Works) → Worked p h.before (latest (Came now (LineIn octets) ∷ h.before)) (LineIn octets) c z → Comes p h.before (latest (Came now (LineIn octets) ∷ h.before)) (LineIn octets) c (with_works z c) = λ p c z w. (z, w, refl) in
-    let a = come_other p s t h.before now (LineIn octets) fits (refl, refl, refl) on_line h.rested h.agrees heard in
+    let none : Counts false fits h.before = λ no on. let never : false ≡ true = no in cc in
+    let a = come_other p s t h.before now (LineIn octets) fits false none (refl, refl, refl) (on_line h.before now octets) h.rested h.agrees heard in
     subst (MayClose p t OwnAnswers Idle) (sym h.is) (record {
       last = refl;
       state = t;
       same = refl;
       open_is = on;
       unjudged = [];
-      phase = Idle;
+      phase = Crowded;
       leads = refl;
       timely = tt;
       agrees = a;
       fault = Some OwnAnswers;
-      stands = stands_overfull p t (Came now (LineIn octets) ∷ h.before) [] Idle a;
-      why = record { open_is = sym a.here.link ∙ on; course = a.course; runs = a.talk.course_runs; full = subst (λ (c : Course). is_overfull (tasks_of p c.works).history ≡ true) (sym (come_course p s t h.before now (LineIn octets) fits (refl, refl, refl) on_line h.rested h.agrees heard)) (heard.full off) };
+      stands = stands_overfull p t (Came now (LineIn octets) ∷ h.before) [] Crowded a;
+      why = record {
+        open_is = sym a.here.link ∙ on;
+        course = a.course;
+        runs = a.talk.course_runs;
+        full = subst (λ (c : Course). is_overfull (tasks_of p c.works).history ≡ true) (sym (come_course p s t h.before now (LineIn octets) fits false none (refl, refl, refl) (on_line h.before now octets) h.rested h.agrees heard)) (heard.full off);
+      };
     })
 
 pub told_tick : (p : Setup) (told : Option Log) (s t : State) (now : ℕ) (fits : Bool) → LineLaws → Begins s now Ticked fits t → IfSome told (HasCome p s now Ticked) → Tracks p t told [] Idle
 told_tick p None s t now fits laws b h = tt
-told_tick p (Some log) s t now fits laws b h = as_log p t now Ticked log h.before [] Idle h.is (come_other p s t h.before now Ticked fits (refl, refl, refl) (λ p c z w. ap (λ x. with_works x c) w) h.rested h.agrees (heard_in laws p s t now Ticked fits log b h))
+told_tick p (Some log) s t now fits laws b h = as_log p t now Ticked log h.before [] Idle h.is (come_other p s t h.before now Ticked fits true (λ yes on. b.hears.1) (refl, refl, refl) (λ p c z w. ap (λ x. with_works x c) w) h.rested h.agrees (heard_in laws p s t now Ticked fits log b h))
 
 pub told_cut : (p : Setup) (told : Option Log) (s t u : State) (now : ℕ) (fits : Bool) → LineLaws → Begins s now CutOff fits t → u ≡ disconnected t → IfSome told (HasCome p s now CutOff) → Tracks p u told [] Idle
 told_cut p None s t u now fits laws b is h = tt
@@ -359,7 +370,7 @@ told_unreplaced p (Some log) s t now fits laws b h = subst (IsFaithful p) (sym h
 pub told_bytes : (b : Bool) (p : Setup) (told : Option Log) (s t : State) (now : ℕ) (octets : List ℕ) (fits : Bool) → LineLaws → Begins s now (TcpIn octets) fits t → t.session.connected ≡ b → IfSome told (HasCome p s now (TcpIn octets)) → Awaits p t told (if b then octets else [])
 told_bytes b p None s t now octets fits laws begun is h = tt
 told_bytes b p (Some log) s t now octets fits laws begun is h =
-    let both = come_bytes p s t h.before now octets fits h.rested h.agrees (heard_in laws p s t now (TcpIn octets) fits log begun h) h.confirmed in
+    let both = come_bytes p s t h.before now octets fits begun.hears.1 h.rested h.agrees (heard_in laws p s t now (TcpIn octets) fits log begun h) h.confirmed in
     (subst (λ b. Agrees p t log (if b then octets else []) Taking) is (as_log p t now (TcpIn octets) log h.before (if t.session.connected then octets else []) Taking h.is both.0), both.1)
 
 -- the octets are taken

@@ -1,5 +1,5 @@
 -- What a frame that was judged leaves to be done.
-use Rattle.std.proofs.Common.{◌≡◌, ℕ, ◌+◌, true, false, List, [], ◌++◌, length, drop, refl, ap, sym, ◌∙◌, subst, inl, inr, Option, Some, None}
+use Rattle.std.proofs.Common.{Bool, ◌≡◌, ℕ, ◌+◌, true, false, List, [], ◌++◌, length, drop, refl, ap, sym, ◌∙◌, subst, inl, inr, Option, Some, None}
 use Rattle.std.specs.Prelude.{IfSome, is_some}
 use Rattle.std.proofs.lemmas.List.{drop_at, drop-drop, take-append-drop}
 use Rattle.std.proofs.lemmas.Bool.{cond-true}
@@ -20,7 +20,7 @@ use Rattle.gateway.specs.Reports.{Setup}
 use Rattle.gateway.specs.State.{State, disconnected, received, has_place, framed}
 use Rattle.gateway.specs.Works.{tasks_of, is_overfull}
 use Rattle.gateway.specs.Course.{Course, here_of, came_frames, with_frame}
-use Rattle.gateway.specs.Phases.{Taking, Idle}
+use Rattle.gateway.specs.Phases.{Taking, Idle, Crowded, after_frame}
 use Rattle.session.specs.Ends.{IsConfirmed}
 use Rattle.gateway.specs.Frames.{Connection, fault_of}
 use Rattle.gateway.specs.Connections.{present, IsConnection}
@@ -43,22 +43,22 @@ nothing_so_far : (p : Setup) (s : State) (log : Log) (unjudged : List ℕ) (a : 
 nothing_so_far p s log unjudged a e = unfolded s a.here.so_far [] a.here.assembler e
 
 -- The frame is taken.
-module _ (p : Setup) (s : State) (log : Log) (rest : List ℕ) (f : Apdu) (a : Agrees p s log (spelling f ++ rest) Taking) (on : s.session.connected ≡ true) (ready : IsConfirmed s.session) (fits : Fits f) (so : s.so_far ≡ Some []) (goes : is_close (outcome_of s.session f) ≡ false) where
+module _ (p : Setup) (s : State) (log : Log) (rest : List ℕ) (f : Apdu) (a : Agrees p s log (spelling f ++ rest) Taking) (on : s.session.connected ≡ true) (ready : IsConfirmed s.session) (fits : Fits f) (so : s.so_far ≡ Some []) (goes : is_close (outcome_of s.session f) ≡ false) (kept : Bool) (place : has_place f s.moment s.commands ≡ kept) where
   both : (refuses s.session f ≡ false) × (fault_of (length a.course.sent) (came_frames a.course.talk) f ≡ None)
   both = no_close f (here_of a.course) s.session s.queue.sent (outcome_of s.session f) goes a.here.tied refl
 
   whole : a.here.so_far ++ (spelling f ++ rest) ≡ spelling f ++ rest
   whole = ap (λ x. x ++ (spelling f ++ rest)) (nothing_so_far p s log _ a so)
 
-  abbrev frame_taken : Agrees p (framed f s) log rest Taking
-  frame_taken = after_heard p s log (spelling f ++ rest) rest f a on ready so fits whole both.0 both.1
+  abbrev frame_taken : Agrees p (framed f s) log rest (after_frame kept)
+  frame_taken = after_heard p s log (spelling f ++ rest) rest f a on ready so fits whole both.0 both.1 kept place
 
   taken_course : frame_taken.course ≡ with_frame p f s.moment a.course
-  taken_course = heard_course p s log (spelling f ++ rest) rest f a on ready so fits whole both.0 both.1
+  taken_course = heard_course p s log (spelling f ++ rest) rest f a on ready so fits whole both.0 both.1 kept place
 
 pub judged_on : (p : Setup) (told : Option Log) (s t : State) (f : Apdu) (rest : List ℕ) → s.session.connected ≡ true → Fits f → s.so_far ≡ Some [] → Judged s f None t → Awaits p s told (spelling f ++ rest) → Tracks p t told rest Taking
 judged_on p None s t f rest on fits so j a = tt
-judged_on p (Some log) s t f rest on fits so j a = subst (λ x. Agrees p x log rest Taking) (sym j.after) (frame_taken p s log rest f a.0 on a.1 fits so j.passes)
+judged_on p (Some log) s t f rest on fits so j a = subst (λ x. Agrees p x log rest Taking) (sym j.after) (frame_taken p s log rest f a.0 on a.1 fits so j.passes true j.place)
 
 pub judged_open : (s t : State) (f : Apdu) → s.session.connected ≡ true → Judged s f None t → t.session.connected ≡ true
 judged_open s t f on j = ap (λ (x : State). x.session.connected) j.after ∙ (taken_stays f s.moment s.session).connected ∙ on
@@ -98,7 +98,7 @@ faulty_closes p log s t f cause rest on fits so j a =
 -- its own answer found no place
 overfull_closes : (p : Setup) (log : Log) (s t : State) (f : Apdu) (rest : List ℕ) → s.session.connected ≡ true → Fits f → s.so_far ≡ Some [] → IsTaken s f false t → IsConfirmed s.session → Agrees p s log (spelling f ++ rest) Taking → MayClose p t OwnAnswers Idle log
 overfull_closes p log s t f rest on fits so j ready a =
-    let b = frame_taken p s log rest f a on ready fits so j.passes in
+    let b = frame_taken p s log rest f a on ready fits so j.passes false j.place in
     let still : (framed f s).session.connected ≡ true = (taken_stays f s.moment s.session).connected ∙ on in
     record {
       last = refl;
@@ -106,17 +106,17 @@ overfull_closes p log s t f rest on fits so j ready a =
       same = ap disconnected j.after;
       open_is = still;
       unjudged = rest;
-      phase = Taking;
+      phase = Crowded;
       leads = refl;
       timely = tt;
       agrees = b;
       fault = Some OwnAnswers;
-      stands = stands_overfull p (framed f s) log rest Taking b;
+      stands = stands_overfull p (framed f s) log rest Crowded b;
       why = record {
         open_is = sym a.here.link ∙ on;
         course = b.course;
         runs = b.talk.course_runs;
-        full = subst (λ (c : Course). is_overfull (tasks_of p c.works).history ≡ true) (sym (taken_course p s log rest f a on ready fits so j.passes))
+        full = subst (λ (c : Course). is_overfull (tasks_of p c.works).history ≡ true) (sym (taken_course p s log rest f a on ready fits so j.passes false j.place))
             (heard_overfull p f s.moment a.course.works (ap (has_place f s.moment) (sym a.stands.does.commands) ∙ j.place));
       };
     }

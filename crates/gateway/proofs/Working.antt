@@ -1,6 +1,7 @@
 -- The line's primary station and commands, as the log goes on and the parts are called.
 use Rattle.std.proofs.Common.{◌≡◌, ℕ, ◌&&◌, Bool, true, false, List, [], ◌∷◌, ◌++◌, length, Option, Some, None, refl, ap, sym, ◌∙◌, subst}
 use Rattle.std.specs.Prelude.{if◌then◌else◌}
+use Rattle.std.proofs.lemmas.Bool.{and_parts}
 use Rattle.asdu.specs.declared.sizes.Sizes.{Sizes}
 use Rattle.apci.specs.declared.apdu.Apdu.{Apdu}
 use Rattle.apci.specs.declared.apdu.Apdu.TheVariants.{I, S, U}
@@ -15,11 +16,11 @@ use Rattle.command.specs.History.{Offered}
 use Rattle.command.specs.Calls.{Call, Judge, Own, SendOwn, Run, run, after_answer, after_sending}
 use Rattle.gateway.specs.Counting.{one_lost}
 use Rattle.gateway.specs.Reports.{Setup}
-use Rattle.gateway.specs.Works.{Works, tasks_of, kept_until, keep_calls, all_kept, is_overfull, listed, with_call, heard_works, cut_works, settled_works, unless_silent, given_up_works, ready_works, unasked_works, offered_upto, put_calls}
+use Rattle.gateway.specs.Works.{Works, tasks_of, kept_until, keep_calls, all_kept, is_overfull, listed, with_call, heard_works, cut_works, settled_works, unless_silent, given_up_works, ready_works, unasked_works, offered_upto, done_works, put_calls}
 use Rattle.gateway.specs.State.{State, heard_commands, has_place, disconnected, put_on_line}
 use Rattle.gateway.specs.Steps as steps
 use Rattle.gateway.specs.Steps.{settled, given_up}
-use Rattle.gateway.specs.Phases.{Phase, Fresh, Taking, Idle, Timed, Asked, works_in, IsAsked}
+use Rattle.gateway.specs.Phases.{Phase, Fresh, Taking, Idle, Crowded, Timed, Asked, works_in, IsAsked}
 use Rattle.gateway.specs.Agrees.{Does, ArePlain}
 
 -- Own answers are kept
@@ -48,6 +49,15 @@ module _ (stations : List StationInfo) (sizes : Sizes) (select_ms : ℕ) where
       by_room : (all_kept xs (tasks.offered x (after calls).state) ≡ false → is_overfull (after (keep_calls xs (tasks.offered x (after calls).state) (Own x ∷ calls))).history ≡ true) → (b : Bool) → has_room (after calls).state ≡ b → at_room (has_room (after calls).state)
       by_room others true e = subst at_room (sym e) (others (sym (ap (λ b. b && all_kept xs (tasks.offered x (after calls).state)) e) ∙ h))
       by_room others false e = subst at_room (sym e) (ap (λ b. is_overfull (Offered x b ∷ (after calls).history)) e)
+
+  -- and where each finds one
+  pub kept_placed : (xs : List (List ℕ)) (calls : List Call) → all_kept xs (after calls).state ≡ true → is_overfull (after (keep_calls xs (after calls).state calls)).history ≡ is_overfull (after calls).history
+  kept_placed [] calls h = refl
+  kept_placed (x ∷ xs) calls h =
+      let both = and_parts (has_room (after calls).state) (all_kept xs (tasks.offered x (after calls).state)) h in
+      ap (λ b. is_overfull (after (if b then keep_calls xs (tasks.offered x (after calls).state) (Own x ∷ calls) else Own x ∷ calls)).history) both.0
+      ∙ kept_placed xs (Own x ∷ calls) both.1
+      ∙ ap (λ b. is_overfull (Offered x b ∷ (after calls).history)) both.0
 
 -- nothing else of what is kept changes
 either_same : {A : Type 0} (b : Bool) (s t : tasks.State) (f : tasks.State → A) (x : A) → f s ≡ x → f t ≡ x → f (if b then s else t) ≡ x
@@ -85,6 +95,11 @@ pub heard_overfull : (p : Setup) (f : Apdu) (now : ℕ) (w : Works) → has_plac
 heard_overfull p (I ns nr asdu) now w h = kept_overfull p.stations p.sizes p.select_ms (listed (judged asdu.items now (tasks_of p w).state).0) (Judge asdu.items now ∷ w.calls) h
 heard_overfull p (S nr) now w h = cc
 heard_overfull p (U u) now w h = cc
+
+pub heard_placed : (p : Setup) (f : Apdu) (now : ℕ) (w : Works) → has_place f now (tasks_of p w).state ≡ true → is_overfull (tasks_of p (heard_works p f now w)).history ≡ is_overfull (tasks_of p w).history
+heard_placed p (I ns nr asdu) now w h = kept_placed p.stations p.sizes p.select_ms (listed (judged asdu.items now (tasks_of p w).state).0) (Judge asdu.items now ∷ w.calls) h
+heard_placed p (S nr) now w h = refl
+heard_placed p (U u) now w h = refl
 
 heard_rest : (p : Setup) (f : Apdu) (now : ℕ) (w : Works) → ((heard_works p f now w).line ≡ w.line) × ((heard_works p f now w).counts ≡ w.counts) × ((heard_works p f now w).silent ≡ w.silent) × ((heard_works p f now w).is_due ≡ w.is_due)
 heard_rest p (I ns nr asdu) now w = (refl, refl, refl, refl)
@@ -145,6 +160,20 @@ settled_due p at w = by_silent w.silent
     by_silent None = refl
     by_silent (Some i) = refl
 
+pub settled_placed : (p : Setup) (at : ℕ) (w : Works) → is_overfull (tasks_of p (settled_works p at w)).history ≡ is_overfull (tasks_of p w).history
+settled_placed p at w = by_silent w.silent
+  where
+    by_silent : (o : Option ℕ) → is_overfull (tasks_of p (unless_silent p o w)).history ≡ is_overfull (tasks_of p w).history
+    by_silent None = refl
+    by_silent (Some i) = refl
+
+pub done_placed : (p : Setup) (at : ℕ) (room : Bool) (w : Works) → is_overfull (tasks_of p (done_works p at room w)).history ≡ is_overfull (tasks_of p w).history
+done_placed p at room w = by_due w.is_due
+  where
+    by_due : (b : Bool) → is_overfull (tasks_of p (if b then unasked_works at room (ready_works p at w) else w)).history ≡ is_overfull (tasks_of p w).history
+    by_due true = settled_placed p at w
+    by_due false = refl
+
 -- The end of a connection
 
 pub does_cut : (p : Setup) (s : State) (w : Works) → Does p s w → Does p (disconnected s) (cut_works w)
@@ -162,6 +191,9 @@ module _ (p : Setup) (w : Works) (x : List ℕ) (first : first_answer (tasks_of 
 
   pub own_state : (tasks_of p fewer).state ≡ tasks.answered (tasks_of p w).state
   own_state = ap (λ (o : Option (List ℕ)). (after_answer o (tasks_of p w)).state) first
+
+  pub own_placed : is_overfull (tasks_of p fewer).history ≡ is_overfull (tasks_of p w).history
+  own_placed = ap (λ (o : Option (List ℕ)). is_overfull (after_answer o (tasks_of p w)).history) first
 
   own_unless : (o : Option ℕ) → ((tasks_of p (unless_silent p o fewer)).state ≡ tasks.answered (tasks_of p (unless_silent p o w)).state) × ((unless_silent p o fewer).counts ≡ (unless_silent p o w).counts) × ((unless_silent p o fewer).line ≡ (unless_silent p o w).line)
   own_unless None = (own_state, refl, refl)
@@ -197,6 +229,7 @@ module _ (p : Setup) (w : Works) (x : List ℕ) (first : first_answer (tasks_of 
   does_own Fresh s at room d = record { line = d.line; commands = ap tasks.answered d.commands ∙ sym own_state; counts = d.counts; silent = d.silent }
   does_own Taking s at room d = record { line = d.line; commands = ap tasks.answered d.commands ∙ sym own_state; counts = d.counts; silent = d.silent }
   does_own Idle s at room d = record { line = d.line; commands = ap tasks.answered d.commands ∙ sym own_state; counts = d.counts; silent = d.silent }
+  does_own Crowded s at room d = record { line = d.line; commands = ap tasks.answered d.commands ∙ sym own_state; counts = d.counts; silent = d.silent }
   does_own Timed s at room d = does_settled_own s at d
   does_own Asked s at room d = does_done_own s at room w.is_due refl d
 
@@ -204,6 +237,7 @@ module _ (p : Setup) (w : Works) (x : List ℕ) (first : first_answer (tasks_of 
   asked_own Fresh at room h = h
   asked_own Taking at room h = h
   asked_own Idle at room h = h
+  asked_own Crowded at room h = h
   asked_own Timed at room h = h
   asked_own Asked at room h = (λ due. ap (λ (q : Primary). sending q room) (own_ready at) ∙ h.0 due, h.1)
 
@@ -212,6 +246,7 @@ pub answers_in : (p : Setup) (phase : Phase) (at : ℕ) (room : Bool) (w : Works
 answers_in p Fresh at room w = refl
 answers_in p Taking at room w = refl
 answers_in p Idle at room w = refl
+answers_in p Crowded at room w = refl
 answers_in p Timed at room w = by_silent w.silent
   where
     by_silent : (o : Option ℕ) → (tasks_of p (unless_silent p o w)).state.answers ≡ (tasks_of p w).state.answers
@@ -239,3 +274,14 @@ put_state p true i calls = by_oldest (oldest_for i r.state) refl
     by_oldest None e = refl
     by_oldest (Some x) e = ap (λ o. tasks.put_out o i r.state) e
 put_state p false i calls = refl
+
+pub put_placed : (p : Setup) (b : Bool) (i : ℕ) (calls : List Call) → is_overfull (run p.stations p.sizes p.select_ms (put_calls b i calls)).history ≡ is_overfull (run p.stations p.sizes p.select_ms calls).history
+put_placed p true i calls = by_oldest (oldest_for i r.state)
+  where
+    r : Run
+    r = run p.stations p.sizes p.select_ms calls
+
+    by_oldest : (o : Option Waiting) → is_overfull (after_sending o i r).history ≡ is_overfull r.history
+    by_oldest None = refl
+    by_oldest (Some x) = refl
+put_placed p false i calls = refl

@@ -23,7 +23,7 @@ use Rattle.gateway.specs.Traffic.{is_replaced, ActsRightly, RestsBetweenSteps, H
 use Rattle.gateway.specs.Works.{Works, tasks_of}
 use Rattle.gateway.specs.Course.{Course, here_of, room_in, Runs}
 use Rattle.gateway.specs.Conversation.{KeepsTimes}
-use Rattle.gateway.specs.Phases.{Phase, Taking, resting, IsPhase, works_in, IsAsked}
+use Rattle.gateway.specs.Phases.{Phase, Taking, resting, IsPhase, works_in, IsAsked, IsPlaced}
 use Rattle.gateway.specs.CommandLaws.{CommandLaws}
 use Rattle.gateway.specs.SessionLaws.{SessionLaws}
 use Rattle.gateway.specs.State.{State}
@@ -42,6 +42,7 @@ pub record IsAt (p : Setup) (log : Log) (phase : Phase) (s : State) (c : Course)
   pub does : Does p s (works_in phase p (latest log) (room_in p log c) c.works)
   pub asks : IsAsked phase p (latest log) (room_in p log c) c.works
   pub phase_is : IsPhase phase log
+  pub placed : IsPlaced phase log (tasks_of p c.works).history
 
 -- what is offered to a station is the oldest command that waits for it
 abbrev pub OffersWait : Primary → tasks.State → Type 0

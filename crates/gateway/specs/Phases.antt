@@ -3,13 +3,16 @@ use Rattle.std.specs.Prelude.{◌≡◌, ℕ, Bool, true, false, [], ◌∷◌, 
 use Rattle.link.specs.Primary.{Outstanding, sending}
 use Rattle.gateway.specs.Log.{Log, TcpIn, Came, Went, TcpOut}
 use Rattle.gateway.specs.Reports.{Setup}
-use Rattle.gateway.specs.Works.{Works, settled_works, ready_works, done_works}
+use Rattle.command.specs.History.{History}
+use Rattle.gateway.specs.Connections.{present}
+use Rattle.gateway.specs.Works.{Works, is_overfull, settled_works, ready_works, done_works}
 
--- nothing has come yet; octets of the connection are being taken; the event is taken; the timers are done; the request is asked for
+-- nothing has come yet; octets of the connection are being taken; the event is taken; an own answer of it found no place; the timers are done; the request is asked for
 pub data Phase : Type 0 where
   Fresh : Phase
   Taking : Phase
   Idle : Phase
+  Crowded : Phase
   Timed : Phase
   Asked : Phase
 
@@ -29,6 +32,7 @@ abbrev pub works_in : Phase → Setup → (at : ℕ) → (room : Bool) → Works
 works_in Fresh p at room w = w
 works_in Taking p at room w = w
 works_in Idle p at room w = w
+works_in Crowded p at room w = w
 works_in Timed p at room w = settled_works p at w
 works_in Asked p at room w = done_works p at room w
 
@@ -47,3 +51,17 @@ IsAsked phase p at room w = w.is_due ≡ true
 abbrev pub resting : Log → Phase
 resting [] = Fresh
 resting (entry ∷ log) = Asked
+
+-- But where one has just found none, each own answer of the open connection found a place.
+abbrev pub IsPlaced : Phase → Log → History → Type 0
+IsPlaced Crowded log h = Unit {0}
+IsPlaced phase log h = (present log).is_open ≡ true → is_overfull h ≡ false
+
+-- what octets of the line, and what a frame leave, by whether their own answers found places
+abbrev pub after_line : Bool → Phase
+after_line true = Idle
+after_line false = Crowded
+
+abbrev pub after_frame : Bool → Phase
+after_frame true = Taking
+after_frame false = Crowded

@@ -25,7 +25,7 @@ use Rattle.gateway.specs.Works.{kept_until, all_kept, listed, is_command_report,
 use Rattle.gateway.specs.Traffic.{HasCause}
 use Rattle.gateway.specs.State.{State, at_moment, received as frame_received, has_place, framed, disconnected, next_frame, piece_sent, own_sent}
 use Rattle.gateway.specs.Agrees.{Agrees}
-use Rattle.gateway.specs.Phases.{Phase, Taking, Idle, Timed}
+use Rattle.gateway.specs.Phases.{Phase, Taking, Idle, Crowded, Timed}
 
 -- the pieces of a report are kept, or it is counted
 pub record Keeps (s : State) (report : List ℕ) (t : State) : Type 0 where
@@ -152,17 +152,20 @@ pub record SendsOwn (s : State) (f : Apdu) (t : State) : Type 0 where
 abbrev pub SendsData : State → Apdu → State → Type 0
 SendsData s f t = SendsOwn s f t ⊎ ((s.commands.answers ≡ []) × SendsPiece s f t)
 
--- An answer is late where the timers are done, any other cause shows before.
+-- An answer is late where the timers are done, an own answer finds no place where it is kept, and any other cause shows as octets are
+-- taken.
 abbrev pub IsCloseAt : Close → Phase → Type 0
 IsCloseAt Timeout Timed = Unit {0}
 IsCloseAt Timeout phase = ⊥
+IsCloseAt OwnAnswers Crowded = Unit {0}
+IsCloseAt OwnAnswers phase = ⊥
 IsCloseAt cause Taking = Unit {0}
-IsCloseAt cause Idle = Unit {0}
 IsCloseAt cause phase = ⊥
 
 -- how far a step is where it has closed the connection
 abbrev pub after_closing : Phase → Phase
 after_closing Taking = Idle
+after_closing Crowded = Idle
 after_closing phase = phase
 
 -- The cause to close the connection is there. The state that agrees with the log may differ from this one in what

@@ -22,7 +22,7 @@ use Rattle.command.specs.declared.waiting.Waiting.{Waiting}
 use Rattle.command.specs.State as tasks
 use Rattle.command.specs.State.{has_room, line_of, refusal_of, is_used, oldest}
 use Rattle.command.specs.Judging.{judged}
-use Rattle.command.specs.History.{Offered, History}
+use Rattle.command.specs.History.{Offered, Ended, History}
 use Rattle.command.specs.Calls.{Call, Judge, PutOnLine, Accept, Busy, Lose, Mirror, Own, SendOwn, Cut, Due, Run, run}
 use Rattle.gateway.specs.declared.counts.Counts.{Counts}
 use Rattle.gateway.specs.Log.{Input, LineIn}
@@ -64,10 +64,12 @@ abbrev pub all_kept : List (List ℕ) → tasks.State → Bool
 all_kept [] s = true
 all_kept (x ∷ xs) s = has_room s && all_kept xs (tasks.offered x s)
 
--- the latest answer found no place
+-- an own answer of the open connection found no place
 abbrev pub is_overfull : History → Bool
+is_overfull [] = false
 is_overfull (Offered octets false ∷ h) = true
-is_overfull h = false
+is_overfull (Ended ∷ h) = false
+is_overfull (entry ∷ h) = is_overfull h
 
 abbrev pub listed : Option (List ℕ) → List (List ℕ)
 listed None = []
