@@ -34,7 +34,7 @@ use Rattle.gateway.specs.State.{has_place, State, disconnected, framed, next_fra
 use Rattle.gateway.specs.Steps.{IsCloseAt, after_closing}
 use Rattle.gateway.specs.Works.{is_overfull, Works, tasks_of, with_call, cut_works, settled_works, ready_works, unasked_works, IsOwnDue}
 use Rattle.gateway.specs.Line.{IsServed, done_in}
-use Rattle.gateway.proofs.Serving.{upto_leaves, upto_counts, offers_reach, unasked_stays, left_at_rest}
+use Rattle.gateway.proofs.Serving.{upto_leaves, offers_reach, unasked_stays, left_at_rest}
 use Rattle.link.specs.Offers.{offered_at}
 use Rattle.link.specs.Leave.{holds_poll}
 use Rattle.link.specs.Turns.{station_at}
@@ -52,7 +52,7 @@ use Rattle.session.specs.Ends.{IsConfirmed}
 use Rattle.gateway.specs.Conversation.{KeepsTalk}
 use Rattle.gateway.specs.Agrees.{IsAt, Presently, Carries, Past, Talks, Agrees, Does, Tied, ArePlain, IsSpent, IsQuiet, pieces_of}
 use Rattle.gateway.proofs.Working.{answers_in, does_same, does_heard, does_cut, does_cut_again, does_own, asked_own, own_placed, heard_placed, heard_due, settled_due}
-use Rattle.gateway.proofs.Offering.{offers_heard, offers_cut, heard_plain}
+use Rattle.gateway.proofs.Offering.{count_upto, offers_heard, offers_cut, heard_plain}
 use Rattle.gateway.proofs.Talking.{at, HasNoData, no_own, sends, kept_talk, talk_out, talk_heard, talk_cut, all_taken, confirmed_by, due_by, late_by}
 use Rattle.gateway.proofs.Unconfirmed.{numbered_more}
 use Rattle.gateway.proofs.Tied.{tied_taken, tied_piece, tied_own, sent_more, SameWindow, tied_same, fault_cases}
@@ -766,7 +766,7 @@ rested laws p s log a spent quiet = record {
         ap (octets_waiting i) a.stands.does.commands ∙ ap (λ b. octets_waiting i (tasks_of p (if b then unasked_works (latest log) room r else w)).state) due in
         let empty : offered_at r.line i ≡ None = sym (ap (λ xs. (station_at xs i).offered) same) ∙ none in
         let able : holds_command (station_at q.stations i).link ≡ false = ap holds_command (sym (kept.link i)) ∙ ap (λ xs. holds_command (station_at xs i).link) (sym same) ∙ free in
-        let known : i < length q.stations = omega (arith, within, a.line.count, ap length same, upto_counts laws (length q.stations) ws q) in
+        let known : i < length q.stations = omega (arith, within, a.line.count, ap length same, count_upto laws (length q.stations) ws q) in
         waits ∙ by_oldest (oldest i ws) refl (λ z e. offers_reach laws (length q.stations) ws q i z known (omega arith) e (sym kept.outstanding ∙ quiet) able empty)
       where
         by_oldest : (o : Option Waiting) → oldest i (tasks_of p (settled_works p (latest log) w)).state.waiting ≡ o → ((z : Waiting) → oldest i (tasks_of p (settled_works p (latest log) w)).state.waiting ≡ Some z → ⊥) → option_map (λ (z : Waiting). z.octets) o ≡ None

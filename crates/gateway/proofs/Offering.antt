@@ -51,7 +51,7 @@ offers_cut laws q s = λ k x e. let no : None ≡ Some x = sym (laws.no_offer q 
 
 -- Commands are offered
 
-count_upto : (laws : LineLaws) (n : ℕ) (ws : List Waiting) (q : Primary) → length (offered_upto n ws q).stations ≡ length q.stations
+pub count_upto : (laws : LineLaws) (n : ℕ) (ws : List Waiting) (q : Primary) → length (offered_upto n ws q).stations ≡ length q.stations
 count_upto laws zero ws q = refl
 count_upto laws (suc k) ws q = by_oldest (count_upto laws k ws q) (oldest k ws)
   where

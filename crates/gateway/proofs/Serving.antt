@@ -15,6 +15,7 @@ use Rattle.command.specs.declared.waiting.Waiting.{Waiting}
 use Rattle.command.specs.State.{oldest}
 use Rattle.gateway.specs.Works.{offered_by, offered_upto}
 use Rattle.gateway.specs.LineLaws.{LineLaws}
+use Rattle.gateway.proofs.Offering.{count_upto}
 
 -- What an offer leaves of the stations
 
@@ -45,19 +46,11 @@ by_leaves : (q : Primary) (k : ℕ) (o : Option Waiting) → k < length q.statio
 by_leaves q k None within = record { outstanding = refl; link = λ i. refl }
 by_leaves q k (Some w) within = offer_leaves q k w.octets within
 
-by_counts : (laws : LineLaws) (q : Primary) (k : ℕ) (o : Option Waiting) → length (offered_by o k q).stations ≡ length q.stations
-by_counts laws q k None = refl
-by_counts laws q k (Some w) = laws.count q k w.octets
-
-pub upto_counts : (laws : LineLaws) (n : ℕ) (ws : List Waiting) (q : Primary) → length (offered_upto n ws q).stations ≡ length q.stations
-upto_counts laws zero ws q = refl
-upto_counts laws (suc k) ws q = by_counts laws (offered_upto k ws q) k (oldest k ws) ∙ upto_counts laws k ws q
-
 pub upto_leaves : (laws : LineLaws) (n : ℕ) (ws : List Waiting) (q : Primary) → n ≤ length q.stations → Leaves q (offered_upto n ws q)
 upto_leaves laws zero ws q within = record { outstanding = refl; link = λ i. refl }
 upto_leaves laws (suc k) ws q within =
     let before = upto_leaves laws k ws q (omega (arith, within)) in
-    let last = by_leaves (offered_upto k ws q) k (oldest k ws) (omega (arith, within, upto_counts laws k ws q)) in
+    let last = by_leaves (offered_upto k ws q) k (oldest k ws) (omega (arith, within, count_upto laws k ws q)) in
     record { outstanding = last.outstanding ∙ before.outstanding; link = λ i. last.link i ∙ before.link i }
 
 -- A command that waits for a station that takes one is offered to it.
@@ -79,7 +72,7 @@ offers_reach laws (suc k) ws q i w less within waits out free none = by_place (c
     r = offered_upto k ws q
 
     stations : k < length r.stations
-    stations = omega (arith, within, upto_counts laws k ws q)
+    stations = omega (arith, within, count_upto laws k ws q)
 
     kept : Leaves q r
     kept = upto_leaves laws k ws q (omega (arith, within))
