@@ -155,5 +155,8 @@ timely t = record { range = record { k_small = omega (arith, t.k_in_range.1); w_
 pub first_follows : (c : Settings) (s : State) (told : Option Log) → StartTells → SessionLaws → CommandLaws → AreStations c.line.link c.line.sizes.ca c.stations → IsTimely (session_of c.tcp) → s ≡ first_state c → told ≡ Some [] → Follows (setup_of c) s told
 first_follows c s told starts laws commands rules timely is e = subst (λ o. Follows (setup_of c) s o) (sym e) (subst (λ x. Agrees (setup_of c) x [] [] Fresh × IsConfirmed x.session) (sym is) (at_first c starts laws commands rules timely, refl))
 
+pub told_follows : (p : Setup) (s : State) (told : Option Log) → Follows p s (Some []) → told ≡ Some [] → Follows p s told
+told_follows p s told h e = subst (λ o. Follows p s o) (sym e) h
+
 pub nothing_rests : (p : Setup) (told : Option Log) → told ≡ Some [] → Rests p told
 nothing_rests p told e = subst (Rests p) (sym e) tt

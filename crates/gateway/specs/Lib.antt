@@ -23,6 +23,7 @@ pub mod Traffic
 pub mod State
 pub mod Finding
 pub mod Phases
+pub mod Accounts
 pub mod Agrees
 pub mod Steps
 pub mod Judging

@@ -9,17 +9,17 @@ ghost use Rattle.session.specs.Session.{new_session, confirmed, pulled, may_send
 ghost use Rattle.command.specs.State as tasks;
 ghost use Rattle.command.specs.State.{oldest};
 ghost use Rattle.command.specs.Judging.{judged};
-ghost use Rattle.events.specs.Queue.{empty, free_places, octets_of};
+ghost use Rattle.events.specs.Queue.{empty, free_places, kept, octets_of};
 ghost use Rattle.link.specs.Leave.{is_poll_request, is_polling, is_report};
 ghost use Rattle.std.specs.List.{AllByRecursion};
 ghost use Rattle.asdu.specs.Asdu.{IsAsdu};
 ghost use Rattle.asdu.specs.InformationObjects.{monitor_objects_of};
 ghost use Rattle.asdu.specs.Reading.{value_of};
-ghost use Rattle.gateway.specs.Agrees.{IsSpent};
+ghost use Rattle.gateway.specs.Agrees.{IsSpent, Follows};
 ghost use Rattle.gateway.specs.Polls.{has_room};
 ghost use Rattle.gateway.specs.Counting.{one_skipped, one_mirrored, one_lost};
 ghost use Rattle.gateway.specs.Works.{kept_until, all_kept, listed, is_command_report, offered_by, offered_upto};
-ghost use Rattle.gateway.specs.Setups.{link_of, info_of};
+ghost use Rattle.gateway.specs.Setups.{link_of, info_of, setup_of};
 ghost use Rattle.gateway.specs.declared.settings.Station.{Station};
 ghost use Rattle.gateway.specs.State.{first_state, after_request, at_moment, disconnected, connected, received as frame_received, heard_commands, has_place};
 ghost use Rattle.gateway.specs.Steps.{Judged, SendsPiece, SendsOwn, SendsData, Mirrors, LearnsReport, Hears, Learns, refused, refusal_fits, given_up, line_timed, settled};
@@ -27,12 +27,13 @@ ghost use Rattle.gateway.specs.Finding.{Finds};
 
 use crate::config::Config;
 use crate::counts::Counts;
+use crate::laws::{command_is_told, session_is_told};
 use crate::settings::{LineSettings, Silence};
 use apci::{Apdu, Assembler, Heard};
 use arrayvec::ArrayVec;
 use asdu::{Asdu, Piece, Sizes, read, translate};
 use command::{Act, Commands, StationInfo};
-use events::Events;
+use events::{Events, Kept};
 use link::{
     LinkSettings, Master, Outcome, Request, RequestKind, master_tells_the_log,
     next_changes_nothing, offers_wait, polls_wait_for_leave,
@@ -223,6 +224,20 @@ fn closed_session(alloc: Global, config: &Config) -> Result<Session, NoMemory>
 impl Gateway {
     /// A gateway at moment 0, without a connection. Only want of memory is answered by an `Err`.
     pub fn new(alloc: Global, config: &Config) -> Result<Gateway, NoMemory>
+        ensures first { IfOk result (λ s. s ≡ first_state config.now) }
+        // It may begin with any port that tells an empty log.
+        ensures begins { IfOk result (λ s. Follows (setup_of config.now) s (Some [])) }
+    {
+        master_tells_the_log();
+        session_is_told();
+        command_is_told();
+        let _stations = config.stations();
+        let gateway = Gateway::at_first(alloc, config)?;
+        Ok(gateway)
+    }
+
+    /// The parts of a new gateway.
+    fn at_first(alloc: Global, config: &Config) -> Result<Gateway, NoMemory>
         ensures { IfOk result (λ s. s ≡ first_state config.now) }
     {
         Ok(Gateway {
@@ -247,6 +262,13 @@ impl Gateway {
         ensures { result ≡ self.now.counts }
     {
         self.counts
+    }
+
+    /// The pieces that no connection has acknowledged, oldest first: ASDUs in the sizes of the connection.
+    pub fn kept(&self) -> Kept<'_>
+        ensures { result ≡ kept self.now.queue }
+    {
+        self.events.kept()
     }
 
     /// Moments that go back count as the greatest so far, and one past the last as the last.

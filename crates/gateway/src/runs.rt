@@ -4,15 +4,14 @@ ghost use Rattle.gateway.specs.Log.{Came};
 ghost use Rattle.gateway.specs.Ports.{told_by, input_of, FitsBuffer, faults_of};
 ghost use Rattle.gateway.specs.Reports.{Setup};
 ghost use Rattle.gateway.specs.Traffic.{IsFaithful, HasRested};
+ghost use Rattle.gateway.specs.Accounts.{IsAccounted};
 ghost use Rattle.gateway.specs.Agrees.{Follows, Rests};
 ghost use Rattle.gateway.specs.Runs.{UnlessDevice, MoreEvents, faults_at};
 ghost use Rattle.gateway.specs.Setups.{setup_of};
 
 use crate::config::Config;
 use crate::engine::{Gateway, NoMemory};
-use crate::laws::{command_is_told, session_is_told};
 use crate::ports::{Event, Next, Port};
-use link::master_tells_the_log;
 use std::alloc::Global;
 
 /// How a run ended: the port had no more events, the turns were used up, or the device failed.
@@ -30,6 +29,8 @@ pub fn drive_on<P: Port>(gateway: &mut Gateway, port: &mut P, turns: u64) -> End
     ensures faithful { (p : Setup) → Follows p gateway.old (P.log port.old) → Rests p (P.log port.old) → IfSome (P.log port.new) (IsFaithful p) }
     ensures rests { (p : Setup) → Follows p gateway.old (P.log port.old) → Rests p (P.log port.old) → UnlessDevice result (IfSome (P.log port.new) (HasRested p)) }
     ensures kept { (p : Setup) → Follows p gateway.old (P.log port.old) → Rests p (P.log port.old) → UnlessDevice result (Follows p gateway.new (P.log port.new)) }
+    // What it then keeps is what was taken and not acknowledged, and what it has counted is what the log shows.
+    ensures accounts { (p : Setup) → Follows p gateway.old (P.log port.old) → Rests p (P.log port.old) → UnlessDevice result (IfSome (P.log port.new) (IsAccounted p gateway.new)) }
     ensures turns { result ≡ End.Turns → MoreEvents turns (P.log port.old) (P.log port.new) }
     ensures finished { result ≡ End.Finished → P.ended port.new ≡ true }
     ensures script { P.script port.new ≡ P.script port.old }
@@ -69,10 +70,6 @@ pub fn drive<P: Port>(
     ensures script { P.script port.new ≡ P.script port.old }
     ensures unasked { OnErr result (port.new ≡ port.old) }
 {
-    master_tells_the_log();
-    session_is_told();
-    command_is_told();
-    let _stations = config.stations();
     let mut gateway = Gateway::new(alloc, config)?;
     Ok(drive_on(&mut gateway, port, turns))
 }

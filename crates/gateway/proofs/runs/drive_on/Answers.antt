@@ -1,4 +1,5 @@
 use Rattle.std.proofs.Common.{◌∙◌, rules}
+use Rattle.gateway.proofs.Accounting.{accounted, ends_accounted}
 use Rattle.gateway.proofs.Events.{come, more_events}
 use Rattle.gateway.proofs.runs.drive_on.Goals as goal
 
@@ -10,3 +11,9 @@ loop-preserved g c = record {
   script = c.if-not-step.ensures.script ∙ c.next-next.ensures.script ∙ c.loop.invariant.script;
   ready = search rules;
 }
+
+pub returns-in-Err-clause-accounts : goal.returns-in-Err-clause-accounts
+returns-in-Err-clause-accounts g c = λ p t r. ends_accounted c.in-Err.end p _ _ _ _ (c.loop.invariant.kept p t r) c.next-next.ensures.told c.in-Err.ensures.none
+
+pub returns-clause-accounts : goal.returns-clause-accounts
+returns-clause-accounts g c = λ p t r. accounted p _ _ (c.loop.invariant.kept p t r)

@@ -1,0 +1,53 @@
+-- What a state between two steps keeps and has counted.
+use Rattle.std.proofs.Common.{◌≡◌, ℕ, Bool, true, false, List, [], ◌∷◌, ◌++◌, length, drop, refl, ap, sym, subst, ◌∙◌, Option, Some, None}
+use Rattle.std.specs.Prelude.{IfSome, if◌then◌else◌}
+use Rattle.std.specs.List.{flat_map}
+use Rattle.std.proofs.Math.Seq.{drop-append_seam}
+use Rattle.asdu.specs.InformationObjects.{InformationObject}
+use Rattle.events.specs.Queue.{kept}
+use Rattle.gateway.specs.Log.{Log, latest, tell}
+use Rattle.gateway.specs.Runs.{UnlessDevice}
+use Rattle.gateway.specs.declared.runs.End.{End}
+use Rattle.gateway.specs.declared.runs.End.TheVariants.{Finished, Turns, Device}
+use Rattle.gateway.specs.Objects.{objects}
+use Rattle.gateway.specs.Frames.{first_unacknowledged}
+use Rattle.gateway.specs.Reports.{Setup, taken_objects, reports_in, parts_of_all}
+use Rattle.gateway.specs.Course.{here_of, room_in}
+use Rattle.gateway.specs.Works.{Works, unasked_works, ready_works}
+use Rattle.gateway.specs.Line.{done_in}
+use Rattle.gateway.specs.Phases.{resting}
+use Rattle.gateway.specs.State.{State}
+use Rattle.gateway.specs.Agrees.{Agrees, Carries, Follows}
+use Rattle.gateway.specs.Accounts.{IsAccounted}
+use Rattle.gateway.proofs.Agreement.{stands_now}
+use Rattle.gateway.proofs.Objects.{carries_end}
+
+accounted_at : (p : Setup) (s : State) (log : Log) (a : Agrees p s log [] (resting log)) → IsAccounted p s log
+accounted_at p s log a = record {
+  course = a.course;
+  course_runs = a.talk.course_runs;
+  are = record { open_one = stands_now p s log (resting log) a; earlier = a.before.are };
+  left = sym (ap (λ n. drop n (taken_objects p log)) (sym all.front) ∙ ap (drop (length all.gone)) all.joined ∙ drop-append_seam all.gone (flat_map objects (kept s.queue)));
+  counts = counted log a;
+}
+  where
+    all : Carries (taken_objects p log) (parts_of_all p.sizes (reports_in p log)) (here_of a.course ∷ a.course.earlier) [] (kept s.queue)
+    all = carries_end (taken_objects p log) (parts_of_all p.sizes (reports_in p log)) a.course.earlier (here_of a.course) s.session s.queue.sent s.queue.unsent a.here.tied a.carries
+
+    counted : (log : Log) (a : Agrees p s log [] (resting log)) → s.counts ≡ (done_in p log a.course).counts
+    counted [] a = a.stands.does.counts ∙ sym (ap (λ b. (if b then unasked_works (latest []) (room_in p [] a.course) (ready_works p (latest []) a.course.works) else a.course.works).counts) a.stands.asks)
+    counted (entry ∷ log) a = a.stands.does.counts
+
+untold : (old : Option Log) → tell old [] ≡ old
+untold None = refl
+untold (Some log) = refl
+
+pub accounted : (p : Setup) (s : State) (told : Option Log) → Follows p s told → IfSome told (IsAccounted p s)
+accounted p s None h = tt
+accounted p s (Some log) h = accounted_at p s log h.0
+
+-- at the end of a run, where no more has come
+pub ends_accounted : (e : End) (p : Setup) (s : State) (old new : Option Log) (news : Log) → Follows p s old → new ≡ tell old news → news ≡ [] → UnlessDevice e (IfSome new (IsAccounted p s))
+ends_accounted Finished p s old new news h told none = accounted p s new (subst (Follows p s) (sym (told ∙ ap (tell old) none ∙ untold old)) h)
+ends_accounted Turns p s old new news h told none = accounted p s new (subst (Follows p s) (sym (told ∙ ap (tell old) none ∙ untold old)) h)
+ends_accounted Device p s old new news h told none = tt
