@@ -18,6 +18,7 @@ use Rattle.sim.specs.Scripts.{IsScriptOf}
 use Rattle.sim.specs.declared.directive.Directive.{Directive}
 use Rattle.telegate.specs.Answers.{IsRunOf, IsReplayed, IsSimulationOf, IsSimulatedBy}
 use Rattle.telegate.specs.declared.answer.Answer.{Answer}
+use Rattle.telegate.specs.declared.closing.Closing.{Closing}
 use Rattle.telegate.specs.declared.fault.Fault.{Fault}
 use Rattle.telegate.specs.declared.fault.Fault.TheVariants.{Config, Trace, Script, Sizes, Octets, Device, NoMemory}
 
@@ -45,15 +46,15 @@ at_end (Ok x) end P h is turns = let same : x ≡ end = cc in h (same ∙ turns)
 at_end (Err x) end P h is turns = cc
 
 -- the answer to the command, where its files were read
-pub replayed : (config trace : List ℕ) (settings : Settings) (entries : Vec Entry Global) (r : Result Answer Fault) → IsReadOfText config (Ok settings) → IsTraceOf trace (Ok entries) → IsRunOf settings entries.items r → IsReplayed config trace r
-replayed config trace settings entries (Ok answer) read told run = record { settings = settings; entries = entries; read_config = read; read_trace = told; run = run }
-replayed config trace settings entries (Err NoMemory) read told run = tt
-replayed config trace settings entries (Err (Config why)) read told run = absurd run
-replayed config trace settings entries (Err (Trace n)) read told run = absurd run
-replayed config trace settings entries (Err (Script n)) read told run = absurd run
-replayed config trace settings entries (Err Sizes) read told run = absurd run
-replayed config trace settings entries (Err Octets) read told run = absurd run
-replayed config trace settings entries (Err Device) read told run = absurd run
+pub replayed : (config trace : List ℕ) (closing : Closing) (settings : Settings) (entries : Vec Entry Global) (r : Result Answer Fault) → IsReadOfText config (Ok settings) → IsTraceOf trace (Ok entries) → IsRunOf settings entries.items closing r → IsReplayed config trace closing r
+replayed config trace closing settings entries (Ok answer) read told run = record { settings = settings; entries = entries; read_config = read; read_trace = told; run = run }
+replayed config trace closing settings entries (Err NoMemory) read told run = tt
+replayed config trace closing settings entries (Err (Config why)) read told run = absurd run
+replayed config trace closing settings entries (Err (Trace n)) read told run = absurd run
+replayed config trace closing settings entries (Err (Script n)) read told run = absurd run
+replayed config trace closing settings entries (Err Sizes) read told run = absurd run
+replayed config trace closing settings entries (Err Octets) read told run = absurd run
+replayed config trace closing settings entries (Err Device) read told run = absurd run
 
 -- the answer to the command over a simulated line, where its files were read
 pub simulated : (config text : List ℕ) (settings : Settings) (script : List Directive) (r : Result Answer Fault) → IsReadOfText config (Ok settings) → IsScriptOf settings text (Ok script) → IsSimulationOf settings script r → IsSimulatedBy config text r

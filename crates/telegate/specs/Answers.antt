@@ -23,7 +23,11 @@ use Rattle.sim.specs.Scripts.{IsScriptOf}
 use Rattle.sim.specs.Runs.{IsSimulated}
 use Rattle.sim.specs.declared.directive.Directive.{Directive}
 use Rattle.settings.specs.Settings.{IsReadOfText}
+use Rattle.gateway.specs.Accounts.{IsAccounted}
+use Rattle.gateway.specs.State.{State}
+use Rattle.telegate.specs.Closing.{closing_lines}
 use Rattle.telegate.specs.Faults.{status_of}
+use Rattle.telegate.specs.declared.closing.Closing.{Closing}
 use Rattle.telegate.specs.declared.answer.Answer.{Answer}
 use Rattle.telegate.specs.declared.fault.Fault.{Fault}
 use Rattle.telegate.specs.declared.fault.Fault.TheVariants.{Config, Trace, Script, Sizes, Octets, NoMemory}
@@ -93,31 +97,34 @@ pub record IsCheckAnswer (config : List ℕ) (answer : Answer) : Type 0 where
 abbrev pub IsChecked : List ℕ → Result Answer Fault → Type 0
 IsChecked config result = MatchResult result (IsCheckAnswer config) (IsConfigFault config)
 
--- The lines of the actions of the log of a run over these entries: the events of the log are a tick at moment 0 and the
--- entries, the log keeps every promise of a gateway with these settings, and so delivers what the outstations reported.
-pub record IsRun (settings : Settings) (entries : List Entry) (answer : Answer) : Type 0 where
+-- The lines of the actions of the log of a run over these entries, and those with which the run ends: the events of the log are a
+-- tick at moment 0 and the entries, the log keeps every promise of a gateway with these settings, and so delivers what the outstations
+-- reported; and what is left and was counted is what the log shows.
+pub record IsRun (settings : Settings) (entries : List Entry) (closing : Closing) (answer : Answer) : Type 0 where
   pub log : Log
   pub events : events_of log ≡ script_of entries
   pub faithful : IsFaithful (setup_of settings) log
   pub rests : HasRested (setup_of settings) log
   pub delivers : Delivers (setup_of settings) log
-  pub text : answer.text.items ≡ lines_of_actions log
+  pub state : State
+  pub accounts : IsAccounted (setup_of settings) state log
+  pub text : answer.text.items ≡ lines_of_actions log ++ closing_lines closing.left closing.counts state
   pub status : answer.status ≡ 0
 
-pub record IsRunAnswer (config trace : List ℕ) (answer : Answer) : Type 0 where
+pub record IsRunAnswer (config trace : List ℕ) (closing : Closing) (answer : Answer) : Type 0 where
   pub settings : Settings
   pub entries : Vec Entry Global
   pub read_config : IsReadOfText config (Ok settings)
   pub read_trace : IsTraceOf trace (Ok entries)
-  pub run : IsRun settings entries.items answer
+  pub run : IsRun settings entries.items closing answer
 
 -- a run that is started stops by want of memory alone
 abbrev pub IsMemory : Fault → Type 0
 IsMemory NoMemory = Unit {0}
 IsMemory _ = ⊥
 
-abbrev pub IsRunOf : Settings → List Entry → Result Answer Fault → Type 0
-IsRunOf settings entries result = MatchResult result (IsRun settings entries) IsMemory
+abbrev pub IsRunOf : Settings → List Entry → Closing → Result Answer Fault → Type 0
+IsRunOf settings entries closing result = MatchResult result (IsRun settings entries closing) IsMemory
 
 -- settings are judged before the trace
 abbrev pub IsRunFault : List ℕ → List ℕ → Fault → Type 0
@@ -126,8 +133,8 @@ IsRunFault config trace (Trace n) = ((s : Settings) × IsReadOfText config (Ok s
 IsRunFault config trace NoMemory = Unit {0}
 IsRunFault config trace _ = ⊥
 
-abbrev pub IsReplayed : List ℕ → List ℕ → Result Answer Fault → Type 0
-IsReplayed config trace result = MatchResult result (IsRunAnswer config trace) (IsRunFault config trace)
+abbrev pub IsReplayed : List ℕ → List ℕ → Closing → Result Answer Fault → Type 0
+IsReplayed config trace closing result = MatchResult result (IsRunAnswer config trace closing) (IsRunFault config trace)
 
 -- the text of a run of the script over a simulated line, whatever it loses
 pub record IsSimulation (settings : Settings) (script : List Directive) (answer : Answer) : Type 0 where
@@ -159,7 +166,7 @@ abbrev pub IsAnsweredBy : Job → Result Answer Fault → Type 0
 IsAnsweredBy (Show101 sizes hex) result = IsShown101 sizes.now hex.now result
 IsAnsweredBy (Show104 hex) result = IsShown104 hex.now result
 IsAnsweredBy (Check config) result = IsChecked config.now result
-IsAnsweredBy (Replay config trace) result = IsReplayed config.now trace.now result
+IsAnsweredBy (Replay config trace left counts) result = IsReplayed config.now trace.now (record { left = left; counts = counts }) result
 IsAnsweredBy (Sim config script) result = IsSimulatedBy config.now script.now result
 
 -- the command is done: its answer's text was appended to the output, and the status is the answer's

@@ -3,6 +3,7 @@ ghost use Rattle.std.specs.Prelude.{◌≡◌};
 ghost use Rattle.telegate.specs.Answers.{IsAnsweredBy};
 
 use crate::check::check;
+use crate::closing::Closing;
 use crate::fault::Fault;
 use crate::job::Job;
 use crate::replay::replay;
@@ -25,7 +26,18 @@ pub(crate) fn answer_to(alloc: Global, job: &Job<'_>) -> Result<Answer, Fault>
         Job::Show101(sizes, hex) => show101(alloc, *sizes, *hex),
         Job::Show104(hex) => show104(alloc, *hex),
         Job::Check(config) => check(alloc, *config),
-        Job::Replay { config, trace } => replay(alloc, *config, *trace),
+        Job::Replay {
+            config,
+            trace,
+            left,
+            counts,
+        } => {
+            let closing = Closing {
+                left: *left,
+                counts: *counts,
+            };
+            replay(alloc, *config, *trace, closing)
+        }
         Job::Sim(config, script) => simulate(alloc, *config, *script),
     }
 }

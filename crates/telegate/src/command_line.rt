@@ -9,8 +9,13 @@ pub(crate) enum Request<'a> {
     Show104 { hex: &'a str },
     /// The name of a file.
     Check { config: &'a str },
-    /// The names of two files.
-    Replay { config: &'a str, trace: &'a str },
+    /// The names of two files, and which lines the run ends with.
+    Replay {
+        config: &'a str,
+        trace: &'a str,
+        left: bool,
+        counts: bool,
+    },
     /// The names of two files.
     Sim { config: &'a str, script: &'a str },
 }
@@ -19,6 +24,13 @@ fn word<'a>(alloc: Global, name: &'a str, help: &'a str) -> Arg<'a> {
     Arg::new(alloc, name)
         .required(true)
         .action(ArgAction::Set)
+        .help(help)
+}
+
+fn flag<'a>(alloc: Global, name: &'a str, help: &'a str) -> Arg<'a> {
+    Arg::new(alloc, name)
+        .long(name)
+        .action(ArgAction::SetTrue)
         .help(help)
 }
 
@@ -49,7 +61,17 @@ fn replay<'a>(alloc: Global) -> Result<Command<'a>, AllocError> {
     Command::new(alloc, "replay")
         .about("Runs the gateway over the events of a trace, and prints what it puts out")
         .arg(word(alloc, "CONFIG", "A file of settings"))?
-        .arg(word(alloc, "TRACE", "A file of events, one a line"))
+        .arg(word(alloc, "TRACE", "A file of events, one a line"))?
+        .arg(flag(
+            alloc,
+            "left",
+            "Prints a line for each piece that was not acknowledged",
+        ))?
+        .arg(flag(
+            alloc,
+            "counts",
+            "Prints a line with what was dropped, given up or spoilt",
+        ))
 }
 
 fn sim<'a>(alloc: Global) -> Result<Command<'a>, AllocError> {
@@ -98,6 +120,8 @@ pub(crate) fn request_of<'a>(matches: &ArgMatches<'a>) -> Option<Request<'a>> {
         "replay" => Some(Request::Replay {
             config: matches.get_str("CONFIG")?,
             trace: matches.get_str("TRACE")?,
+            left: matches.get_flag("left"),
+            counts: matches.get_flag("counts"),
         }),
         "sim" => Some(Request::Sim {
             config: matches.get_str("CONFIG")?,

@@ -1,8 +1,10 @@
 //! Why a command stops, and the exit statuses.
 ghost use Rattle.std.specs.Prelude.{◌≡◌};
 ghost use Rattle.telegate.specs.Faults.{status_of};
+ghost use Rattle.telegate.specs.declared.fault.Fault.TheVariants as fault;
 
 use settings::ConfigFault;
+use std::alloc::AllocError;
 use thiserror::Error;
 
 /// The exit status of a command that is done.
@@ -43,6 +45,22 @@ pub(crate) enum Fault {
     Device,
     #[error("no memory")]
     NoMemory,
+}
+
+impl From<AllocError> for Fault {
+    ghost from_gives = { λ _ e. e ≡ fault.NoMemory };
+
+    fn from(_error: AllocError) -> Fault {
+        Fault::NoMemory
+    }
+}
+
+impl From<gateway::NoMemory> for Fault {
+    ghost from_gives = { λ _ e. e ≡ fault.NoMemory };
+
+    fn from(_error: gateway::NoMemory) -> Fault {
+        Fault::NoMemory
+    }
 }
 
 impl Fault {

@@ -9,8 +9,14 @@ pub enum Job<'a> {
     Show104(&'a str),
     /// The judgement of a file of settings.
     Check(&'a [u8]),
-    /// A run of the gateway over the events of a trace.
-    Replay { config: &'a [u8], trace: &'a [u8] },
+    /// A run of the gateway over the events of a trace; and whether a line follows for each piece that no connection has
+    /// acknowledged, and one with what was counted.
+    Replay {
+        config: &'a [u8],
+        trace: &'a [u8],
+        left: bool,
+        counts: bool,
+    },
     /// A run of the gateway over simulated stations and a simulated control centre: the settings, and the script.
     Sim(&'a [u8], &'a [u8]),
 }

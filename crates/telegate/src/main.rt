@@ -8,6 +8,7 @@
 
 mod answer;
 mod check;
+mod closing;
 mod command_line;
 mod fault;
 mod files;
@@ -82,11 +83,18 @@ fn respond<R: Files + Eprint + AllocGlobal, W: Write, E: Write>(
             Ok(config) => perform(rt.alloc(), &Job::Check(config.as_slice()), out, err),
             Err(status) => status,
         },
-        Request::Replay { config, trace } => match read_files(rt, *config, *trace) {
+        Request::Replay {
+            config,
+            trace,
+            left,
+            counts,
+        } => match read_files(rt, *config, *trace) {
             Ok((config, trace)) => {
                 let job = Job::Replay {
                     config: config.as_slice(),
                     trace: trace.as_slice(),
+                    left: *left,
+                    counts: *counts,
                 };
                 perform(rt.alloc(), &job, out, err)
             }

@@ -61,6 +61,8 @@ fn replays(rt: &impl Abort, alloc: Global, config: &str, trace: &str, lines: &st
     let job = Job::Replay {
         config: config.as_bytes(),
         trace: trace.as_bytes(),
+        left: false,
+        counts: false,
     };
     prints(rt, alloc, &job, lines, 0);
 }

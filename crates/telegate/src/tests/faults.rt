@@ -30,6 +30,8 @@ fn the_first_wrong_setting_is_told(rt: HostRuntime) {
             &Job::Replay {
                 config,
                 trace: b"x",
+                left: false,
+                counts: false,
             },
             fault,
         );
@@ -46,6 +48,8 @@ fn the_first_wrong_line_of_a_trace_is_told(rt: HostRuntime) {
         let job = Job::Replay {
             config: CONFIG_A.as_bytes(),
             trace: trace.as_bytes(),
+            left: false,
+            counts: false,
         };
         stops(&rt, rt.alloc(), &job, fault);
     }
