@@ -20,3 +20,4 @@ pub mod Kept
 pub mod Stored
 pub mod Unique
 pub mod Checks
+pub mod Order
