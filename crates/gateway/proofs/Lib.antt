@@ -21,3 +21,4 @@ pub mod Stored
 pub mod Unique
 pub mod Checks
 pub mod Accounting
+pub mod Order

@@ -20,6 +20,7 @@ pub mod Room
 pub mod Line
 pub mod LineLaws
 pub mod Traffic
+pub mod Order
 pub mod State
 pub mod Finding
 pub mod Phases

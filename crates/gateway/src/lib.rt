@@ -19,6 +19,7 @@ mod counts;
 mod engine;
 mod entries;
 mod laws;
+mod ordering;
 mod ports;
 mod runs;
 mod settings;
@@ -29,6 +30,7 @@ pub use counts::Counts;
 pub use engine::{Gateway, NoMemory};
 pub use entries::{Entry, Told};
 pub use laws::one_reading;
+pub use ordering::steps_keep_their_order;
 pub use ports::{Action, Event, Next, Port};
 pub use runs::{End, drive, drive_on};
 pub use settings::{
