@@ -92,6 +92,25 @@ pub enum FrontRef<'a> {
     Never(usize, Why),
 }
 
+impl Apdu {
+    ghost use Rattle.apci.specs.Borrowed.{owned};
+
+    /// The same APDU with its ASDU lent.
+    pub fn as_ref(&self) -> ApduRef<'_>
+        ensures { owned result ≡ self.now }
+    {
+        match self {
+            Apdu::I { ns, nr, asdu } => ApduRef::I {
+                ns: *ns,
+                nr: *nr,
+                asdu: asdu.as_slice(),
+            },
+            Apdu::S { nr } => ApduRef::S { nr: *nr },
+            Apdu::U(function) => ApduRef::U(*function),
+        }
+    }
+}
+
 impl ApduRef<'_> {
     ghost use Rattle.apci.specs.Borrowed.{owned, HasRoom};
 

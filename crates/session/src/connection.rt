@@ -1,11 +1,12 @@
 //! The session of one connection.
 
 ghost use Rattle.std.specs.Prelude.{◌≡◌, ◌+◌, ◌-◌, ◌^◌, ◌<◌, ◌≤◌, if◌then◌else◌, true, false, Some, None, IfOk, IfSome, length, take};
+ghost use Rattle.apci.specs.Borrowed.{owned};
 ghost use Rattle.apci.specs.Spelling.{Fits};
 ghost use Rattle.session.specs.Session.{from_queue};
 
 use crate::kinds::{Close, Kind, Taken, Unacknowledged};
-use apci::{Apdu, Uf};
+use apci::{Apdu, ApduRef, Uf};
 use circular_buffer::HeapCircularBuffer;
 use std::alloc::Global;
 use std::marker::Model;
@@ -202,6 +203,14 @@ impl Session {
         ensures outcome { result ≡ outcome_of self.old apdu.now }
         ensures session { self.new ≡ taken apdu.now now self.old }
     {
+        self.take_ref(apdu.as_ref(), now)
+    }
+
+    /// An APDU came, and its ASDU is lent: the answer and the state of `take`.
+    pub fn take_ref(&mut self, apdu: ApduRef<'_>, now: u64) -> Taken
+        ensures outcome { result ≡ outcome_of self.old (owned apdu.entry) }
+        ensures session { self.new ≡ taken (owned apdu.entry) now self.old }
+    {
         let outcome = self.judge(apdu);
         self.last_frame = now;
         if let Taken::Close(_) = outcome {
@@ -210,37 +219,39 @@ impl Session {
         }
         self.acknowledge(self.newly(apdu));
         match apdu {
-            Apdu::I { .. } => self.count(now),
-            Apdu::S { .. } => {}
-            Apdu::U(function) => self.obey(*function),
+            ApduRef::I { .. } => self.count(now),
+            ApduRef::S { .. } => {}
+            ApduRef::U(function) => self.obey(function),
         }
         outcome
     }
 
     /// What the frame leads to.
-    fn judge(&self, apdu: &Apdu) -> Taken
-        ensures { result ≡ outcome_of self.now apdu.now }
+    fn judge(&self, apdu: ApduRef<'_>) -> Taken
+        ensures { result ≡ outcome_of self.now (owned apdu.entry) }
     {
         match apdu {
-            Apdu::I { .. } if !self.runs() => Taken::Close(Close::Stopped),
-            Apdu::I { ns, .. } if *ns != self.next_received => Taken::Close(Close::SendNumber),
-            Apdu::I { nr, .. } if !self.is_valid(*nr) => Taken::Close(Close::ReceiveNumber),
-            Apdu::I { .. } => Taken::Asdu,
-            Apdu::S { nr } if !self.is_valid(*nr) => Taken::Close(Close::ReceiveNumber),
-            Apdu::S { .. } => Taken::Nothing,
-            Apdu::U(_) => Taken::Nothing,
+            ApduRef::I { .. } if !self.runs() => Taken::Close(Close::Stopped),
+            ApduRef::I { ns, .. } if ns != self.next_received => Taken::Close(Close::SendNumber),
+            ApduRef::I { nr, .. } if !self.is_valid(nr) => Taken::Close(Close::ReceiveNumber),
+            ApduRef::I { .. } => Taken::Asdu,
+            ApduRef::S { nr } if !self.is_valid(nr) => Taken::Close(Close::ReceiveNumber),
+            ApduRef::S { .. } => Taken::Nothing,
+            ApduRef::U(_) => Taken::Nothing,
         }
     }
 
     /// How many frames the frame newly acknowledges.
-    fn newly(&self, apdu: &Apdu) -> usize
-        requires { refuses self.now apdu.now ≡ false }
-        ensures value { result ≡ newly_by apdu.now self.now }
+    fn newly(&self, apdu: ApduRef<'_>) -> usize
+        requires { refuses self.now (owned apdu) ≡ false }
+        ensures value { result ≡ newly_by (owned apdu.entry) self.now }
         ensures fits { result ≤ length self.now.unacknowledged }
     {
         match apdu {
-            Apdu::I { nr, .. } | Apdu::S { nr } => self.unacknowledged.len() - self.left_by(*nr),
-            Apdu::U(_) => 0,
+            ApduRef::I { nr, .. } | ApduRef::S { nr } => {
+                self.unacknowledged.len() - self.left_by(nr)
+            }
+            ApduRef::U(_) => 0,
         }
     }
 

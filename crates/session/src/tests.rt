@@ -1,7 +1,7 @@
 ghost use Rattle.std.specs.Prelude.{◌<◌};
 
 use super::*;
-use apci::{Apdu, Uf};
+use apci::{Apdu, Front, FrontRef, Uf, front, front_ref};
 use arrayvec::ArrayVec;
 use std::alloc::Global;
 use std::test::Fail;
@@ -364,6 +364,49 @@ fn the_ring_has_what_is_unacknowledged(rt: HostRuntime) -> Result<(), Fail> {
     assert_eq!(rt; ring.len(), 2);
     for frame in ring.iter() {
         assert_eq!(rt; *frame, own);
+    }
+    Ok(())
+}
+
+/// An interrogation as a control centre sends it, with the lower octets of N(S) and N(R).
+fn interrogation(ns: u8, nr: u8) -> [u8; 16] {
+    [
+        0x68, 0x0E, ns, 0x00, nr, 0x00, 0x64, 0x01, 0x06, 0x00, 0x01, 0x00, 0x00, 0x00, 0x00, 0x14,
+    ]
+}
+
+#[test]
+fn lent_frames_lead_to_the_same(rt: HostRuntime) -> Result<(), Fail> {
+    let rows: [(&[u8], Taken); 9] = [
+        (&interrogation(2, 0), Taken::Close(Close::SendNumber)),
+        (&interrogation(0, 4), Taken::Close(Close::ReceiveNumber)),
+        (&interrogation(0, 0), Taken::Asdu),
+        (
+            &[0x68, 0x04, 0x01, 0x00, 0x04, 0x00],
+            Taken::Close(Close::ReceiveNumber),
+        ),
+        (&[0x68, 0x04, 0x01, 0x00, 0x02, 0x00], Taken::Nothing),
+        (&[0x68, 0x04, 0x43, 0x00, 0x00, 0x00], Taken::Nothing),
+        (&interrogation(2, 2), Taken::Asdu),
+        (&[0x68, 0x04, 0x13, 0x00, 0x00, 0x00], Taken::Nothing),
+        (&interrogation(4, 2), Taken::Close(Close::Stopped)),
+    ];
+    let mut lent = started(rt.alloc(), 12)?;
+    let mut kept = started(rt.alloc(), 12)?;
+    let send = Step::Send(Kind::Queue, 6, 0, 0);
+    assert!(rt; answers(&mut lent, &send) && answers(&mut kept, &send));
+    for (octets, taken) in rows {
+        let (FrontRef::Whole(frame, _), Front::Whole(copy, _)) = (front_ref(octets), front(octets))
+        else {
+            assert!(rt; false, "no APDU");
+            return Ok(());
+        };
+        assert_eq!(rt; copy.as_ref(), frame);
+        assert_eq!(rt; lent.take_ref(frame, 7), taken);
+        assert_eq!(rt; kept.take(&copy, 7), taken);
+        assert_eq!(rt; lent.acked(), kept.acked());
+        assert_eq!(rt; lent.confirm(), kept.confirm());
+        assert_eq!(rt; lent.pull(10007), kept.pull(10007));
     }
     Ok(())
 }

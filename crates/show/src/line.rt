@@ -1,12 +1,13 @@
 //! Octets of the line in words.
 ghost use Rattle.std.specs.Prelude.{◌≡◌, ◌++◌, IfOk, OnOk, length, string_bytes};
+ghost use Rattle.ft12.specs.Borrowed.{owned, owned_front};
 ghost use Rattle.show.specs.Line.{frame_line, frame_lines, frame_outcome, front_lines, front_outcome, number_of, IsLineShown};
 
 use crate::control::control_text;
 use crate::outcome::push_rest;
 use crate::units::push_unit;
 use crate::{LineSizes, Outcome, Shown};
-use ft12::{Frame, Front, Why, front};
+use ft12::{FrameRef, FrontRef, Why, front_ref};
 use std::alloc::{AllocError, Global};
 
 /// Shows what stands at the front of octets of the line: the frame and its ASDU, and how many octets follow;
@@ -14,9 +15,9 @@ use std::alloc::{AllocError, Global};
 pub fn show_line(alloc: Global, sizes: LineSizes, octets: &[u8]) -> Result<Shown, AllocError>
     ensures { IfOk result (λ shown. IsLineShown sizes octets.now (string_bytes shown.lines) shown.outcome) }
 {
-    let front = front(sizes.link, octets);
+    let front = front_ref(sizes.link, octets);
     let mut lines = String::new(alloc);
-    let outcome = push_front(alloc, &mut lines, sizes, octets.len(), &front)?;
+    let outcome = push_front(alloc, &mut lines, sizes, octets.len(), front)?;
     Ok(Shown { lines, outcome })
 }
 
@@ -26,24 +27,24 @@ fn push_front(
     lines: &mut String,
     sizes: LineSizes,
     count: usize,
-    front: &Front,
+    front: FrontRef<'_>,
 ) -> Result<Outcome, AllocError>
-    ensures lines { OnOk result (string_bytes lines.new ≡ string_bytes lines.old ++ front_lines sizes count front.now) }
-    ensures outcome { IfOk result (λ outcome. outcome ≡ front_outcome sizes count front.now) }
+    ensures lines { OnOk result (string_bytes lines.new ≡ string_bytes lines.old ++ front_lines sizes count (owned_front front.entry)) }
+    ensures outcome { IfOk result (λ outcome. outcome ≡ front_outcome sizes count (owned_front front.entry)) }
 {
     match front {
-        Front::Whole(frame, len) => {
+        FrontRef::Whole(frame, len) => {
             let outcome = push_frame(alloc, lines, sizes, frame)?;
-            let rest = count.saturating_sub(*len);
+            let rest = count.saturating_sub(len);
             push_rest(lines, rest)?;
             Ok(outcome.with_rest(rest))
         }
-        Front::More => {
+        FrontRef::More => {
             writeln!(lines, "truncated")?;
             Ok(Outcome::Faulty)
         }
-        Front::Never(place, why) => {
-            let number = number_of(*why);
+        FrontRef::Never(place, why) => {
+            let number = number_of(why);
             writeln!(lines, "refused {number} at {place}")?;
             Ok(Outcome::Faulty)
         }
@@ -55,22 +56,22 @@ fn push_frame(
     alloc: Global,
     lines: &mut String,
     sizes: LineSizes,
-    frame: &Frame,
+    frame: FrameRef<'_>,
 ) -> Result<Outcome, AllocError>
-    ensures lines { OnOk result (string_bytes lines.new ≡ string_bytes lines.old ++ frame_lines sizes frame.now) }
-    ensures outcome { IfOk result (λ outcome. outcome ≡ frame_outcome sizes frame.now) }
+    ensures lines { OnOk result (string_bytes lines.new ≡ string_bytes lines.old ++ frame_lines sizes (owned frame.entry)) }
+    ensures outcome { IfOk result (λ outcome. outcome ≡ frame_outcome sizes (owned frame.entry)) }
 {
     match frame {
-        Frame::Single => writeln!(lines, "single")?,
-        Frame::Fixed { c, a } => {
-            let control = control_text(alloc, *c)?;
+        FrameRef::Single => writeln!(lines, "single")?,
+        FrameRef::Fixed { c, a } => {
+            let control = control_text(alloc, c)?;
             writeln!(lines, "fixed {control} address={a}")?;
         }
-        Frame::Data { c, a, body } => {
-            let control = control_text(alloc, *c)?;
+        FrameRef::Data { c, a, body } => {
+            let control = control_text(alloc, c)?;
             let octets = body.len();
             writeln!(lines, "data {control} address={a} octets={octets}")?;
-            return push_unit(alloc, lines, sizes.asdu, body.as_slice());
+            return push_unit(alloc, lines, sizes.asdu, body);
         }
     }
     Ok(Outcome::Good)

@@ -1,11 +1,12 @@
 //! Octets of the connection in words.
 ghost use Rattle.std.specs.Prelude.{◌≡◌, ◌++◌, IfOk, OnOk, length, string_bytes};
+ghost use Rattle.apci.specs.Borrowed.{owned, owned_front};
 ghost use Rattle.show.specs.Tcp.{apdu_lines, apdu_outcome, front_lines, front_outcome, function_text, number_of, IsTcpShown};
 
 use crate::outcome::push_rest;
 use crate::units::push_unit;
 use crate::{Outcome, Shown};
-use apci::{Apdu, Front, Uf, Why, front};
+use apci::{ApduRef, FrontRef, Uf, Why, front_ref};
 use asdu::Sizes;
 use std::alloc::{AllocError, Global};
 
@@ -14,9 +15,9 @@ use std::alloc::{AllocError, Global};
 pub fn show_tcp(alloc: Global, octets: &[u8]) -> Result<Shown, AllocError>
     ensures { IfOk result (λ shown. IsTcpShown octets.now (string_bytes shown.lines) shown.outcome) }
 {
-    let front = front(octets);
+    let front = front_ref(octets);
     let mut lines = String::new(alloc);
-    let outcome = push_front(alloc, &mut lines, octets.len(), &front)?;
+    let outcome = push_front(alloc, &mut lines, octets.len(), front)?;
     Ok(Shown { lines, outcome })
 }
 
@@ -25,24 +26,24 @@ fn push_front(
     alloc: Global,
     lines: &mut String,
     count: usize,
-    front: &Front,
+    front: FrontRef<'_>,
 ) -> Result<Outcome, AllocError>
-    ensures lines { OnOk result (string_bytes lines.new ≡ string_bytes lines.old ++ front_lines count front.now) }
-    ensures outcome { IfOk result (λ outcome. outcome ≡ front_outcome count front.now) }
+    ensures lines { OnOk result (string_bytes lines.new ≡ string_bytes lines.old ++ front_lines count (owned_front front.entry)) }
+    ensures outcome { IfOk result (λ outcome. outcome ≡ front_outcome count (owned_front front.entry)) }
 {
     match front {
-        Front::Whole(apdu, len) => {
+        FrontRef::Whole(apdu, len) => {
             let outcome = push_apdu(alloc, lines, apdu)?;
-            let rest = count.saturating_sub(*len);
+            let rest = count.saturating_sub(len);
             push_rest(lines, rest)?;
             Ok(outcome.with_rest(rest))
         }
-        Front::More => {
+        FrontRef::More => {
             writeln!(lines, "truncated")?;
             Ok(Outcome::Faulty)
         }
-        Front::Never(place, why) => {
-            let number = number_of(*why);
+        FrontRef::Never(place, why) => {
+            let number = number_of(why);
             writeln!(lines, "refused {number} at {place}")?;
             Ok(Outcome::Faulty)
         }
@@ -50,19 +51,19 @@ fn push_front(
 }
 
 /// Appends the lines of an APDU and of its ASDU.
-fn push_apdu(alloc: Global, lines: &mut String, apdu: &Apdu) -> Result<Outcome, AllocError>
-    ensures lines { OnOk result (string_bytes lines.new ≡ string_bytes lines.old ++ apdu_lines apdu.now) }
-    ensures outcome { IfOk result (λ outcome. outcome ≡ apdu_outcome apdu.now) }
+fn push_apdu(alloc: Global, lines: &mut String, apdu: ApduRef<'_>) -> Result<Outcome, AllocError>
+    ensures lines { OnOk result (string_bytes lines.new ≡ string_bytes lines.old ++ apdu_lines (owned apdu.entry)) }
+    ensures outcome { IfOk result (λ outcome. outcome ≡ apdu_outcome (owned apdu.entry)) }
 {
     match apdu {
-        Apdu::I { ns, nr, asdu } => {
+        ApduRef::I { ns, nr, asdu } => {
             let octets = asdu.len();
             writeln!(lines, "I ns={ns} nr={nr} octets={octets}")?;
-            return push_unit(alloc, lines, Sizes::TCP, asdu.as_slice());
+            return push_unit(alloc, lines, Sizes::TCP, asdu);
         }
-        Apdu::S { nr } => writeln!(lines, "S nr={nr}")?,
-        Apdu::U(function) => {
-            let text = function_text(*function);
+        ApduRef::S { nr } => writeln!(lines, "S nr={nr}")?,
+        ApduRef::U(function) => {
+            let text = function_text(function);
             writeln!(lines, "U {text}")?;
         }
     }

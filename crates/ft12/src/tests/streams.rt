@@ -1,24 +1,72 @@
 //! Frames out of pieces: `Assembler`.
 
-ghost use Rattle.std.specs.Prelude.{◌<◌};
+ghost use Rattle.std.specs.Prelude.{◌<◌, ◌≤◌, length};
 
 use super::plain::Plain;
 use super::*;
+
+/// Frames of a line with two stations, and a report whose sum is wrong.
+const MORE_FRAMES: [&[u8]; 11] = [
+    &[0x10, 0x0B, 0x02, 0x0D, 0x16],
+    &[0x10, 0x19, 0x01, 0x1A, 0x16],
+    &[0x10, 0x40, 0x02, 0x42, 0x16],
+    &[0x10, 0x49, 0x02, 0x4B, 0x16],
+    &[0x10, 0x5B, 0x02, 0x5D, 0x16],
+    &[0x10, 0x7A, 0x01, 0x7B, 0x16],
+    &[0x10, 0x7B, 0x02, 0x7D, 0x16],
+    &[
+        0x68, 0x09, 0x09, 0x68, 0x08, 0x01, 0x2D, 0x01, 0x07, 0x01, 0x0A, 0x00, 0x01, 0x4A, 0x16,
+    ],
+    &[
+        0x68, 0x09, 0x09, 0x68, 0x53, 0x01, 0x2D, 0x01, 0x06, 0x01, 0x0A, 0x00, 0x01, 0x94, 0x16,
+    ],
+    &[
+        0x68, 0x09, 0x09, 0x68, 0x73, 0x02, 0x64, 0x01, 0x06, 0x02, 0x00, 0x00, 0x14, 0xF6, 0x16,
+    ],
+    &[
+        0x68, 0x09, 0x09, 0x68, 0x08, 0x01, 0x01, 0x01, 0x03, 0x01, 0x64, 0x00, 0x01, 0x75, 0x16,
+    ],
+];
+
+/// Whether octets that are cut in two here are heard as `front` finds them, each looked at at most once.
+fn is_heard_alike(size: LinkSize, octets: &[u8], cut: usize) -> bool
+    requires { cut ≤ length octets.now }
+{
+    let (whole, decided) = match front(size, octets) {
+        Front::Whole(frame, len) => (Heard::Frame(frame), len),
+        Front::More => (Heard::More, octets.len()),
+        Front::Never(place, why) => (Heard::Never(place, why), place.saturating_add(1)),
+    };
+    let (first, rest) = octets.split_at(cut);
+    let mut assembler = Assembler::new(size);
+    let heard = assembler.feed(first);
+    let goes_on = if decided <= cut {
+        heard == (cut, whole) && assembler.feed(rest) == (rest.len(), Heard::Deaf)
+    } else {
+        heard == (cut, Heard::More) && assembler.feed(rest) == (rest.len(), whole)
+    };
+    goes_on && assembler.looked() == decided as u64
+}
 
 #[test]
 fn each_cut_is_heard_alike(rt: HostRuntime) {
     for octets in FRAMES {
         for cut in 0..octets.len() {
-            let Front::Whole(frame, _) = front(LinkSize::One, octets) else {
-                assert!(rt; false, "no frame");
-                return;
-            };
-            let (first, rest) = octets.split_at(cut);
-            let mut assembler = Assembler::new(LinkSize::One);
-            assert_eq!(rt; assembler.feed(first), (cut, Heard::More));
-            assert_eq!(rt; assembler.feed(rest), (rest.len(), Heard::Frame(frame)));
-            assert_eq!(rt; assembler.looked(), octets.len() as u64);
+            assert!(rt; is_heard_alike(LinkSize::One, octets, cut));
         }
+    }
+    for octets in MORE_FRAMES {
+        for cut in 0..octets.len() {
+            assert!(rt; is_heard_alike(LinkSize::One, octets, cut));
+        }
+    }
+    let octets = long_report();
+    for cut in 0..octets.len() {
+        assert!(rt; is_heard_alike(LinkSize::One, &octets, cut));
+    }
+    let octets = [0x10, 0x49, 0x02, 0x01, 0x4C, 0x16];
+    for cut in 0..octets.len() {
+        assert!(rt; is_heard_alike(LinkSize::Two, &octets, cut));
     }
 }
 
