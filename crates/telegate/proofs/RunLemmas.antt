@@ -1,14 +1,24 @@
 -- The end of a run over the entries of a trace.
-use Rattle.std.proofs.Common.{◌≡◌, ℕ, ◌+◌, Bool, false, List, [], ◌++◌, length, map, Option, Some, IfOk, subst, ◌∙◌, ap, arith, length-append}
-use Rattle.std.proofs.lemmas.List.{length-map}
+use Rattle.std.proofs.Common.{◌≡◌, ℕ, ◌+◌, Bool, true, false, ◌&&◌, List, [], ◌∷◌, ◌++◌, length, map, Option, Some, IfOk, subst, ◌∙◌, ap, sym, arith, length-append}
+use Rattle.std.proofs.lemmas.List.{length-map, append-nil}
 use Rattle.gateway.specs.Log.{Log, events_of}
 use Rattle.gateway.specs.Entries.{event_of, script_of}
 use Rattle.gateway.specs.Runs.{MoreEvents}
 use Rattle.gateway.specs.declared.entries.Entry.{Entry}
-use Rattle.traces.specs.Traced.{Traced, coming, whole_script}
+use Rattle.traces.specs.Traced.{Traced, coming, whole_script, is_none_left, has_ended}
 use Rattle.traces.specs.Trace.{IsTraceOf}
 use Rattle.traces.specs.declared.health.Health.TheVariants.{Good}
-use Rattle.std.specs.Prelude.{Result, Ok, Err, Vec}
+use Rattle.std.specs.Prelude.{Result, Ok, Err, Vec, MatchResult}
+use Rattle.traces.specs.Actions.{lines_of_actions}
+use Rattle.gateway.specs.Accounts.{IsAccounted}
+use Rattle.gateway.specs.Agrees.{Follows, Rests}
+use Rattle.gateway.specs.Order.{KeepsOrder}
+use Rattle.gateway.specs.Reports.{Setup}
+use Rattle.gateway.specs.Setups.{setup_of}
+use Rattle.gateway.specs.State.{State}
+use Rattle.gateway.specs.Traffic.{IsFaithful, HasRested}
+use Rattle.delivery.specs.Delivery.{Delivers}
+use Rattle.telegate.specs.Closing.{closing_lines}
 use Rattle.std.specs.declared.alloc.Global.{Global}
 use Rattle.gateway.specs.Config.{Settings}
 use Rattle.gateway.specs.declared.runs.End.{End}
@@ -16,7 +26,7 @@ use Rattle.gateway.specs.declared.runs.End.TheVariants.{Turns}
 use Rattle.settings.specs.Settings.{IsReadOfText}
 use Rattle.sim.specs.Scripts.{IsScriptOf}
 use Rattle.sim.specs.declared.directive.Directive.{Directive}
-use Rattle.telegate.specs.Answers.{IsRunOf, IsReplayed, IsSimulationOf, IsSimulatedBy}
+use Rattle.telegate.specs.Answers.{IsMemory, IsRunOf, IsReplayed, IsSimulationOf, IsSimulatedBy}
 use Rattle.telegate.specs.declared.answer.Answer.{Answer}
 use Rattle.telegate.specs.declared.closing.Closing.{Closing}
 use Rattle.telegate.specs.declared.fault.Fault.{Fault}
@@ -40,10 +50,40 @@ pub turns_are_left : (entries : List Entry) (turns : ℕ) (old new : Traced) (wr
 turns_are_left entries turns old new written is enough whole more =
     turns_suffice new.log new.started new.left entries turns enough (whole ∙ ap whole_script is) (subst (λ (t : Traced). MoreEvents turns (Some t.log) (Some new.log)) is more)
 
+-- a gateway that may begin with an empty log may begin with this port
+pub at_first : (p : Setup) (s : State) (t : Traced) {entries : List Entry} {written : Option (List ℕ)} → t ≡ record { log = []; failed = 0; health = Good; started = false; left = entries; written = written } → Follows p s (Some []) → Follows p s (Some t.log) × Rests p (Some t.log)
+at_first p s t is begins = (subst (λ (x : Traced). Follows p s (Some x.log)) (sym is) begins, subst (λ (x : Traced). Rests p (Some x.log)) (sym is) tt)
+
 -- what an answer promises of this end
 pub at_end : {E : Type 0} (r : Result End E) (end : End) (P : Type 0) → IfOk r (λ e. e ≡ Turns → P) → r ≡ Ok end → end ≡ Turns → P
 at_end (Ok x) end P h is turns = let same : x ≡ end = cc in h (same ∙ turns)
 at_end (Err x) end P h is turns = cc
+
+-- where no more is to come, the events are those of all entries
+pub all_came : (t : Traced) (entries : List Entry) → has_ended t ≡ true → whole_script t ≡ script_of entries → events_of t.log ≡ script_of entries
+all_came t entries over whole = by t.started t.left over whole
+  where
+    by : (b : Bool) (left : List Entry) → (b && is_none_left left) ≡ true → events_of t.log ++ coming b left ≡ script_of entries → events_of t.log ≡ script_of entries
+    by true [] over whole = sym (append-nil (events_of t.log)) ∙ whole
+    by true (entry ∷ left) over whole = cc
+    by false left over whole = cc
+
+-- the answer of a run that has come to its end
+pub closed : (settings : Settings) (entries : List Entry) (closing : Closing) (state : State) (log : Log) (text : List ℕ) (r : Result Answer Fault) → events_of log ≡ script_of entries → IsFaithful (setup_of settings) log → HasRested (setup_of settings) log → KeepsOrder log →
+    Delivers (setup_of settings) log → IsAccounted (setup_of settings) state log → text ≡ lines_of_actions log → MatchResult r (λ answer. (answer.text.items ≡ text ++ closing_lines closing.left closing.counts state) × (answer.status ≡ 0)) IsMemory → IsRunOf settings entries closing r
+closed settings entries closing state log text (Ok answer) events faithful rests ordered delivers accounts is h = record {
+  log = log;
+  events = events;
+  faithful = faithful;
+  rests = rests;
+  ordered = ordered;
+  delivers = delivers;
+  state = state;
+  accounts = accounts;
+  text = h.0 ∙ ap (λ xs. xs ++ closing_lines closing.left closing.counts state) is;
+  status = h.1;
+}
+closed settings entries closing state log text (Err e) events faithful rests ordered delivers accounts is h = h
 
 -- the answer to the command, where its files were read
 pub replayed : (config trace : List ℕ) (closing : Closing) (settings : Settings) (entries : Vec Entry Global) (r : Result Answer Fault) → IsReadOfText config (Ok settings) → IsTraceOf trace (Ok entries) → IsRunOf settings entries.items closing r → IsReplayed config trace closing r

@@ -24,6 +24,7 @@ use Rattle.sim.specs.Runs.{IsSimulated}
 use Rattle.sim.specs.declared.directive.Directive.{Directive}
 use Rattle.settings.specs.Settings.{IsReadOfText}
 use Rattle.gateway.specs.Accounts.{IsAccounted}
+use Rattle.gateway.specs.Order.{KeepsOrder}
 use Rattle.gateway.specs.State.{State}
 use Rattle.telegate.specs.Closing.{closing_lines}
 use Rattle.telegate.specs.Faults.{status_of}
@@ -105,6 +106,7 @@ pub record IsRun (settings : Settings) (entries : List Entry) (closing : Closing
   pub events : events_of log ≡ script_of entries
   pub faithful : IsFaithful (setup_of settings) log
   pub rests : HasRested (setup_of settings) log
+  pub ordered : KeepsOrder log
   pub delivers : Delivers (setup_of settings) log
   pub state : State
   pub accounts : IsAccounted (setup_of settings) state log

@@ -4,7 +4,7 @@ ghost use Rattle.std.specs.List.{flat_map};
 ghost use Rattle.events.specs.Queue.{kept};
 ghost use Rattle.telegate.specs.Closing.{left_line, counts_line, closing_lines};
 
-use gateway::Gateway;
+use gateway::{Counts, Gateway};
 use std::alloc::{AllocError, Global};
 
 /// Which lines a run ends with.
@@ -28,13 +28,14 @@ fn push_left(alloc: Global, lines: &mut String, gateway: &Gateway) -> Result<(),
 }
 
 /// Appends the line of what was counted.
-fn push_counts(lines: &mut String, gateway: &Gateway) -> Result<(), AllocError>
-    ensures { OnOk result (string_bytes lines.new ≡ string_bytes lines.old ++ counts_line gateway.now.counts) }
+fn push_counts(lines: &mut String, counts: Counts) -> Result<(), AllocError>
+    ensures { OnOk result (string_bytes lines.new ≡ string_bytes lines.old ++ counts_line counts) }
 {
-    let counts = gateway.counts();
-    let skipped = counts.skipped;
-    let mirrors = counts.mirrors;
-    let lost = counts.lost;
+    let Counts {
+        skipped,
+        mirrors,
+        lost,
+    } = counts;
     writeln!(
         lines,
         "counts skipped {skipped} mirrors {mirrors} lost {lost}"
@@ -54,7 +55,7 @@ pub(crate) fn push_closing(
         push_left(alloc, lines, gateway)?;
     }
     if closing.counts {
-        push_counts(lines, gateway)?;
+        push_counts(lines, gateway.counts())?;
     }
     Ok(())
 }

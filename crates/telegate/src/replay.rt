@@ -10,7 +10,7 @@ use crate::check::read_config;
 use crate::closing::{Closing, push_closing};
 use crate::fault::{DONE, Fault};
 use delivery::nothing_is_lost;
-use gateway::{Config, End, Entry, Gateway, drive_on};
+use gateway::{Config, End, Entry, Gateway, drive_on, steps_keep_their_order};
 use std::alloc::Global;
 use traces::{Beginning, TextFault, Trace, read_trace};
 
@@ -52,6 +52,7 @@ fn run(
     ensures { IsRunOf config.now entries.items closing result }
 {
     nothing_is_lost();
+    steps_keep_their_order();
     // A turn for each entry, one for the tick at moment 0, and one in which there is no more.
     let Some(turns) = (entries.len() as u64).checked_add(2) else {
         return Err(Fault::NoMemory);
