@@ -11,7 +11,7 @@ use Rattle.link.specs.Requests.{FitsAddress}
 use Rattle.link.specs.Telling.{IsStable, Tells}
 use Rattle.link.specs.Procedure.{LinkSettings, Link, Down, Available, Next, Held, after_answer, after_silence, missed_so_far, is_held, holds_command, MaySend}
 use Rattle.link.specs.Turns.{StationState, no_station, Chosen, station_at}
-use Rattle.link.specs.Primary.{Outstanding, Primary, start, station_down, choice, offer_left, station_asked, after_choice, asked_from, asked, sending_by, sending_from, sending, station_answered, answered, answer_at, awaits, said_by, open_octets, took, received_after, received_from, received, station_unanswered, unanswered, is_late, due_from, timed_out, is_command, is_sending_command, may_offer, with_offer, offered_to, without_offer, withdrawn}
+use Rattle.link.specs.Primary.{Outstanding, Primary, start, station_down, choice, offer_left, station_asked, after_choice, asked_from, asked, sending_by, sending_from, sending, station_answered, answered, answer_at, awaits, said_by, open_octets, took, with_octets, received_after, received_from, received, station_unanswered, unanswered, is_late, due_from, timed_out, is_command, is_sending_command, may_offer, with_offer, offered_to, without_offer, withdrawn}
 use Rattle.link.specs.Holding.{IsFitting}
 use Rattle.link.specs.Runs as runs
 use Rattle.link.specs.Runs.{Call, Octets, Due, Offer, Withdraw, MayCall, MayCallAll, called, exchanged, Deed, Offered, FirstSent, Withdrawn, first_sent, sent_deeds, deeds, all_deeds, AreInOrder}
@@ -184,11 +184,11 @@ answered_holds (Counted fcb service) Unable link h = cc
 octets_leave : (front : List ℕ → Front) (p : Primary) (octets : List ℕ) → WaitAlone p → Leaves p (received front p octets) (λ i. [])
 octets_leave front p octets alone = go p.outstanding refl
   where
-    waits : (o : Outstanding) → p.outstanding ≡ Some o → (heard : Option (List ℕ)) → Leaves p (awaits p o heard) (λ i. [])
-    waits o is heard = leaves_same p (awaits p o heard)
+    waits : (o : Outstanding) → p.outstanding ≡ Some o → (heard : Option (List ℕ)) → Leaves p (awaits p (with_octets octets o) heard) (λ i. [])
+    waits o is heard = leaves_same p (awaits p (with_octets octets o) heard)
         (record { held = alone.held; sent = subst (λ (q : Option Outstanding). is_sending_command q ≡ true → (station_at p.stations p.turn).offered ≡ None) is alone.sent }) (λ i. refl)
 
-    say : (o : Outstanding) → p.outstanding ≡ Some o → (frame : Frame) (m : Option Answer) → Leaves p (said_by p o frame m) (λ i. [])
+    say : (o : Outstanding) → p.outstanding ≡ Some o → (frame : Frame) (m : Option Answer) → Leaves p (said_by p (with_octets octets o) frame m) (λ i. [])
     say o is frame None = waits o is None
     say o is frame (Some answer) =
         let s : StationState = station_answered (station_at p.stations p.turn) o.request frame answer in
@@ -199,12 +199,12 @@ octets_leave front p octets alone = go p.outstanding refl
         })
         (same_offer p p.turn s refl)
 
-    take_it : (o : Outstanding) → p.outstanding ≡ Some o → (heard : Option (List ℕ)) (f : Option Frame) → Leaves p (took p o heard f) (λ i. [])
+    take_it : (o : Outstanding) → p.outstanding ≡ Some o → (heard : Option (List ℕ)) (f : Option Frame) → Leaves p (took p (with_octets octets o) heard f) (λ i. [])
     take_it o is heard None = waits o is heard
     take_it o is heard (Some frame) = say o is frame (answer_at p o frame)
 
-    listen : (o : Outstanding) → p.outstanding ≡ Some o → (h : Option (List ℕ)) → Leaves p (received_after front p o h octets) (λ i. [])
-    listen o is None = leaves_same p p alone (λ i. refl)
+    listen : (o : Outstanding) → p.outstanding ≡ Some o → (h : Option (List ℕ)) → Leaves p (received_after front p (with_octets octets o) h octets) (λ i. [])
+    listen o is None = waits o is None
     listen o is (Some before) = take_it o is (open_octets (before ++ octets) (front (before ++ octets))) (whole_of (front (before ++ octets)))
 
     go : (o : Option Outstanding) → p.outstanding ≡ o → Leaves p (received_from front p o octets) (λ i. [])
@@ -232,13 +232,13 @@ silent_holds settings (Counted fcb service) link h = go (nat_lt settings.retries
 due_leaves : (p : Primary) (now : ℕ) → WaitAlone p → Leaves p (timed_out p now) (λ i. [])
 due_leaves p now alone = go p.outstanding refl
   where
-    late : (o : Outstanding) → p.outstanding ≡ Some o → (b : Bool) → Leaves p (if b then unanswered p o.request else p) (λ i. [])
+    late : (o : Outstanding) → p.outstanding ≡ Some o → (b : Bool) → Leaves p (if b then unanswered p o else p) (λ i. [])
     late o is false = leaves_same p p alone (λ i. refl)
     late o is true =
         let s : StationState = station_unanswered p.settings (station_at p.stations p.turn) o.request in
         let sent : is_command o.request ≡ true → (station_at p.stations p.turn).offered ≡ None =
         subst (λ (q : Option Outstanding). is_sending_command q ≡ true → (station_at p.stations p.turn).offered ≡ None) is alone.sent in
-        leaves_same p (unanswered p o.request)
+        leaves_same p (unanswered p o)
         (record {
           held = each_set HasOneCommand p.stations p.turn s (λ h. sent (silent_holds p.settings o.request (station_at p.stations p.turn).link h)) alone.held;
           sent = λ none. cc;

@@ -8,7 +8,7 @@ use Rattle.link.specs.Answers.{Service, Frame, Single, Fixed, Data, Class1, Clas
 use Rattle.link.specs.Exchanges.{Sending, whole_of}
 use Rattle.link.specs.Procedure.{LinkSettings, Link, Down, Available, Next, Held, missed_so_far, after_answer, after_silence, has_repeats}
 use Rattle.link.specs.Turns.{StationState, Phase, Starting, Commanding, Polling, Class1Polling, Over, no_station, station_at, is_poll, wants, polls_from, commands_from, next_of, wanted_by, Wanted, Chosen}
-use Rattle.link.specs.Primary.{Outstanding, Primary, choice, after_choice, asked_from, asked, sending_by, sending_from, sending, station_answered, answered, answer_at, said_by, open_octets, took, received_after, received_from, received, outcome_by, outcome_of, outcome_at, outcome_after, outcome_from, received_outcome, station_unanswered, unanswered, is_late, due_from, timed_out, may_offer, with_offer, offered_to, without_offer, withdrawn}
+use Rattle.link.specs.Primary.{Outstanding, Primary, choice, after_choice, asked_from, asked, sending_by, sending_from, sending, station_answered, answered, answer_at, said_by, open_octets, took, with_octets, received_after, received_from, received, outcome_by, outcome_of, outcome_at, outcome_after, outcome_from, received_outcome, station_unanswered, unanswered, is_late, due_from, timed_out, may_offer, with_offer, offered_to, without_offer, withdrawn}
 use Rattle.link.specs.Leave.{is_poll_request, holds_poll, is_polling_by, is_polling, is_report}
 use Rattle.link.proofs.Links.{set_view}
 use Rattle.link.proofs.Turning.{present, goes_on, passes_on}
@@ -175,7 +175,7 @@ octets front p came poll = go p.outstanding refl poll
     back : (o : Outstanding) → p.outstanding ≡ Some o → is_poll_request o.request ≡ true → is_polling p ≡ true
     back o e h = ap (λ (x : Option Outstanding). is_polling_by p x) e ∙ h
 
-    said : (o : Outstanding) → p.outstanding ≡ Some o → (frame : Frame) (m : Option Answer) → answer_at p o frame ≡ m → is_polling (said_by p o frame m) ≡ true →
+    said : (o : Outstanding) → p.outstanding ≡ Some o → (frame : Frame) (m : Option Answer) → answer_at p o frame ≡ m → is_polling (said_by p (with_octets came o) frame m) ≡ true →
         is_polling p ≡ true
     said o e frame None is h = back o e h
     said o e frame (Some answer) is h =
@@ -183,12 +183,12 @@ octets front p came poll = go p.outstanding refl poll
         answered_none p o.request frame answer (answer_ends (station_at p.stations p.turn).address o.request (station_at p.stations p.turn).link frame answer is) in
         let both : false ≡ true = sym none ∙ h in cc
 
-    is_taken : (o : Outstanding) → p.outstanding ≡ Some o → (so_far : Option (List ℕ)) (m : Option Frame) → is_polling (took p o so_far m) ≡ true → is_polling p ≡ true
+    is_taken : (o : Outstanding) → p.outstanding ≡ Some o → (so_far : Option (List ℕ)) (m : Option Frame) → is_polling (took p (with_octets came o) so_far m) ≡ true → is_polling p ≡ true
     is_taken o e so_far None h = back o e h
     is_taken o e so_far (Some frame) h = said o e frame (answer_at p o frame) refl h
 
-    heard : (o : Outstanding) → p.outstanding ≡ Some o → (before : Option (List ℕ)) → is_polling (received_after front p o before came) ≡ true → is_polling p ≡ true
-    heard o e None h = h
+    heard : (o : Outstanding) → p.outstanding ≡ Some o → (before : Option (List ℕ)) → is_polling (received_after front p (with_octets came o) before came) ≡ true → is_polling p ≡ true
+    heard o e None h = back o e h
     heard o e (Some before) h = is_taken o e (open_octets (before ++ came) (front (before ++ came))) (whole_of (front (before ++ came))) h
 
     go : (o : Option Outstanding) → p.outstanding ≡ o → is_polling (received_from front p o came) ≡ true → is_polling p ≡ true
@@ -209,15 +209,15 @@ silent settings (Counted fcb service) link e = go (nat_lt settings.retries (suc 
 pub due : (p : Primary) (at : ℕ) → is_polling (timed_out p at) ≡ true → is_polling p ≡ true
 due p at poll = go p.outstanding refl poll
   where
-    by : (o : Outstanding) → p.outstanding ≡ Some o → is_polling (unanswered p o.request) ≡ true → (b : Bool) → is_poll_request o.request ≡ b → is_polling p ≡ true
+    by : (o : Outstanding) → p.outstanding ≡ Some o → is_polling (unanswered p o) ≡ true → (b : Bool) → is_poll_request o.request ≡ b → is_polling p ≡ true
     by o e h true is = ap (λ (x : Option Outstanding). is_polling_by p x) e ∙ is
     by o e h false is =
         let s = station_unanswered p.settings (station_at p.stations p.turn) o.request in
-        let none : is_polling (unanswered p o.request) ≡ false =
+        let none : is_polling (unanswered p o) ≡ false =
         and_none (has_repeats p.settings s.link) _ (set_none (λ (t : StationState). holds_poll t.link) p.stations p.turn s (silent p.settings o.request (station_at p.stations p.turn).link is) refl) in
         let both : false ≡ true = sym none ∙ h in cc
 
-    late : (o : Outstanding) → p.outstanding ≡ Some o → (b : Bool) → is_polling (if b then unanswered p o.request else p) ≡ true → is_polling p ≡ true
+    late : (o : Outstanding) → p.outstanding ≡ Some o → (b : Bool) → is_polling (if b then unanswered p o else p) ≡ true → is_polling p ≡ true
     late o e true h = by o e h (is_poll_request o.request) refl
     late o e false h = h
 
@@ -330,7 +330,7 @@ pub report : (front : List ℕ → Front) (p : Primary) (octets : List ℕ) → 
 report front p octets is = go p.outstanding refl is
   where
     said : (o : Outstanding) → p.outstanding ≡ Some o → (frame : Frame) (m : Option Answer) → answer_at p o frame ≡ m → is_report (outcome_of p.turn o.request m) ≡ true →
-        (is_polling p ≡ true) × (is_polling (said_by p o frame m) ≡ false)
+        (is_polling p ≡ true) × (is_polling (said_by p (with_octets octets o) frame m) ≡ false)
     said o e frame None answers h = cc
     said o e frame (Some answer) answers h =
         let r = reported p.turn o.request answer h in
@@ -340,12 +340,12 @@ report front p octets is = go p.outstanding refl is
         )
 
     is_taken : (o : Outstanding) → p.outstanding ≡ Some o → (so_far : Option (List ℕ)) (m : Option Frame) → is_report (outcome_at p o m) ≡ true →
-        (is_polling p ≡ true) × (is_polling (took p o so_far m) ≡ false)
+        (is_polling p ≡ true) × (is_polling (took p (with_octets octets o) so_far m) ≡ false)
     is_taken o e so_far None h = cc
     is_taken o e so_far (Some frame) h = said o e frame (answer_at p o frame) refl h
 
     heard : (o : Outstanding) → p.outstanding ≡ Some o → (before : Option (List ℕ)) → is_report (outcome_after front p o before octets) ≡ true →
-        (is_polling p ≡ true) × (is_polling (received_after front p o before octets) ≡ false)
+        (is_polling p ≡ true) × (is_polling (received_after front p (with_octets octets o) before octets) ≡ false)
     heard o e None h = cc
     heard o e (Some before) h = is_taken o e (open_octets (before ++ octets) (front (before ++ octets))) (whole_of (front (before ++ octets))) h
 

@@ -9,6 +9,7 @@ pub mod Offering
 pub mod ReadingBack
 pub mod Reports
 pub mod Waiting
+pub mod Spoilt
 pub mod Telling
 pub mod Bit
 pub mod Commands

@@ -6,9 +6,9 @@ use Rattle.link.specs.Answers.{Service, Class1, Class2, Command, Asked, Status, 
 use Rattle.link.specs.Outstation.{Effect, Given, Accepted, Turn, OutstationRun, all_done}
 use Rattle.link.specs.Requests.{Reading, Foreign, Unknown, Asks, reading_of}
 use Rattle.link.specs.Secondary.{Secondary, Served, heard_reading, outstation_of, served, served_counted, served_new, served_class1, served_class2, unchanged, is_same}
-use Rattle.link.specs.Life.{Call, Report1, Report2, Hear, after, request_asked, requests_heard, turn_asked, turns_in, given1_at, given2_at, given1, given2, reported1, reported2, saturated}
+use Rattle.link.specs.Life.{Call, Report1, Report2, Hear, called, after, request_asked, requests_heard, turn_asked, turns_in, given1_at, given2_at, given1, given2, reported1, reported2, saturated}
 use Rattle.link.specs.Delivery.{reports, commands}
-use Rattle.link.proofs.Serving.{served_step, kept_address}
+use Rattle.link.proofs.Serving.{served_step, kept_address, kept_size}
 
 pub life_runs : (s : Secondary) (calls : List Call) →
     OutstationRun s.address (outstation_of s) (requests_heard s.address calls) (turns_in s calls) (outstation_of (after s calls))
@@ -149,3 +149,24 @@ ledger s (Hear granted (Some frame) ∷ calls) lt =
     go rest Foreign = let l = rest s lt in (l.class1, l.class2, l.accepted, l.given)
     go rest Unknown = let l = rest s lt in (l.class1, l.class2, l.accepted, l.given)
     go rest (Asks request) = after_request granted s request calls lt rest
+
+-- its address and its size of addresses stay
+reading_stays : (granted : Bool) (s : Secondary) (reading : Reading) →
+    ((heard_reading granted s reading).state.address ≡ s.address) × ((heard_reading granted s reading).state.size ≡ s.size)
+reading_stays granted s Foreign = (refl, refl)
+reading_stays granted s Unknown = (refl, refl)
+reading_stays granted s (Asks request) = (kept_address granted s request, kept_size granted s request)
+
+call_stays : (s : Secondary) (call : Call) → ((called s call).address ≡ s.address) × ((called s call).size ≡ s.size)
+call_stays s (Report1 true report) = (refl, refl)
+call_stays s (Report1 false report) = (refl, refl)
+call_stays s (Report2 true report) = (refl, refl)
+call_stays s (Report2 false report) = (refl, refl)
+call_stays s (Hear granted None) = (refl, refl)
+call_stays s (Hear granted (Some frame)) = reading_stays granted s (reading_of s.address frame)
+
+pub stays : (s : Secondary) (calls : List Call) → ((after s calls).address ≡ s.address) × ((after s calls).size ≡ s.size)
+stays s [] = (refl, refl)
+stays s (call ∷ calls) =
+    let now = call_stays s call in
+    let rest = stays (called s call) calls in (rest.0 ∙ now.0, rest.1 ∙ now.1)

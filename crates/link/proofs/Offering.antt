@@ -8,7 +8,7 @@ use Rattle.link.specs.Answers.{Frame, Class1, Class2, Command, Asked, Status, Re
 use Rattle.link.specs.Exchanges.{Sending, whole_of}
 use Rattle.link.specs.Procedure.{is_held}
 use Rattle.link.specs.Turns.{StationState, no_station, Chosen, station_at}
-use Rattle.link.specs.Primary.{Outstanding, Primary, choice, offer_left, station_asked, after_choice, asked_from, asked, sending_by, sending_from, sending, station_answered, answer_at, said_by, open_octets, took, received_after, received_from, received, station_unanswered, unanswered, is_late, due_from, timed_out, is_command, may_offer, with_offer, offered_to, withdrawn}
+use Rattle.link.specs.Primary.{Outstanding, Primary, choice, offer_left, station_asked, after_choice, asked_from, asked, sending_by, sending_from, sending, station_answered, answer_at, said_by, open_octets, took, with_octets, received_after, received_from, received, station_unanswered, unanswered, is_late, due_from, timed_out, is_command, may_offer, with_offer, offered_to, withdrawn}
 use Rattle.link.specs.Offers.{offered_at}
 use Rattle.link.proofs.Known.{IsKnownCommand, IsKnownChoice, choice_known}
 use Rattle.link.proofs.FirstSendings.{other_offer, same_offer, none_waits}
@@ -30,12 +30,12 @@ octets_keep front p octets k = go p.outstanding
 
     go : (o : Option Outstanding) → offered_at (received_from front p o octets) k ≡ offered_at p k
     go None = refl
-    go (Some o) = listen o o.heard
+    go (Some o) = listen (with_octets octets o) o.heard
 
 pub due_keeps : (p : Primary) (at : ℕ) (k : ℕ) → offered_at (timed_out p at) k ≡ offered_at p k
 due_keeps p at k = go p.outstanding
   where
-    late : (o : Outstanding) (b : Bool) → offered_at (if b then unanswered p o.request else p) k ≡ offered_at p k
+    late : (o : Outstanding) (b : Bool) → offered_at (if b then unanswered p o else p) k ≡ offered_at p k
     late o false = refl
     late o true = same_offer p p.turn (station_unanswered p.settings (station_at p.stations p.turn) o.request) refl k
 

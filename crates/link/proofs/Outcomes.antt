@@ -103,7 +103,7 @@ pub early_due : (front : List ℕ → Front) (settings : LinkSettings) (addresse
 early_due front settings addresses p e at x t latest out early =
     let a = awaited_at front addresses p.turn p.outstanding x (subst (λ (c : Option OpenExchange). IsCurrent front addresses p.turn p.outstanding c) latest t.current) out in
     let late : is_late p a.0 at ≡ false = late_so front settings addresses p e at x a.0 t a.2 ∙ early in (
-      ap (λ (o : Option Outstanding). due_from p o at) a.1 ∙ ap (λ (b : Bool). if b then unanswered p a.0.request else p) late,
+      ap (λ (o : Option Outstanding). due_from p o at) a.1 ∙ ap (λ (b : Bool). if b then unanswered p a.0 else p) late,
       ap (λ (o : Option Outstanding). due_outcome_from p o at) a.1 ∙ ap (λ (b : Bool). if b then miss_outcome p a.0.request else outcome.None) late,
     )
 

@@ -5,7 +5,7 @@ use Rattle.link.specs.Exchanges.{Exchanges, no_exchanges, all_of, views, with_st
 use Rattle.link.specs.Procedure.{LinkSettings, Down, KeepsFrameCountBit}
 use Rattle.link.specs.Requests.{FitsAddress}
 use Rattle.link.specs.Primary.{Primary, start, received, timed_out}
-use Rattle.link.specs.Telling.{IsStable, Tells}
+use Rattle.link.specs.Telling.{IsStable, AreSpoilt, Tells}
 use Rattle.link.specs.Runs.{Call, Next, Octets, Due, Offer, Withdraw, called, exchanged, MayCall, MayCallAll, called_all, exchanged_all}
 use Rattle.link.proofs.Telling.{start_tells, hear_tells, due_tells, ask_tells, offer_tells, withdraw_tells}
 
@@ -27,9 +27,20 @@ calls_tell settings addresses stable p e [] may t = t
 calls_tell settings addresses stable p e (call ∷ calls) may t =
     calls_tell settings addresses stable (called p call) (exchanged p call e) calls may.1 (call_tells settings addresses stable p e call may.0 t)
 
+run_tells : (settings : LinkSettings) (addresses : List ℕ) → IsStable (front_of settings.size) → (calls : List Call) →
+    0 < length addresses → All (FitsAddress settings.size) addresses → MayCallAll (start settings addresses) calls →
+    Tells settings addresses (called_all (start settings addresses) calls) (exchanged_all (start settings addresses) calls no_exchanges)
+run_tells settings addresses stable calls some fit may =
+    calls_tell settings addresses stable (start settings addresses) no_exchanges calls may (start_tells (front_of settings.size) settings addresses some fit)
+
 pub run_keeps : (settings : LinkSettings) (addresses : List ℕ) → IsStable (front_of settings.size) → (calls : List Call) (station : ℕ) →
     0 < length addresses → All (FitsAddress settings.size) addresses → MayCallAll (start settings addresses) calls →
     KeepsFrameCountBit settings (slice_index addresses station) Down
     (with_station station (views (front_of settings.size) (all_of (exchanged_all (start settings addresses) calls no_exchanges))))
-run_keeps settings addresses stable calls station some fit may =
-    (calls_tell settings addresses stable (start settings addresses) no_exchanges calls may (start_tells (front_of settings.size) settings addresses some fit)).keeps station
+run_keeps settings addresses stable calls station some fit may = (run_tells settings addresses stable calls some fit may).keeps station
+
+pub run_counts : (settings : LinkSettings) (addresses : List ℕ) → IsStable (front_of settings.size) → (calls : List Call) →
+    0 < length addresses → All (FitsAddress settings.size) addresses → MayCallAll (start settings addresses) calls →
+    AreSpoilt (front_of settings.size) addresses (called_all (start settings addresses) calls).spoilt
+    (all_of (exchanged_all (start settings addresses) calls no_exchanges))
+run_counts settings addresses stable calls some fit may = (run_tells settings addresses stable calls some fit may).spoilt

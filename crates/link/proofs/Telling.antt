@@ -4,16 +4,18 @@ use Rattle.std.proofs.lemmas.List.{length-set, length-map}
 use Rattle.ft12.specs.declared.frame.Front.{Front}
 use Rattle.ft12.specs.declared.frame.Front.TheVariants.{Whole, More, Never}
 use Rattle.link.specs.Answers.{Asked, Answer, answer_of}
-use Rattle.link.specs.Exchanges.{OpenExchange, Exchanges, no_exchanges, as_list, whole_of, view, heard_octets, heard_current, timed, timed_current, begun_by}
+use Rattle.link.specs.Counts.{saturated}
+use Rattle.link.specs.Exchanges.{OpenExchange, Exchanges, no_exchanges, as_list, whole_of, view, heard_octets, heard_current, timed, timed_current, begun_by, spoilt_count}
 use Rattle.link.specs.Procedure.{LinkSettings, Link, Down, MaySend, after_outcome, after_answer, after_silence}
 use Rattle.link.specs.Requests.{IsUserData, FitsAddress, FitsAsked}
 use Rattle.link.specs.Turns.{StationState, Chosen, station_at}
-use Rattle.link.specs.Primary.{Outstanding, Primary, start, station_down, choice, station_asked, after_choice, asked_from, asked, sending_from, sending_by, sending, station_answered, awaits, answer_at, said_by, open_octets, took, received_after, received_from, received, station_unanswered, unanswered, is_late, due_from, timed_out, may_offer, with_offer, offered_to, without_offer, withdrawn}
+use Rattle.link.specs.Primary.{Outstanding, Primary, start, station_down, choice, station_asked, after_choice, asked_from, asked, sending_from, sending_by, sending, station_answered, awaits, answer_at, said_by, open_octets, took, with_octets, received_after, received_from, received, station_unanswered, unanswered, is_late, due_from, timed_out, may_offer, with_offer, offered_to, without_offer, withdrawn}
 use Rattle.link.specs.Holding.{FitsOutstanding}
-use Rattle.link.specs.Telling.{IsStable, IsSaid, IsAllowed, IsHeard, IsOver, IsCurrent, past, AreKept, AreLinks, TellsBy}
+use Rattle.link.specs.Telling.{IsStable, IsSaid, IsAllowed, IsHeard, IsOver, IsCurrent, past, AreKept, AreLinks, AreSpoilt, TellsBy}
 use Rattle.link.proofs.Fitting.{FitStations, station_fits, set_fits, down_fits, withdrawn_fits, asked_fits, offered_fits, answered_fits, unanswered_fits, length-down}
 use Rattle.link.proofs.Choice.{MayChooseIt, choice_may}
 use Rattle.link.proofs.Links.{set_view, grown_keeps, begun_keeps, ended_links, alike_links}
+use Rattle.link.proofs.Spoilt.{open_push, answered_push, missed_push, more_octets}
 
 nil : (xs : List ℕ) → xs ++ [] ≡ xs
 nil [] = refl
@@ -47,8 +49,9 @@ same_state : (front : List ℕ → Front) (settings : LinkSettings) (addresses :
     p.outstanding ≡ o → TellsBy front settings addresses p (record { ended = ended; current = cur }) →
     IsCurrent front addresses p.turn o cur' → AreKept front settings addresses (ended ++ as_list cur') →
     AreLinks front settings addresses p.stations (past o (record { ended = ended; current = cur' })) →
+    spoilt_count front (λ i. slice_index addresses i) (ended ++ as_list cur') ≡ spoilt_count front (λ i. slice_index addresses i) (ended ++ as_list cur) →
     TellsBy front settings addresses p (record { ended = ended; current = cur' })
-same_state front settings addresses p ended cur cur' o is t current keeps links = record {
+same_state front settings addresses p ended cur cur' o is t current keeps links count = record {
   settings_are = t.settings_are;
   fits = t.fits;
   count = t.count;
@@ -57,6 +60,7 @@ same_state front settings addresses p ended cur cur' o is t current keeps links 
   current = subst (λ (q : Option Outstanding). IsCurrent front addresses p.turn q cur') (sym is) current;
   keeps = keeps;
   links = subst (λ (q : Option Outstanding). AreLinks front settings addresses p.stations (past q (record { ended = ended; current = cur' }))) (sym is) links;
+  spoilt = t.spoilt ∙ ap saturated (sym count);
 }
 
 -- the links that are known while nothing, or something, is outstanding
@@ -86,6 +90,7 @@ ask_tells front settings addresses p e now may_poll stable t = go p.outstanding 
           current = t.current;
           keeps = t.keeps;
           links = t.links;
+          spoilt = t.spoilt;
         }
         choose (Some c) may =
             let s : StationState = station_asked (station_at p.stations c.station) c.wanted.request in
@@ -103,9 +108,10 @@ ask_tells front settings addresses p e now may_poll stable t = go p.outstanding 
               count = length-set p.stations c.station s ∙ t.count;
               address = λ i. set_view (λ (r : StationState). r.address) p.stations c.station s refl i ∙ t.address i;
               allowed = subst (λ (l : Link). MaySend l c.wanted.request) (sym (set_view (λ (r : StationState). r.link) p.stations c.station s refl c.station)) may.may;
-              current = record { station = refl; request = refl; since = refl; waits = refl; heard = (refl, stable.nothing) };
+              current = record { station = refl; request = refl; since = refl; waits = refl; heard = (refl, stable.nothing); has_octets = refl };
               keeps = begun_keeps front settings addresses p.stations (e.ended ++ as_list e.current) x t.keeps links may.may;
               links = λ i. links i ∙ sym (set_view (λ (r : StationState). r.link) p.stations c.station s refl i);
+              spoilt = t.spoilt ∙ ap saturated (sym (open_push front (λ i. slice_index addresses i) (e.ended ++ as_list e.current) x refl));
             }
 
 -- `due`
@@ -142,6 +148,8 @@ due_tells front settings addresses p ended cur at t = go p.outstanding cur refl 
             (λ i. alike_links front settings addresses ended x (timed settings.answer_ms at x) refl
             (λ (l : Link). ap (λ (m : Option Answer). after_outcome settings m (view front (timed settings.answer_ms at x)).exchange l) e
             ∙ ap (λ (m : Option Answer). after_outcome settings m (view front x).exchange l) (sym e)) i ∙ links i)
+            (answered_push front (λ i. slice_index addresses i) ended (timed settings.answer_ms at x) a.0 e
+            ∙ sym (answered_push front (λ i. slice_index addresses i) ended x a.0 e))
     go (Some q) (Some x) is t w = late (is_late p q at) refl
       where
         links : AreLinks front settings addresses p.stations ended
@@ -161,11 +169,13 @@ due_tells front settings addresses p ended cur at t = go p.outstanding cur refl 
         none None said = said_now front (slice_index addresses p.turn) x None said
 
         late : (b : Bool) → is_late p q at ≡ b →
-            TellsBy front settings addresses (if b then unanswered p q.request else p) (record { ended = ended; current = Some (timed settings.answer_ms at x) })
+            TellsBy front settings addresses (if b then unanswered p q else p) (record { ended = ended; current = Some (timed settings.answer_ms at x) })
         late false e =
             same_state front settings addresses p ended (Some x) (Some (timed settings.answer_ms at x)) (Some q) is t
-            (record { station = w.station; request = w.request; since = w.since; waits = closes false e; heard = same_heard q.heard w.heard })
+            (record { station = w.station; request = w.request; since = w.since; waits = closes false e; heard = same_heard q.heard w.heard; has_octets = w.has_octets })
             (grown_keeps front settings addresses ended x (timed settings.answer_ms at x) refl refl t.keeps) links
+            (open_push front (λ i. slice_index addresses i) ended (timed settings.answer_ms at x) (closes false e)
+            ∙ sym (open_push front (λ i. slice_index addresses i) ended x w.waits))
           where
             same_heard : (h : Option (List ℕ)) → IsHeard front (slice_index addresses p.turn) x h →
                 IsHeard front (slice_index addresses p.turn) (timed settings.answer_ms at x) h
@@ -193,6 +203,9 @@ due_tells front settings addresses p ended cur at t = go p.outstanding cur refl 
                   ∙ ap (λ (c : Bool). after_silence settings x.request c (station_at p.stations p.turn).link) (sym (closes true e))
                   ∙ ap (λ (m : Option Answer). after_outcome settings m (view front (timed settings.answer_ms at x)).exchange (station_at p.stations p.turn).link)
                   (sym (none q.heard w.heard)));
+              spoilt = missed_push front (λ i. slice_index addresses i) ended (timed settings.answer_ms at x) q.has_octets p.spoilt (closes true e) w.has_octets
+                  (ap (λ (i : ℕ). option_and_then (answer_of (slice_index addresses i) x.request) (whole_of (front x.octets))) w.station ∙ none q.heard w.heard)
+                  (t.spoilt ∙ ap saturated (open_push front (λ i. slice_index addresses i) ended x w.waits));
             }
 
 -- `octets`
@@ -223,6 +236,8 @@ hear_tells front settings addresses p ended cur octets stable t = go p.outstandi
             (λ i. alike_links front settings addresses ended x (grown x octets) refl
             (λ (l : Link). ap (λ (m : Option Answer). after_outcome settings m (view front (grown x octets)).exchange l) (a.1 octets)
             ∙ ap (λ (m : Option Answer). after_outcome settings m (view front x).exchange l) (sym before)) i ∙ links i)
+            (answered_push front (λ i. slice_index addresses i) ended (grown x octets) a.0 (a.1 octets)
+            ∙ sym (answered_push front (λ i. slice_index addresses i) ended x a.0 before))
 
         by_closed : (b : Bool) → x.closed ≡ b → TellsBy front settings addresses p (record { ended = ended; current = Some (heard_octets octets x) })
         by_closed true e = subst (λ (z : OpenExchange). TellsBy front settings addresses p (record { ended = ended; current = Some z })) (sym (heard_closed octets x e)) t
@@ -247,21 +262,34 @@ hear_tells front settings addresses p ended cur octets stable t = go p.outstandi
         asked_fits' : FitsAsked p.settings.size q.request
         asked_fits' = subst (λ (r : Option Outstanding). FitsOutstanding p.settings.size r) is t.fits.outstanding
 
+        spoilt : AreSpoilt front addresses p.spoilt (ended ++ grown x octets ∷ [])
+        spoilt =
+            t.spoilt ∙ ap saturated (open_push front (λ i. slice_index addresses i) ended x w.waits)
+            ∙ ap saturated (sym (open_push front (λ i. slice_index addresses i) ended (grown x octets) w.waits))
+
         waits : (heard : Option (List ℕ)) → IsHeard front (slice_index addresses p.turn) (grown x octets) heard →
-            TellsBy front settings addresses (awaits p q heard) (record { ended = ended; current = Some (grown x octets) })
+            TellsBy front settings addresses (awaits p (with_octets octets q) heard) (record { ended = ended; current = Some (grown x octets) })
         waits heard so = record {
           settings_are = t.settings_are;
           fits = record { turn = t.fits.turn; stations = t.fits.stations; outstanding = asked_fits' };
           count = t.count;
           address = t.address;
           allowed = may;
-          current = record { station = w.station; request = w.request; since = w.since; waits = w.waits; heard = so };
+          current = record {
+            station = w.station;
+            request = w.request;
+            since = w.since;
+            waits = w.waits;
+            heard = so;
+            has_octets = more_octets x.octets octets q.has_octets w.has_octets;
+          };
           keeps = keeps;
           links = links;
+          spoilt = spoilt;
         }
 
         by_front : (f : Front) → front (x.octets ++ octets) ≡ f →
-            TellsBy front settings addresses (took p q (open_octets (x.octets ++ octets) f) (whole_of f)) (record { ended = ended; current = Some (grown x octets) })
+            TellsBy front settings addresses (took p (with_octets octets q) (open_octets (x.octets ++ octets) f) (whole_of f)) (record { ended = ended; current = Some (grown x octets) })
         by_front More e = waits (Some (x.octets ++ octets)) (refl, e)
         by_front (Never place why) e = waits None
             (λ (more : List ℕ). ap (λ (f : Front). option_and_then (answer_of (slice_index addresses p.turn) x.request) (whole_of f)) (stable.never (x.octets ++ octets) more place why e))
@@ -277,7 +305,7 @@ hear_tells front settings addresses p ended cur octets stable t = go p.outstandi
                 ap (λ (f : Front). option_and_then (answer_of (slice_index addresses p.turn) x.request) (whole_of f)) (stable.whole (x.octets ++ octets) more frame n e) ∙ told m e'
 
             say : (m : Option Answer) → answer_at p q frame ≡ m →
-                TellsBy front settings addresses (said_by p q frame m) (record { ended = ended; current = Some (grown x octets) })
+                TellsBy front settings addresses (said_by p (with_octets octets q) frame m) (record { ended = ended; current = Some (grown x octets) })
             say None e' = waits None (said None e')
             say (Some answer) e' =
                 let s : StationState = station_answered (station_at p.stations p.turn) q.request frame answer in
@@ -299,22 +327,14 @@ hear_tells front settings addresses p ended cur octets stable t = go p.outstandi
                       (ap (λ (r : Asked). after_answer r answer (station_at p.stations p.turn).link) (sym w.request)
                       ∙ ap (λ (m : Option Answer). after_outcome settings m (view front (grown x octets)).exchange (station_at p.stations p.turn).link)
                       (sym (said_now front (slice_index addresses p.turn) (grown x octets) (Some answer) (said (Some answer) e'))));
+                  spoilt = spoilt;
                 }
 
         by_heard : (h : Option (List ℕ)) → q.heard ≡ h → IsHeard front (slice_index addresses p.turn) x h →
-            TellsBy front settings addresses (received_after front p q h octets) (record { ended = ended; current = Some (grown x octets) })
-        by_heard None at so =
-            same_state front settings addresses p ended (Some x) (Some (grown x octets)) (Some q) is t
-            (record {
-              station = w.station;
-              request = w.request;
-              since = w.since;
-              waits = w.waits;
-              heard = subst (λ (h : Option (List ℕ)). IsHeard front (slice_index addresses p.turn) (grown x octets) h) (sym at)
-                  (said_later front (slice_index addresses p.turn) x octets None so);
-            }) keeps links
+            TellsBy front settings addresses (received_after front p (with_octets octets q) h octets) (record { ended = ended; current = Some (grown x octets) })
+        by_heard None at so = waits None (said_later front (slice_index addresses p.turn) x octets None so)
         by_heard (Some before) at so =
-            subst (λ (b : List ℕ). TellsBy front settings addresses (received_after front p q (Some b) octets) (record { ended = ended; current = Some (grown x octets) })) (sym so.0)
+            subst (λ (b : List ℕ). TellsBy front settings addresses (received_after front p (with_octets octets q) (Some b) octets) (record { ended = ended; current = Some (grown x octets) })) (sym so.0)
             (by_front (front (x.octets ++ octets)) refl)
 
 -- `offer` and `withdraw`
@@ -332,6 +352,7 @@ same_views front settings addresses p e stations fit count link address t = reco
   current = t.current;
   keeps = t.keeps;
   links = λ i. t.links i ∙ sym (link i);
+  spoilt = t.spoilt;
 }
   where
     go : (o : Option Outstanding) → IsAllowed p.stations p.turn o → IsAllowed stations p.turn o
@@ -386,6 +407,7 @@ start_tells front settings addresses some fit = record {
   current = tt;
   keeps = λ i. tt;
   links = λ i. sym (link addresses i);
+  spoilt = refl;
 }
   where
     link : (list : List ℕ) (i : ℕ) → (station_at (map station_down list) i).link ≡ Down

@@ -1,6 +1,6 @@
 -- Exchanges: a request, what came until the next one, and its answer (IEC 60870-5-2, unbalanced transmission procedures; which octets of the
 -- line belong to an exchange is this gateway's own profile).
-use Rattle.std.specs.Prelude.{◌≡◌, ℕ, ◌+◌, ◌==◌, ◌||◌, nat_le, Bool, true, false, List, [], ◌∷◌, ◌++◌, Option, Some, None, IsSome, option_and_then, if◌then◌else◌}
+use Rattle.std.specs.Prelude.{◌≡◌, ℕ, ◌+◌, ◌==◌, ◌&&◌, ◌||◌, not, nat_le, Bool, true, false, List, [], ◌∷◌, ◌++◌, length, count_by, Option, Some, None, is_none, IsSome, option_and_then, if◌then◌else◌}
 use Rattle.ft12.specs.declared.frame.Front.{Front}
 use Rattle.ft12.specs.declared.frame.Front.TheVariants.{Whole, More, Never}
 use Rattle.link.specs.Answers.{Frame, Asked, Answer, Report, answer_of}
@@ -126,3 +126,11 @@ reports_of address (e ∷ es) = report_by e.station (answer_to (address e.statio
 
 abbrev pub reports_of_exchanges : (front : List ℕ → Front) → (address : ℕ → ℕ) → Exchanges → List (ℕ × List ℕ)
 reports_of_exchanges front address e = reports_of address (views front (all_of e))
+
+-- Spoilt (this gateway's own profile): closed, with octets, and not answered.
+abbrev pub is_spoilt : (front : List ℕ → Front) → (address : ℕ) → OpenExchange → Bool
+is_spoilt front address x = x.closed && (not (length x.octets == 0) && is_none (answer_to address (view front x).exchange))
+
+-- how many of these exchanges are spoilt
+abbrev pub spoilt_count : (front : List ℕ → Front) → (address : ℕ → ℕ) → List OpenExchange → ℕ
+spoilt_count front address xs = count_by (λ x. is_spoilt front (address x.station) x) xs

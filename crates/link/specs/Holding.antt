@@ -12,7 +12,7 @@ pub use Rattle.link.specs.declared.awaited.Awaited.{Awaited}
 
 -- the outstanding request, with what the assembler has of its answer
 abbrev pub outstanding_of : Awaited → (so_far : Option (List ℕ)) → Outstanding
-outstanding_of a so_far = record { request = a.request; since = a.since; heard = if a.deaf then None else so_far }
+outstanding_of a so_far = record { request = a.request; since = a.since; heard = if a.deaf then None else so_far; has_octets = a.has_octets }
 
 abbrev pub outstanding_from : Option Awaited → (so_far : Option (List ℕ)) → Option Outstanding
 outstanding_from None so_far = None

@@ -1,4 +1,5 @@
 pub mod Answers
+pub mod Counts
 pub mod Exchanges
 pub mod Procedure
 pub mod Requests

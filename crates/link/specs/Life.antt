@@ -1,11 +1,12 @@
 -- Whole lives of a station: what it was called for, and what an outstation did meanwhile.
-use Rattle.std.specs.Prelude.{ℕ, ◌-◌, ◌^◌, min, Bool, true, false, List, [], ◌∷◌, ◌++◌, Option, Some, None}
+use Rattle.std.specs.Prelude.{ℕ, Bool, true, false, List, [], ◌∷◌, ◌++◌, Option, Some, None}
 use Rattle.ft12.specs.declared.frame.Frame.{Frame}
 use Rattle.link.specs.Answers.{Class1, Class2, Asked, Counted}
 use Rattle.link.specs.Outstation.{Turn}
 use Rattle.link.specs.Delivery.{reports}
 use Rattle.link.specs.Requests.{Reading, Foreign, Unknown, Asks, reading_of}
 use Rattle.link.specs.Secondary.{Secondary, heard_reading}
+pub use Rattle.link.specs.Counts.{saturated}
 
 -- a call, with what memory allowed; a frame is heard, or octets that are none
 pub data Call : Type 0 where
@@ -88,7 +89,3 @@ abbrev pub reported2 : List Call → List (List ℕ)
 reported2 [] = []
 reported2 (Report2 true report ∷ calls) = report ∷ reported2 calls
 reported2 (call ∷ calls) = reported2 calls
-
--- a count that doesn't go past 64 bits
-abbrev pub saturated : ℕ → ℕ
-saturated n = min n (2 ^ 64 - 1)

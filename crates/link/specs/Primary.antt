@@ -1,9 +1,10 @@
 -- The primary station of unbalanced transmission as a machine: whose turn it is, the request whose answer is awaited, and what a call of it does.
-use Rattle.std.specs.Prelude.{ℕ, ◌+◌, ◌/◌, ◌%◌, ◌==◌, ◌&&◌, nat_le, Bool, true, false, not, List, [], ◌++◌, map, length, slice_set, Option, Some, None, is_none, if◌then◌else◌}
+use Rattle.std.specs.Prelude.{ℕ, ◌+◌, ◌/◌, ◌%◌, ◌==◌, ◌&&◌, ◌||◌, nat_le, Bool, true, false, not, List, [], ◌++◌, map, length, slice_set, Option, Some, None, is_none, if◌then◌else◌}
 use Rattle.ft12.specs.declared.frame.Front.{Front}
 use Rattle.ft12.specs.declared.frame.Front.TheVariants.{Whole, More, Never}
 use Rattle.ft12.specs.Spelling.{spelling}
 use Rattle.link.specs.Answers.{Frame, Single, Fixed, Data, Command, Asked, Reset, Counted, Answer, Confirmed, Busy, Report, NoData, Unable, answer_of}
+use Rattle.link.specs.Counts.{saturated}
 use Rattle.link.specs.Exchanges.{Sending, whole_of}
 use Rattle.link.specs.Procedure.{LinkSettings, Down, after_answer, after_silence, is_held, holds_command, has_repeats, goes_down}
 use Rattle.link.specs.Requests.{request_frame, kind_of}
@@ -13,12 +14,15 @@ pub use Rattle.link.specs.declared.outcome.Outcome.{Outcome}
 pub use Rattle.link.specs.declared.outcome.Outcome.TheVariants as outcome
 
 -- The request whose answer is awaited, since when, and the octets so far of its exchange. None: they can't be the answer any more.
+-- And whether any octets came in it.
 pub record Outstanding : Type 0 where
   pub request : Asked
   pub since : ℕ
   pub heard : Option (List ℕ)
+  pub has_octets : Bool
 
--- the primary, with the station whose turn it is, what the turn goes on with, and whether an unanswered service is sent again at once
+-- the primary, with the station whose turn it is, what the turn goes on with, whether an unanswered service is sent again at once,
+-- and how many exchanges were spoilt
 pub record Primary : Type 0 where
   pub settings : LinkSettings
   pub stations : List StationState
@@ -26,6 +30,7 @@ pub record Primary : Type 0 where
   pub phase : Phase
   pub again : Bool
   pub outstanding : Option Outstanding
+  pub spoilt : ℕ
 
 abbrev pub station_down : (address : ℕ) → StationState
 station_down address = record { address = address; link = Down; acd = false; dfc = false; offered = None }
@@ -39,6 +44,7 @@ start settings addresses = record {
   phase = Starting;
   again = false;
   outstanding = None;
+  spoilt = 0;
 }
 
 -- `next`
@@ -64,7 +70,7 @@ after_choice p now (Some c) = record p {
   turn = c.station;
   phase = c.wanted.following;
   again = false;
-  outstanding = Some (record { request = c.wanted.request; since = now; heard = Some [] });
+  outstanding = Some (record { request = c.wanted.request; since = now; heard = Some []; has_octets = false });
 }
 
 -- Nothing goes out while a request is outstanding.
@@ -134,7 +140,7 @@ answer_at p o frame = answer_of (station_at p.stations p.turn).address o.request
 
 -- the answer is awaited, with these octets so far
 abbrev pub awaits : Primary → Outstanding → (heard : Option (List ℕ)) → Primary
-awaits p o heard = record p { outstanding = Some (record { request = o.request; since = o.since; heard = heard }) }
+awaits p o heard = record p { outstanding = Some (record { request = o.request; since = o.since; heard = heard; has_octets = o.has_octets }) }
 
 -- A frame that doesn't fit can't be the answer, nor what comes after it.
 abbrev pub said_by : Primary → Outstanding → Frame → Option Answer → Primary
@@ -157,14 +163,18 @@ abbrev pub heard_from : Primary → Option Outstanding → Frame → Primary
 heard_from p None frame = p
 heard_from p (Some o) frame = said_by p o frame (answer_at p o frame)
 
+-- octets come in its exchange
+abbrev pub with_octets : List ℕ → Outstanding → Outstanding
+with_octets octets o = record { request = o.request; since = o.since; heard = o.heard; has_octets = o.has_octets || not (length octets == 0) }
+
 abbrev pub received_after : (front : List ℕ → Front) → Primary → Outstanding → Option (List ℕ) → List ℕ → Primary
-received_after front p o None octets = p
+received_after front p o None octets = awaits p o None
 received_after front p o (Some before) octets =
     took p o (open_octets (before ++ octets) (front (before ++ octets))) (whole_of (front (before ++ octets)))
 
 abbrev pub received_from : (front : List ℕ → Front) → Primary → Option Outstanding → List ℕ → Primary
 received_from front p None octets = p
-received_from front p (Some o) octets = received_after front p o o.heard octets
+received_from front p (Some o) octets = received_after front p (with_octets octets o) o.heard octets
 
 -- the primary after `octets`, by a reader of fronts
 abbrev pub received : (front : List ℕ → Front) → Primary → List ℕ → Primary
@@ -210,15 +220,17 @@ abbrev pub station_unanswered : LinkSettings → StationState → Asked → Stat
 station_unanswered settings s request =
     record { address = s.address; link = after_silence settings request true s.link; acd = s.acd; dfc = s.dfc; offered = s.offered }
 
--- The exchange of the station whose turn it is ends with no answer. The turn is over, save where the service is sent again at once.
-abbrev pub unanswered : Primary → Asked → Primary
-unanswered p request =
-    let s = station_unanswered p.settings (station_at p.stations p.turn) request in
+-- The exchange of the station whose turn it is ends with no answer, and is spoilt where octets came in it. The turn is over, save
+-- where the service is sent again at once.
+abbrev pub unanswered : Primary → Outstanding → Primary
+unanswered p o =
+    let s = station_unanswered p.settings (station_at p.stations p.turn) o.request in
     record p {
       stations = slice_set p.stations p.turn s;
       phase = if has_repeats p.settings s.link then p.phase else Over;
       again = has_repeats p.settings s.link;
       outstanding = None;
+      spoilt = if o.has_octets then saturated (p.spoilt + 1) else p.spoilt;
     }
 
 abbrev pub is_late : Primary → Outstanding → (now : ℕ) → Bool
@@ -226,7 +238,7 @@ is_late p o now = nat_le (o.since + p.settings.answer_ms) now
 
 abbrev pub due_from : Primary → Option Outstanding → (now : ℕ) → Primary
 due_from p None now = p
-due_from p (Some o) now = if is_late p o now then unanswered p o.request else p
+due_from p (Some o) now = if is_late p o now then unanswered p o else p
 
 -- the primary after `due`
 abbrev pub timed_out : Primary → (now : ℕ) → Primary

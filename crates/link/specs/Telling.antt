@@ -1,12 +1,13 @@
 -- What the state of a primary station says of the exchanges of its line.
-use Rattle.std.specs.Prelude.{◌≡◌, ℕ, ◌<◌, ◌⊎◌, true, false, List, [], ◌∷◌, ◌++◌, length, slice_index, Option, Some, None, option_and_then}
+use Rattle.std.specs.Prelude.{◌≡◌, ℕ, ◌<◌, ◌==◌, ◌⊎◌, not, true, false, List, [], ◌∷◌, ◌++◌, length, slice_index, Option, Some, None, option_and_then}
 use Rattle.ft12.specs.declared.frame.Front.{Front}
 use Rattle.ft12.specs.declared.frame.Front.TheVariants.{Whole, More, Never}
 use Rattle.ft12.specs.declared.frame.Frame.{Frame}
 use Rattle.ft12.specs.declared.frame.Why.{Why}
 use Rattle.ft12.specs.Fronts.{front_of}
 use Rattle.link.specs.Answers.{Answer, answer_of}
-use Rattle.link.specs.Exchanges.{Sending, OpenExchange, Exchanges, all_of, whole_of, views, with_station}
+use Rattle.link.specs.Counts.{saturated}
+use Rattle.link.specs.Exchanges.{Sending, OpenExchange, Exchanges, all_of, whole_of, views, with_station, spoilt_count}
 use Rattle.link.specs.Procedure.{LinkSettings, Down, MaySend, KeepsFrameCountBit, link_after}
 use Rattle.link.specs.Requests.{FitsAddress, FitsAsked}
 use Rattle.link.specs.Turns.{StationState, station_at}
@@ -41,6 +42,7 @@ pub record IsAwaited (front : List ℕ → Front) (address : ℕ) (turn : ℕ) (
   pub since : x.since ≡ o.since
   pub waits : x.closed ≡ false
   pub heard : IsHeard front address x o.heard
+  pub has_octets : o.has_octets ≡ not (length x.octets == 0)
 
 -- an exchange that is over for the primary: closed, or answered
 abbrev pub IsOver : (front : List ℕ → Front) → (address : ℕ) → OpenExchange → Type 0
@@ -66,6 +68,10 @@ abbrev pub AreLinks : (front : List ℕ → Front) → LinkSettings → (address
 AreLinks front settings addresses stations xs =
     (i : ℕ) → link_after settings (slice_index addresses i) Down (with_station i (views front xs)) ≡ (station_at stations i).link
 
+-- So many of these exchanges are spoilt.
+abbrev pub AreSpoilt : (front : List ℕ → Front) → (addresses : List ℕ) → (spoilt : ℕ) → List OpenExchange → Type 0
+AreSpoilt front addresses spoilt xs = spoilt ≡ saturated (spoilt_count front (λ i. slice_index addresses i) xs)
+
 -- the same by any reader of fronts
 pub record TellsBy (front : List ℕ → Front) (settings : LinkSettings) (addresses : List ℕ) (p : Primary) (e : Exchanges) : Type 0 where
   pub settings_are : p.settings ≡ settings
@@ -76,6 +82,7 @@ pub record TellsBy (front : List ℕ → Front) (settings : LinkSettings) (addre
   pub current : IsCurrent front addresses p.turn p.outstanding e.current
   pub keeps : AreKept front settings addresses (all_of e)
   pub links : AreLinks front settings addresses p.stations (past p.outstanding e)
+  pub spoilt : AreSpoilt front addresses p.spoilt (all_of e)
 
 -- The primary's state is what these exchanges make it, and they keep the frame count bit of each station.
 abbrev pub Tells : LinkSettings → (addresses : List ℕ) → Primary → Exchanges → Type 0

@@ -1,12 +1,10 @@
 //! What asking for the next request changes.
 ghost use Rattle.std.specs.Prelude.{◌≡◌, ◌<◌, ℕ, Bool, true, false, List, length, Option, Some, None};
-ghost use Rattle.ft12.specs.declared.frame.Front.{Front};
 ghost use Rattle.link.specs.Exchanges.{Sending};
 ghost use Rattle.link.specs.Turns.{station_at};
 ghost use Rattle.link.specs.Procedure.{LinkSettings, is_up, holds_command};
-ghost use Rattle.link.specs.Primary.{Primary, start, asked, sending, received};
+ghost use Rattle.link.specs.Primary.{Primary, start, asked, sending};
 ghost use Rattle.link.specs.Holding.{IsFitting};
-ghost use Rattle.link.specs.Leave.{is_polling};
 
 /// A request that went out is outstanding: nothing is next, and asking changes nothing. Where none is next, none is next after
 /// asking, either; and a primary that has just been made has a request.
@@ -19,5 +17,4 @@ pub fn next_changes_nothing()
         (i : ℕ) → i < length p.stations → is_up (station_at p.stations i).link ≡ true }
     ensures free { (p : Primary) (may_poll : Bool) → IsFitting p → p.outstanding ≡ None → sending p may_poll ≡ None →
         (i : ℕ) → i < length p.stations → holds_command (station_at p.stations i).link ≡ false }
-    ensures octets { (front : List ℕ → Front) (p : Primary) (octets : List ℕ) → is_polling (received front p octets) ≡ true → is_polling p ≡ true }
 {}

@@ -10,8 +10,9 @@
 //! - over every list of calls the exchanges of the line keep the frame count bit of each station
 //!   ([`frame_count_bits_are_kept`], [`master_tells_the_log`]), no request goes out while one is outstanding
 //!   ([`requests_wait_their_turn`]), each station has its turn ([`each_station_has_its_turn`]), a command is sent for the first
-//!   time once, in order ([`commands_are_sent_in_order`]), what is offered waits until then ([`offers_wait`]), and what the caller
-//!   is told is what the exchanges show ([`outcomes_are_answers`], [`outcomes_bear_the_reports`]);
+//!   time once, in order ([`commands_are_sent_in_order`]), what is offered waits until then ([`offers_wait`]), what the caller
+//!   is told is what the exchanges show ([`outcomes_are_answers`], [`outcomes_bear_the_reports`]), and those that closed with
+//!   octets but no answer are counted ([`spoilt_exchanges_are_counted`]);
 //! - a station runs as an outstation that hears each request to it ([`station_is_an_outstation`]);
 //! - and where the frame count bit is kept and an outstation's answers come in their exchange and unaltered, each service acts once
 //!   and its answer is taken once ([`each_service_acts_once`], [`sessions_are_known`], [`commands_are_accepted`],
@@ -59,7 +60,7 @@ pub use refinement::{
 pub use request::{Reading, Request, RequestKind, read_request};
 pub use runs::{
     commands_are_sent_in_order, each_station_has_its_turn, frame_count_bits_are_kept,
-    outcomes_are_answers,
+    outcomes_are_answers, spoilt_exchanges_are_counted,
 };
 pub use service::{Asked, Service};
 pub use settings::LinkSettings;

@@ -1,5 +1,6 @@
 //! The primary station of unbalanced transmission (IEC 60870-5-2).
-ghost use Rattle.std.specs.Prelude.{◌≡◌, ◌<◌, List, [], All, length, map, None, Some, IfOk, option_map, if◌then◌else◌};
+ghost use Rattle.std.specs.Prelude.{◌≡◌, ◌<◌, ◌+◌, List, [], All, length, map, None, Some, IfOk, option_map, if◌then◌else◌};
+ghost use Rattle.link.specs.Counts.{saturated};
 ghost use Rattle.link.specs.Turns.{Over};
 ghost use Rattle.ft12.specs.Fronts.{front_of};
 ghost use Rattle.link.specs.Requests.{IsUserData, FitsAddress, FitsAsked};
@@ -30,6 +31,8 @@ pub struct Master {
     again: bool,
     outstanding: Option<Awaited>,
     assembler: Assembler,
+    /// How many exchanges were spoilt.
+    spoilt: u64,
 }
 
 impl Model for Master {
@@ -46,6 +49,7 @@ impl Model for Master {
       phase = m.phase;
       again = m.again;
       outstanding = outstanding_from m.outstanding m.assembler.so_far;
+      spoilt = m.spoilt;
     } };
 
     ghost invariant = { λ m. record {
@@ -57,6 +61,7 @@ impl Model for Master {
         phase = m.phase;
         again = m.again;
         outstanding = outstanding_from m.outstanding m.assembler.so_far;
+        spoilt = m.spoilt;
       });
     } };
 }
@@ -128,6 +133,16 @@ fn sends_command(outstanding: &Option<Awaited>) -> bool
     }
 }
 
+fn spoilt_after(spoilt: u64, awaited: &Awaited) -> u64
+    ensures { result ≡ if awaited.now.has_octets then saturated (spoilt + 1) else spoilt }
+{
+    if awaited.has_octets {
+        spoilt.saturating_add(1)
+    } else {
+        spoilt
+    }
+}
+
 fn withdraw_all(stations: &mut [StationState])
     ensures { stations.new ≡ map without_offer stations.old }
 {
@@ -178,6 +193,7 @@ impl Master {
             again: false,
             outstanding: None,
             assembler: Assembler::new(settings.size),
+            spoilt: 0,
         })
     }
 
@@ -186,6 +202,13 @@ impl Master {
         ensures { result ≡ length self.now.stations }
     {
         self.stations.len()
+    }
+
+    /// How many exchanges were spoilt so far, at most `u64::MAX`: octets came in them, but no answer before `due` ended them.
+    pub fn spoilt(&self) -> u64
+        ensures { result ≡ self.now.spoilt }
+    {
+        self.spoilt
     }
 
     fn choose(&self, may_poll: bool) -> Option<Chosen>
@@ -243,6 +266,7 @@ impl Master {
             request: wanted.request,
             since: now,
             deaf: false,
+            has_octets: false,
         });
         self.assembler.clear();
         request
@@ -255,9 +279,10 @@ impl Master {
         ensures state { self.new ≡ received (front_of self.old.settings.size) self.old octets.now }
         ensures outcome { result ≡ received_outcome (front_of self.old.settings.size) self.old octets.now }
     {
-        let Some(awaited) = &self.outstanding else {
+        let Some(awaited) = &mut self.outstanding else {
             return Outcome::None;
         };
+        awaited.has_octets = awaited.has_octets || !octets.is_empty();
         if awaited.deaf {
             return Outcome::None;
         }
@@ -292,6 +317,7 @@ impl Master {
                     request: awaited.request,
                     since: awaited.since,
                     deaf: true,
+                    has_octets: awaited.has_octets,
                 });
                 Outcome::None
             }
@@ -317,23 +343,24 @@ impl Master {
         }
         match self.outstanding.take() {
             None => Outcome::None,
-            Some(awaited) => self.miss(&awaited.request),
+            Some(awaited) => self.miss(&awaited),
         }
     }
 
     /// The request has no answer in time.
-    fn miss(&mut self, request: &Asked) -> Outcome
+    fn miss(&mut self, awaited: &Awaited) -> Outcome
         requires none { self.old.outstanding ≡ None }
-        requires fits { FitsAsked self.old.settings.size request.now }
-        ensures state { self.new ≡ unanswered self.old request.now }
-        ensures outcome { result ≡ miss_outcome self.old request.now }
+        requires fits { FitsAsked self.old.settings.size awaited.now.request }
+        ensures state { self.new ≡ unanswered self.old (outstanding_of awaited.now None) }
+        ensures outcome { result ≡ miss_outcome self.old awaited.now.request }
     {
         let place = self.turn;
         let settings = self.settings;
-        self.stations[place].miss(settings, request);
+        self.stations[place].miss(settings, &awaited.request);
         let station = nth_station(&self.stations, place);
         let again = station.link.has_repeats(settings);
-        let down = station.link.is_lost(request);
+        let down = station.link.is_lost(&awaited.request);
+        self.spoilt = spoilt_after(self.spoilt, awaited);
         self.phase = phase_missed(again, self.phase);
         self.again = again;
         if down {

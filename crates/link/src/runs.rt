@@ -1,14 +1,16 @@
 //! What holds of every list of calls of a primary station.
-ghost use Rattle.std.specs.Prelude.{◌≡◌, ◌<◌, ℕ, Bool, true, false, List, All, length, slice_index, Option, Some, None};
+ghost use Rattle.std.specs.Prelude.{◌≡◌, ◌≢◌, ◌<◌, ◌↔◌, [], ℕ, Bool, true, false, List, All, length, slice_index, Option, Some, None};
+ghost use Rattle.ft12.specs.declared.frame.Front.{Front};
 ghost use Rattle.ft12.specs.Fronts.{front_of};
-ghost use Rattle.link.specs.Exchanges.{Exchanges, OpenExchange, Sending, IsOutstanding, no_exchanges, answer_to, all_of, view, views, with_station, heard_octets, timed};
+ghost use Rattle.link.specs.Counts.{saturated};
+ghost use Rattle.link.specs.Exchanges.{Exchanges, OpenExchange, Sending, IsOutstanding, IsUnanswered, no_exchanges, answer_to, all_of, view, views, with_station, heard_octets, timed, is_spoilt, spoilt_count};
 ghost use Rattle.link.specs.Procedure.{LinkSettings, Down, KeepsFrameCountBit, after_silence, link_after};
 ghost use Rattle.link.specs.Requests.{FitsAddress};
 ghost use Rattle.link.specs.Turns.{Wanted, station_at, wanted};
 ghost use Rattle.link.specs.Primary.{Primary, start, sending, received, outcome_of, received_outcome, timed_out, due_outcome};
 ghost use Rattle.link.specs.declared.outcome.Outcome.TheVariants as outcome;
 ghost use Rattle.link.specs.Telling.{Tells};
-ghost use Rattle.link.specs.Runs.{Call, MayCallAll, exchanged_all, all_deeds, AreInOrder, BeginsTurn, HaveNone, silence_outcome};
+ghost use Rattle.link.specs.Runs.{Call, MayCallAll, called_all, exchanged_all, all_deeds, AreInOrder, BeginsTurn, HaveNone, silence_outcome};
 
 use ft12::front_is_computed;
 
@@ -66,6 +68,19 @@ pub fn commands_are_sent_in_order()
     ensures { (settings : LinkSettings) (addresses : List ℕ) (calls : List Call) (station : ℕ) →
         0 < length addresses → All (FitsAddress settings.size) addresses → MayCallAll (start settings addresses) calls →
         AreInOrder None (all_deeds (start settings addresses) station calls) }
+{
+    front_is_computed();
+}
+
+/// Whatever is called, the count of spoilt exchanges is how many of the line's exchanges were closed, have octets and aren't
+/// answered, at most the greatest of 64 bits.
+pub fn spoilt_exchanges_are_counted()
+    ensures count { (settings : LinkSettings) (addresses : List ℕ) (calls : List Call) →
+        0 < length addresses → All (FitsAddress settings.size) addresses → MayCallAll (start settings addresses) calls →
+        (called_all (start settings addresses) calls).spoilt
+        ≡ saturated (spoilt_count (front_of settings.size) (λ i. slice_index addresses i) (all_of (exchanged_all (start settings addresses) calls no_exchanges))) }
+    ensures spoilt { (front : List ℕ → Front) (address : ℕ) (x : OpenExchange) →
+        (is_spoilt front address x ≡ true) ↔ ((x.octets ≢ []) × IsUnanswered address (view front x).exchange) }
 {
     front_is_computed();
 }

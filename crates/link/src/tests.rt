@@ -3,5 +3,6 @@
 mod bench;
 mod lines;
 mod losses;
+mod spoilt;
 mod starts;
 mod stations;

@@ -72,6 +72,10 @@ impl Bench {
         self.master.due(now)
     }
 
+    pub(super) fn spoilt(&self) -> u64 {
+        self.master.spoilt()
+    }
+
     /// Offers a command to the first station.
     pub(super) fn offer(&mut self, asdu: &[u8]) -> bool
         requires { IsUserData One asdu.now }

@@ -1,4 +1,3 @@
-use Rattle.link.proofs.Leaving.{octets}
 use Rattle.link.proofs.Resting.{over, out, same, begins, up, no_command}
 use Rattle.link.proofs.asking.next_changes_nothing.Goals as goal
 
@@ -19,6 +18,3 @@ returns-clause-up c = λ p may_poll fits free none. up p may_poll fits.turn free
 
 pub returns-clause-free : goal.returns-clause-free
 returns-clause-free c = λ p may_poll fits free none. no_command p may_poll fits.turn free none
-
-pub returns-clause-octets : goal.returns-clause-octets
-returns-clause-octets c = octets

@@ -1,4 +1,4 @@
-use Rattle.link.proofs.Lives.{life_runs, ledger}
+use Rattle.link.proofs.Lives.{life_runs, ledger, stays}
 use Rattle.link.proofs.life.station_is_an_outstation.Goals as goal
 
 pub returns : goal.returns
@@ -8,4 +8,6 @@ returns c = record {
   class2 = λ s calls lt. let l = ledger s calls lt in l.class2;
   accepted = λ s calls lt. let l = ledger s calls lt in l.accepted;
   given = λ s calls lt. let l = ledger s calls lt in l.given;
+  address = λ s calls. (stays s calls).0;
+  size = λ s calls. (stays s calls).1;
 }
