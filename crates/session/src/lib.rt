@@ -1,9 +1,9 @@
 //! One IEC 60870-5-104 connection at a time, as the controlled station keeps it (clause 5): counters, windows, timers,
 //! and start and stop of data transfer.
 //!
-//! A [`Session`] takes each [`Apdu`](apci::Apdu) that came and says what it leads to ([`Taken`]); it tells which frames
-//! are due, and gives sent I frames their numbers. Time is handed in, in ms. Octets, ASDUs and sockets are no matter of
-//! this crate, and it closes nothing: it says why ([`Close`]).
+//! A [`Session`] takes each [`Apdu`](apci::Apdu) that came, or a lent one where it stands, and says what it leads to
+//! ([`Taken`]); it tells which frames are due, and gives sent I frames their numbers. Time is handed in, in ms. Octets,
+//! ASDUs and sockets are no matter of this crate, and it closes nothing: it says why ([`Close`]).
 //!
 //! Proved: each call is one small function on a record of plain fields. Above it, for every list of calls, what a
 //! session answers is what the standard makes of the frames that came and went out: N(S) and N(R) are the counts of I

@@ -2,8 +2,8 @@
 //! (IEC 60870-5-104, 5.1), and the ASDU in it (IEC 60870-5-101, 7), one fact a line.
 //!
 //! `show_line` and `show_tcp` answer a `Shown`: the lines, and whether the octets are one whole frame as it should be.
-//! `read_sizes` reads the sizes of a line's addresses. Nothing is printed here, and octets in hexadecimal are read
-//! elsewhere.
+//! Frames are read where they stand, and no data of them is copied. `read_sizes` reads the sizes of a line's addresses.
+//! Nothing is printed here, and octets in hexadecimal are read elsewhere.
 //!
 //! Proved: the lines and the outcome are those of the frame that stands at the front (`IsLineShown`, `IsTcpShown`), every
 //! field, object, value and time tag with its verdict; an `Err` is want of memory alone.
