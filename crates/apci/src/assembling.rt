@@ -199,6 +199,13 @@ impl Assembler {
         }
     }
 
+    /// Whether no octet has come since the last APDU, so that it has kept nothing of the next one.
+    pub fn is_empty(&self) -> bool
+        ensures { IsTrue result ↔ (self.now.so_far ≡ Some []) }
+    {
+        matches!(self.state, State::Start)
+    }
+
     /// How many octets it has looked at, saturating.
     pub fn looked(&self) -> u64
         ensures { result ≡ self.now.looked }

@@ -29,6 +29,7 @@ accounted_at p s log a = record {
   are = record { open_one = stands_now p s log (resting log) a; earlier = a.before.are };
   left = sym (ap (λ n. drop n (taken_objects p log)) (sym all.front) ∙ ap (drop (length all.gone)) all.joined ∙ drop-append_seam all.gone (flat_map objects (kept s.queue)));
   counts = counted log a;
+  spoilt = a.line.spoilt;
 }
   where
     all : Carries (taken_objects p log) (parts_of_all p.sizes (reports_in p log)) (here_of a.course ∷ a.course.earlier) [] (kept s.queue)

@@ -1,5 +1,5 @@
 -- What a frame that was judged leaves to be done.
-use Rattle.std.proofs.Common.{Bool, ◌≡◌, ℕ, ◌+◌, true, false, List, [], ◌++◌, length, drop, refl, ap, sym, ◌∙◌, subst, inl, inr, Option, Some, None}
+use Rattle.std.proofs.Common.{Bool, ◌≡◌, ℕ, zero, suc, ◌+◌, ◌<◌, true, false, List, [], ◌++◌, length, take, drop, arith, refl, ap, sym, ◌∙◌, subst, inl, inr, Option, Some, None}
 use Rattle.std.specs.Prelude.{IfSome, is_some}
 use Rattle.std.proofs.lemmas.List.{drop_at, drop-drop, take-append-drop}
 use Rattle.std.proofs.lemmas.Bool.{cond-true}
@@ -7,7 +7,10 @@ use Rattle.apci.specs.declared.assembling.Heard.TheVariants as hears
 use Rattle.apci.specs.Assembly.{Hears}
 use Rattle.apci.specs.declared.apdu.Apdu.{Apdu}
 use Rattle.apci.specs.Spelling.{spelling, Fits}
-use Rattle.apci.specs.Reading.{IsMore}
+use Rattle.apci.specs.declared.apdu.Front.TheVariants as front
+use Rattle.apci.specs.Reading.{IsMore, IsFront}
+use Rattle.gateway.specs.Finding.{Finds}
+use Rattle.gateway.specs.declared.engine.Found.TheVariants as found
 use Rattle.session.specs.declared.kinds.Close.{Close}
 use Rattle.session.specs.declared.kinds.Close.TheVariants.{Grammar, OwnAnswers}
 use Rattle.session.specs.declared.kinds.Taken.TheVariants.{Close as Closes}
@@ -170,3 +173,11 @@ found_apdu None piece n f after is h = cc
 found_apdu (Some x) piece n f after is h =
     let behind : drop (length x + n) (x ++ piece) ≡ drop n piece = sym (drop-drop n (length x) (x ++ piece)) ∙ ap (drop n) (drop_at x piece (length x) refl) in
     (x, refl, (h.0.0.fits, sym (take-append-drop (length x + n) (x ++ piece)) ∙ ap (λ y. y ++ drop (length x + n) (x ++ piece)) h.0.0.spelled ∙ ap (λ y. spelling f ++ y) behind, h.1))
+
+-- a whole frame at the front of a piece, where none had begun before it
+pub found_whole : (s : State) (piece : List ℕ) (n : ℕ) (f : Apdu) → s.so_far ≡ Some [] → IsFront piece (front.Whole f n) → Finds s piece (found.Apdu n f) s
+found_whole s piece n f empty h = ([], empty, (h.0.fits, sym (take-append-drop n piece) ∙ ap (λ y. y ++ drop n piece) h.0.spelled, some n (ap length h.0.spelled), h.1, ap (λ o. let made : State = record { line = s.line; sizes = s.sizes; queue = s.queue; session = s.session; so_far = o; moment = s.moment; counts = s.counts; commands = s.commands; silent = s.silent } in made) empty))
+  where
+    some : (n : ℕ) → length (take n piece) ≡ length (spelling f) → 0 < n
+    some zero e = absurd (omega (arith, e))
+    some (suc n) e = omega arith

@@ -13,7 +13,7 @@ use Rattle.events.specs.Queue.{octets_of}
 use Rattle.gateway.specs.Objects.{objects, has_objects, monitor_objects, parts_of}
 use Rattle.elements.specs.Types.{row}
 use Rattle.asdu.specs.Asdu.{AsduValue, Info, IsAsdu}
-use Rattle.gateway.specs.declared.counts.Counts.{Counts}
+use Rattle.gateway.specs.declared.counts.Tally.{Tally}
 use Rattle.gateway.specs.Counting.{counted, counted_by, one_skipped}
 use Rattle.gateway.specs.State.{State}
 use Rattle.session.specs.Session.{is_running}
@@ -49,7 +49,7 @@ keeps_report s t report octets sizes ps same is joined each number passed counts
   objects_are = objects_map ps ∙ joined ∙ ap (λ z. monitor_objects z octets) same ∙ ap (λ x. monitor_objects s.sizes x) is;
   whole = whole_map ps each;
   number = length_map ps ∙ number ∙ sym (parts_some sizes octets passed) ∙ ap (λ z. parts_of z octets) same ∙ ap (λ x. parts_of s.sizes x) is;
-  after = after ∙ ap (λ (c : Counts). let made : State = record s { queue = queue.pushed (octets_of ps) s.queue; counts = c } in made) (sym counts);
+  after = after ∙ ap (λ (c : Tally). let made : State = record s { queue = queue.pushed (octets_of ps) s.queue; counts = c } in made) (sym counts);
 }
 
 -- one that isn't
@@ -66,7 +66,7 @@ keeps_none s t report octets sizes same is none after =
 
 -- How a report is counted: by its type and cause, where it is read.
 
-read_counts : (infos : List Info) (u : AsduValue) (c : Counts) → u.infos ≡ infos → 1 ≤ length infos → counted_by (value_objects u) c ≡ (if (row u.kind).monitor then (if is_passed_on u.kind u.cause then c else one_skipped c) else c)
+read_counts : (infos : List Info) (u : AsduValue) (c : Tally) → u.infos ≡ infos → 1 ≤ length infos → counted_by (value_objects u) c ≡ (if (row u.kind).monitor then (if is_passed_on u.kind u.cause then c else one_skipped c) else c)
 read_counts [] u c is some = absurd (omega (arith, some))
 read_counts (i ∷ infos) u c is some = ap (λ is. counted_by (map (object_in u) is) c) is
 
@@ -75,11 +75,11 @@ pub counted_as : (s : State) (report octets : List ℕ) (sizes : Sizes) (u : Asd
     counted s.sizes report s.counts ≡ (if (row u.kind).monitor then (if is_passed_on u.kind u.cause then s.counts else one_skipped s.counts) else s.counts)
 counted_as s report octets sizes u same is objects some = ap (λ os. counted_by os s.counts) objects ∙ read_counts u.infos u s.counts refl some
 
-pub passed_counts : (monitor passed : Bool) (c : Counts) → passed ≡ true → (if monitor then (if passed then c else one_skipped c) else c) ≡ c
+pub passed_counts : (monitor passed : Bool) (c : Tally) → passed ≡ true → (if monitor then (if passed then c else one_skipped c) else c) ≡ c
 passed_counts true passed c on = ap (λ b. if b then c else one_skipped c) on
 passed_counts false passed c on = refl
 
-pub skipped_counts : (monitor passed : Bool) (c : Counts) → monitor ≡ true → passed ≡ false → (if monitor then (if passed then c else one_skipped c) else c) ≡ one_skipped c
+pub skipped_counts : (monitor passed : Bool) (c : Tally) → monitor ≡ true → passed ≡ false → (if monitor then (if passed then c else one_skipped c) else c) ≡ one_skipped c
 skipped_counts monitor passed c on off = ap (λ b. if b then (if passed then c else one_skipped c) else c) on ∙ ap (λ b. if b then c else one_skipped c) off
 
 -- Whether a report is of a command type

@@ -3,29 +3,29 @@ use Rattle.std.specs.Prelude.{ℕ, ◌+◌, min, List, [], ◌∷◌, if◌then�
 use Rattle.elements.specs.Types.{row}
 use Rattle.asdu.specs.declared.sizes.Sizes.{Sizes}
 use Rattle.asdu.specs.InformationObjects.{InformationObject, objects_of, is_passed_on}
-use Rattle.gateway.specs.declared.counts.Counts.{Counts}
+use Rattle.gateway.specs.declared.counts.Tally.{Tally}
 
-abbrev pub nothing_counted : Counts
+abbrev pub nothing_counted : Tally
 nothing_counted = record { skipped = 0; mirrors = 0; lost = 0 }
 
 -- a number of 64 bits that stays at its greatest
 abbrev pub one_more : ℕ → ℕ
 one_more n = min (n + 1) 18446744073709551615
 
-abbrev pub one_skipped : Counts → Counts
+abbrev pub one_skipped : Tally → Tally
 one_skipped c = record { skipped = one_more c.skipped; mirrors = c.mirrors; lost = c.lost }
 
-abbrev pub one_mirrored : Counts → Counts
+abbrev pub one_mirrored : Tally → Tally
 one_mirrored c = record { skipped = c.skipped; mirrors = one_more c.mirrors; lost = c.lost }
 
-abbrev pub one_lost : Counts → Counts
+abbrev pub one_lost : Tally → Tally
 one_lost c = record { skipped = c.skipped; mirrors = c.mirrors; lost = one_more c.lost }
 
 -- By the first object of the report: one that can't be read has none. Those of monitor types are passed on, save for a
 -- negative 'unknown type'; those of command types are none of the queue's.
-abbrev pub counted_by : List InformationObject → Counts → Counts
+abbrev pub counted_by : List InformationObject → Tally → Tally
 counted_by [] c = one_skipped c
 counted_by (o ∷ objects) c = if (row o.kind).monitor then (if is_passed_on o.kind o.cause then c else one_skipped c) else c
 
-abbrev pub counted : Sizes → List ℕ → Counts → Counts
+abbrev pub counted : Sizes → List ℕ → Tally → Tally
 counted sizes report c = counted_by (objects_of sizes report) c

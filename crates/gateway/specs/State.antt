@@ -20,6 +20,7 @@ use Rattle.gateway.specs.Setups.{link_of, info_of}
 use Rattle.gateway.specs.Works.{kept_until, all_kept, listed, is_first_command}
 use Rattle.gateway.specs.Polls.{has_room}
 use Rattle.gateway.specs.declared.counts.Counts.{Counts}
+use Rattle.gateway.specs.declared.counts.Tally.{Tally}
 
 -- the line, the sizes of its ASDUs, the kept pieces, the session, the octets of a frame that isn't whole, the moment, what was
 -- dropped, commands, and the station whose link this step's silence took down
@@ -30,7 +31,7 @@ pub record State : Type 0 where
   pub session : Session
   pub so_far : Option (List ℕ)
   pub moment : ℕ
-  pub counts : Counts
+  pub counts : Tally
   pub commands : tasks.State
   pub silent : Option ℕ
 
@@ -40,6 +41,10 @@ pub record IsSound (line : Primary) (q : Queue) (s : Session) (so_far : Option (
   pub counted : from_queue s.unacknowledged ≡ length q.sent
   pub listens : is_some so_far ≡ true
   pub room : is_polling line ≡ true → 3 ≤ free_places q
+
+-- what `counts` answers
+abbrev pub counts_of : State → Counts
+counts_of s = record { skipped = s.counts.skipped; mirrors = s.counts.mirrors; lost = s.counts.lost; spoilt = s.line.spoilt }
 
 abbrev pub first_state : Settings → State
 first_state c = record {

@@ -24,7 +24,7 @@ use Rattle.command.specs.State.{has_room, line_of, refusal_of, is_used, oldest}
 use Rattle.command.specs.Judging.{judged}
 use Rattle.command.specs.History.{Offered, Ended, History}
 use Rattle.command.specs.Calls.{Call, Judge, PutOnLine, Accept, Busy, Lose, Mirror, Own, SendOwn, Cut, Due, Run, run}
-use Rattle.gateway.specs.declared.counts.Counts.{Counts}
+use Rattle.gateway.specs.declared.counts.Tally.{Tally}
 use Rattle.gateway.specs.Log.{Input, LineIn}
 use Rattle.gateway.specs.Objects.{has_objects}
 use Rattle.gateway.specs.Counting.{nothing_counted, counted, one_mirrored, one_lost}
@@ -35,7 +35,7 @@ pub record Works : Type 0 where
   pub line : Primary
   -- what was done with commands, the newest first
   pub calls : List Call
-  pub counts : Counts
+  pub counts : Tally
   -- the station whose link this step's silence took down, which commands are told of once the event is taken
   pub silent : Option ℕ
   -- the step's timers and its request are still due
@@ -107,7 +107,7 @@ LearnsReport p at is_running true report w z =
 LearnsReport p at is_running false report w z = z ≡ record w { counts = counted p.sizes report w.counts }
 
 -- the counts where a station's line is given up
-abbrev pub lost_counts : Setup → (station : ℕ) → Works → Counts
+abbrev pub lost_counts : Setup → (station : ℕ) → Works → Tally
 lost_counts p station w = if is_used (line_of station (tasks_of p w).state) then one_lost w.counts else w.counts
 
 abbrev pub given_up_works : Setup → (station : ℕ) → Works → Works

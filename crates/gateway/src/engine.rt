@@ -5,6 +5,7 @@ ghost use Rattle.link.specs.Exchanges.{Sending, Exchanges};
 ghost use Rattle.link.specs.Telling.{Tells};
 ghost use Rattle.link.specs.Primary.{start, offered_to, sending, request_of};
 ghost use Rattle.apci.specs.Spelling.{Fits};
+ghost use Rattle.apci.specs.Borrowed.{owned};
 ghost use Rattle.session.specs.Session.{new_session, confirmed, pulled, may_send, outcome_of, timed_out as answers_late};
 ghost use Rattle.command.specs.State as tasks;
 ghost use Rattle.command.specs.State.{oldest};
@@ -21,15 +22,15 @@ ghost use Rattle.gateway.specs.Counting.{one_skipped, one_mirrored, one_lost};
 ghost use Rattle.gateway.specs.Works.{kept_until, all_kept, listed, is_command_report, offered_by, offered_upto};
 ghost use Rattle.gateway.specs.Setups.{link_of, info_of, setup_of};
 ghost use Rattle.gateway.specs.declared.settings.Station.{Station};
-ghost use Rattle.gateway.specs.State.{first_state, after_request, at_moment, disconnected, connected, received as frame_received, heard_commands, has_place};
+ghost use Rattle.gateway.specs.State.{counts_of, first_state, after_request, at_moment, disconnected, connected, received as frame_received, heard_commands, has_place};
 ghost use Rattle.gateway.specs.Steps.{Judged, SendsPiece, SendsOwn, SendsData, Mirrors, LearnsReport, Hears, Learns, refused, refusal_fits, given_up, line_timed, settled};
 ghost use Rattle.gateway.specs.Finding.{Finds};
 
 use crate::config::Config;
-use crate::counts::Counts;
+use crate::counts::{Counts, Tally};
 use crate::laws::{command_is_told, session_is_told};
 use crate::settings::{LineSettings, Silence};
-use apci::{Apdu, Assembler, Heard};
+use apci::{Apdu, ApduRef, Assembler, FrontRef, Heard, front_ref};
 use arrayvec::ArrayVec;
 use asdu::{Asdu, Piece, Sizes, read, translate};
 use command::{Act, Commands, StationInfo};
@@ -71,7 +72,7 @@ pub struct Gateway {
     session: Session,
     assembler: Assembler,
     moment: u64,
-    counts: Counts,
+    counts: Tally,
     commands: Commands,
     /// The station whose link the step's silence took down.
     silent: Option<usize>,
@@ -127,7 +128,7 @@ fn master(alloc: Global, config: &Config) -> Result<Master, NoMemory>
     Master::new(alloc, link_settings(config.line()), &addresses).map_err(|_| NoMemory)
 }
 
-impl Counts {
+impl Tally {
     /// One more report that isn't passed on.
     fn skip(&mut self)
         ensures { self.new ≡ one_skipped self.old }
@@ -247,7 +248,7 @@ impl Gateway {
             session: closed_session(alloc, config)?,
             assembler: Assembler::new(),
             moment: 0,
-            counts: Counts {
+            counts: Tally {
                 skipped: 0,
                 mirrors: 0,
                 lost: 0,
@@ -257,11 +258,21 @@ impl Gateway {
         })
     }
 
-    /// What was dropped since the gateway was made.
+    /// What was dropped, given up or spoilt since the gateway was made.
     pub fn counts(&self) -> Counts
-        ensures { result ≡ self.now.counts }
+        ensures { result ≡ counts_of self.now }
     {
-        self.counts
+        let Tally {
+            skipped,
+            mirrors,
+            lost,
+        } = self.counts;
+        Counts {
+            skipped,
+            mirrors,
+            lost,
+            spoilt: self.line.spoilt(),
+        }
     }
 
     /// The pieces that no connection has acknowledged, oldest first: ASDUs in the sizes of the connection.
@@ -484,10 +495,26 @@ impl Gateway {
         }
     }
 
+    /// A whole APDU at the front of octets that came, where none had come since the last one, and how many octets it has. Its ASDU is
+    /// lent where it stands.
+    pub(crate) fn find_whole<'a>(&self, piece: &'a [u8]) -> Option<(ApduRef<'a>, usize)>
+        requires { 0 < length piece.now }
+        ensures { IfSome result (λ found. Finds self.now piece.now (Found.Apdu found.1 (owned found.0)) self.now) }
+    {
+        if !self.assembler.is_empty() {
+            return None;
+        }
+        match front_ref(piece) {
+            FrontRef::Whole(apdu, count) => Some((apdu, count)),
+            FrontRef::More => None,
+            FrontRef::Never(_, _) => None,
+        }
+    }
+
     /// Takes an APDU, and judges its ASDU. Where it closes the connection, the cause is answered.
-    pub(crate) fn judge(&mut self, apdu: &Apdu) -> Option<Close>
-        requires { Fits apdu.now }
-        ensures { Judged self.old apdu.now result self.new }
+    pub(crate) fn judge(&mut self, apdu: ApduRef<'_>) -> Option<Close>
+        requires { Fits (owned apdu) }
+        ensures { Judged self.old (owned apdu.entry) result self.new }
     {
         match self.take_frame(apdu) {
             Taken::Close(cause) => Some(cause),
@@ -497,26 +524,26 @@ impl Gateway {
     }
 
     /// Takes an APDU, and frees the places that it acknowledges.
-    fn take_frame(&mut self, apdu: &Apdu) -> Taken
-        ensures outcome { result ≡ outcome_of self.old.session apdu.now }
-        ensures state { self.new ≡ frame_received apdu.now self.old }
+    fn take_frame(&mut self, apdu: ApduRef<'_>) -> Taken
+        ensures outcome { result ≡ outcome_of self.old.session (owned apdu.entry) }
+        ensures state { self.new ≡ frame_received (owned apdu.entry) self.old }
     {
-        let taken = self.session.take(apdu, self.moment);
+        let taken = self.session.take_ref(apdu, self.moment);
         let (pieces, _own) = self.session.acked();
         self.events.acknowledge(pieces);
         taken
     }
 
     /// Judges the ASDU of an APDU, if it has one. Where its answer finds no place, that closes the connection.
-    fn judge_data(&mut self, apdu: &Apdu) -> Option<Close>
-        requires { Fits apdu.now }
-        ensures state { self.new ≡ record self.old { commands = heard_commands apdu.now self.old.moment self.old.commands } }
-        ensures close { result ≡ (if has_place apdu.now self.old.moment self.old.commands then None else Some Close.OwnAnswers) }
+    fn judge_data(&mut self, apdu: ApduRef<'_>) -> Option<Close>
+        requires { Fits (owned apdu) }
+        ensures state { self.new ≡ record self.old { commands = heard_commands (owned apdu.entry) self.old.moment self.old.commands } }
+        ensures close { result ≡ (if has_place (owned apdu.entry) self.old.moment self.old.commands then None else Some Close.OwnAnswers) }
     {
         match apdu {
-            Apdu::I { asdu, .. } => self.judge_asdu(asdu),
-            Apdu::S { .. } => None,
-            Apdu::U(_) => None,
+            ApduRef::I { asdu, .. } => self.judge_asdu(asdu),
+            ApduRef::S { .. } => None,
+            ApduRef::U(_) => None,
         }
     }
 

@@ -2,6 +2,7 @@
 ghost use Rattle.std.specs.Prelude.{◌≡◌, ℕ, ◌+◌, ◌<◌, ◌≤◌, Bool, true, false, List, [], ◌∷◌, ◌++◌, length, drop, IfSome, Some, None, Option, if◌then◌else◌};
 ghost use Rattle.std.specs.Bool.{OnTrue};
 ghost use Rattle.apci.specs.Spelling.{Fits, spelling};
+ghost use Rattle.apci.specs.Borrowed.{owned};
 ghost use Rattle.session.specs.Session.{pulled};
 ghost use Rattle.session.specs.Ends.{after_confirm, after_pull, IsConfirmed, IsInTime};
 ghost use Rattle.gateway.specs.Log.{LogEntry, Went, LineIn, TcpOut, Opened, tell};
@@ -18,7 +19,7 @@ ghost use Rattle.gateway.specs.Runs.{events_told};
 use crate::engine::{Found, Gateway};
 use crate::laws::line_is_told;
 use crate::ports::{Action, Event, Port};
-use apci::{Apdu, encode};
+use apci::{Apdu, ApduRef, encode};
 use session::{Close, calls_come_to_an_end};
 
 /// What an APDU leads to.
@@ -179,12 +180,12 @@ impl Gateway {
     }
 
     /// Takes an APDU, and sends what it makes room for, or closes the connection.
-    fn take_apdu<P: Port>(&mut self, apdu: &Apdu, port: &mut P) -> Outcome
+    fn take_apdu<P: Port>(&mut self, apdu: ApduRef<'_>, port: &mut P) -> Outcome
         requires ready { P.failed port.old < u64.MAX }
-        requires fits { Fits apdu.now }
+        requires fits { Fits (owned apdu) }
         requires open { self.old.session.connected ≡ true }
         requires whole { self.old.so_far ≡ Some [] }
-        ensures kept { (p : Setup) (rest : List ℕ) → Awaits p self.old (P.log port.old) (spelling apdu.now ++ rest) → Goes result p self.new (P.log port.new) rest }
+        ensures kept { (p : Setup) (rest : List ℕ) → Awaits p self.old (P.log port.old) (spelling (owned apdu.entry) ++ rest) → Goes result p self.new (P.log port.new) rest }
         ensures open { IsOnward result (self.new.session.connected ≡ true) }
         ensures events { events_told (P.log port.new) ≡ events_told (P.log port.old) }
         ensures script { P.script port.new ≡ P.script port.old }
@@ -200,7 +201,8 @@ impl Gateway {
         Outcome::On
     }
 
-    /// Takes what stands at the front of the octets, and says how many that is.
+    /// Takes what stands at the front of the octets, and says how many that is. A whole APDU is read where it stands; the assembler
+    /// takes only what a piece leaves over.
     fn take_front<P: Port>(&mut self, octets: &[u8], port: &mut P) -> (usize, Outcome)
         requires ready { P.failed port.old < u64.MAX }
         requires some { 0 < length octets.now }
@@ -212,8 +214,11 @@ impl Gateway {
         ensures script { P.script port.new ≡ P.script port.old }
         ensures cause { P.failed port.new ≡ P.failed port.old + faults_in result.1 }
     {
+        if let Some((apdu, count)) = self.find_whole(octets) {
+            return (count, self.take_apdu(apdu, port));
+        }
         match self.feed(octets) {
-            Found::Apdu(count, apdu) => (count, self.take_apdu(&apdu, port)),
+            Found::Apdu(count, apdu) => (count, self.take_apdu(apdu.as_ref(), port)),
             Found::More => (0, Outcome::Over),
             Found::Refused => (0, self.shut(Close::Grammar, port)),
         }

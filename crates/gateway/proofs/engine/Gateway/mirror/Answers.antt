@@ -3,7 +3,7 @@ use Rattle.asdu.specs.Asdu.{AsduValue}
 use Rattle.asdu.specs.Reading.{value_of}
 use Rattle.command.specs.State as tasks
 use Rattle.events.specs.Queue.{octets_of}
-use Rattle.gateway.specs.declared.counts.Counts.{Counts}
+use Rattle.gateway.specs.declared.counts.Tally.{Tally}
 use Rattle.gateway.specs.State.{State}
 use Rattle.gateway.specs.Steps.{mirrored_state, mirror_fits}
 use Rattle.gateway.specs.Works.{kept_until, all_kept}
@@ -36,6 +36,6 @@ returns c =
     (passed_on asdu.sizes s.sizes v asdu.octets.now ps (c.requires.sizes ∙ sym (ap (λ (x : State). x.sizes) c.self.view_is)) c.requires.found c.translate-pieces.ensures.joined c.translate-pieces.ensures.pieces c.translate-pieces.ensures.number)
     c.translate-pieces.ensures.monitored c.requires.plain
     (ap (λ (k : tasks.State). let made : State = record s { commands = k; counts = c.mirror-2.new.self } in made) c.mirror.ensures
-    ∙ ap (λ (n : Counts). let made : State = record (mirrored_state false v (octets_of ps) s) { counts = n } in made) c.mirror-2.ensures
+    ∙ ap (λ (n : Tally). let made : State = record (mirrored_state false v (octets_of ps) s) { counts = n } in made) c.mirror-2.ensures
     ∙ ap (λ b. mirrored_state b v (octets_of ps) s) c.if-runs.ensures)
     (ap (λ b. mirror_fits b v (octets_of ps) s) c.if-runs.ensures))

@@ -1,3 +1,4 @@
+use Rattle.apci.specs.Borrowed.{owned}
 use Rattle.std.proofs.Common.{arith, ap, length, length-drop}
 use Rattle.session.specs.Session.{Session, from_queue}
 use Rattle.events.specs.Queue.{Queue}
@@ -11,9 +12,9 @@ invariant_of-self c =
     record {
       counted = omega (
         arith,
-        taken_counts c.args.apdu.now old.moment old.session,
-        ap (λ (s : Session). from_queue s.unacknowledged) c.take-taken.ensures.session,
-        ap (λ (s : Session). s.acked_queue) c.take-taken.ensures.session,
+        taken_counts (owned c.args.apdu) old.moment old.session,
+        ap (λ (s : Session). from_queue s.unacknowledged) c.take_ref-taken.ensures.session,
+        ap (λ (s : Session). s.acked_queue) c.take_ref-taken.ensures.session,
         ap (λ p. p.0) c.acked-pieces.ensures,
         ap (λ (q : Queue). length q.sent) c.acknowledge.ensures,
         length-drop c.acked-pieces.result.0 old.events.sent,

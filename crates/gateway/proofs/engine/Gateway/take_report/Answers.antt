@@ -4,7 +4,7 @@ use Rattle.asdu.specs.Asdu.{AsduValue}
 use Rattle.asdu.specs.InformationObjects.{is_passed_on}
 use Rattle.asdu.specs.Reading.{value_of}
 use Rattle.events.specs.Queue.{Queue}
-use Rattle.gateway.specs.declared.counts.Counts.{Counts}
+use Rattle.gateway.specs.declared.counts.Tally.{Tally}
 use Rattle.gateway.specs.State.{State}
 use Rattle.gateway.specs.Works.{is_command_report}
 use Rattle.gateway.proofs.Kept.{keeps_report, keeps_none, counted_as, passed_counts, skipped_counts, command_as, passed_monitor, learns_kept}
@@ -36,7 +36,7 @@ returns-then-monitor c =
     let of_command : is_command_report s.sizes report ≡ false = command_as s.sizes report u c.in-Ok.ensures.objects c.in-Ok.ensures.found.value.some ∙ ap not (sym c.if-monitor.ensures) in
     rw (← c.self.view_is) (learns_kept (is_command_report s.sizes report) s _ report true of_command
     (keeps_none s _ report asdu.octets.now asdu.sizes c.in-Ok.ensures.source.0 c.in-Ok.ensures.source.1 (c.if-is_passed_on.ensures.kept refl)
-    (ap (λ (n : Counts). let made : State = record s { counts = n } in made) (c.skip-then-monitor.ensures
+    (ap (λ (n : Tally). let made : State = record s { counts = n } in made) (c.skip-then-monitor.ensures
     ∙ sym (counted_as s report asdu.octets.now asdu.sizes u c.in-Ok.ensures.source.0 c.in-Ok.ensures.source.1 c.in-Ok.ensures.objects c.in-Ok.ensures.found.value.some
     ∙ skipped_counts (row u.kind).monitor (is_passed_on u.kind u.cause) s.counts (sym c.if-monitor.ensures) (sym c.if-is_passed_on.ensures.value)))))
     refl)
