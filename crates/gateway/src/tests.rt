@@ -438,12 +438,22 @@ fn what_is_dropped_is_counted(rt: HostRuntime) -> Result<(), Fail> {
         let octets = octets(alloc, piece)?;
         assert!(rt; gateway.step(at as u64, Event::Line(&octets), &mut sink));
     }
-    let dropped = Counts {
+    // The latest poll is answered with a wrong sum, and its time passes.
+    let wrong = octets(alloc, "680909680801010103016400017516")?;
+    assert!(rt; gateway.step(6, Event::Line(&wrong), &mut sink));
+    assert!(rt; gateway.step(300, Event::Tick, &mut sink));
+    let counted = Counts {
         skipped: 2,
         mirrors: 1,
         lost: 0,
+        spoilt: 1,
     };
-    assert!(rt; gateway.counts() == dropped);
+    assert!(rt; gateway.counts() == counted);
+    // The one point that came is kept.
+    let mut kept = gateway.kept();
+    let piece = octets(alloc, "01010300010064000001")?;
+    assert!(rt; kept.next() == Some(piece.as_slice()));
+    assert!(rt; kept.next() == None);
     Ok(())
 }
 

@@ -5,10 +5,17 @@ use std::alloc::{AllocError, Global};
 /// What the words ask for.
 #[derive(Clone, Copy, Debug, PartialEq, Eq)]
 pub(crate) enum Request<'a> {
-    Show101 { sizes: &'a str, hex: &'a str },
-    Show104 { hex: &'a str },
+    Show101 {
+        sizes: &'a str,
+        hex: &'a str,
+    },
+    Show104 {
+        hex: &'a str,
+    },
     /// The name of a file.
-    Check { config: &'a str },
+    Check {
+        config: &'a str,
+    },
     /// The names of two files, and which lines the run ends with.
     Replay {
         config: &'a str,
@@ -17,7 +24,10 @@ pub(crate) enum Request<'a> {
         counts: bool,
     },
     /// The names of two files.
-    Sim { config: &'a str, script: &'a str },
+    Sim {
+        config: &'a str,
+        script: &'a str,
+    },
 }
 
 fn word<'a>(alloc: Global, name: &'a str, help: &'a str) -> Arg<'a> {
