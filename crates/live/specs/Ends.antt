@@ -3,6 +3,8 @@ use Rattle.std.specs.Prelude.{ℕ, ◌+◌, ◌≤◌, List, Bool, true, false, 
 use Rattle.gateway.specs.Log.{Output, LineOut, TcpOut, Closed}
 use Rattle.gateway.specs.declared.ports.Next.{Next}
 use Rattle.gateway.specs.declared.ports.Next.TheVariants as next
+use Rattle.session.specs.declared.kinds.Close.{Close}
+use Rattle.session.specs.declared.kinds.Close.TheVariants.{Replaced}
 use Rattle.live.specs.Wires.{Looked, Wrote, History, noted, IsNew, Visits, visited}
 use Rattle.live.specs.declared.wires.Got.{Got}
 use Rattle.live.specs.declared.wires.Got.TheVariants.{Octets, Quiet, Gone}
@@ -164,12 +166,18 @@ pub record IsWritten (old : Ends) (octets : List ℕ) (new : Ends) : Type 0 wher
   pub taken : Bool
   pub done : new ≡ written_open old.is_cut_due octets taken old.connection old
 
+-- A close ends the connection, and with it a cut that was due. That of a connection which another has replaced has nothing
+-- more to end.
+abbrev pub closed_by : Close → Ends → Ends
+closed_by Replaced ends = ends
+closed_by _ ends = record ends { connection = None; is_cut_due = false }
+
 -- The ends after an action, where the wire that it goes to took the octets, or not: a write to the connection that failed
--- makes a cut due, one to the line loses a request, and a close ends the connection, and with it the cut that was due.
+-- makes a cut due, one to the line loses a request.
 abbrev pub after_action : Output → Bool → Ends → Ends
 after_action (LineOut octets) taken ends = record ends { line = noted ends.line (Wrote octets taken) }
 after_action (TcpOut octets) taken ends = written_open ends.is_cut_due octets taken ends.connection ends
-after_action (Closed cause) taken ends = record ends { connection = None; is_cut_due = false }
+after_action (Closed cause) taken ends = closed_by cause ends
 
 -- the action was put out so
 pub record Puts (old : Ends) (action : Output) (new : Ends) : Type 0 where

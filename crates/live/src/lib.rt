@@ -9,8 +9,8 @@
 //! source of the last event, else a tick; each source of the round is looked at once, and none after the one that had something;
 //! a connection that is gone is a cut; after a write to the connection that failed the next event is a cut, no end is looked at
 //! before, and nothing more is written to it; a close ends the connection and that cut; who comes through the door takes the
-//! place of the connection; a request that the line doesn't take is lost and no failure; the line's end alone is one. What
-//! sockets do is no matter of a proof.
+//! place of the connection, and stays when the gateway closes the one before; a request that the line doesn't take is lost and
+//! no failure; the line's end alone is one. What sockets do is no matter of a proof.
 #![tactic(auto)]
 
 mod found;

@@ -10,6 +10,7 @@ use crate::found::{Found, event_at};
 use crate::source::Source;
 use crate::wires::{Clock, Door, Got, Wire};
 use gateway::{Action, Next, Port};
+use session::Close;
 use std::marker::Model;
 
 /// The port over a line, a door and a clock. It tells no log.
@@ -193,6 +194,8 @@ impl<L: Wire, D: Door + Drop, C: Clock + Drop> Port for Live<L, D, C> {
                 let _taken = self.line.write(*octets);
             }
             Action::Tcp(octets) => self.put_on_connection(*octets),
+            // Its wire went when another took its place.
+            Action::Close(Close::Replaced) => {}
             Action::Close(_) => {
                 self.connection = None;
                 self.is_cut_due = false;

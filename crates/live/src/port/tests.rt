@@ -95,6 +95,8 @@ fn a_new_connection_takes_the_place_of_the_old(rt: HostRuntime) -> Result<(), Fa
     send(&rt, &mut port);
     port.door.visitor = Some(MemoryWire::busy());
     assert!(rt; matches!(next(&rt, &mut port), Next::Open(2)));
+    // The gateway closes the old one, and the new one stays.
+    assert!(rt; port.put(2, &Action::Close(Close::Replaced)));
     assert_eq!(rt; port.connection.as_ref().ok_or("a connection")?.writes, 0);
     assert!(rt; matches!(next(&rt, &mut port), Next::Bytes(3, 1)));
     Ok(())

@@ -6,7 +6,7 @@ use ft12::LinkSize;
 use gateway::{Config, End, Gateway, LineSettings, Port, Silence, Station, TcpSettings, drive_on};
 use std::alloc::{AllocError, Global};
 use std::io::{Read, Write};
-use std::net::{OpenStream, TcpListener, TcpStream};
+use std::net::{Net, OpenStream, SocketAddr, TcpListener, TcpStream};
 use std::process::Abort;
 use std::test::Fail;
 use std::time::Duration;
@@ -60,10 +60,28 @@ fn hears(rt: &impl Abort, stream: &mut TcpStream, octets: &[u8]) -> Result<(), F
 }
 
 /// A control centre that connects and starts data transfer.
-fn started(rt: &HostRuntime, address: std::net::SocketAddr) -> Result<TcpStream, Fail> {
+fn started<R: Net<Stream = TcpStream>>(rt: &R, address: SocketAddr) -> Result<TcpStream, Fail> {
     let mut centre = TcpStream::connect(rt, address)?;
     centre.set_read_timeout(Some(Duration::from_millis(1000)))?;
     centre.write_all(&[0x68, 4, 7, 0, 0, 0])?;
+    Ok(centre)
+}
+
+/// A control centre that starts data transfer and gets the report.
+fn receiving<R: Abort + Net<Stream = TcpStream>, P: Port>(
+    rt: &R,
+    address: SocketAddr,
+    gateway: &mut Gateway,
+    port: &mut P,
+) -> Result<TcpStream, Fail> {
+    let mut centre = started(rt, address)?;
+    turn(rt, gateway, port);
+    hears(rt, &mut centre, &[0x68, 4, 0x0B, 0, 0, 0])?;
+    hears(
+        rt,
+        &mut centre,
+        &[0x68, 0x0E, 0, 0, 0, 0, 1, 1, 3, 0, 1, 0, 0x64, 0, 0, 1],
+    )?;
     Ok(centre)
 }
 
@@ -92,27 +110,24 @@ fn a_report_goes_through_and_is_acknowledged(rt: HostRuntime) -> Result<(), Fail
 
     // A report, which goes out as an I frame, and again on a second connection, where it is acknowledged.
     let report = [0x68, 9, 9, 0x68, 8, 1, 1, 1, 3, 1, 0x64, 0, 1, 0x74, 0x16];
-    let frame = [0x68, 0x0E, 0, 0, 0, 0, 1, 1, 3, 0, 1, 0, 0x64, 0, 0, 1];
     station.write_all(&report)?;
-    for acknowledged in [false, true] {
-        let mut centre = started(&rt, address)?;
-        turn(&rt, &mut gateway, &mut port);
-        hears(&rt, &mut centre, &[0x68, 4, 0x0B, 0, 0, 0])?;
-        hears(&rt, &mut centre, &frame)?;
-        if acknowledged {
-            centre.write_all(&[0x68, 4, 1, 0, 2, 0])?;
-        }
-        turn(&rt, &mut gateway, &mut port);
-        drop(centre);
-        turn(&rt, &mut gateway, &mut port);
-    }
-
-    // On a third one there is nothing more than the answer to the start.
-    let mut centre = started(&rt, address)?;
+    let centre = receiving(&rt, address, &mut gateway, &mut port)?;
+    drop(centre);
     turn(&rt, &mut gateway, &mut port);
-    hears(&rt, &mut centre, &[0x68, 4, 0x0B, 0, 0, 0])?;
-    centre.set_read_timeout(Some(Duration::from_millis(50)))?;
-    assert!(rt; centre.read(&mut [0; 1]).is_err());
+    let mut centre = receiving(&rt, address, &mut gateway, &mut port)?;
+    centre.write_all(&[0x68, 4, 1, 0, 2, 0])?;
+    turn(&rt, &mut gateway, &mut port);
+
+    // A third one takes the place of the second, and there is nothing more than the answer to the start.
+    let mut third = started(&rt, address)?;
+    turn(&rt, &mut gateway, &mut port);
+    hears(&rt, &mut third, &[0x68, 4, 0x0B, 0, 0, 0])?;
+    third.set_read_timeout(Some(Duration::from_millis(50)))?;
+    assert!(rt; third.read(&mut [0; 1]).is_err());
+    assert!(rt;
+        matches!(centre.read(&mut [0; 1]), Ok(0) | Err(_)),
+        "the second is shut"
+    );
 
     // The line's end is a device that failed.
     drop(station);

@@ -49,6 +49,9 @@ fn a_run_that_finishes_is_done(rt: HostRuntime) -> Result<(), Fail> {
     let config = read_config(alloc, GATEWAY.as_bytes())?;
     let entries = vec![in alloc; Entry::Tick(5)]?;
     let mut port = Trace::<Vec<u8>>::new(alloc, entries, Vec::new(alloc));
-    assert!(rt; serve(alloc, &config, &mut port).is_ok());
+    let done = serve(alloc, &config, &mut port);
+    let lines = port.into_writer();
+    assert!(rt; done.is_ok());
+    assert_eq!(rt; lines.as_slice(), b"0 > S 1049014A16\n".as_slice());
     Ok(())
 }
