@@ -85,6 +85,43 @@ fn receiving<R: Abort + Net<Stream = TcpStream>, P: Port>(
     Ok(centre)
 }
 
+/// The start of the link, up to the first poll.
+fn start_link<P: Port>(
+    rt: &impl Abort,
+    gateway: &mut Gateway,
+    port: &mut P,
+    station: &mut TcpStream,
+) -> Result<(), Fail> {
+    turn(rt, gateway, port);
+    hears(rt, station, &[0x10, 0x49, 0x01, 0x4A, 0x16])?;
+    station.write_all(&[0x10, 0x0B, 0x01, 0x0C, 0x16])?;
+    turn(rt, gateway, port);
+    hears(rt, station, &[0x10, 0x40, 0x01, 0x41, 0x16])?;
+    station.write_all(&[0xE5])?;
+    turn(rt, gateway, port);
+    hears(rt, station, &[0x10, 0x7B, 0x01, 0x7C, 0x16])
+}
+
+/// Another control centre takes the place of one, and gets nothing more than the answer to its start.
+fn replace<R: Abort + Net<Stream = TcpStream>, P: Port>(
+    rt: &R,
+    address: SocketAddr,
+    gateway: &mut Gateway,
+    port: &mut P,
+    centre: &mut TcpStream,
+) -> Result<(), Fail> {
+    let mut other = started(rt, address)?;
+    turn(rt, gateway, port);
+    hears(rt, &mut other, &[0x68, 4, 0x0B, 0, 0, 0])?;
+    other.set_read_timeout(Some(Duration::from_millis(50)))?;
+    assert!(rt; other.read(&mut [0; 1]).is_err());
+    assert!(rt;
+        matches!(centre.read(&mut [0; 1]), Ok(0) | Err(_)),
+        "the first is shut"
+    );
+    Ok(())
+}
+
 #[test]
 fn a_report_goes_through_and_is_acknowledged(rt: HostRuntime) -> Result<(), Fail> {
     let server = TcpListener::bind(&rt, "127.0.0.1:0")?;
@@ -98,15 +135,7 @@ fn a_report_goes_through_and_is_acknowledged(rt: HostRuntime) -> Result<(), Fail
     let config = config(rt.alloc())?;
     let mut gateway = Gateway::new(rt.alloc(), &config).ok().ok_or("no memory")?;
 
-    // The start of the link, up to the first poll.
-    turn(&rt, &mut gateway, &mut port);
-    hears(&rt, &mut station, &[0x10, 0x49, 0x01, 0x4A, 0x16])?;
-    station.write_all(&[0x10, 0x0B, 0x01, 0x0C, 0x16])?;
-    turn(&rt, &mut gateway, &mut port);
-    hears(&rt, &mut station, &[0x10, 0x40, 0x01, 0x41, 0x16])?;
-    station.write_all(&[0xE5])?;
-    turn(&rt, &mut gateway, &mut port);
-    hears(&rt, &mut station, &[0x10, 0x7B, 0x01, 0x7C, 0x16])?;
+    start_link(&rt, &mut gateway, &mut port, &mut station)?;
 
     // A report, which goes out as an I frame, and again on a second connection, where it is acknowledged.
     let report = [0x68, 9, 9, 0x68, 8, 1, 1, 1, 3, 1, 0x64, 0, 1, 0x74, 0x16];
@@ -118,16 +147,7 @@ fn a_report_goes_through_and_is_acknowledged(rt: HostRuntime) -> Result<(), Fail
     centre.write_all(&[0x68, 4, 1, 0, 2, 0])?;
     turn(&rt, &mut gateway, &mut port);
 
-    // A third one takes the place of the second, and there is nothing more than the answer to the start.
-    let mut third = started(&rt, address)?;
-    turn(&rt, &mut gateway, &mut port);
-    hears(&rt, &mut third, &[0x68, 4, 0x0B, 0, 0, 0])?;
-    third.set_read_timeout(Some(Duration::from_millis(50)))?;
-    assert!(rt; third.read(&mut [0; 1]).is_err());
-    assert!(rt;
-        matches!(centre.read(&mut [0; 1]), Ok(0) | Err(_)),
-        "the second is shut"
-    );
+    replace(&rt, address, &mut gateway, &mut port, &mut centre)?;
 
     // The line's end is a device that failed.
     drop(station);
