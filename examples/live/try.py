@@ -109,14 +109,14 @@ class Centre:
         self.send(bytes([0x68, len(asdu) + 4]) + b"".join(n.to_bytes(2, "little") for n in counts) + asdu)
 
 
-def connected():
+def connected(gateway):
     """A control centre, as soon as the gateway listens."""
-    for _ in range(200):
+    while gateway.poll() is None:
         try:
             return Centre()
         except ConnectionRefusedError:
             time.sleep(0.05)
-    raise SystemExit("the gateway doesn't listen")
+    raise SystemExit("the gateway ended")
 
 
 def main():
@@ -125,12 +125,12 @@ def main():
     station.start()
     gateway = subprocess.Popen([os.path.join(ROOT, "telegate"), "run", os.path.join(ROOT, "examples/live/config.toml")])
     try:
-        centre = connected()
+        centre = connected(gateway)
         centre.hear()
         first = centre.hear()
         print("-- cut without an acknowledgement, and connected again")
         centre.stream.close()
-        centre = connected()
+        centre = connected(gateway)
         centre.hear()
         again = centre.hear()
         centre.acknowledge()
