@@ -1,3 +1,4 @@
+pub mod LiveLemmas
 pub mod SettingsLemmas
 pub mod StationLemmas
 pub mod UnknownLemmas

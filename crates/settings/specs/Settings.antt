@@ -10,7 +10,8 @@ use Rattle.gateway.specs.declared.settings.Station.{Station}
 use Rattle.settings.specs.Faults.{Path, IsWrongKeyOf, ◌>>=◌}
 use Rattle.settings.specs.Keys.{section_of}
 use Rattle.settings.specs.Line.{Line, line_of, line_settings}
-use Rattle.settings.specs.Live.{live_keys}
+use Rattle.settings.specs.Live.{live_keys, live_places, Places, places_of}
+use Rattle.settings.specs.declared.live.LiveSettings.{LiveSettings}
 use Rattle.settings.specs.Stations.{stations_of}
 use Rattle.settings.specs.Tcp.{Tcp, tcp_of, tcp_settings}
 use Rattle.settings.specs.Unknown.{unknown_paths, IsLeastUnknown}
@@ -26,33 +27,51 @@ pub record Values : Type 0 where
 abbrev pub values_of : Settings → Values
 values_of c = record { line = line_of c.line; tcp = tcp_of c.tcp; stations = c.stations }
 
--- the settings that a file gives, apart from keys that it may not have
-abbrev pub known_settings : Members → Result Values Path
-known_settings root = do
+-- the settings of a gateway that a file gives
+abbrev pub gateway_values : Members → Result Values Path
+gateway_values root = do
   lt ← section_of (codes "line") (codes "line.link") root
   l ← line_settings lt
   tt ← section_of (codes "tcp") (codes "tcp.k") root
   t ← tcp_settings tt
   s ← stations_of l.link l.sizes.ca (get_member (codes "station") root)
-  vt ← section_of (codes "live") (codes "live.line") root
-  _ ← live_keys vt
   Ok (record { line = l; tcp = t; stations = s })
 
--- the settings, where no key is wrong; else the first wrong key
-abbrev pub IsKnownOf : Members → Result Settings ConfigFault → Type 0
-IsKnownOf root result = MatchResult result (λ c. known_settings root ≡ Ok (values_of c)) (IsWrongKeyOf (known_settings root))
+-- the same, where the table `live` has texts if anything, apart from keys that a file may not have
+abbrev pub known_settings : Members → Result Values Path
+known_settings root = do
+  v ← gateway_values root
+  vt ← section_of (codes "live") (codes "live.line") root
+  _ ← live_keys vt
+  Ok v
+
+-- the same for a live run, which needs the places of its ends
+abbrev pub known_live : Members → Result (Values × Places) Path
+known_live root = do
+  v ← gateway_values root
+  vt ← section_of (codes "live") (codes "live.line") root
+  places ← live_places vt
+  Ok (v, places)
+
+-- the settings of a live run, as values
+abbrev pub live_values_of : Settings × LiveSettings → Values × Places
+live_values_of c = (values_of c.0, places_of c.1)
+
+-- what was read, where no key is wrong; else the first wrong key
+abbrev pub IsKnownOf : {A V : Type 0} → Result V Path → (A → V) → Result A ConfigFault → Type 0
+IsKnownOf known seen result = MatchResult result (λ c. known ≡ Ok (seen c)) (IsWrongKeyOf known)
 
 -- a wrong key is the first; an unknown one is the least, where no key is wrong
-abbrev pub IsFirstFault : Members → ConfigFault → Type 0
-IsFirstFault root NotToml = ⊥
-IsFirstFault root (Key path) = known_settings root ≡ Err path.now
-IsFirstFault root (Unknown path) = IsOk (known_settings root) × IsLeastUnknown (unknown_paths root) (Unknown path)
-IsFirstFault root NoMemory = Unit {0}
+abbrev pub IsFirstFault : {V : Type 0} → Result V Path → Members → ConfigFault → Type 0
+IsFirstFault known root NotToml = ⊥
+IsFirstFault known root (Key path) = known ≡ Err path.now
+IsFirstFault known root (Unknown path) = IsOk known × IsLeastUnknown (unknown_paths root) (Unknown path)
+IsFirstFault known root NoMemory = Unit {0}
 
--- the settings, where no key is wrong and none unknown; else the first fault
-abbrev pub IsReadOf : Members → Result Settings ConfigFault → Type 0
-IsReadOf root result =
-    MatchResult result (λ c. (known_settings root ≡ Ok (values_of c)) × (unknown_paths root ≡ [])) (IsFirstFault root)
+-- what was read, where no key is wrong and none unknown; else the first fault
+abbrev pub IsReadOf : {A V : Type 0} → Result V Path → (A → V) → Members → Result A ConfigFault → Type 0
+IsReadOf known seen root result =
+    MatchResult result (λ c. (known ≡ Ok (seen c)) × (unknown_paths root ≡ [])) (IsFirstFault known root)
 
 -- the octets are no text, or no TOML document
 abbrev pub IsNoDocument : List ℕ → Type 0
@@ -63,19 +82,33 @@ pub record IsDocument (text : List ℕ) (root : Members) : Type 0 where
   pub utf8 : IsUtf8 text
   pub parsed : parse_document text ≡ Some root
 
--- what a document's fault is
-abbrev pub IsDocumentFault : List ℕ → ConfigFault → Type 0
-IsDocumentFault text e = (root : Members) × IsDocument text root × IsFirstFault root e
+-- why octets have no root
+abbrev pub IsRootFault : List ℕ → ConfigFault → Type 0
+IsRootFault text NotToml = IsNoDocument text
+IsRootFault text NoMemory = Unit {0}
+IsRootFault text _ = ⊥
 
-abbrev pub IsFaultOfText : List ℕ → ConfigFault → Type 0
-IsFaultOfText text NotToml = IsNoDocument text
-IsFaultOfText text (Key path) = IsDocumentFault text (Key path)
-IsFaultOfText text (Unknown path) = IsDocumentFault text (Unknown path)
-IsFaultOfText text NoMemory = Unit {0}
+-- what a document's fault is
+abbrev pub IsDocumentFault : {V : Type 0} → (Members → Result V Path) → List ℕ → ConfigFault → Type 0
+IsDocumentFault known text e = (root : Members) × IsDocument text root × IsFirstFault (known root) root e
+
+abbrev pub IsFaultOfText : {V : Type 0} → (Members → Result V Path) → List ℕ → ConfigFault → Type 0
+IsFaultOfText known text NotToml = IsNoDocument text
+IsFaultOfText known text (Key path) = IsDocumentFault known text (Key path)
+IsFaultOfText known text (Unknown path) = IsDocumentFault known text (Unknown path)
+IsFaultOfText known text NoMemory = Unit {0}
+
+-- what is read from the document that the octets are, or the first fault
+abbrev pub IsReadBy : {A V : Type 0} → (Members → Result V Path) → (A → V) → List ℕ → Result A ConfigFault → Type 0
+IsReadBy known seen text result =
+    MatchResult result
+    (λ c. (root : Members) × IsDocument text root × (known root ≡ Ok (seen c)) × (unknown_paths root ≡ []))
+    (IsFaultOfText known text)
 
 -- the settings of the document that the octets are, or the first fault
 abbrev pub IsReadOfText : List ℕ → Result Settings ConfigFault → Type 0
-IsReadOfText text result =
-    MatchResult result
-    (λ c. (root : Members) × IsDocument text root × (known_settings root ≡ Ok (values_of c)) × (unknown_paths root ≡ []))
-    (IsFaultOfText text)
+IsReadOfText text result = IsReadBy known_settings values_of text result
+
+-- the same for a live run, which has to know its ends
+abbrev pub IsLiveReadOfText : List ℕ → Result (Settings × LiveSettings) ConfigFault → Type 0
+IsLiveReadOfText text result = IsReadBy known_live live_values_of text result

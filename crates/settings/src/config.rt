@@ -1,11 +1,12 @@
 //! A whole file of settings.
+ghost use Rattle.std.specs.Prelude.{MatchResult};
 ghost use Rattle.toml.specs.View.{table_view};
-ghost use Rattle.settings.specs.Settings.{IsKnownOf, IsReadOf, IsReadOfText};
+ghost use Rattle.settings.specs.Settings.{values_of, gateway_values, known_settings, known_live, live_values_of, IsKnownOf, IsReadOf, IsDocument, IsRootFault, IsReadOfText, IsLiveReadOfText};
 
 use crate::ConfigFault;
 use crate::keys::{given, section};
 use crate::line::read_line;
-use crate::live::judge_live;
+use crate::live::{LiveSettings, judge_live, read_live};
 use crate::stations::read_stations;
 use crate::tcp::read_tcp;
 use crate::unknown::refuse_unknown;
@@ -15,12 +16,34 @@ use toml::Table;
 
 /// Reads the settings of a file. The first fault is answered: octets that are no TOML document, then the first key that is
 /// missing or wrong, then the least key that isn't known; `NoMemory` can come at any step.
-#[tactic(auto, using(crate::proofs::SettingsLemmas::read_text))]
+#[tactic(auto, using(crate::proofs::SettingsLemmas::read_text, crate::proofs::SettingsLemmas::no_root))]
 pub fn read_config(alloc: Global, text: &[u8]) -> Result<Config, ConfigFault>
     ensures { IsReadOfText text.now result }
 {
-    match toml::table_from_slice(alloc, text) {
+    match root_of(alloc, text) {
         Ok(root) => read_table(alloc, &root),
+        Err(fault) => Err(fault),
+    }
+}
+
+/// Reads the settings of a file for a live run, which has to say where its line and its control centre are. The faults are
+/// those of [`read_config`], where the keys of `live` come after all others and before unknown ones.
+#[tactic(auto, using(crate::proofs::SettingsLemmas::read_text, crate::proofs::SettingsLemmas::no_root))]
+pub fn read_live_config(alloc: Global, text: &[u8]) -> Result<(Config, LiveSettings), ConfigFault>
+    ensures { IsLiveReadOfText text.now result }
+{
+    match root_of(alloc, text) {
+        Ok(root) => read_live_table(alloc, &root),
+        Err(fault) => Err(fault),
+    }
+}
+
+/// The document that octets are.
+fn root_of(alloc: Global, text: &[u8]) -> Result<Table, ConfigFault>
+    ensures { MatchResult result (λ root. IsDocument text.now (table_view root)) (IsRootFault text.now) }
+{
+    match toml::table_from_slice(alloc, text) {
+        Ok(root) => Ok(root),
         Err(fault) if fault.is_memory() => Err(ConfigFault::NoMemory),
         Err(_) => Err(ConfigFault::NotToml),
     }
@@ -28,22 +51,50 @@ pub fn read_config(alloc: Global, text: &[u8]) -> Result<Config, ConfigFault>
 
 /// Reads each key in its order, and then looks for unknown ones.
 fn read_table(alloc: Global, root: &Table) -> Result<Config, ConfigFault>
-    ensures { IsReadOf (table_view root.now) result }
+    ensures { IsReadOf (known_settings (table_view root.now)) values_of (table_view root.now) result }
 {
     let config = read_known(alloc, root)?;
     refuse_unknown(alloc, root)?;
     Ok(config)
 }
 
+/// The same for a live run.
+fn read_live_table(alloc: Global, root: &Table) -> Result<(Config, LiveSettings), ConfigFault>
+    ensures { IsReadOf (known_live (table_view root.now)) live_values_of (table_view root.now) result }
+{
+    let both = read_known_live(alloc, root)?;
+    refuse_unknown(alloc, root)?;
+    Ok(both)
+}
+
 /// Reads each key in its order.
-#[tactic(auto, using(crate::proofs::SettingsLemmas::wrong_station))]
+#[tactic(auto, using(crate::proofs::SettingsLemmas::wrong_before))]
 fn read_known(alloc: Global, root: &Table) -> Result<Config, ConfigFault>
-    ensures { IsKnownOf (table_view root.now) result }
+    ensures { IsKnownOf (known_settings (table_view root.now)) values_of result }
+{
+    let config = read_gateway(alloc, root)?;
+    judge_live(section(root, "live", "live.line")?)?;
+    Ok(config)
+}
+
+/// The same for a live run.
+#[tactic(auto, using(crate::proofs::SettingsLemmas::wrong_before))]
+fn read_known_live(alloc: Global, root: &Table) -> Result<(Config, LiveSettings), ConfigFault>
+    ensures { IsKnownOf (known_live (table_view root.now)) live_values_of result }
+{
+    let config = read_gateway(alloc, root)?;
+    let live = read_live(alloc, section(root, "live", "live.line")?)?;
+    Ok((config, live))
+}
+
+/// Reads each key of the gateway itself, in its order.
+#[tactic(auto, using(crate::proofs::SettingsLemmas::wrong_before))]
+fn read_gateway(alloc: Global, root: &Table) -> Result<Config, ConfigFault>
+    ensures { IsKnownOf (gateway_values (table_view root.now)) values_of result }
 {
     let line = read_line(section(root, "line", "line.link")?)?;
     let tcp = read_tcp(section(root, "tcp", "tcp.k")?)?;
     let stations = given(Some(root), "station");
     let stations = read_stations(alloc, stations, line.link, line.sizes.ca)?;
-    judge_live(section(root, "live", "live.line")?)?;
     Ok(Config::new(line, tcp, stations))
 }

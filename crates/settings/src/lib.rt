@@ -18,5 +18,6 @@ mod tcp;
 mod tests;
 mod unknown;
 
-pub use config::read_config;
+pub use config::{read_config, read_live_config};
 pub use fault::ConfigFault;
+pub use live::LiveSettings;

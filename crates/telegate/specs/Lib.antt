@@ -1,3 +1,4 @@
 pub mod Closing
 pub mod Faults
 pub mod Answers
+pub mod Running

@@ -28,6 +28,10 @@ pub(crate) enum Request<'a> {
         config: &'a str,
         script: &'a str,
     },
+    /// The name of a file.
+    Run {
+        config: &'a str,
+    },
 }
 
 fn word<'a>(alloc: Global, name: &'a str, help: &'a str) -> Arg<'a> {
@@ -97,6 +101,16 @@ fn sim<'a>(alloc: Global) -> Result<Command<'a>, AllocError> {
         ))
 }
 
+fn run<'a>(alloc: Global) -> Result<Command<'a>, AllocError> {
+    Command::new(alloc, "run")
+        .about("Runs the gateway between a line and a control centre, until the line fails")
+        .arg(word(
+            alloc,
+            "CONFIG",
+            "A file of settings, whose table `live` says where the line is and where to listen",
+        ))
+}
+
 /// Reads the words, or gives the text that is to be printed in place of a run.
 pub(crate) fn parse<'a>(alloc: Global, words: &'a [String]) -> Result<ArgMatches<'a>, Error> {
     Command::new(alloc, "telegate")
@@ -110,6 +124,7 @@ pub(crate) fn parse<'a>(alloc: Global, words: &'a [String]) -> Result<ArgMatches
         .subcommand(check(alloc)?)?
         .subcommand(replay(alloc)?)?
         .subcommand(sim(alloc)?)?
+        .subcommand(run(alloc)?)?
         .try_get_matches_from(words)
 }
 
@@ -136,6 +151,9 @@ pub(crate) fn request_of<'a>(matches: &ArgMatches<'a>) -> Option<Request<'a>> {
         "sim" => Some(Request::Sim {
             config: matches.get_str("CONFIG")?,
             script: matches.get_str("SCRIPT")?,
+        }),
+        "run" => Some(Request::Run {
+            config: matches.get_str("CONFIG")?,
         }),
         _ => None,
     }

@@ -15,6 +15,7 @@ mod files;
 mod job;
 mod performing;
 mod replay;
+mod running;
 mod showing;
 mod simulating;
 #[cfg(test)]
@@ -24,11 +25,13 @@ use command_line::Request;
 use fault::{DONE, USAGE};
 use files::{device_failed, no_memory, read_file, read_files};
 use job::Job;
-use performing::perform;
+use performing::{perform, tell};
+use running::run_live;
 use std::io;
 use std::io::Write;
+use std::net::{Net, TcpListener, TcpStream};
 use std::process::ExitCode;
-use std::rt::{Env, Files};
+use std::rt::{Clock, Env, Files};
 
 fn main(rt: HostRuntime) -> ExitCode {
     let mut out = rt.stdout();
@@ -37,11 +40,16 @@ fn main(rt: HostRuntime) -> ExitCode {
 }
 
 /// Runs the command of the process's words, and answers the exit status.
-fn run<R: Env + Files + Print + Eprint + AllocGlobal, W: Write, E: Write>(
-    rt: &R,
-    out: &mut W,
-    err: &mut E,
-) -> u8 {
+fn run<R, W: Write, E: Write>(rt: &R, out: &mut W, err: &mut E) -> u8
+where
+    R: Env
+        + Files
+        + Print
+        + Eprint
+        + AllocGlobal
+        + Clock
+        + Net<Listener = TcpListener, Stream = TcpStream>,
+{
     let words = match std::env::args(rt) {
         Ok(words) => words,
         Err(fault) if fault.kind() == io::ErrorKind::OutOfMemory => return no_memory(rt),
@@ -68,12 +76,10 @@ fn run<R: Env + Files + Print + Eprint + AllocGlobal, W: Write, E: Write>(
 }
 
 /// Reads the files that a request names, in the order of the words, and performs it.
-fn respond<R: Files + Eprint + AllocGlobal, W: Write, E: Write>(
-    rt: &R,
-    request: &Request<'_>,
-    out: &mut W,
-    err: &mut E,
-) -> u8 {
+fn respond<R, W: Write, E: Write>(rt: &R, request: &Request<'_>, out: &mut W, err: &mut E) -> u8
+where
+    R: Files + Eprint + AllocGlobal + Clock + Net<Listener = TcpListener, Stream = TcpStream>,
+{
     match request {
         Request::Show101 { sizes, hex } => {
             perform(rt.alloc(), &Job::Show101(*sizes, *hex), out, err)
@@ -105,6 +111,13 @@ fn respond<R: Files + Eprint + AllocGlobal, W: Write, E: Write>(
                 let job = Job::Sim(config.as_slice(), script.as_slice());
                 perform(rt.alloc(), &job, out, err)
             }
+            Err(status) => status,
+        },
+        Request::Run { config } => match read_file(rt, *config) {
+            Ok(config) => match run_live(rt, config.as_slice()) {
+                Ok(()) => DONE,
+                Err(fault) => tell(&fault, err),
+            },
             Err(status) => status,
         },
     }

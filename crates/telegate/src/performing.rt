@@ -34,7 +34,7 @@ fn print<W: Write>(text: &[u8], out: &mut W) -> io::Result<()>
 }
 
 /// Writes the line of a fault, as far as that can be done, and answers its exit status.
-fn tell<E: Write>(fault: &Fault, err: &mut E) -> u8
+pub(crate) fn tell<E: Write>(fault: &Fault, err: &mut E) -> u8
     ensures { result ≡ status_of fault.now }
 {
     let _ = writeln!(err, "{fault}");

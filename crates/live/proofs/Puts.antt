@@ -1,0 +1,26 @@
+-- What is put out, end by end.
+use Rattle.std.proofs.Common.{◌≡◌, ℕ, List, Bool, true, false, Some, None, sym, ap, ◌∙◌}
+use Rattle.gateway.specs.Log.{LineOut, TcpOut, Closed}
+use Rattle.session.specs.declared.kinds.Close.{Close}
+use Rattle.live.specs.Wires.{History}
+use Rattle.live.specs.Ends.{Ends, after_action, written_open, IsWritten, Puts}
+
+-- nothing is written, where a cut is due
+pub dropped_due : (old new : Ends) (octets : List ℕ) → old.is_cut_due ≡ true → new ≡ old → IsWritten old octets new
+dropped_due old new octets due same = record { taken = false; done = same ∙ sym (ap (λ b. written_open b octets false old.connection old) due) }
+
+-- nor where there is no connection
+pub dropped_none : (old new : Ends) (octets : List ℕ) → old.is_cut_due ≡ false → old.connection ≡ None → new ≡ old → IsWritten old octets new
+dropped_none old new octets due none same = record { taken = false; done = same ∙ sym (ap (λ b. written_open b octets false old.connection old) due ∙ ap (λ h. written_open false octets false h old) none) }
+
+pub written : (old new : Ends) (octets : List ℕ) (wire : History) (taken : Bool) → old.is_cut_due ≡ false → old.connection ≡ Some wire → new ≡ written_open false octets taken (Some wire) old → IsWritten old octets new
+written old new octets wire taken due there done = record { taken = taken; done = done ∙ sym (ap (λ b. written_open b octets taken old.connection old) due ∙ ap (λ h. written_open false octets taken h old) there) }
+
+pub put_line : (old new : Ends) (octets : List ℕ) (taken : Bool) → new ≡ after_action (LineOut octets) taken old → Puts old (LineOut octets) new
+put_line old new octets taken done = record { taken = taken; done = done }
+
+pub put_tcp : (old new : Ends) (octets : List ℕ) → IsWritten old octets new → Puts old (TcpOut octets) new
+put_tcp old new octets w = record { taken = w.taken; done = w.done }
+
+pub put_close : (old new : Ends) (cause : Close) → new ≡ after_action (Closed cause) false old → Puts old (Closed cause) new
+put_close old new cause done = record { taken = false; done = done }

@@ -1,0 +1,213 @@
+//! The port over live ends.
+ghost use Rattle.std.specs.Prelude.{◌≡◌, ℕ, ◌+◌, ◌<◌, true, false, List, [], None, IfSome};
+ghost use Rattle.gateway.specs.Ports.{FitsBuffer, faults_of, output_of, told_by};
+ghost use Rattle.live.specs.Ends.{Ends, IsTurn, Turns, Puts, FitsFound, IsWritten, faults_in};
+ghost use Rattle.live.specs.Looks.{Looks, LooksAt};
+ghost use Rattle.gateway.specs.Log.{tell, Went};
+ghost use Rattle.gateway.specs.declared.ports.Next.TheVariants.{Done};
+
+use crate::found::{Found, event_at};
+use crate::source::Source;
+use crate::wires::{Clock, Door, Got, Wire};
+use gateway::{Action, Next, Port};
+use session::Close;
+use std::marker::Model;
+
+/// The port over a line, a door and a clock. It tells no log.
+#[derive(Drop)]
+pub struct Live<L: Wire, D: Door + Drop, C: Clock + Drop> {
+    line: L,
+    door: D,
+    clock: C,
+    connection: Option<D::Wire>,
+    /// The source that is looked at first.
+    first: Source,
+    /// A write to the connection failed, so that the next event is a cut.
+    is_cut_due: bool,
+    failures: u64,
+}
+
+impl<L: Wire, D: Door + Drop, C: Clock + Drop> Model for Live<L, D, C> {
+    ghost use Rattle.std.specs.Prelude.{option_map};
+    ghost use Rattle.live.specs.Ends.{Ends};
+
+    ghost Value = { Ends };
+
+    ghost view = { λ a. record { line = L.history a.line; connection = option_map (λ wire. D.Wire.history wire) a.connection; door = D.visits a.door; first = a.first; is_cut_due = a.is_cut_due; failed = a.failures } };
+}
+
+impl<L: Wire, D: Door + Drop, C: Clock + Drop> Live<L, D, C> {
+    ghost use Rattle.live.specs.declared.source.Source.TheVariants as sources;
+
+    /// A port over these ends, with no connection yet.
+    pub fn new(line: L, door: D, clock: C) -> Live<L, D, C>
+        ensures { result ≡ record { line = L.history line; connection = None; door = D.visits door; first = sources.Door; is_cut_due = false; failed = 0 } }
+    {
+        Live {
+            line,
+            door,
+            clock,
+            connection: None,
+            first: Source::Door,
+            is_cut_due: false,
+            failures: 0,
+        }
+    }
+
+    /// What a turn finds: the cut that is due, else the first thing in one round over the sources.
+    #[tactic(auto, using(crate::proofs::Turns::due_turn, crate::proofs::Turns::first_turn, crate::proofs::Turns::second_turn, crate::proofs::Turns::third_turn))]
+    fn turn(&mut self, buf: &mut [u8; 1024]) -> Option<Found>
+        requires { self.old.failed < u64.MAX }
+        ensures fits { IfSome result FitsFound }
+        ensures failed { self.new.failed ≡ self.old.failed + faults_in result }
+        ensures turn { IsTurn self.old result self.new }
+    {
+        if self.is_cut_due {
+            self.is_cut_due = false;
+            self.connection = None;
+            return Some(Found::Cut);
+        }
+        let first = self.first;
+        if let Some(found) = self.look(first, buf) {
+            return Some(found);
+        }
+        let second = first.after();
+        if let Some(found) = self.look(second, buf) {
+            return Some(found);
+        }
+        self.look(second.after(), buf)
+    }
+
+    /// Looks once at a source. Where something is found, the next round begins with the source after it.
+    fn look(&mut self, source: Source, buf: &mut [u8; 1024]) -> Option<Found>
+        requires { self.old.failed < u64.MAX }
+        ensures fits { IfSome result FitsFound }
+        ensures failed { self.new.failed ≡ self.old.failed + faults_in result }
+        ensures looks { Looks source self.old result self.new }
+    {
+        let found = match source {
+            Source::Door => self.look_at_door(),
+            Source::Connection => self.look_at_connection(buf),
+            Source::Line => self.look_at_line(buf),
+        };
+        if found.is_some() {
+            self.first = source.after();
+        }
+        found
+    }
+
+    /// Who comes through the door takes the place of the connection.
+    fn look_at_door(&mut self) -> Option<Found>
+        ensures fits { IfSome result FitsFound }
+        ensures failed { self.new.failed ≡ self.old.failed + faults_in result }
+        ensures looks { LooksAt sources.Door self.old result self.new }
+    {
+        match self.door.accept() {
+            Some(wire) => {
+                self.connection = Some(wire);
+                Some(Found::Open)
+            }
+            None => None,
+        }
+    }
+
+    fn look_at_connection(&mut self, buf: &mut [u8; 1024]) -> Option<Found>
+        ensures fits { IfSome result FitsFound }
+        ensures failed { self.new.failed ≡ self.old.failed + faults_in result }
+        ensures looks { LooksAt sources.Connection self.old result self.new }
+    {
+        let Some(wire) = &mut self.connection else {
+            return None;
+        };
+        match wire.read(buf) {
+            Got::Octets(len) => Some(Found::Bytes(len)),
+            Got::Quiet => None,
+            Got::Gone => {
+                self.connection = None;
+                Some(Found::Cut)
+            }
+        }
+    }
+
+    fn look_at_line(&mut self, buf: &mut [u8; 1024]) -> Option<Found>
+        requires { self.old.failed < u64.MAX }
+        ensures fits { IfSome result FitsFound }
+        ensures failed { self.new.failed ≡ self.old.failed + faults_in result }
+        ensures looks { LooksAt sources.Line self.old result self.new }
+    {
+        match self.line.read(buf) {
+            Got::Octets(len) => Some(Found::Line(len)),
+            Got::Quiet => None,
+            Got::Gone => {
+                self.failures += 1;
+                Some(Found::Fault)
+            }
+        }
+    }
+
+    /// Octets for the connection are dropped where there is none, and where a cut is due.
+    #[tactic(auto, using(crate::proofs::Puts::dropped_due, crate::proofs::Puts::dropped_none, crate::proofs::Puts::written))]
+    fn put_on_connection(&mut self, octets: &[u8])
+        ensures { IsWritten self.old octets.now self.new }
+    {
+        if self.is_cut_due {
+            return;
+        }
+        if let Some(wire) = self.connection.as_mut() {
+            self.is_cut_due = !wire.write(octets);
+        }
+    }
+}
+
+impl<L: Wire, D: Door + Drop, C: Clock + Drop> Port for Live<L, D, C> {
+    ghost log = { λ _. None };
+
+    ghost failed = { λ ends. ends.failed };
+
+    ghost ended = { λ _. false };
+
+    ghost script = { λ _. [] };
+
+    /// The moment is that after the looks.
+    #[tactic(auto, using(crate::proofs::Turns::turned))]
+    fn next(&mut self, buf: &mut [u8; 1024]) -> Next
+        requires { self.old.failed < u64.MAX }
+        ensures told { tell None (told_by result buf.new) ≡ None }
+        ensures fits { FitsBuffer result }
+        ensures done { result ≡ Done → false ≡ true }
+        ensures cause { self.new.failed ≡ self.old.failed + faults_of result }
+        ensures turns { Turns self.old result self.new }
+    {
+        let found = self.turn(buf);
+        event_at(self.clock.now_ms(), found)
+    }
+
+    /// It never fails: what an end doesn't take is lost.
+    #[tactic(auto, using(crate::proofs::Puts::put_line, crate::proofs::Puts::put_tcp, crate::proofs::Puts::put_close))]
+    fn put(&mut self, _now: u64, action: &Action<'_>) -> bool
+        ensures done { result ≡ true }
+        ensures puts { Puts self.old (output_of action.now) self.new }
+    {
+        match action {
+            // A request that the line doesn't take is lost.
+            Action::Line(octets) => {
+                let _taken = self.line.write(*octets);
+            }
+            Action::Tcp(octets) => self.put_on_connection(*octets),
+            // Its wire went when another took its place.
+            Action::Close(Close::Replaced) => {}
+            Action::Close(_) => {
+                self.connection = None;
+                self.is_cut_due = false;
+            }
+        }
+        true
+    }
+
+    fn failures(&self) -> u64 {
+        self.failures
+    }
+}
+
+#[cfg(test)]
+mod tests;

@@ -1,0 +1,59 @@
+//! The command that runs the gateway between a line and a control centre.
+ghost use Rattle.std.specs.Prelude.{◌<◌};
+ghost use Rattle.telegate.specs.Running.{IsReadLiveConfig, HasRun};
+
+use crate::fault::Fault;
+use gateway::{Config, End, Port, drive};
+use live::{CentreListener, LineSocket, Live, SystemClock};
+use settings::{ConfigFault, LiveSettings, read_live_config};
+use std::alloc::Global;
+use std::io;
+use std::net::{Net, TcpListener, TcpStream};
+use std::rt::Clock;
+
+/// Runs the gateway on the line and at the door that a file of settings names. The settings are judged first, then the line is
+/// reached, then the door is opened.
+pub(crate) fn run_live<R>(rt: &R, config: &[u8]) -> Result<(), Fault>
+where
+    R: Net<Listener = TcpListener, Stream = TcpStream> + Clock + AllocGlobal,
+{
+    let (config, places) = read_live(rt.alloc(), config)?;
+    let line = LineSocket::reach(rt, places.line.as_str()).map_err(device_fault)?;
+    let door = CentreListener::listen(rt, places.listen.as_str()).map_err(device_fault)?;
+    let clock = SystemClock::start(rt).map_err(device_fault)?;
+    serve(rt.alloc(), &config, &mut Live::new(line, door, clock))
+}
+
+/// The settings of a file for a live run.
+fn read_live(alloc: Global, config: &[u8]) -> Result<(Config, LiveSettings), Fault>
+    ensures { IsReadLiveConfig config.now result }
+{
+    match read_live_config(alloc, config) {
+        Ok(both) => Ok(both),
+        Err(ConfigFault::NoMemory) => Err(Fault::NoMemory),
+        Err(fault) => Err(Fault::Config(fault)),
+    }
+}
+
+/// Runs the gateway over a port until its device fails, or has no more events, or all turns that can be counted are used up.
+fn serve<P: Port>(alloc: Global, config: &Config, port: &mut P) -> Result<(), Fault>
+    requires { P.failed port.old < u64.MAX }
+    ensures { HasRun (P.failed port.old) (P.failed port.new) result }
+{
+    match drive(alloc, config, port, u64::MAX) {
+        Ok(End::Finished | End::Turns) => Ok(()),
+        Ok(End::Device) => Err(Fault::Device),
+        Err(_) => Err(Fault::NoMemory),
+    }
+}
+
+/// Why an end can't be had.
+fn device_fault(fault: io::Error) -> Fault {
+    match fault.kind() {
+        io::ErrorKind::OutOfMemory => Fault::NoMemory,
+        _ => Fault::Device,
+    }
+}
+
+#[cfg(test)]
+mod tests;
