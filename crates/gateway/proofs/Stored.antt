@@ -1,6 +1,6 @@
 -- What is stored, and the start of a run.
 use Rattle.std.proofs.Common.{◌≡◌, ◌≢◌, ℕ, zero, suc, ◌<◌, Bool, true, false, ◌&&◌, All, List, [], ◌∷◌, ◌++◌, length, map, Option, Some, None, refl, ap, sym, ◌∙◌, subst, arith, append_assoc, eq-eqb}
-use Rattle.std.specs.Prelude.{if◌then◌else◌, option_map}
+use Rattle.std.specs.Prelude.{if◌then◌else◌, option_map, IfSome}
 use Rattle.std.specs.List.{AllByRecursion}
 use Rattle.std.proofs.lemmas.List.{append-nil, length-map}
 use Rattle.std.proofs.lemmas.List.Elements.{All-cons, All-nil}
@@ -160,3 +160,8 @@ told_follows p s told h e = subst (λ o. Follows p s o) (sym e) h
 
 pub nothing_rests : (p : Setup) (told : Option Log) → told ≡ Some [] → Rests p told
 nothing_rests p told e = subst (Rests p) (sym e) tt
+
+-- what follows of each log that is told
+pub of_told : (P Q : Log → Type 0) (told : Option Log) → IfSome told P → ((log : Log) → P log → Q log) → IfSome told Q
+of_told P Q None h q = tt
+of_told P Q (Some log) h q = q log h

@@ -5,12 +5,14 @@ ghost use Rattle.gateway.specs.Ports.{told_by, input_of, FitsBuffer, faults_of};
 ghost use Rattle.gateway.specs.Reports.{Setup};
 ghost use Rattle.gateway.specs.Traffic.{IsFaithful, HasRested};
 ghost use Rattle.gateway.specs.Accounts.{IsAccounted};
+ghost use Rattle.gateway.specs.Order.{KeepsOrder};
 ghost use Rattle.gateway.specs.Agrees.{Follows, Rests};
 ghost use Rattle.gateway.specs.Runs.{UnlessDevice, MoreEvents, faults_at};
 ghost use Rattle.gateway.specs.Setups.{setup_of};
 
 use crate::config::Config;
 use crate::engine::{Gateway, NoMemory};
+use crate::ordering::steps_keep_their_order;
 use crate::ports::{Event, Next, Port};
 use std::alloc::Global;
 
@@ -64,12 +66,15 @@ pub fn drive<P: Port>(
     ensures faithful { P.log port.old ≡ Some [] → OnOk result (IfSome (P.log port.new) (IsFaithful (setup_of config.now))) }
     // After the last step nothing that may be sent is left.
     ensures rests { P.log port.old ≡ Some [] → IfOk result (λ end. UnlessDevice end (IfSome (P.log port.new) (HasRested (setup_of config.now)))) }
+    // A step puts out at most one request and at most one close, and nothing to TCP after a close.
+    ensures order { P.log port.old ≡ Some [] → OnOk result (IfSome (P.log port.new) KeepsOrder) }
     ensures turns { IfOk result (λ end. end ≡ End.Turns → MoreEvents turns (P.log port.old) (P.log port.new)) }
     ensures finished { IfOk result (λ end. end ≡ End.Finished → P.ended port.new ≡ true) }
     ensures device { IfOk result (λ end. P.failed port.new ≡ P.failed port.old + faults_at end) }
     ensures script { P.script port.new ≡ P.script port.old }
     ensures unasked { OnErr result (port.new ≡ port.old) }
 {
+    steps_keep_their_order();
     let mut gateway = Gateway::new(alloc, config)?;
     Ok(drive_on(&mut gateway, port, turns))
 }
