@@ -63,7 +63,7 @@ look_of : (s : Source) (a : Answers) (e n : Ends) (f : Option Found) (others : E
 look_of s a e n f others found ends = rw (ends, ← found) refl
 
 -- the cut that is due
-pub due_turn : (old new : Ends) → old.is_cut_due ≡ true → new ≡ record old { connection = None; is_cut_due = false } → IsTurn old (Some Cut) new
+pub due_turn : (old new : Ends) → old.is_cut_due ≡ true → new ≡ record old { connection = None; first = after Connection; is_cut_due = false } → IsTurn old (Some Cut) new
 due_turn old new due done = record {
   answers = record { visitor = None; connection = Quiet; line = Quiet };
   visitor = tt;

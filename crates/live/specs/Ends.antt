@@ -108,9 +108,9 @@ abbrev pub round : Answers → Ends → Option Found × Ends
 round answers ends =
     look ends.first answers ends (λ e. look (after ends.first) answers e (λ e. look (after (after ends.first)) answers e (λ e. (None, e))))
 
--- a cut that is due comes before any source is looked at, and the connection is no more
+-- a cut that is due comes before any source is looked at, as an event of the connection, which is no more
 abbrev pub turn_by : Bool → Answers → Ends → Option Found × Ends
-turn_by true answers ends = (Some found.Cut, record ends { connection = None; is_cut_due = false })
+turn_by true answers ends = (Some found.Cut, record ends { connection = None; first = after Connection; is_cut_due = false })
 turn_by false answers ends = round answers ends
 
 abbrev pub turn : Answers → Ends → Option Found × Ends

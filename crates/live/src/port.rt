@@ -65,6 +65,7 @@ impl<L: Wire, D: Door + Drop, C: Clock + Drop> Live<L, D, C> {
         if self.is_cut_due {
             self.is_cut_due = false;
             self.connection = None;
+            self.first = Source::Connection.after();
             return Some(Found::Cut);
         }
         let first = self.first;

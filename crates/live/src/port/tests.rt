@@ -65,16 +65,19 @@ fn a_failed_write_to_the_connection_is_a_cut_before_any_look(rt: HostRuntime) ->
     let mut visitor = MemoryWire::busy();
     visitor.failing_write = 1;
     let mut port = connected(&rt, MemoryWire::busy(), visitor);
+    assert!(rt; matches!(next(&rt, &mut port), Next::Bytes(2, 1)));
+    assert!(rt; matches!(next(&rt, &mut port), Next::Line(3, 1)));
     port.door.visitor = Some(MemoryWire::quiet());
     send(&rt, &mut port);
     // What is put until the cut is dropped.
     send(&rt, &mut port);
     assert_eq!(rt; port.connection.as_ref().ok_or("a connection")?.writes, 1);
-    assert!(rt; matches!(next(&rt, &mut port), Next::Cut(2)));
-    assert_eq!(rt; port.line.reads, 0);
+    assert!(rt; matches!(next(&rt, &mut port), Next::Cut(4)));
+    assert_eq!(rt; port.line.reads, 1);
     assert!(rt; port.door.visitor.is_some());
-    assert!(rt; matches!(next(&rt, &mut port), Next::Line(3, 1)));
-    assert!(rt; matches!(next(&rt, &mut port), Next::Open(4)));
+    // It was an event of the connection: the line is next.
+    assert!(rt; matches!(next(&rt, &mut port), Next::Line(5, 1)));
+    assert!(rt; matches!(next(&rt, &mut port), Next::Open(6)));
     Ok(())
 }
 
