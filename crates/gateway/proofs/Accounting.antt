@@ -1,19 +1,17 @@
 -- What a state between two steps keeps and has counted.
-use Rattle.std.proofs.Common.{◌≡◌, ℕ, Bool, true, false, List, [], ◌∷◌, ◌++◌, length, drop, refl, ap, sym, subst, ◌∙◌, Option, Some, None}
+use Rattle.std.proofs.Common.{◌≡◌, [], ◌∷◌, length, drop, refl, ap, sym, subst, ◌∙◌, Option, Some, None}
 use Rattle.std.specs.Prelude.{IfSome, if◌then◌else◌}
 use Rattle.std.specs.List.{flat_map}
 use Rattle.std.proofs.Math.Seq.{drop-append_seam}
-use Rattle.asdu.specs.InformationObjects.{InformationObject}
 use Rattle.events.specs.Queue.{kept}
 use Rattle.gateway.specs.Log.{Log, latest, tell}
 use Rattle.gateway.specs.Runs.{UnlessDevice}
 use Rattle.gateway.specs.declared.runs.End.{End}
 use Rattle.gateway.specs.declared.runs.End.TheVariants.{Finished, Turns, Device}
 use Rattle.gateway.specs.Objects.{objects}
-use Rattle.gateway.specs.Frames.{first_unacknowledged}
 use Rattle.gateway.specs.Reports.{Setup, taken_objects, reports_in, parts_of_all}
 use Rattle.gateway.specs.Course.{here_of, room_in}
-use Rattle.gateway.specs.Works.{Works, unasked_works, ready_works}
+use Rattle.gateway.specs.Works.{unasked_works, ready_works}
 use Rattle.gateway.specs.Line.{done_in}
 use Rattle.gateway.specs.Phases.{resting}
 use Rattle.gateway.specs.State.{State}

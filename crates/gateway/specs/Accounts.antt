@@ -1,5 +1,5 @@
 -- What a gateway still keeps, and what it has counted, by its log.
-use Rattle.std.specs.Prelude.{◌≡◌, List, drop, ◌∷◌}
+use Rattle.std.specs.Prelude.{◌≡◌, drop, ◌∷◌}
 use Rattle.std.specs.List.{flat_map}
 use Rattle.ft12.specs.Fronts.{front_of}
 use Rattle.link.specs.Counts.{saturated}

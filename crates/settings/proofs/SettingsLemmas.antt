@@ -1,5 +1,5 @@
 -- From a table to the text that it was read from.
-use Rattle.std.proofs.Common.{◌≡◌, ℕ, List, Result, Ok, Err}
+use Rattle.std.proofs.Common.{ℕ, List, Result, Ok, Err}
 use Rattle.toml.specs.Data.{Members}
 use Rattle.settings.specs.Faults.{Path, IsWrongKeyOf, ◌>>=◌}
 use Rattle.settings.specs.Settings.{IsDocument, IsRootFault, IsReadOf, IsReadBy}

@@ -6,7 +6,7 @@ use Rattle.std.specs.Map.{keys_of}
 use Rattle.toml.specs.View.{view, items_view, table_view, members_view}
 use Rattle.toml.specs.declared.value.Value.{Value}
 use Rattle.toml.proofs.Views.{items_view-drop}
-use Rattle.std.specs.Prelude.{Contains, All, slice_index_or}
+use Rattle.std.specs.Prelude.{Contains, All}
 use Rattle.std.specs.Ordering.{is_lt}
 use Rattle.std.specs.String.{string_cmp}
 use Rattle.settings.specs.Unknown.{knows, prefix, member_keys, unknown_in, unknown_of, unknown_items, IsLeastOf}

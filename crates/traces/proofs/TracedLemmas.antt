@@ -1,17 +1,15 @@
 -- A port over the entries of a trace, call by call.
-use Rattle.std.proofs.Common.{◌≡◌, ℕ, ◌+◌, Bool, true, false, List, [], ◌∷◌, ◌++◌, map, reverse, Option, Some, None, refl, ap, sym, ◌∙◌, subst, append_assoc}
-use Rattle.std.proofs.lemmas.List.{reverse-append, append-nil}
-use Rattle.std.specs.List.{AllByRecursion}
+use Rattle.std.proofs.Common.{◌≡◌, ℕ, false, List, [], ◌∷◌, ◌++◌, map, reverse, Option, refl, ap, sym, ◌∙◌, subst, append_assoc}
+use Rattle.std.proofs.lemmas.List.{reverse-append}
 use Rattle.std.specs.Io.KnownBytes.{Appends}
 use Rattle.std.specs.Prelude.{is_err, Result, Ok, Err, OnOk}
 use Rattle.std.proofs.KnownBytes.{Appends-trans}
-use Rattle.gateway.specs.Log.{Log, LogEntry, Came, Went, Output, events_of}
-use Rattle.gateway.specs.Entries.{FitsPort, event_of, script_of, told_of, stored_log, log_of}
+use Rattle.gateway.specs.Log.{Log, LogEntry, Went, Output, events_of}
+use Rattle.gateway.specs.Entries.{event_of, told_of, stored_log, log_of}
 use Rattle.gateway.specs.declared.entries.Entry.{Entry}
 use Rattle.gateway.specs.declared.entries.Entry.TheVariants.{Line, Open, Bytes, Cut, Tick}
 use Rattle.gateway.specs.declared.entries.Told.{Told}
 use Rattle.traces.specs.Actions.{line_of, lines_of_actions}
-use Rattle.traces.specs.Traced.{coming}
 
 -- what is stored last is the newest
 stored_next : (xs : List Told) (x : Told) (log : Log) → stored_log (xs ++ x ∷ []) log ≡ told_of x ∷ stored_log xs log

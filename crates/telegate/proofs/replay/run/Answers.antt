@@ -1,12 +1,8 @@
-use Rattle.std.proofs.Common.{◌≡◌, ◌+◌, true, [], length, subst, sym, refl, rules, Some}
-use Rattle.gateway.specs.Agrees.{Follows}
-use Rattle.gateway.specs.Log.{events_of}
+use Rattle.std.proofs.Common.{◌≡◌, ◌+◌, true, length, rules}
 use Rattle.gateway.specs.Entries.{script_of}
 use Rattle.gateway.specs.Setups.{setup_of}
-use Rattle.gateway.specs.declared.runs.End.{End}
-use Rattle.gateway.specs.declared.runs.End.TheVariants.{Turns, Finished}
 use Rattle.traces.specs.Actions.{lines_of_actions}
-use Rattle.traces.specs.Traced.{Traced, has_ended, whole_script}
+use Rattle.traces.specs.Traced.{has_ended, whole_script}
 use Rattle.telegate.proofs.RunLemmas.{turns_are_left, all_came, closed, at_first}
 use Rattle.telegate.proofs.replay.run.Goals as goal
 

@@ -1,5 +1,4 @@
-use Rattle.std.proofs.Common.{Some, [], rules}
-use Rattle.std.specs.Prelude.{◌≡◌}
+use Rattle.std.proofs.Common.{rules}
 use Rattle.apci.specs.Borrowed.{owned}
 use Rattle.gateway.proofs.Judgements.{found_whole}
 use Rattle.gateway.proofs.engine.Gateway.find_whole.Goals as goal
