@@ -130,8 +130,8 @@ def main():
                 pass
         is_up = process.poll() is None
         memory = resident(process) if is_up else "none"
-        line.close()
         station.join()
+        line.close()
         status = process.wait(10)
     print(f"{len(heard)} requests, {visits} connections, {got} octets; up: {is_up}, memory {memory}; then status {status}")
     return 0 if is_up and status == 3 else 1
