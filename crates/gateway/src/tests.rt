@@ -6,6 +6,9 @@ ghost use Rattle.asdu.specs.declared.sizes.CaSize.TheVariants as ca;
 ghost use Rattle.gateway.specs.Config.{AreStations};
 ghost use Rattle.gateway.specs.Entries.{FitsPort};
 
+mod floods;
+mod rules;
+
 use crate::recording::engine_log;
 use crate::{
     Action, Config, Counts, End, Entry, Event, Gateway, LineSettings, Next, Port, Silence, Station,

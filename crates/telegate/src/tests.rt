@@ -1,4 +1,5 @@
 //! Commands done over texts and writers in memory.
+mod closings;
 mod commands;
 mod connection_types;
 mod faults;

@@ -133,7 +133,7 @@ fn a_full_queue_is_not_polled_for(rt: HostRuntime) -> Result<(), Fail> {
 }
 
 /// Thirteen reports before there is a connection.
-fn reports(alloc: Global) -> Result<String, AllocError> {
+pub(super) fn reports(alloc: Global) -> Result<String, AllocError> {
     let mut trace = String::from_str(alloc, "10 S 100B010C16\n20 S E5\n")?;
     for now in 21..34u64 {
         writeln!(trace, "{now} S 680909680801010103016400017416")?;
@@ -143,7 +143,7 @@ fn reports(alloc: Global) -> Result<String, AllocError> {
 }
 
 /// The polls that follow them, a window of twelve frames, and the thirteenth once one is acknowledged.
-fn polls_and_window(alloc: Global) -> Result<String, AllocError> {
+pub(super) fn polls_and_window(alloc: Global) -> Result<String, AllocError> {
     let mut lines = String::from_str(
         alloc,
         "0 > S 1049014A16\n10 > S 1040014116\n20 > S 107B017C16\n",
