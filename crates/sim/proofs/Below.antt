@@ -12,6 +12,10 @@ use Rattle.link.specs.Delivery.{reports, commands}
 use Rattle.link.specs.Secondary.{Secondary, outstation_of}
 use Rattle.link.specs.Life.{Call, after, requests_heard, turns_in, given1, given2, reported1, reported2, saturated}
 
+-- whatever it is called for, a station keeps its size of addresses
+abbrev pub KeepsSize : Type 0
+KeepsSize = (s : Secondary) (calls : List Call) → (after s calls).size ≡ s.size
+
 pub record Laws : Type 0 where
   -- of octets
   pub right : (size : LinkSize) (octets : List ℕ) → IsFront size octets (front_of size octets)
@@ -25,3 +29,5 @@ pub record Laws : Type 0 where
   pub class2 : (s : Secondary) (calls : List Call) → s.given < 2 ^ 64 → given2 (requests_heard s.address calls) (turns_in s calls) ++ (after s calls).class2 ≡ s.class2 ++ reported2 calls
   pub accepted : (s : Secondary) (calls : List Call) → s.given < 2 ^ 64 → s.accepted ++ commands (all_done (turns_in s calls)) ≡ (after s calls).accepted
   pub given : (s : Secondary) (calls : List Call) → s.given < 2 ^ 64 → (after s calls).given ≡ saturated (s.given + length (reports (all_done (turns_in s calls))))
+  pub address : (s : Secondary) (calls : List Call) → (after s calls).address ≡ s.address
+  pub size : KeepsSize

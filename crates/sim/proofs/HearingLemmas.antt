@@ -1,21 +1,19 @@
 -- The loop in which all stations hear.
-use Rattle.std.proofs.Common.{◌≡◌, ℕ, zero, suc, ◌+◌, ◌<◌, ◌≤◌, List, [], ◌∷◌, ◌++◌, length, take, drop, get_or, slice_set, Option, Some, None, IfSome, Bool, refl, sym, ap, subst, ◌∙◌, inl, inr, arith}
+use Rattle.std.proofs.Common.{◌≡◌, ℕ, zero, suc, ◌+◌, ◌<◌, ◌≤◌, List, [], ◌∷◌, ◌++◌, length, take, drop, get_or, slice_set, Option, Some, None, IfSome, refl, sym, ap, subst, ◌∙◌, inl, inr, arith}
 use Rattle.std.proofs.lemmas.List.{take_more, drop_more, get_or_at, length-take-le, take_all, drop_all, append-nil}
 use Rattle.std.specs.List.{AllByRecursion}
 use Rattle.ft12.specs.declared.frame.LinkSize.{LinkSize}
 use Rattle.ft12.specs.declared.frame.Frame.{Frame}
 use Rattle.ft12.specs.declared.frame.Frame.TheVariants.{Single, Fixed, Data}
 use Rattle.ft12.specs.Spelling.{Fits, spelling}
-use Rattle.link.specs.Secondary.{Secondary, HearsOctets, heard_reading}
-use Rattle.link.specs.declared.request.Reading.{Reading}
-use Rattle.link.specs.declared.request.Reading.TheVariants.{Foreign, Unknown, Asks}
-use Rattle.link.specs.Requests.{reading_of}
-use Rattle.link.proofs.Serving.{kept_address, kept_size}
+use Rattle.link.specs.Life.{Hear}
+use Rattle.link.specs.Secondary.{Secondary, HearsOctets}
 use Rattle.sim.specs.declared.directive.Fate.{Fate}
 use Rattle.sim.specs.declared.directive.Fate.TheVariants.{Unheard, AnswerLost, AnswerSpoilt, Answered}
 use Rattle.gateway.specs.Log.{Log, Came, Went, LineOut, TcpOut, Closed}
 use Rattle.sim.specs.Losses.{fate_of}
 use Rattle.sim.specs.Lives.{Plan, later, HeardByAll, IsPutOut, AreLived, requests_in}
+use Rattle.sim.proofs.Below.{KeepsSize}
 
 -- the first i of the stations have heard
 pub record HeardSoFar (octets : List ℕ) (initial : List Secondary) (i : ℕ) (answer : Option Frame) (stations : List Secondary) : Type 0 where
@@ -89,35 +87,21 @@ heard_whole octets initial stations i answer le so =
     let done : stations ≡ so.done = so.rest ∙ ap (λ (l : List Secondary). so.done ++ l) (drop_all i initial le) ∙ append-nil so.done in
     subst (HeardByAll octets initial answer) (sym done) (subst (λ (l : List Secondary). HeardByAll octets l answer so.done) (take_all i initial le) so.heard)
 
-size_read : (granted : Bool) (s : Secondary) (reading : Reading) → (heard_reading granted s reading).state.size ≡ s.size
-size_read granted s Foreign = refl
-size_read granted s Unknown = refl
-size_read granted s (Asks request) = kept_size granted s request
+size_heard : KeepsSize → (octets : List ℕ) (s t : Secondary) (answer : Option Frame) → HearsOctets s octets answer t → t.size ≡ s.size
+size_heard kept octets s t answer (inl h) = ap (λ (u : Secondary). u.size) h.2.2 ∙ kept s (Hear h.2.0 (Some h.0) ∷ [])
+size_heard kept octets s t answer (inr h) = ap (λ (u : Secondary). u.size) h.2
 
-address_read : (granted : Bool) (s : Secondary) (reading : Reading) → (heard_reading granted s reading).state.address ≡ s.address
-address_read granted s Foreign = refl
-address_read granted s Unknown = refl
-address_read granted s (Asks request) = kept_address granted s request
+sizes_heard : KeepsSize → (size : LinkSize) (octets : List ℕ) (ss ts : List Secondary) (answer : Option Frame) → HeardByAll octets ss answer ts → AllByRecursion (λ s. s.size ≡ size) ss → AllByRecursion (λ s. s.size ≡ size) ts
+sizes_heard kept size octets [] [] answer h all = tt
+sizes_heard kept size octets [] (t ∷ ts) answer h all = absurd h
+sizes_heard kept size octets (s ∷ ss) [] answer h all = absurd h
+sizes_heard kept size octets (s ∷ ss) (t ∷ ts) answer h all = (size_heard kept octets s t h.0 h.2 ∙ all.0, sizes_heard kept size octets ss ts h.1 h.3 all.1)
 
-pub size_heard : (octets : List ℕ) (s t : Secondary) (answer : Option Frame) → HearsOctets s octets answer t → t.size ≡ s.size
-size_heard octets s t answer (inl h) = ap (λ (u : Secondary). u.size) h.2.2 ∙ size_read h.2.0 s (reading_of s.address h.0)
-size_heard octets s t answer (inr h) = ap (λ (u : Secondary). u.size) h.2
-
-pub address_heard : (octets : List ℕ) (s t : Secondary) (answer : Option Frame) → HearsOctets s octets answer t → t.address ≡ s.address
-address_heard octets s t answer (inl h) = ap (λ (u : Secondary). u.address) h.2.2 ∙ address_read h.2.0 s (reading_of s.address h.0)
-address_heard octets s t answer (inr h) = ap (λ (u : Secondary). u.address) h.2
-
-sizes_heard : (size : LinkSize) (octets : List ℕ) (ss ts : List Secondary) (answer : Option Frame) → HeardByAll octets ss answer ts → AllByRecursion (λ s. s.size ≡ size) ss → AllByRecursion (λ s. s.size ≡ size) ts
-sizes_heard size octets [] [] answer h all = tt
-sizes_heard size octets [] (t ∷ ts) answer h all = absurd h
-sizes_heard size octets (s ∷ ss) [] answer h all = absurd h
-sizes_heard size octets (s ∷ ss) (t ∷ ts) answer h all = (size_heard octets s t h.0 h.2 ∙ all.0, sizes_heard size octets ss ts h.1 h.3 all.1)
-
-pub sizes_out : (size : LinkSize) (fate : Fate) (octets : List ℕ) (ss ts : List Secondary) (answer : Option Frame) → IsPutOut fate octets ss answer ts → AllByRecursion (λ s. s.size ≡ size) ss → AllByRecursion (λ s. s.size ≡ size) ts
-sizes_out size Unheard octets ss ts answer h all = subst (λ (us : List Secondary). AllByRecursion (λ s. s.size ≡ size) us) (sym h.1) all
-sizes_out size AnswerLost octets ss ts answer h all = sizes_heard size octets ss ts answer h all
-sizes_out size (AnswerSpoilt place) octets ss ts answer h all = sizes_heard size octets ss ts answer h all
-sizes_out size Answered octets ss ts answer h all = sizes_heard size octets ss ts answer h all
+pub sizes_out : KeepsSize → (size : LinkSize) (fate : Fate) (octets : List ℕ) (ss ts : List Secondary) (answer : Option Frame) → IsPutOut fate octets ss answer ts → AllByRecursion (λ s. s.size ≡ size) ss → AllByRecursion (λ s. s.size ≡ size) ts
+sizes_out kept size Unheard octets ss ts answer h all = subst (λ (us : List Secondary). AllByRecursion (λ s. s.size ≡ size) us) (sym h.1) all
+sizes_out kept size AnswerLost octets ss ts answer h all = sizes_heard kept size octets ss ts answer h all
+sizes_out kept size (AnswerSpoilt place) octets ss ts answer h all = sizes_heard kept size octets ss ts answer h all
+sizes_out kept size Answered octets ss ts answer h all = sizes_heard kept size octets ss ts answer h all
 
 -- a spelling has octets
 pub some_spelling : (size : LinkSize) (frame : Frame) → 0 < length (spelling size frame)

@@ -1,5 +1,5 @@
 -- In a run of a plan each station is an honest outstation.
-use Rattle.std.proofs.Common.{◌≡◌, ℕ, zero, suc, ◌+◌, ◌-◌, ◌<◌, ◌&&◌, Bool, true, false, List, [], ◌∷◌, ◌++◌, length, get_or, map, Option, Some, None, IfSome, nat_le, refl, sym, ap, subst, ◌∙◌, arith, if◌then◌else◌}
+use Rattle.std.proofs.Common.{◌≡◌, ℕ, zero, suc, ◌+◌, ◌-◌, ◌<◌, ◌&&◌, Bool, true, false, List, [], ◌∷◌, ◌++◌, length, get_or, map, Option, Some, None, IfSome, nat_le, refl, sym, ap, subst, ◌∙◌, inl, inr, arith, if◌then◌else◌}
 use Rattle.std.specs.Prelude.{◌==◌, not}
 use Rattle.std.specs.List.{AllByRecursion}
 use Rattle.std.proofs.lemmas.List.{append-nil, length-map}
@@ -10,10 +10,11 @@ use Rattle.ft12.specs.Fronts.{front_of}
 use Rattle.ft12.specs.Spelling.{Fits}
 use Rattle.link.specs.declared.service.Asked.{Asked}
 use Rattle.link.specs.Delivery.{requests_of}
+use Rattle.link.specs.Life.{Hear}
 use Rattle.link.specs.Exchanges.{Exchange, Exchanges, OpenExchange, Sending, as_list, all_of, heard_octets, heard_current, timed, timed_current, begun_by, view}
 use Rattle.link.specs.Outstation.{Turn, silent}
 use Rattle.link.specs.Requests.{request_in}
-use Rattle.link.specs.Secondary.{Secondary, served}
+use Rattle.link.specs.Secondary.{Secondary, HearsOctets, served}
 use Rattle.gateway.specs.Log.{Log, Came, Went, LineIn, Opened, TcpIn, CutOff, Ticked, LineOut, TcpOut, Closed, latest}
 use Rattle.gateway.specs.Line.{IsWaiting}
 use Rattle.gateway.specs.Reports.{Setup, address_at, index_of, AreFound, sending_in, exchanges_of, exchanges_with}
@@ -28,25 +29,29 @@ use Rattle.sim.specs.Lives.{Plan, HeardByAll, IsPutOut, AreLived, requests_in, a
 use Rattle.sim.specs.Calls.{calls_in, line_event, quiet_event, sending_event, event_at, FollowsPlan}
 use Rattle.sim.specs.Outstations.{is_heard, request_to, requests_to, TakesTurn, TakesTurns}
 use Rattle.sim.proofs.Below.{Laws}
-use Rattle.sim.proofs.HearingLemmas.{address_heard, sizes_out}
+use Rattle.sim.proofs.HearingLemmas.{sizes_out}
 use Rattle.sim.proofs.Requests.{asked_frame, read_from, quiet, hears_asked, heard_at, heard_joint, address_in, IsNotTo, Whom, nobody, other, this, whom}
 use Rattle.sim.proofs.Turns.{IsReadable, asked_of, takes_more}
 use Rattle.sim.proofs.Fronts.{MayCome, its, AreFronts, fronts_timed, fronts_heard, fronts_settled, fronts_other, fronts_this, begun, may_arrive, settled_now, its-append}
 
 -- The stations keep their addresses and sizes
 
-addresses_heard : (octets : List ℕ) (ss ts : List Secondary) (answer : Option Frame) → HeardByAll octets ss answer ts → map (λ (s : Secondary). s.address) ts ≡ map (λ (s : Secondary). s.address) ss
-addresses_heard octets [] [] answer h = refl
-addresses_heard octets [] (t ∷ ts) answer h = absurd h
-addresses_heard octets (s ∷ ss) [] answer h = absurd h
-addresses_heard octets (s ∷ ss) (t ∷ ts) answer h =
-    ap (λ (a : ℕ). a ∷ map (λ (u : Secondary). u.address) ts) (address_heard octets s t h.0 h.2) ∙ ap (λ (l : List ℕ). s.address ∷ l) (addresses_heard octets ss ts h.1 h.3)
+address_heard : Laws → (octets : List ℕ) (s t : Secondary) (answer : Option Frame) → HearsOctets s octets answer t → t.address ≡ s.address
+address_heard laws octets s t answer (inl h) = ap (λ (u : Secondary). u.address) h.2.2 ∙ laws.address s (Hear h.2.0 (Some h.0) ∷ [])
+address_heard laws octets s t answer (inr h) = ap (λ (u : Secondary). u.address) h.2
 
-addresses_out : (fate : Fate) (octets : List ℕ) (ss ts : List Secondary) (answer : Option Frame) → IsPutOut fate octets ss answer ts → map (λ (s : Secondary). s.address) ts ≡ map (λ (s : Secondary). s.address) ss
-addresses_out Unheard octets ss ts answer h = ap (λ (us : List Secondary). map (λ (s : Secondary). s.address) us) h.1
-addresses_out AnswerLost octets ss ts answer h = addresses_heard octets ss ts answer h
-addresses_out (AnswerSpoilt place) octets ss ts answer h = addresses_heard octets ss ts answer h
-addresses_out Answered octets ss ts answer h = addresses_heard octets ss ts answer h
+addresses_heard : Laws → (octets : List ℕ) (ss ts : List Secondary) (answer : Option Frame) → HeardByAll octets ss answer ts → map (λ (s : Secondary). s.address) ts ≡ map (λ (s : Secondary). s.address) ss
+addresses_heard laws octets [] [] answer h = refl
+addresses_heard laws octets [] (t ∷ ts) answer h = absurd h
+addresses_heard laws octets (s ∷ ss) [] answer h = absurd h
+addresses_heard laws octets (s ∷ ss) (t ∷ ts) answer h =
+    ap (λ (a : ℕ). a ∷ map (λ (u : Secondary). u.address) ts) (address_heard laws octets s t h.0 h.2) ∙ ap (λ (l : List ℕ). s.address ∷ l) (addresses_heard laws octets ss ts h.1 h.3)
+
+addresses_out : Laws → (fate : Fate) (octets : List ℕ) (ss ts : List Secondary) (answer : Option Frame) → IsPutOut fate octets ss answer ts → map (λ (s : Secondary). s.address) ts ≡ map (λ (s : Secondary). s.address) ss
+addresses_out laws Unheard octets ss ts answer h = ap (λ (us : List Secondary). map (λ (s : Secondary). s.address) us) h.1
+addresses_out laws AnswerLost octets ss ts answer h = addresses_heard laws octets ss ts answer h
+addresses_out laws (AnswerSpoilt place) octets ss ts answer h = addresses_heard laws octets ss ts answer h
+addresses_out laws Answered octets ss ts answer h = addresses_heard laws octets ss ts answer h
 
 -- The settings fit the plan: these stations, which are found by their addresses.
 pub record FitsPlan (p : Setup) (plan : Plan) : Type 0 where
@@ -59,21 +64,21 @@ record AreThese (p : Setup) (size : LinkSize) (stations : List Secondary) : Type
   addresses : map (λ (s : Secondary). s.address) stations ≡ p.addresses
   sizes : AllByRecursion (λ s. s.size ≡ size) stations
 
-these_out : (p : Setup) (size : LinkSize) (fate : Fate) (octets : List ℕ) (ss ts : List Secondary) (answer : Option Frame) → IsPutOut fate octets ss answer ts → AreThese p size ss → AreThese p size ts
-these_out p size fate octets ss ts answer h k = record {
-  addresses = addresses_out fate octets ss ts answer h ∙ k.addresses;
-  sizes = sizes_out size fate octets ss ts answer h k.sizes;
+these_out : Laws → (p : Setup) (size : LinkSize) (fate : Fate) (octets : List ℕ) (ss ts : List Secondary) (answer : Option Frame) → IsPutOut fate octets ss answer ts → AreThese p size ss → AreThese p size ts
+these_out laws p size fate octets ss ts answer h k = record {
+  addresses = addresses_out laws fate octets ss ts answer h ∙ k.addresses;
+  sizes = sizes_out laws.size size fate octets ss ts answer h k.sizes;
 }
 
-these_lived : (p : Setup) (plan : Plan) (log : Log) (answers : List (Option Frame)) (stations : List Secondary) → AreThese p plan.size plan.stations → AreLived plan log answers stations → AreThese p plan.size stations
-these_lived p plan [] [] stations k h = subst (λ (ss : List Secondary). AreThese p plan.size ss) (sym h) k
-these_lived p plan [] (a ∷ answers) stations k h = absurd h
-these_lived p plan (Came now event ∷ log) answers stations k h = these_lived p plan log answers stations k h
-these_lived p plan (Went now (LineOut octets) ∷ log) [] stations k h = absurd h
-these_lived p plan (Went now (LineOut octets) ∷ log) (a ∷ answers) stations k h =
-    these_out p plan.size (fate_of plan.directives (requests_in log + 1)) octets h.0 stations a h.1 (these_lived p plan log answers h.0 k h.2)
-these_lived p plan (Went now (TcpOut octets) ∷ log) answers stations k h = these_lived p plan log answers stations k h
-these_lived p plan (Went now (Closed cause) ∷ log) answers stations k h = these_lived p plan log answers stations k h
+these_lived : Laws → (p : Setup) (plan : Plan) (log : Log) (answers : List (Option Frame)) (stations : List Secondary) → AreThese p plan.size plan.stations → AreLived plan log answers stations → AreThese p plan.size stations
+these_lived laws p plan [] [] stations k h = subst (λ (ss : List Secondary). AreThese p plan.size ss) (sym h) k
+these_lived laws p plan [] (a ∷ answers) stations k h = absurd h
+these_lived laws p plan (Came now event ∷ log) answers stations k h = these_lived laws p plan log answers stations k h
+these_lived laws p plan (Went now (LineOut octets) ∷ log) [] stations k h = absurd h
+these_lived laws p plan (Went now (LineOut octets) ∷ log) (a ∷ answers) stations k h =
+    these_out laws p plan.size (fate_of plan.directives (requests_in log + 1)) octets h.0 stations a h.1 (these_lived laws p plan log answers h.0 k h.2)
+these_lived laws p plan (Went now (TcpOut octets) ∷ log) answers stations k h = these_lived laws p plan log answers stations k h
+these_lived laws p plan (Went now (Closed cause) ∷ log) answers stations k h = these_lived laws p plan log answers stations k h
 
 -- What a request makes of a station
 
@@ -351,7 +356,7 @@ serves laws p plan (Went now (LineOut octets) ∷ log) [] stations i d fits lt l
 serves laws p plan (Went now (LineOut octets) ∷ log) (a ∷ answers) stations i d fits lt lived fit follows acts =
     let fate : Fate = fate_of plan.directives (requests_in log + 1) in
     let first : Secondary = get_or plan.stations i d in
-    let these : AreThese p plan.size lived.0 = these_lived p plan log answers lived.0 (record { addresses = fits.addresses; sizes = fits.sizes }) lived.2 in
+    let these : AreThese p plan.size lived.0 = these_lived laws p plan log answers lived.0 (record { addresses = fits.addresses; sizes = fits.sizes }) lived.2 in
     subst (λ (z : LinkSize). Serves p (requests_to p plan.directives i log ++ request_to i (is_heard fate) (sending_in p octets)) (begun_by now (sending_in p octets) (exchanges_of p log)) (arriving z fate a) i first (get_or stations i d))
     (sym fits.size)
     (serves_request laws p log (requests_to p plan.directives i log) (waiting_in plan log answers) fate octets lived.0 stations a i now d first fits.found

@@ -18,6 +18,7 @@ use Rattle.sim.specs.Calls.{event_at, lasting}
 use Rattle.sim.specs.Played.{Standing, Stands, Simulated, coming, centre_after, moment_at, is_given}
 use Rattle.sim.proofs.Steps.{pushed}
 use Rattle.sim.proofs.Standing.{stands_came, stands_asked, stands_handed, stands_fresh}
+use Rattle.sim.proofs.Below.{KeepsSize}
 use Rattle.sim.proofs.HearingLemmas.{sizes_out}
 
 pub entry_is : (s v : Simulated) (event : Input) (now : ℕ) → v ≡ s → event ≡ event_at v.plan.directives (v.standing.call + 1) v.standing.centre v.standing.waiting →
@@ -48,17 +49,17 @@ hand_kept plan items new stations at now copy octets centre push e c k =
     (subst (λ (d : Centre). Stands plan (Went now (TcpOut octets) ∷ log_of items) stations (record { waiting = at.waiting; centre = d; call = at.call; moment = at.moment; requests = at.requests })) (sym c)
     (stands_handed plan (log_of items) stations at now octets k))
 
-pub ask_kept : (plan : Plan) (items new : List Told) (stations after written : List Secondary) (at : Standing) (now : ℕ) (copy : Vec ℕ Global) (octets : List ℕ) (answer : Option Frame) (waiting : Option (List ℕ)) →
+pub ask_kept : KeepsSize → (plan : Plan) (items new : List Told) (stations after written : List Secondary) (at : Standing) (now : ℕ) (copy : Vec ℕ Global) (octets : List ℕ) (answer : Option Frame) (waiting : Option (List ℕ)) →
     new ≡ items ++ told.Line now copy ∷ [] → copy.items ≡ octets → IsPutOut (fate_of plan.directives (at.requests + 1)) octets stations answer after → written ≡ after →
     waiting ≡ arriving plan.size (fate_of plan.directives (at.requests + 1)) answer → IfSome answer (Fits plan.size) → Stands plan (log_of items) stations at →
     Stands plan (log_of new) written (record { waiting = waiting; centre = at.centre; call = at.call; moment = at.moment; requests = at.requests + 1 })
-ask_kept plan items new stations after written at now copy octets answer waiting push e out wrote w fits k =
+ask_kept kept plan items new stations after written at now copy octets answer waiting push e out wrote w fits k =
     let onward : Standing = record { waiting = waiting; centre = at.centre; call = at.call; moment = at.moment; requests = at.requests + 1 } in
     subst (λ (ss : List Secondary). Stands plan (log_of new) ss onward) (sym wrote)
     (subst (λ (l : Log). Stands plan l after onward)
     (sym (pushed items new (told.Line now copy) (Went now (LineOut octets)) push (ap (λ (l : List ℕ). Went now (LineOut l)) e)))
     (subst (λ (v : Option (List ℕ)). Stands plan (Went now (LineOut octets) ∷ log_of items) after (record { waiting = v; centre = at.centre; call = at.call; moment = at.moment; requests = at.requests + 1 })) (sym w)
-    (stands_asked plan (log_of items) stations after at now octets answer out (sizes_out plan.size (fate_of plan.directives (at.requests + 1)) octets stations after answer out k.sizes) fits k)))
+    (stands_asked plan (log_of items) stations after at now octets answer out (sizes_out kept plan.size (fate_of plan.directives (at.requests + 1)) octets stations after answer out k.sizes) fits k)))
 
 -- the stations as they are written back
 pub written : (xs ws : List Secondary) (len : ℕ) → length ws ≡ len → take len (ws ++ drop (length ws) xs) ≡ ws

@@ -9,6 +9,7 @@ use Rattle.gateway.specs.Log.{Log, Came, Went, events_of}
 use Rattle.gateway.specs.Runs.{MoreEvents}
 use Rattle.gateway.specs.declared.entries.Told.{Told}
 use Rattle.gateway.specs.Entries.{log_of}
+use Rattle.gateway.specs.Order.{KeepsOrder}
 use Rattle.gateway.specs.Config.{Settings}
 use Rattle.gateway.specs.Setups.{setup_of}
 use Rattle.gateway.specs.Traffic.{IsFaithful, HasRested}
@@ -57,11 +58,11 @@ ended_calls s ended k =
 
 -- the run that was told
 pub told_run : (c : Settings) (ds : List Directive) (s : Simulated) (told : List Told) (stations : List Secondary) → s.plan ≡ plan_of c ds →
-    calls_in s.log ≡ turns_of ds → IsFaithful (setup_of c) s.log → HasRested (setup_of c) s.log → log_of told ≡ s.log → stations ≡ s.stations → Stands s.plan s.log s.stations s.standing →
+    calls_in s.log ≡ turns_of ds → IsFaithful (setup_of c) s.log → HasRested (setup_of c) s.log → KeepsOrder s.log → log_of told ≡ s.log → stations ≡ s.stations → Stands s.plan s.log s.stations s.standing →
     ((log : Log) → IsFaithful (setup_of c) log → Delivers (setup_of c) log) →
     ((log : Log) (answers : List (Option Frame)) (ss : List Secondary) → IsPlayed (plan_of c ds) log answers ss → IsFaithful (setup_of c) log → HaveServed c ds log 0 ss) →
     (IsFaithful (setup_of c) (log_of told) → (d : Delivers (setup_of c) (log_of told)) → connection_lines 1 told ≡ lines_of_connections (connections_in (log_of told) d.here d.earlier)) → IsRun c ds told stations
-told_run c ds s told stations plan calls faithful rests log same k delivers serve count =
+told_run c ds s told stations plan calls faithful rests order log same k delivers serve count =
     let played : IsPlayed (plan_of c ds) (log_of told) k.answers stations = subst (λ (ss : List Secondary). IsPlayed (plan_of c ds) (log_of told) k.answers ss) (sym same)
     (subst (λ (l : Log). IsPlayed (plan_of c ds) l k.answers s.stations) (sym log)
     (subst (λ (q : Plan). IsPlayed q s.log k.answers s.stations) plan k.played)) in
@@ -72,6 +73,7 @@ told_run c ds s told stations plan calls faithful rests log same k delivers serv
       calls = ap calls_in log ∙ calls;
       faithful = kept;
       rests = subst (HasRested (setup_of c)) (sym log) rests;
+      ordered = subst KeepsOrder (sym log) order;
       delivers = delivers (log_of told) kept;
       served = serve (log_of told) k.answers stations played kept;
       connections = count kept (delivers (log_of told) kept);

@@ -8,23 +8,24 @@ use Rattle.std.specs.Io.KnownBytes.{Appends, Keeps}
 use Rattle.gateway.specs.declared.entries.Told.{Told}
 use Rattle.link.specs.Secondary.{Secondary}
 use Rattle.sim.specs.declared.directive.Directive.{Directive}
-use Rattle.sim.specs.Texts.{action_line, line_of_station, station_lines, opens, objects_sent, objects_until_next, connection_line, connection_lines}
+use Rattle.traces.specs.Actions.{stored_line}
+use Rattle.sim.specs.Texts.{line_of_station, station_lines, opens, objects_sent, objects_until_next, connection_line, connection_lines}
 
-flat_append : (xs ys : List Told) → flat_map action_line (xs ++ ys) ≡ flat_map action_line xs ++ flat_map action_line ys
+flat_append : (xs ys : List Told) → flat_map stored_line (xs ++ ys) ≡ flat_map stored_line xs ++ flat_map stored_line ys
 flat_append [] ys = refl
-flat_append (x ∷ xs) ys = ap (λ (l : List ℕ). action_line x ++ l) (flat_append xs ys) ∙ sym (append_assoc (action_line x) (flat_map action_line xs) (flat_map action_line ys))
+flat_append (x ∷ xs) ys = ap (λ (l : List ℕ). stored_line x ++ l) (flat_append xs ys) ∙ sym (append_assoc (stored_line x) (flat_map stored_line xs) (flat_map stored_line ys))
 
-flat_more : (log : List Told) (i : ℕ) (d : Told) → i < length log → flat_map action_line (take (i + 1) log) ≡ flat_map action_line (take i log) ++ action_line (get_or log i d)
-flat_more log i d lt = ap (flat_map action_line) (take_more log i d lt) ∙ flat_append (take i log) (get_or log i d ∷ []) ∙ ap (λ (l : List ℕ). flat_map action_line (take i log) ++ l) (append-nil (action_line (get_or log i d)))
+flat_more : (log : List Told) (i : ℕ) (d : Told) → i < length log → flat_map stored_line (take (i + 1) log) ≡ flat_map stored_line (take i log) ++ stored_line (get_or log i d)
+flat_more log i d lt = ap (flat_map stored_line) (take_more log i d lt) ∙ flat_append (take i log) (get_or log i d ∷ []) ∙ ap (λ (l : List ℕ). flat_map stored_line (take i log) ++ l) (append-nil (stored_line (get_or log i d)))
 
-pub text_more : (old now new : List ℕ) (log : List Told) (i : ℕ) (d : Told) → i < length log → now ≡ old ++ flat_map action_line (take i log) → new ≡ now ++ action_line (get_or log i d) →
-    new ≡ old ++ flat_map action_line (take (i + 1) log)
+pub text_more : (old now new : List ℕ) (log : List Told) (i : ℕ) (d : Told) → i < length log → now ≡ old ++ flat_map stored_line (take i log) → new ≡ now ++ stored_line (get_or log i d) →
+    new ≡ old ++ flat_map stored_line (take (i + 1) log)
 text_more old now new log i d lt e f =
-    f ∙ ap (λ (l : List ℕ). l ++ action_line (get_or log i d)) e ∙ append_assoc old (flat_map action_line (take i log)) (action_line (get_or log i d))
+    f ∙ ap (λ (l : List ℕ). l ++ stored_line (get_or log i d)) e ∙ append_assoc old (flat_map stored_line (take i log)) (stored_line (get_or log i d))
     ∙ ap (λ (l : List ℕ). old ++ l) (sym (flat_more log i d lt))
 
-pub text_end : (old now : List ℕ) (log : List Told) (i : ℕ) → length log ≤ i → now ≡ old ++ flat_map action_line (take i log) → now ≡ old ++ flat_map action_line log
-text_end old now log i le e = e ∙ ap (λ (l : List Told). old ++ flat_map action_line l) (take_all i log le)
+pub text_end : (old now : List ℕ) (log : List Told) (i : ℕ) → length log ≤ i → now ≡ old ++ flat_map stored_line (take i log) → now ≡ old ++ flat_map stored_line log
+text_end old now log i le e = e ∙ ap (λ (l : List Told). old ++ flat_map stored_line l) (take_all i log le)
 
 pub station_more : (ds : List Directive) (ss : List Secondary) (i : ℕ) (d : Secondary) (now new whole : List ℕ) → i < length ss → now ++ station_lines ds i (drop i ss) ≡ whole →
     new ≡ now ++ line_of_station ds i (get_or ss i d) → new ++ station_lines ds (i + 1) (drop (i + 1) ss) ≡ whole

@@ -13,7 +13,6 @@ use Rattle.link.specs.Life.{Call, Hear, request_asked, turn_asked, given1_at, gi
 use Rattle.link.specs.Outstation.{Effect, Turn, silent, OutstationStep, OutstationRun, unheard, all_done}
 use Rattle.link.specs.Requests.{reading_of}
 use Rattle.link.specs.Secondary.{Secondary, outstation_of, heard_reading, served}
-use Rattle.link.proofs.Serving.{kept_address}
 use Rattle.sim.specs.Outstations.{TakesTurn, TakesTurns}
 use Rattle.sim.proofs.Below.{Laws}
 
@@ -55,7 +54,7 @@ did_served laws s request granted readable lt =
     subst (λ (m : Reading). (heard_reading granted s m).state.given ≡ saturated (s.given + length (reports (all_done (turn_asked granted s m ++ []))))) readable.1 (laws.given s calls lt) in
     record {
       step = subst (λ o. OutstationStep s.address (outstation_of s) request turn o) (sym run.2) run.1;
-      address = kept_address granted s request;
+      address = subst (λ (m : Reading). (heard_reading granted s m).state.address ≡ s.address) readable.1 (laws.address s calls);
       class1 = ap (λ (l : List (List ℕ)). l ++ t.class1) (sym (append-nil (given1_at request turn))) ∙ first ∙ append-nil s.class1;
       class2 = ap (λ (l : List (List ℕ)). l ++ t.class2) (sym (append-nil (given2_at request turn))) ∙ second ∙ append-nil s.class2;
       accepted = ap (λ (l : List Effect). s.accepted ++ commands l) (sym (append-nil turn.done)) ∙ accepts;

@@ -6,6 +6,7 @@ use Rattle.link.specs.Secondary.{Secondary}
 use Rattle.gateway.specs.declared.entries.Told.{Told}
 use Rattle.gateway.specs.Config.{Settings}
 use Rattle.gateway.specs.Entries.{log_of}
+use Rattle.gateway.specs.Order.{KeepsOrder}
 use Rattle.gateway.specs.Setups.{setup_of}
 use Rattle.gateway.specs.Traffic.{IsFaithful, HasRested}
 use Rattle.delivery.specs.Delivery.{Delivers}
@@ -21,15 +22,17 @@ use Rattle.sim.specs.Closing.{connections_in, lines_of_connections}
 use Rattle.sim.specs.Texts.{connection_lines, run_text}
 
 -- A run of the script. Its events are what the script gives at each of so many calls, and its stations have answered and stand as
--- their requests make them. What the gateway did keeps every promise of a gateway, to the end of its last step; so what it sent on each
--- connection is a contiguous run of a merge of what it took. And each station was an honest outstation, whose link stayed up where
--- unanswered services are held; so what was taken from it is what it gave, or all but the last.
+-- their requests make them. What the gateway did keeps every promise of a gateway, to the end of its last step, and the order of
+-- actions in each step; so what it sent on each connection is a contiguous run of a merge of what it took. And each station was an
+-- honest outstation, whose link stayed up where unanswered services are held; so what was taken from it is what it gave, or all but
+-- the last.
 pub record IsRun (c : Settings) (ds : List Directive) (told : List Told) (stations : List Secondary) : Type 0 where
   pub answers : List (Option Frame)
   pub played : IsPlayed (plan_of c ds) (log_of told) answers stations
   pub calls : calls_in (log_of told) ≡ turns_of ds
   pub faithful : IsFaithful (setup_of c) (log_of told)
   pub rests : HasRested (setup_of c) (log_of told)
+  pub ordered : KeepsOrder (log_of told)
   pub delivers : Delivers (setup_of c) (log_of told)
   pub served : HaveServed c ds (log_of told) 0 stations
   -- The closing lines of the connections have the numbers of the monitor objects sent on them.

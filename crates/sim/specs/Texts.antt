@@ -2,22 +2,15 @@
 use Rattle.std.specs.Prelude.{ℕ, ◌+◌, ◌-◌, ◌^◌, ◌==◌, min, Bool, true, false, if◌then◌else◌, List, [], ◌∷◌, ◌++◌, codes, count_by, drop, length}
 use Rattle.std.specs.List.{flat_map}
 use Rattle.std.specs.Fmt.{decimal}
-use Rattle.hex.specs.Hex.{encode_upper}
 use Rattle.link.specs.Secondary.{Secondary}
 use Rattle.gateway.specs.declared.entries.Entry.TheVariants as entries
 use Rattle.gateway.specs.declared.entries.Told.{Told}
-use Rattle.gateway.specs.declared.entries.Told.TheVariants.{Came, Line, Tcp, Close}
+use Rattle.gateway.specs.declared.entries.Told.TheVariants.{Came, Tcp}
 use Rattle.gateway.specs.Objects.{objects}
+use Rattle.traces.specs.Actions.{stored_line}
 use Rattle.sim.specs.declared.directive.Directive.{Directive}
 use Rattle.sim.specs.declared.directive.Directive.TheVariants.{Report}
 use Rattle.sim.specs.Centres.{is_data}
-
--- octets to the line (S), an APDU to TCP (T), or a close with the number of its cause (X); an event has no line
-abbrev pub action_line : Told → List ℕ
-action_line (Came event) = []
-action_line (Line now octets) = decimal now ++ codes " > S " ++ encode_upper octets.items ++ 10 ∷ []
-action_line (Tcp now octets) = decimal now ++ codes " > T " ++ encode_upper octets.items ++ 10 ∷ []
-action_line (Close now cause) = decimal now ++ codes " > X " ++ decimal cause ++ 10 ∷ []
 
 abbrev pub reports_for : (station : ℕ) → Directive → Bool
 reports_for station (Report i class octets) = i == station
@@ -70,4 +63,4 @@ connection_lines n (t ∷ told) =
 
 -- all that is written of a run: what is stored of it, the oldest first, and how the stations stand after it
 abbrev pub run_text : List Directive → List Told → List Secondary → List ℕ
-run_text ds told stations = flat_map action_line told ++ station_lines ds 0 stations ++ connection_lines 1 told
+run_text ds told stations = flat_map stored_line told ++ station_lines ds 0 stations ++ connection_lines 1 told

@@ -16,7 +16,8 @@
 //! and what is taken from it is what it gave, or all but the last: in each session of its link, and where unanswered services are held
 //! in the whole run. The closing lines have the numbers of that run ([`connections_are_counted`], `specs/Closing.antt`). What
 //! [`simulate`] writes is the text of such a run, of as many calls as the script says, in which the gateway keeps every promise of a
-//! gateway and delivers what was taken; where a write fails it is the beginning of that text (`specs/Runs.antt`).
+//! gateway and the order of actions in each step, and delivers what was taken; where a write fails it is the beginning of that text
+//! (`specs/Runs.antt`).
 //!
 //! Not proved: that a report is ever asked for, or that want of memory is the only cause of `NoMemory`.
 #![tactic(auto)]

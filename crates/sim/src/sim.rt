@@ -15,7 +15,7 @@ use crate::hearing::{arriving, put_out};
 use crate::script::Script;
 use arrayvec::ArrayVec;
 use gateway::{Action, Config, Entry, Next, Port, Told};
-use link::{NoMemory, Station};
+use link::{NoMemory, Station, station_is_an_outstation};
 use session::Close;
 use std::alloc::{AllocError, Global};
 use std::marker::Model;
@@ -252,6 +252,7 @@ impl<'a> Sim<'a> {
         ensures plan { self.new.plan ≡ self.old.plan }
         ensures failed { self.new.failed ≡ self.old.failed }
     {
+        station_is_an_outstation();
         let copy = Vec::from_slice(self.alloc, octets)?;
         keep(&mut self.log, Told::Line(now, copy))?;
         self.requests += 1;

@@ -1,6 +1,7 @@
 //! Whole runs over a simulated line.
 ghost use Rattle.std.specs.Prelude.{◌≡◌, IfOk, IfErr, OnOk};
 ghost use Rattle.std.specs.Io.KnownBytes.{Appends};
+ghost use Rattle.gateway.specs.Order.{KeepsOrder};
 ghost use Rattle.gateway.specs.Setups.{setup_of};
 ghost use Rattle.gateway.specs.Traffic.{IsFaithful, HasRested};
 ghost use Rattle.sim.specs.Calls.{calls_in};
@@ -79,6 +80,7 @@ fn run<'a>(alloc: Global, config: &'a Config, script: &'a Script) -> Result<Sim<
     ensures calls { IfOk result (λ sim. calls_in sim.log ≡ turns_of script.now) }
     ensures faithful { IfOk result (λ sim. IsFaithful (setup_of config.now) sim.log) }
     ensures rests { IfOk result (λ sim. HasRested (setup_of config.now) sim.log) }
+    ensures order { IfOk result (λ sim. KeepsOrder sim.log) }
     ensures memory { IfErr result (λ e. e ≡ fault.NoMemory) }
 {
     let mut sim = Sim::new(alloc, config, script)?;

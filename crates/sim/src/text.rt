@@ -2,7 +2,8 @@
 ghost use Rattle.std.specs.Prelude.{◌≡◌, ◌+◌, ◌++◌, ◌≤◌, ◌<◌, ◌^◌, ◌-◌, min, IfOk, OnOk, length, drop, string_bytes, count_by};
 ghost use Rattle.std.specs.List.{flat_map};
 ghost use Rattle.gateway.specs.Objects.{objects};
-ghost use Rattle.sim.specs.Texts.{action_line, reports_for, station_line, line_of_station, station_lines, objects_in_apdu, objects_sent, opens, objects_until_next, connection_line, connection_lines, run_text};
+ghost use Rattle.traces.specs.Actions.{stored_line};
+ghost use Rattle.sim.specs.Texts.{reports_for, station_line, line_of_station, station_lines, objects_in_apdu, objects_sent, opens, objects_until_next, connection_line, connection_lines, run_text};
 
 use crate::centre::is_data;
 use crate::directive::Directive;
@@ -10,32 +11,15 @@ use asdu::{Sizes, objects_are_those_of_the_asdu, read};
 use gateway::{Entry, Told};
 use link::Station;
 use std::alloc::{AllocError, Global};
-
-/// Appends the line of an action; an event has none.
-fn push_action(alloc: Global, lines: &mut String, told: &Told) -> Result<(), AllocError>
-    ensures { OnOk result (string_bytes lines.new ≡ string_bytes lines.old ++ action_line told.now) }
-{
-    match told {
-        Told::Came(_) => Ok(()),
-        Told::Line(now, octets) => {
-            let hex = hex::encode_upper(alloc, octets.as_slice())?;
-            writeln!(lines, "{now} > S {hex}")
-        }
-        Told::Tcp(now, octets) => {
-            let hex = hex::encode_upper(alloc, octets.as_slice())?;
-            writeln!(lines, "{now} > T {hex}")
-        }
-        Told::Close(now, cause) => writeln!(lines, "{now} > X {cause}"),
-    }
-}
+use traces::append_line;
 
 #[tactic(auto, using(crate::proofs::TextLemmas::text_more, crate::proofs::TextLemmas::text_end))]
 /// Appends the lines of a log's actions, in their order.
 fn push_actions(alloc: Global, lines: &mut String, log: &[Told]) -> Result<(), AllocError>
-    ensures { OnOk result (string_bytes lines.new ≡ string_bytes lines.old ++ flat_map action_line log.now) }
+    ensures { OnOk result (string_bytes lines.new ≡ string_bytes lines.old ++ flat_map stored_line log.now) }
 {
     for told in log {
-        push_action(alloc, lines, told)?;
+        append_line(alloc, lines, told)?;
     }
     Ok(())
 }

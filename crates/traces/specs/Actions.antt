@@ -4,12 +4,30 @@ use Rattle.std.specs.Fmt.{decimal}
 use Rattle.hex.specs.Hex.{encode_upper}
 use Rattle.gateway.specs.Log.{Log, Output, LineOut, TcpOut, Closed, Came, Went}
 use Rattle.gateway.specs.Entries.{number_of}
+use Rattle.gateway.specs.declared.entries.Told.{Told}
+use Rattle.gateway.specs.declared.entries.Told.TheVariants as told
 
 -- octets to the line (S), an APDU to TCP (T), or a close with the number of its cause (X)
+abbrev pub request_line : (now : ℕ) → (octets : List ℕ) → List ℕ
+request_line now octets = decimal now ++ codes " > S " ++ encode_upper octets ++ 10 ∷ []
+
+abbrev pub apdu_line : (now : ℕ) → (octets : List ℕ) → List ℕ
+apdu_line now octets = decimal now ++ codes " > T " ++ encode_upper octets ++ 10 ∷ []
+
+abbrev pub close_line : (now number : ℕ) → List ℕ
+close_line now number = decimal now ++ codes " > X " ++ decimal number ++ 10 ∷ []
+
 abbrev pub line_of : ℕ → Output → List ℕ
-line_of now (LineOut octets) = decimal now ++ codes " > S " ++ encode_upper octets ++ 10 ∷ []
-line_of now (TcpOut octets) = decimal now ++ codes " > T " ++ encode_upper octets ++ 10 ∷ []
-line_of now (Closed cause) = decimal now ++ codes " > X " ++ decimal (number_of cause) ++ 10 ∷ []
+line_of now (LineOut octets) = request_line now octets
+line_of now (TcpOut octets) = apdu_line now octets
+line_of now (Closed cause) = close_line now (number_of cause)
+
+-- the line of what is stored; an event has none
+abbrev pub stored_line : Told → List ℕ
+stored_line (told.Came event) = []
+stored_line (told.Line now octets) = request_line now octets.items
+stored_line (told.Tcp now octets) = apdu_line now octets.items
+stored_line (told.Close now number) = close_line now number
 
 -- the lines of a log's actions, the oldest first; an event has none
 abbrev pub lines_of_actions : Log → List ℕ

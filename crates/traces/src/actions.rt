@@ -3,7 +3,7 @@ ghost use Rattle.std.specs.Prelude.{◌≡◌, ◌++◌, ◌∷◌, IfOk, OnOk, 
 ghost use Rattle.gateway.specs.Log.{Went};
 ghost use Rattle.gateway.specs.Ports.{output_of};
 ghost use Rattle.gateway.specs.Entries.{told_of, number_of};
-ghost use Rattle.traces.specs.Actions.{line_of};
+ghost use Rattle.traces.specs.Actions.{line_of, stored_line};
 
 use gateway::{Action, Told};
 use session::Close;
@@ -18,7 +18,8 @@ fn number(cause: Close) -> u8
 
 /// An action as it is stored.
 pub(crate) fn stored(alloc: Global, now: u64, action: &Action<'_>) -> Result<Told, AllocError>
-    ensures { IfOk result (λ told. told_of told ≡ Went now (output_of action.now)) }
+    ensures told { IfOk result (λ told. told_of told ≡ Went now (output_of action.now)) }
+    ensures line { IfOk result (λ told. stored_line told ≡ line_of now (output_of action.now)) }
 {
     match action {
         Action::Line(octets) => Ok(Told::Line(now, Vec::from_slice(alloc, octets)?)),
@@ -27,27 +28,20 @@ pub(crate) fn stored(alloc: Global, now: u64, action: &Action<'_>) -> Result<Tol
     }
 }
 
-/// Appends the line of an action.
-pub(crate) fn append_line(
-    alloc: Global,
-    lines: &mut String,
-    now: u64,
-    action: &Action<'_>,
-) -> Result<(), AllocError>
-    ensures { OnOk result (string_bytes lines.new ≡ string_bytes lines.old ++ line_of now (output_of action.now)) }
+/// Appends the line of an action that is stored; an event has none. An `Err` is want of memory.
+pub fn append_line(alloc: Global, lines: &mut String, told: &Told) -> Result<(), AllocError>
+    ensures { OnOk result (string_bytes lines.new ≡ string_bytes lines.old ++ stored_line told.now) }
 {
-    match action {
-        Action::Line(octets) => {
-            let digits = hex::encode_upper(alloc, *octets)?;
+    match told {
+        Told::Came(_) => Ok(()),
+        Told::Line(now, octets) => {
+            let digits = hex::encode_upper(alloc, octets.as_slice())?;
             writeln!(lines, "{now} > S {digits}")
         }
-        Action::Tcp(octets) => {
-            let digits = hex::encode_upper(alloc, *octets)?;
+        Told::Tcp(now, octets) => {
+            let digits = hex::encode_upper(alloc, octets.as_slice())?;
             writeln!(lines, "{now} > T {digits}")
         }
-        Action::Close(cause) => {
-            let number = number(*cause);
-            writeln!(lines, "{now} > X {number}")
-        }
+        Told::Close(now, number) => writeln!(lines, "{now} > X {number}"),
     }
 }

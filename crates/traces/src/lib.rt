@@ -2,7 +2,7 @@
 //!
 //! `read_trace` reads a whole trace into the gateway's `Entry`s, or names its first wrong line (`TextFault`); `read_octets`
 //! reads octets in hexadecimal alone. `Trace` is the gateway's port over entries: it gives a tick at moment 0 and then
-//! these, stores the log of the run, and writes the line of each action to a writer. What the gateway does with the
+//! these, stores the log of the run, and writes the line of each action (`append_line`) to a writer. What the gateway does with the
 //! events, and with moments that go back, is its own matter. Proved: the entries are the events that the lines tell, in
 //! their order, and no line is wrong; a line that is refused is the first that is neither empty, nor a comment, nor an
 //! event; an entry's octets fit what a port gives at once; `read_octets` answers the octets that the digits spell, and
@@ -21,6 +21,7 @@ mod reading;
 #[cfg(test)]
 mod tests;
 
+pub use actions::append_line;
 pub use decimal::decimal as read_decimal;
 pub use lines::{is_skipped, pieces};
 pub use octets::read_octets;

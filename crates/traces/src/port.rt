@@ -194,7 +194,7 @@ fn prepare(
 {
     let told = stored(alloc, now, action)?;
     line.clear();
-    append_line(alloc, line, now, action)?;
+    append_line(alloc, line, &told)?;
     log.try_reserve(1)?;
     Ok(told)
 }

@@ -1,6 +1,6 @@
 //! Traces, good and wrong.
-use crate::{TextFault, Trace, read_octets, read_trace};
-use gateway::{Action, Entry, Next, Port};
+use crate::{TextFault, Trace, append_line, read_octets, read_trace};
+use gateway::{Action, Entry, Next, Port, Told};
 use session::Close;
 use std::alloc::Global;
 use std::io;
@@ -167,6 +167,15 @@ fn faults_are_printed(rt: HostRuntime) -> Result<(), Fail> {
 }
 
 /// The two ends of a run over a trace: its actions, by hand, and what is written.
+#[test]
+fn a_stored_action_has_a_line(rt: HostRuntime) -> Result<(), Fail> {
+    let mut lines = String::new(rt.alloc());
+    append_line(rt.alloc(), &mut lines, &Told::Came(Entry::Tick(5)))?;
+    append_line(rt.alloc(), &mut lines, &Told::Close(70, 5))?;
+    assert_eq!(rt; lines.as_str(), "70 > X 5\n");
+    Ok(())
+}
+
 #[test]
 fn a_trace_gives_its_entries_and_writes_its_actions(rt: HostRuntime) -> Result<(), Fail> {
     let alloc = rt.alloc();

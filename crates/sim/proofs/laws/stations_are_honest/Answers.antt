@@ -15,6 +15,8 @@ returns c =
       class2 = c.station_is_an_outstation.ensures.class2;
       accepted = c.station_is_an_outstation.ensures.accepted;
       given = c.station_is_an_outstation.ensures.given;
+      address = c.station_is_an_outstation.ensures.address;
+      size = c.station_is_an_outstation.ensures.size;
     } in
     let known : SessionsKnown = λ p log i turns faithful lt honest. record {
       each_report = c.each_session_is_known.ensures.reports p log i turns faithful lt honest;

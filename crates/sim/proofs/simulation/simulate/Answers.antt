@@ -14,7 +14,7 @@ returns g c =
     let text : c.as_bytes.result.now ≡ run_text c.args.script.now c.told.result.now c.stations.result.now =
     c.as_bytes.ensures.value ∙ c.in_ok-text.ensures ∙ ap (λ (ds : List Directive). run_text ds c.told.result.now c.stations.result.now) c.directives.ensures.said in
     let run : IsRun c.args.config.now c.args.script.now c.told.result.now c.stations.result.now =
-    told_run c.args.config.now c.args.script.now c.in_ok-sim.sim c.told.result.now c.stations.result.now c.in_ok-sim.ensures.plan c.in_ok-sim.ensures.calls c.in_ok-sim.ensures.faithful c.in_ok-sim.ensures.rests
+    told_run c.args.config.now c.args.script.now c.in_ok-sim.sim c.told.result.now c.stations.result.now c.in_ok-sim.ensures.plan c.in_ok-sim.ensures.calls c.in_ok-sim.ensures.faithful c.in_ok-sim.ensures.rests c.in_ok-sim.ensures.order
     c.told.ensures.log c.stations.ensures c.told.ensures.stands (c.nothing_is_lost.ensures (setup_of c.args.config.now))
     (λ log answers ss played faithful. c.stations_are_honest.ensures c.args.config.now c.args.script.now log answers ss c.stations-stations.ensures.rules.distinct played faithful)
     (λ f d. c.connections_are_counted.ensures (setup_of c.args.config.now) c.told.result.now f d) in

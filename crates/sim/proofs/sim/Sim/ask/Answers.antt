@@ -29,7 +29,7 @@ invariant_of-self-2 c =
     subst (λ (ss : List Secondary). IsPutOut c.fate-fate.result c.args.octets.now ss c.put_out-answer.result c.put_out-answer.new.stations) c.as_mut_slice.ensures.value c.put_out-answer.ensures.out in
     let same : length c.put_out-answer.new.stations ≡ length c.self.inside.stations.items = length_out c.fate-fate.result c.args.octets.now c.self.inside.stations.items c.put_out-answer.new.stations c.put_out-answer.result out in (
       c.self.invariant.0,
-      ask_kept (plan_of c.self.inside.config.now c.self.inside.script.now) c.self.inside.log.items _ c.self.inside.stations.items c.put_out-answer.new.stations _ _ c.args.now c.in_ok-copy.copy c.args.octets.now c.put_out-answer.result _
+      ask_kept c.station_is_an_outstation.ensures.size (plan_of c.self.inside.config.now c.self.inside.script.now) c.self.inside.log.items _ c.self.inside.stations.items c.put_out-answer.new.stations _ _ c.args.now c.in_ok-copy.copy c.args.octets.now c.put_out-answer.result _
           c.in_ok-keep.ensures.ok c.in_ok-copy.ensures.items
           (subst (λ (f : Fate). IsPutOut f c.args.octets.now c.self.inside.stations.items c.put_out-answer.result c.put_out-answer.new.stations) fate out)
           (written c.self.inside.stations.items c.put_out-answer.new.stations c.self.inside.stations.len (omega (arith, same, c.self.inside.stations.ok.0, c.self.inside.stations.ok.1)))
