@@ -103,8 +103,8 @@ fn run<'a>(alloc: Global, config: &'a Config, script: &'a Script) -> Result<Sim<
 /// is `Hold`), what was taken from a station is what it gave, or all but its last report; with `Reset` this holds of each session
 /// between two resets.
 ///
-/// `Write` is answered only where a `write` failed or took no octet; what was written then is the beginning of the text of such a
-/// run. After `NoMemory` nothing was written.
+/// After `Write` what was written is the beginning of the text of such a run; after `NoMemory` nothing was written. That a `write` that
+/// fails or takes no octet is answered by `Write`, and no other, is no clause: a test shows it.
 pub fn simulate<W: Write>(
     alloc: Global,
     config: &Config,
