@@ -1,7 +1,7 @@
 //! Worked ASDUs: read, cut into pieces, and written.
 use crate::{
-    Asdu, CaSize, CauseSize, Head, IoaSize, Object, Refused, Sizes, can_write, head, read,
-    translate, write,
+    Asdu, CaSize, CauseSize, Head, IoaSize, Object, Refused, Sizes, can_write, head,
+    is_plain_command, is_tagged_command, read, retag, translate, untag, write,
 };
 use arrayvec::ArrayVec;
 use elements::{Cp56, TypeId, Verdict, judge, kind};
@@ -133,11 +133,58 @@ fn refuses_what_is_too_short(rt: HostRuntime) {
 #[test]
 fn refuses_types_that_are_not_known(rt: HostRuntime) {
     assert!(rt; is_refused(SMALL, &[0x02, 0x00, 0x03, 0x01, 0x64], 2));
-    for octet in 58..=64u8 {
+    for octet in 63..=64u8 {
         let tagged = [
             octet, 0x01, 6, 1, 10, 0x81, 0xD5, 0xDD, 0x22, 0x0C, 0x9D, 0x02, 0x18,
         ];
         assert!(rt; is_refused(SMALL, &tagged, 2));
+    }
+}
+
+/// Whether the second is the first with the tag, both ways, in the sizes of a connection.
+fn is_tagged_pair(plain: &[u8], tagged: &[u8]) -> bool {
+    let (Ok(without), Ok(with)) = (read(Sizes::TCP, plain), read(Sizes::TCP, tagged)) else {
+        return false;
+    };
+    if !is_tagged_command(with.kind) || !is_plain_command(without.kind) {
+        return false;
+    }
+    if with.number() != 1 || without.number() != 1 {
+        return false;
+    }
+    untag(&with).as_slice() == plain && retag(&without, &Cp56(THURSDAY)).as_slice() == tagged
+}
+
+/// Commands with a tag: in the sizes of a connection, as they go down without it, and back.
+#[test]
+fn takes_tags_off_and_puts_them_on(rt: HostRuntime) {
+    let commands: [(u8, &[u8]); 5] = [
+        (45, &[0x81]),
+        (46, &[0x02]),
+        (47, &[0x01]),
+        (48, &[0x00, 0xC0, 0x80]),
+        (49, &[0x64, 0x00, 0x05]),
+    ];
+    for (octet, element) in commands {
+        let mut plain = Octets::new();
+        let mut tagged = Octets::new();
+        assert!(rt; extend(&mut plain, &[octet, 1, 6, 0, 1, 0, 0x0A, 0, 0]));
+        assert!(rt; extend(&mut tagged, &[octet + 13, 1, 6, 0, 1, 0, 0x0A, 0, 0]));
+        assert!(rt; extend(&mut plain, element) && extend(&mut tagged, element));
+        assert!(rt; extend(&mut tagged, &THURSDAY));
+        assert!(rt; is_tagged_pair(&plain, &tagged));
+    }
+    // With SQ 1, in sizes of one octet each.
+    let select = [
+        58, 0x81, 6, 1, 10, 0x81, 0xD5, 0xDD, 0x22, 0x0C, 0x9D, 0x02, 0x18,
+    ];
+    let Ok(asdu) = read(SMALL, &select) else {
+        assert!(rt; false);
+        return;
+    };
+    assert!(rt; is_tagged_command(asdu.kind) && asdu.number() == 1);
+    if is_tagged_command(asdu.kind) && asdu.number() == 1 {
+        assert!(rt; untag(&asdu).as_slice() == [45, 0x81, 6, 1, 10, 0x81].as_slice());
     }
 }
 
