@@ -5,8 +5,8 @@
 
 A command is a line of a code block that begins with `./telegate`, up to a comment. bench/readme.txt has for each a line `$ COMMAND`,
 what it prints, worked out by hand, and its exit status in brackets; there a line `...` stands for any lines. A command of README.md
-that isn't there is a failure; one that is only there is run all the same. `run` doesn't end by itself: of it the README's
-`python3 examples/live/try.py` is run, which is to end with 0. `./build` isn't run: what it does `rt ci` does.
+that isn't there is a failure. `run` doesn't end by itself: of it the README's `python3 examples/live/try.py` is run, which is to
+end with 0. `./build` isn't run: what it does `rt ci` does.
 The last line is `N passed, M failed`, and the exit status is 1 where one failed. With `--program` that file is run in place of
 `./telegate`.
 """
@@ -69,7 +69,7 @@ def main():
     with open(os.path.join(TOP, "bench", "readme.txt")) as file:
         wanted = read_transcript(file.read())
     passed = failed = 0
-    for command in [*commands, *(it for it in wanted if it not in commands)]:
+    for command in commands:
         text, status = wanted.get(command, (None, None))
         if command == LIVE and program:
             print(f"not run: {command}")
@@ -84,6 +84,10 @@ def main():
         else:
             failed += 1
             print(f"FAILED: {command}: status {done.returncode}\n{done.stdout}{done.stderr}")
+    # A README without commands would pass for want of any.
+    if len(commands) < 5:
+        failed += 1
+        print(f"FAILED: README.md has {len(commands)} commands")
     print(f"{passed} passed, {failed} failed")
     sys.exit(1 if failed else 0)
 

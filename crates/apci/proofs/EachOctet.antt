@@ -1,5 +1,5 @@
 -- What each octet gives, and what the octets so far are.
-use Rattle.std.proofs.Common.{◌≡◌, ℕ, ◌+◌, ◌*◌, ◌%◌, ◌/◌, ◌-◌, ◌^◌, ◌<◌, ◌≤◌, min, List, [], ◌∷◌, ◌++◌, length, get_or, take, All, Some, Option, refl, sym, ap, subst, append_assoc, ◌∙◌, arith, inl}
+use Rattle.std.proofs.Common.{◌≡◌, ℕ, ◌+◌, ◌*◌, ◌%◌, ◌/◌, ◌^◌, ◌<◌, ◌≤◌, List, [], ◌∷◌, ◌++◌, length, get_or, take, All, Some, Option, refl, sym, ap, subst, append_assoc, ◌∙◌, arith, inl}
 use Rattle.std.specs.Prelude.{IfSome}
 use Rattle.std.proofs.lemmas.List.{take_more}
 use Rattle.std.proofs.lemmas.List.Elements.{All-cons, All-nil}
@@ -147,15 +147,14 @@ never_heard s asdu before piece i o step place why joined lt at h is =
     let g : Gives x asdu o s (steps.Never place why) = subst (Gives x asdu o s) is (gives_at s asdu before piece i o step joined at h) in
     heard_never before piece (before ++ take i piece) x i place why refl lt refl g
 
--- how many octets were looked at, up to and with the one that decides
-pub never_looked : (s : State) (asdu before piece : List ℕ) (i o : ℕ) (step : Step) (place : ℕ) (why : Why) (first looked after : ℕ)
+-- the octet that decides is the one looked at last
+pub decided_here : (s : State) (asdu before piece : List ℕ) (i o : ℕ) (step : Step) (place : ℕ) (why : Why)
     → IsState s asdu → so_far s asdu ≡ Some (before ++ take i piece) → i < length piece → o ≡ get_or piece i 0
     → IfSome (so_far s asdu) (λ octets. Gives (octets ++ o ∷ []) asdu o s step) → step ≡ steps.Never place why
-    → looked ≡ min (2 ^ 64 - 1) (first + i) → after ≡ min (2 ^ 64 - 1) (looked + 1)
-    → (decides : ℕ) × IsDecidedAt (before ++ piece) decides × (after ≡ min (2 ^ 64 - 1) (first + (decides + 1 - length before)))
-never_looked s asdu before piece i o step place why first looked after state joined lt at h is so counted =
+    → (decides : ℕ) × IsDecidedAt (before ++ piece) decides × (decides ≡ length before + i)
+decided_here s asdu before piece i o step place why state joined lt at h is =
     let x : List ℕ = before ++ take i piece in
     let y : List ℕ = x ++ get_or piece i 0 ∷ [] in
     let g : Gives y asdu o s (steps.Never place why) = subst (Gives y asdu o s) is (gives_at s asdu before piece i o step joined at h) in
     let d = decided_by before piece x i g.0 refl lt (state_more s asdu x state joined) g.1 in
-    (g.0, d.0, omega (arith, d.1, so, counted))
+    (g.0, d.0, d.1)
