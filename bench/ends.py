@@ -1,7 +1,10 @@
-"""The two ends of a live run: the outstations behind a line, and a control centre. For the scripts that drive `telegate run`."""
+"""What the scripts share that run the program as a process: the two ends of a live run, the outstations behind a line and a control
+centre; and libraries in front of the C library's."""
 import os
+import shutil
 import socket
 import subprocess
+import sys
 import tempfile
 import time
 
@@ -32,6 +35,19 @@ def free_port():
     """A port of the loopback at which nothing listens."""
     with socket.create_server(("127.0.0.1", 0)) as server:
         return server.getsockname()[1]
+
+
+def library(folder, name, source):
+    """A library of this C text, in this folder. Where no C compiler is, the script ends as skipped."""
+    compiler = next(filter(None, map(shutil.which, ("cc", "gcc", "clang"))), None)
+    if compiler is None:
+        print("skipped: there is no C compiler")
+        sys.exit(0)
+    text, made = os.path.join(folder, f"{name}.c"), os.path.join(folder, f"{name}.so")
+    with open(text, "w") as file:
+        file.write(source)
+    subprocess.run([compiler, "-O1", "-shared", "-fPIC", "-o", made, text, "-ldl"], check=True)
+    return made
 
 
 class Run:

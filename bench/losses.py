@@ -18,7 +18,7 @@ import subprocess
 import sys
 import tempfile
 
-TOP = os.path.dirname(os.path.dirname(os.path.abspath(__file__)))
+import ends
 
 SETTINGS = """[line]
 link = 1
@@ -91,7 +91,7 @@ def losses():
 
 def main():
     words = argparse.ArgumentParser()
-    words.add_argument("--program", default=os.path.join(TOP, "crates", "telegate", "out", "telegate"))
+    words.add_argument("--program", default=ends.PROGRAM)
     words.add_argument("--without-command", action="store_true")
     given = words.parse_args()
     accepted = 0 if given.without_command else 1

@@ -12,7 +12,6 @@ The last line is `N passed, M failed`, and the exit status is 1 where one failed
 import argparse
 import mmap
 import os
-import subprocess
 import sys
 import tempfile
 
@@ -83,16 +82,6 @@ void *calloc(size_t count, size_t size) {
     return __libc_calloc(count, size);
 }
 """
-
-
-def made(folder):
-    """The library, in this folder."""
-    source = os.path.join(folder, "memory.c")
-    library = os.path.join(folder, "memory.so")
-    with open(source, "w") as file:
-        file.write(LIBRARY)
-    subprocess.run(["cc", "-O1", "-shared", "-fPIC", "-o", library, source, "-ldl"], check=True)
-    return library
 
 
 class Outstations:
@@ -178,7 +167,7 @@ def measured(program):
         counts = os.path.join(folder, "requests")
         with open(counts, "wb") as file:
             file.write(bytes(8))
-        environment = dict(os.environ, LD_PRELOAD=made(folder), REQUESTS=counts)
+        environment = dict(os.environ, LD_PRELOAD=ends.library(folder, "memory", LIBRARY), REQUESTS=counts)
         with open(counts, "rb") as file, mmap.mmap(file.fileno(), 8, prot=mmap.PROT_READ) as shared:
             with ends.Run(program, SETTINGS, environment) as run:
                 visits = Visits(run)

@@ -17,7 +17,7 @@ import subprocess
 import sys
 import tempfile
 
-TOP = os.path.dirname(os.path.dirname(os.path.abspath(__file__)))
+import ends
 
 # A single command to a station that has one report.
 SEND = """turns 12
@@ -111,16 +111,6 @@ __attribute__((destructor)) static void tell(void) {
 """
 
 
-def made(folder):
-    """The library, in this folder."""
-    source = os.path.join(folder, "refusals.c")
-    library = os.path.join(folder, "refusals.so")
-    with open(source, "w") as file:
-        file.write(LIBRARY)
-    subprocess.run(["cc", "-O1", "-shared", "-fPIC", "-o", library, source, "-ldl"], check=True)
-    return library
-
-
 def run(words, library, folder, refused):
     """The exit status, what was printed, and how many requests for memory there were. None is refused at 0."""
     told = os.path.join(folder, "requests")
@@ -160,12 +150,12 @@ def refuses(words, library, folder, busy):
 
 def main():
     words = argparse.ArgumentParser()
-    words.add_argument("--program", default=os.path.join(TOP, "crates", "telegate", "out", "telegate"))
+    words.add_argument("--program", default=ends.PROGRAM)
     given = words.parse_args()
     passed = failed = 0
     print(f"{'requests':>8} {'no memory':>9} {'as ample':>8} {'busy':>5} {'wrong':>5}  command")
     with tempfile.TemporaryDirectory() as folder:
-        library = made(folder)
+        library = ends.library(folder, "refusals", LIBRARY)
         for command in COMMANDS:
             words = [placed(word, folder) for word in command[1:]]
             is_send = SEND in command
@@ -190,7 +180,7 @@ def placed(word, folder):
         with open(path, "w") as file:
             file.write(word)
         return path
-    return os.path.join(TOP, "examples", word)
+    return os.path.join(ends.TOP, "examples", word)
 
 
 if __name__ == "__main__":

@@ -10,12 +10,13 @@ the wording of a proof. So each edit is tried in a copy of the repository by `rt
     goal     a goal of the contract isn't proved, and no values are named (it seldom finds those that break an equation of lists)
     proof    a proof written by hand no longer fits, and nothing else
     names    a proof names what the edit took away, so the contract wasn't tried
+    law      the edit turns a definition together with the body: the bodies are proved, and the laws above them aren't
     PROVED   it isn't refused
 
 An edit may have a harmless twin, a file of the same name in tools/twins/CRATE: an edit of the same shape that changes no answer. The
 twin is tried too, and is to be proved. One that is refused by a proof alone needs it.
 The last line is `N passed, M failed`: an edit fails that isn't refused, that is refused for names, that has a twin which isn't
-proved, or that is refused by a proof alone and has no twin. `--slot` stands before each `rt check`; `--log` keeps what each said.
+proved, that is refused by a proof alone and has no twin, or that turns a definition and is refused by more than laws. `--slot` stands before each `rt check`; `--log` keeps what each said.
 """
 import argparse
 import os
@@ -109,10 +110,19 @@ def reason(said):
     return "other", next((line for line in lines if "error" in line), lines[-1])
 
 
+def laws_refused(said):
+    """The laws that aren't proved, where nothing else isn't: public functions with empty bodies, in modules of their own."""
+    unproved = re.findall(r"^fn (\S+): (?:not proved|no proof)", said, re.M)
+    return unproved if all(re.search(r"::(laws|refinement|runs)::", name) for name in unproved) else []
+
+
 def judged(edit, twin, attempt):
     """The word of an edit, that of its twin, whether they are as they should be, and the line that says most."""
     said, is_proved = attempt(edit)
     word, line = ("PROVED", "") if is_proved else reason(said)
+    if any(file.startswith("specs/") for file, _, _ in pairs_of(edit)):
+        laws = laws_refused(said)
+        return ("law", "", True, ", ".join(laws)) if laws else (word, "", False, line)
     if not os.path.isfile(twin):
         return word, "", word in ("values", "goal"), line
     is_harmless = attempt(twin)[1]
