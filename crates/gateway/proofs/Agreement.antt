@@ -28,7 +28,7 @@ use Rattle.gateway.specs.Connections.{Channel, no_channel, sending, ends, presen
 use Rattle.gateway.specs.Reports.{Setup, exchanges_of, taken_objects, reports_in, parts_of_all}
 use Rattle.gateway.specs.Polls.{has_room}
 use Rattle.gateway.specs.Room.{IsFull}
-use Rattle.gateway.specs.Traffic.{is_replaced, replaces, HasCause, IsAtRest, IsFaithful}
+use Rattle.gateway.specs.Traffic.{is_replaced, replaces, IsAtRest, IsFaithful}
 use Rattle.command.specs.State as tasks
 use Rattle.gateway.specs.State.{has_place, State, disconnected, framed, next_frame, piece_sent, own_sent}
 use Rattle.gateway.specs.Steps.{IsCloseAt, after_closing}
@@ -43,7 +43,7 @@ use Rattle.command.specs.State.{octets_waiting, oldest}
 use Rattle.command.specs.declared.waiting.Waiting.{Waiting}
 use Rattle.command.specs.Calls.{SendOwn}
 use Rattle.command.specs.History as happened
-use Rattle.gateway.specs.Course.{Course, here_of, came_frames, room_by, room_in, kind_of, told_sent, with_sent, with_frame, ended_course, works_at, closed_course, Runs}
+use Rattle.gateway.specs.Course.{Course, here_of, came_frames, room_by, room_in, kind_of, told_sent, with_sent, with_frame, ended_course, works_at, closed_course, IsCause, Runs}
 use Rattle.gateway.specs.Phases.{Phase, Fresh, Taking, Idle, Crowded, Timed, Asked, IsPhase, works_in, IsAsked, IsPlaced, IsOut, after_frame}
 use Rattle.session.specs.History as talk
 use Rattle.session.specs.History.{History, frame_due, has_timed_out}
@@ -354,7 +354,7 @@ after_heard p s log unjudged rest f a on ready so fits whole passes faultless ke
       found = a.found;
       line = a.line;
       course = with_frame p f s.moment a.course;
-      talk = talk_heard p s.session log a.course s.moment f rest a.talk a.stands.phase_is a.clock on ready passes joined;
+      talk = talk_heard p s.session log a.course s.moment f rest a.talk a.stands.phase_is a.clock on ready fits passes (a.stands.placed (sym a.here.link ∙ on)) joined;
       stands = heard_stands p s log f a.course kept place a.stands;
       offers = offers_heard a.talk.command_laws s.line s.line s.commands (framed f s).commands f s.moment refl refl a.offers;
       plain = heard_plain a.talk.command_laws f s.moment s.commands fits a.plain;
@@ -651,14 +651,14 @@ same_open Timeout c = refl
 same_open OwnAnswers c = refl
 same_open Replaced c = refl
 
-pub after_close : (laws : LineLaws) (p : Setup) (s : State) (log : Log) (unjudged : List ℕ) (cause : Close) (phase : Phase) (fault : Option Close) (a : Agrees p s log unjudged phase) → s.session.connected ≡ true → ends cause ≡ true → IsCloseAt cause phase → IsConnection (closed_by cause (present log)) (here_of a.course) fault → HasCause p cause log →
+pub after_close : (laws : LineLaws) (p : Setup) (s : State) (log : Log) (unjudged : List ℕ) (cause : Close) (phase : Phase) (fault : Option Close) (a : Agrees p s log unjudged phase) → s.session.connected ≡ true → ends cause ≡ true → IsCloseAt cause phase → IsConnection (closed_by cause (present log)) (here_of a.course) fault → IsCause p log cause a.course →
     Agrees p (disconnected s) (Went s.moment (Closed cause) ∷ log) [] (after_closing phase)
 after_close laws p s log unjudged cause phase fault a on last timely stands why =
     let new : Log = Went s.moment (Closed cause) ∷ log in
     let octets : Channel = closed_by cause (present log) in
     let course : Course = ended_course octets.is_open (works_at p cause (latest log) a.course.works) a.course in
     let end = ended p s log unjudged phase a octets fault (same_open cause (present log)) stands in
-    let runs : Runs p new course = (a.course, a.talk.course_runs, sym (closed_is p cause (present log).is_open (latest log) a.course last ∙ ap (λ b. ended_course b (works_at p cause (latest log) a.course.works) a.course) (sym (same_open cause (present log))))) in
+    let runs : Runs p new course = (a.course, a.talk.course_runs, sym (closed_is p cause (present log).is_open (latest log) a.course last ∙ ap (λ b. ended_course b (works_at p cause (latest log) a.course.works) a.course) (sym (same_open cause (present log)))), why) in
     let talk : Talks p (session.closed s.session) new course = talk_cut p s.session s.session log new a.course course a.talk refl refl runs in
     let shut : present new ≡ no_channel = ap (λ b. if b then no_channel else present log) last in
     let gone : past new ≡ over octets (past log) = ap (λ b. if b then over octets (past log) else past log) last in
@@ -686,7 +686,7 @@ after_close laws p s log unjudged cause phase fault a on last timely stands why 
         are = subst (λ cs. AreConnections cs course.earlier) (sym gone) end.are;
         orders = end.orders;
         times = (kept_talk p _ _ _ talk, a.before.times);
-        acts = (record { moment = a.clock; replaced = no_replaced cause last ∙ sym a.settled; may = why }, a.before.acts);
+        acts = (record { moment = a.clock; replaced = no_replaced cause last ∙ sym a.settled; may = λ h. (sym a.here.link ∙ on, (a.course, a.talk.course_runs, why)) }, a.before.acts);
         rests = a.before.rests;
       };
     }

@@ -628,7 +628,7 @@ module _ (laws : LineLaws) (p : Setup) (s t : State) (log : Log) (now : ℕ) (fi
   pub come_replaced : t.session.connected ≡ true → Agrees p (connected (disconnected t)) (Went t.moment (Closed Replaced) ∷ Came now Opened ∷ log) [] Idle
   come_replaced on =
       let new : Log = Went t.moment (Closed Replaced) ∷ Came now Opened ∷ log in
-      let talk : Talks p (connected (disconnected t)).session new opened = talk_on p (connected (disconnected t)).session (connected (disconnected t)).session (Came now Opened ∷ log) new opened opened opened_talk refl refl (opened, opened_runs, refl) in
+      let talk : Talks p (connected (disconnected t)).session new opened = talk_on p (connected (disconnected t)).session (connected (disconnected t)).session (Came now Opened ∷ log) new opened opened opened_talk refl refl (opened, opened_runs, refl, tt) in
       let was : is_replaced (Came now Opened ∷ log) ≡ true = sym a.here.link ∙ sym (ap (λ x. x.connected) h.session) ∙ on in
       record {
         k = ap (λ x. x.k) h.session ∙ a.k;
@@ -748,6 +748,7 @@ come_bytes p s t log now octets fits settled_fits rest a h ready = (
     brings = record {
       frames = [];
       taken = ap (λ z. with_works z left) h.worked;
+      each = tt;
       rest = w.so_far ++ more;
       joined = ap (λ (x : Channel). x.received) (bytes_at s.session.connected (present log) (sym a.here.link)) ∙ joined_now;
     }

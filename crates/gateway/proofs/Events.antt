@@ -335,12 +335,7 @@ told_overfull p (Some log) s t now octets fits laws off on b h =
       agrees = a;
       fault = Some OwnAnswers;
       stands = stands_overfull p t (Came now (LineIn octets) ∷ h.before) [] Crowded a;
-      why = record {
-        open_is = sym a.here.link ∙ on;
-        course = a.course;
-        runs = a.talk.course_runs;
-        full = subst (λ (c : Course). is_overfull (tasks_of p c.works).history ≡ true) (sym (come_course p s t h.before now (LineIn octets) fits false none (refl, refl, refl) (on_line h.before now octets) h.rested h.agrees heard)) (heard.full off);
-      };
+      why = subst (λ (c : Course). is_overfull (tasks_of p c.works).history ≡ true) (sym (come_course p s t h.before now (LineIn octets) fits false none (refl, refl, refl) (on_line h.before now octets) h.rested h.agrees heard)) (heard.full off);
     })
 
 pub told_tick : (p : Setup) (told : Option Log) (s t : State) (now : ℕ) (fits : Bool) → LineLaws → Begins s now Ticked fits t → IfSome told (HasCome p s now Ticked) → Tracks p t told [] Idle

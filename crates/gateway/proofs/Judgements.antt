@@ -22,17 +22,17 @@ use Rattle.gateway.specs.Streams.{spelled, IsRefused}
 use Rattle.gateway.specs.Reports.{Setup}
 use Rattle.gateway.specs.State.{State, disconnected, received, has_place, framed}
 use Rattle.gateway.specs.Works.{tasks_of, is_overfull}
-use Rattle.gateway.specs.Course.{Course, here_of, came_frames, with_frame}
+use Rattle.gateway.specs.Course.{Course, here_of, came_frames, with_frame, StandsNext, IsCause}
 use Rattle.gateway.specs.Phases.{Taking, Idle, Crowded, after_frame}
 use Rattle.session.specs.Ends.{IsConfirmed}
-use Rattle.gateway.specs.Frames.{Connection, fault_of}
+use Rattle.gateway.specs.Frames.{fault_of}
 use Rattle.gateway.specs.Connections.{present, IsConnection}
-use Rattle.gateway.specs.Traffic.{HasCause}
 use Rattle.gateway.specs.Agrees.{Agrees, Tracks, Awaits}
 use Rattle.gateway.specs.Steps.{Judged, IsFaulty, IsTaken, MayClose}
 use Rattle.gateway.proofs.Frames.{taken_stays, nothing_waits}
 use Rattle.gateway.proofs.Tied.{no_close, fault_closes, fault_cases}
 use Rattle.gateway.proofs.Working.{heard_overfull}
+use Rattle.gateway.proofs.Talking.{confirmed_by}
 use Rattle.gateway.proofs.Agreement.{after_heard, heard_course, after_more, with_so_far, now_idle, stands_garbled, stands_faulty, stands_overfull, fault_ends, fault_closes_so}
 
 unfolded : (s : State) (so_far other : List ℕ) → s.so_far ≡ Some so_far → s.so_far ≡ Some other → so_far ≡ other
@@ -74,12 +74,20 @@ fault_dropped s f cause e =
     ap (λ (x : Session). disconnected (let made : State = record s { queue = queue.acknowledged x.acked_queue s.queue; session = x } in made)) is
 
 -- a frame's fault is the cause
-frame_cause : (p : Setup) (log : Log) (c : Connection) (sent : ℕ) (older : List Apdu) (f : Apdu) (cause : Close) → fault_of sent older f ≡ Some cause → (present log).is_open ≡ true → IsConnection (present log) c (Some cause) → HasCause p cause log
-frame_cause p log c sent older f cause fault on stands =
-    fault_cases (λ cause. IsConnection (present log) c (Some cause) → HasCause p cause log) (λ st h. (on, (c, st))) (λ st h. (on, (c, st))) (λ st h. (on, (c, st))) sent older f cause fault stands
+frame_cause : (p : Setup) (log : Log) (c : Course) (sent : ℕ) (older : List Apdu) (f : Apdu) (cause : Close) → fault_of sent older f ≡ Some cause → StandsNext p log cause c → IsCause p log cause c
+frame_cause p log c sent older f cause fault stands =
+    fault_cases (λ cause. StandsNext p log cause c → IsCause p log cause c) (λ st. st) (λ st. st) (λ st. st) sent older f cause fault stands
 
-faulty_closes : (p : Setup) (log : Log) (s t : State) (f : Apdu) (cause : Close) (rest : List ℕ) → s.session.connected ≡ true → Fits f → s.so_far ≡ Some [] → IsFaulty s f cause t → Agrees p s log (spelling f ++ rest) Taking → MayClose p t cause Idle log
-faulty_closes p log s t f cause rest on fits so j a =
+-- what is next closes the connection
+next_closes : (p : Setup) (s : State) (log : Log) (unjudged : List ℕ) (cause : Close) → s.session.connected ≡ true → IsConfirmed s.session → (a : Agrees p s log unjudged Taking) → IsConnection (present log) (here_of a.course) (Some cause) → StandsNext p log cause a.course
+next_closes p s log unjudged cause on ready a stands = record {
+  next = stands;
+  confirmed = sym (confirmed_by p s.session log a.course a.talk) ∙ ready;
+  placed = a.stands.placed (sym a.here.link ∙ on);
+}
+
+faulty_closes : (p : Setup) (log : Log) (s t : State) (f : Apdu) (cause : Close) (rest : List ℕ) → s.session.connected ≡ true → Fits f → s.so_far ≡ Some [] → IsFaulty s f cause t → IsConfirmed s.session → Agrees p s log (spelling f ++ rest) Taking → MayClose p t cause Idle log
+faulty_closes p log s t f cause rest on fits so j ready a =
     let fault = fault_closes f (here_of a.course) s.session s.queue.sent cause a.here.tied j.fault in
     let closes = fault_closes_so (length a.course.sent) (came_frames a.course.talk) f cause (present log) fault in
     let stands = stands_faulty p s log (spelling f ++ rest) rest f cause Taking a fits (ap (λ x. x ++ (spelling f ++ rest)) (nothing_so_far p s log _ a so)) fault in
@@ -95,7 +103,7 @@ faulty_closes p log s t f cause rest on fits so j a =
       agrees = a;
       fault = Some cause;
       stands = subst (λ o. IsConnection o (here_of a.course) (Some cause)) (sym closes.0) stands;
-      why = frame_cause p log (here_of a.course) (length a.course.sent) (came_frames a.course.talk) f cause fault (sym a.here.link ∙ on) stands;
+      why = frame_cause p log a.course (length a.course.sent) (came_frames a.course.talk) f cause fault (next_closes p s log (spelling f ++ rest) cause on ready a stands);
     }
 
 -- its own answer found no place
@@ -115,18 +123,13 @@ overfull_closes p log s t f rest on fits so j ready a =
       agrees = b;
       fault = Some OwnAnswers;
       stands = stands_overfull p (framed f s) log rest Crowded b;
-      why = record {
-        open_is = sym a.here.link ∙ on;
-        course = b.course;
-        runs = b.talk.course_runs;
-        full = subst (λ (c : Course). is_overfull (tasks_of p c.works).history ≡ true) (sym (taken_course p s log rest f a on ready fits so j.passes false j.place))
-            (heard_overfull p f s.moment a.course.works (ap (has_place f s.moment) (sym a.stands.does.commands) ∙ j.place));
-      };
+      why = subst (λ (c : Course). is_overfull (tasks_of p c.works).history ≡ true) (sym (taken_course p s log rest f a on ready fits so j.passes false j.place))
+          (heard_overfull p f s.moment a.course.works (ap (has_place f s.moment) (sym a.stands.does.commands) ∙ j.place));
     }
 
 pub judged_closes : (p : Setup) (told : Option Log) (s t : State) (f : Apdu) (cause : Close) (rest : List ℕ) → s.session.connected ≡ true → Fits f → s.so_far ≡ Some [] → Judged s f (Some cause) t → Awaits p s told (spelling f ++ rest) → IfSome told (MayClose p t cause Idle)
 judged_closes p None s t f cause rest on fits so j a = tt
-judged_closes p (Some log) s t f cause rest on fits so (inl j) a = faulty_closes p log s t f cause rest on fits so j a.0
+judged_closes p (Some log) s t f cause rest on fits so (inl j) a = faulty_closes p log s t f cause rest on fits so j a.1 a.0
 judged_closes p (Some log) s t f cause rest on fits so (inr j) a = subst (λ x. MayClose p t x Idle log) (sym j.0) (overfull_closes p log s t f rest on fits so j.1 a.1 a.0)
 
 -- the octets of the frame so far count as not judged
@@ -164,7 +167,7 @@ garbled_closes p (Some log) s t piece so_far on so refused is both =
       agrees = a;
       fault = Some Grammar;
       stands = stands;
-      why = λ h. (sym a.here.link ∙ on, (here_of a.course, stands));
+      why = next_closes p s log piece Grammar on both.1 a stands;
     }
 
 pub found_apdu : (o : Option (List ℕ)) (piece : List ℕ) (n : ℕ) (f : Apdu) (after : Option (List ℕ)) → is_some o ≡ true → IfSome o (λ x. Hears x piece n (hears.Apdu f) after) →

@@ -221,10 +221,8 @@ late_closes p s log late a =
       fault = None;
       stands = stands_now p s log Timed a;
       why = record {
-        open_is = sym a.here.link ∙ on;
-        course = a.course;
-        runs = a.talk.course_runs;
         all = all_taken log a.course a.here.so_far a.here.joined a.here.waits;
+        placed = a.stands.placed (sym a.here.link ∙ on);
         late = subst (λ m. has_timed_out p.session.t1 m a.course.talk ≡ true) a.clock (sym (late_by p s.session log a.course a.talk s.moment) ∙ late);
       };
     }

@@ -24,8 +24,8 @@ use Rattle.gateway.specs.Streams.{spelled}
 use Rattle.gateway.specs.Frames.{data_frames}
 use Rattle.gateway.specs.Connections.{Channel, present}
 use Rattle.gateway.specs.Reports.{Setup}
-use Rattle.gateway.specs.Works.{Works, IsOwnDue}
-use Rattle.gateway.specs.Course.{Course, first_course, came_frames, kind_of, told_sent, with_frame, with_sent, TakesFrames, HasTakenAll, Runs}
+use Rattle.gateway.specs.Works.{Works, tasks_of, is_overfull, IsOwnDue}
+use Rattle.gateway.specs.Course.{Course, first_course, came_frames, kind_of, told_sent, with_frame, with_sent, MayTake, TakesFrames, HasTakenAll, Runs}
 use Rattle.gateway.specs.Conversation.{KeepsTalk}
 use Rattle.gateway.specs.Phases.{IsTaking}
 use Rattle.gateway.specs.CommandLaws.{CommandLaws}
@@ -34,21 +34,21 @@ use Rattle.gateway.specs.Agrees.{Talks, IsTimely}
 
 -- A frame more is taken
 
-taken_more : (p : Setup) (octets : Channel) (now : ℕ) (before c : Course) (f : Apdu) (rest : List ℕ) → octets.received ≡ spelled (f ∷ came_frames c.talk) ++ rest → TakesFrames p octets now before c → TakesFrames p octets now before (with_frame p f now c)
-taken_more p octets now before c f rest joined k = record { frames = f ∷ k.frames; taken = ap (with_frame p f now) k.taken; rest = rest; joined = joined }
+taken_more : (p : Setup) (octets : Channel) (now : ℕ) (before c : Course) (f : Apdu) → MayTake p octets now f c → TakesFrames p octets now before c → TakesFrames p octets now before (with_frame p f now c)
+taken_more p octets now before c f may k = record { frames = f ∷ k.frames; taken = ap (with_frame p f now) k.taken; each = (subst (MayTake p octets now f) k.taken may, k.each); rest = may.rest; joined = may.joined }
 
 -- frames are taken only of octets
-runs_more : (p : Setup) (log : Log) (c : Course) (f : Apdu) (rest : List ℕ) → IsTaking log → (present log).received ≡ spelled (f ∷ came_frames c.talk) ++ rest → Runs p log c → Runs p log (with_frame p f (latest log) c)
-runs_more p [] c f rest takes joined k = absurd takes
-runs_more p (Came now (LineIn octets) ∷ log) c f rest takes joined k = absurd takes
-runs_more p (Came now Opened ∷ log) c f rest takes joined k = absurd takes
-runs_more p (Came now (TcpIn octets) ∷ log) c f rest takes joined k =
-    (k.0, k.1, k.2, k.3, k.4, taken_more p (present (Came now (TcpIn octets) ∷ log)) _ _ c f rest joined k.5)
-runs_more p (Came now CutOff ∷ log) c f rest takes joined k = absurd takes
-runs_more p (Came now Ticked ∷ log) c f rest takes joined k = absurd takes
-runs_more p (Went now (LineOut octets) ∷ log) c f rest takes joined k = absurd takes
-runs_more p (Went now (TcpOut octets) ∷ log) c f rest takes joined k = (k.0, k.1, k.2, k.3, taken_more p (present (Went now (TcpOut octets) ∷ log)) _ k.1 c f rest joined k.4)
-runs_more p (Went now (Closed cause) ∷ log) c f rest takes joined k = absurd takes
+runs_more : (p : Setup) (log : Log) (c : Course) (f : Apdu) → IsTaking log → MayTake p (present log) (latest log) f c → Runs p log c → Runs p log (with_frame p f (latest log) c)
+runs_more p [] c f takes may k = absurd takes
+runs_more p (Came now (LineIn octets) ∷ log) c f takes may k = absurd takes
+runs_more p (Came now Opened ∷ log) c f takes may k = absurd takes
+runs_more p (Came now (TcpIn octets) ∷ log) c f takes may k =
+    (k.0, k.1, k.2, k.3, k.4, taken_more p (present (Came now (TcpIn octets) ∷ log)) _ _ c f may k.5)
+runs_more p (Came now CutOff ∷ log) c f takes may k = absurd takes
+runs_more p (Came now Ticked ∷ log) c f takes may k = absurd takes
+runs_more p (Went now (LineOut octets) ∷ log) c f takes may k = absurd takes
+runs_more p (Went now (TcpOut octets) ∷ log) c f takes may k = (k.0, k.1, k.2, k.3, taken_more p (present (Went now (TcpOut octets) ∷ log)) _ k.1 c f may k.4)
+runs_more p (Went now (Closed cause) ∷ log) c f takes may k = absurd takes
 
 -- The calls
 
@@ -117,6 +117,12 @@ kept_talk p s log c k = record {
 abbrev pub Begins : Channel → Course → Type 0
 Begins octets c = (rest : List ℕ) × (octets.received ≡ spelled (came_frames c.talk) ++ rest)
 
+-- what is said once one call more is made keeps the rules
+ruled : (p : Setup) (s t : Session) (log : Log) (c : Course) (call : Call) (now moment : ℕ) (said : ℕ → History) (k : Talks p s log c) → moment ≡ now → after_call call (at s c.talk) ≡ at t (said moment) → KeepsRules p.session (said now)
+ruled p s t log c call now moment said k clock made =
+    subst (λ m. KeepsRules p.session (said m)) clock
+    (subst (λ (r : Run). KeepsRules p.session r.history) (ap (after_call call) k.called ∙ made) (k.laws.rules p.session (call ∷ k.calls) k.timely.range))
+
 -- a frame goes out
 pub talk_out : (p : Setup) (s t : Session) (log : Log) (c : Course) (now moment : ℕ) (f : Apdu) (call : Call) (k : Talks p s log c) → Fits f → moment ≡ latest log → IsOwnDue p c.works f → after_call call (at s c.talk) ≡ at t (told_sent f moment c.talk) → Begins (present log) c →
     Talks p t (Went now (TcpOut (spelling f)) ∷ log) (with_sent f moment c)
@@ -130,21 +136,27 @@ talk_out p s t log c now moment f call k fits clock own made b = record {
     c,
     with_sent f moment c,
     k.course_runs,
-    record { frame = f; fits = fits; spelled_so = refl; own = own; put = ap (λ m. with_sent f m c) clock },
-    record { frames = []; taken = refl; rest = b.0; joined = b.1 ∙ ap (λ xs. spelled xs ++ b.0) (sym (same_came f moment c.talk)) },
+    record { frame = f; fits = fits; spelled_so = refl; rules = ruled p s t log c call (latest log) moment (λ m. told_sent f m c.talk) k clock made; own = own; put = ap (λ m. with_sent f m c) clock },
+    record { frames = []; taken = refl; each = tt; rest = b.0; joined = b.1 ∙ ap (λ xs. spelled xs ++ b.0) (sym (same_came f moment c.talk)) },
   );
 }
 
 -- a frame is taken
-pub talk_heard : (p : Setup) (s : Session) (log : Log) (c : Course) (moment : ℕ) (f : Apdu) (rest : List ℕ) (k : Talks p s log c) → IsTaking log → moment ≡ latest log → s.connected ≡ true → IsConfirmed s → refuses s f ≡ false → (present log).received ≡ spelled (f ∷ came_frames c.talk) ++ rest →
+pub talk_heard : (p : Setup) (s : Session) (log : Log) (c : Course) (moment : ℕ) (f : Apdu) (rest : List ℕ) (k : Talks p s log c) → IsTaking log → moment ≡ latest log → s.connected ≡ true → IsConfirmed s → Fits f → refuses s f ≡ false → is_overfull (tasks_of p c.works).history ≡ false → (present log).received ≡ spelled (f ∷ came_frames c.talk) ++ rest →
     Talks p (session.taken f moment s) log (with_frame p f moment c)
-talk_heard p s log c moment f rest k taking clock on ready goes joined = record {
+talk_heard p s log c moment f rest k taking clock on ready fits goes placed joined = record {
   timely = k.timely;
   laws = k.laws;
   command_laws = k.command_laws;
   calls = Take f moment ∷ k.calls;
   called = ap (after_call (Take f moment)) k.called ∙ takes s c.talk f moment on ready goes;
-  course_runs = subst (λ m. Runs p log (with_frame p f m c)) (sym clock) (runs_more p log c f rest taking joined k.course_runs);
+  course_runs = subst (λ m. Runs p log (with_frame p f m c)) (sym clock) (runs_more p log c f taking (record {
+    fits = fits;
+    rest = rest;
+    joined = joined;
+    rules = ruled p s (session.taken f moment s) log c (Take f moment) (latest log) moment (λ m. talk.Came f m ∷ c.talk) k clock (takes s c.talk f moment on ready goes);
+    placed = placed;
+  }) k.course_runs);
 }
 
 -- the same of another log, where nothing was said

@@ -1,7 +1,7 @@
 -- The course of a run, as its log shows it: what was said on the open connection, what the connections before it were, the line's
 -- primary station and what became of commands (IEC 60870-5-104, 5; IEC 60870-5-2, unbalanced transmission procedures; when a step
 -- takes a frame and whose turn it is, is this gateway's own profile).
-use Rattle.std.specs.Prelude.{◌≡◌, ℕ, ◌+◌, Bool, true, not, nat_lt, if◌then◌else◌, List, [], ◌∷◌, ◌++◌, Some, None}
+use Rattle.std.specs.Prelude.{◌≡◌, ℕ, ◌+◌, Bool, true, false, not, nat_lt, if◌then◌else◌, List, [], ◌∷◌, ◌++◌, Some, None}
 use Rattle.ft12.specs.Spelling as line
 use Rattle.apci.specs.declared.apdu.Apdu.{Apdu}
 use Rattle.apci.specs.declared.apdu.Apdu.TheVariants.{I}
@@ -14,19 +14,20 @@ use Rattle.link.specs.Exchanges.{Sending}
 use Rattle.link.specs.Requests.{request_frame}
 use Rattle.link.specs.Primary.{sending, received_outcome}
 use Rattle.session.specs.declared.kinds.Close.{Close}
-use Rattle.session.specs.declared.kinds.Close.TheVariants.{Timeout, Replaced}
+use Rattle.session.specs.declared.kinds.Close.TheVariants.{Timeout, OwnAnswers, Replaced}
 use Rattle.session.specs.declared.kinds.Kind.{Kind}
 use Rattle.session.specs.declared.kinds.Kind.TheVariants.{Queue, Own}
 use Rattle.session.specs.History as talk
-use Rattle.session.specs.History.{History}
+use Rattle.session.specs.History.{History, confirmation_of, has_timed_out}
+use Rattle.session.specs.Rules.{KeepsRules}
 use Rattle.command.specs.State.{octets_waiting}
 use Rattle.gateway.specs.Objects.{has_objects}
 use Rattle.gateway.specs.Log.{Log, Input, LineIn, Opened, TcpIn, CutOff, Ticked, Came, Went, LineOut, TcpOut, Closed, latest}
 use Rattle.gateway.specs.Streams.{spelled}
 use Rattle.gateway.specs.Frames.{Sent, Connection, runs, acknowledged_reports}
-use Rattle.gateway.specs.Connections.{Channel, present}
+use Rattle.gateway.specs.Connections.{Channel, present, IsConnection}
 use Rattle.gateway.specs.Reports.{Setup, address_at, reports_in, parts_of_all}
-use Rattle.gateway.specs.Works.{Works, first_works, tasks_of, LearnsOf, heard_works, sent_works, IsOwnDue, cut_works, begun_works, settled_works, ready_works, is_first_command, asked_works, done_works}
+use Rattle.gateway.specs.Works.{Works, first_works, tasks_of, is_overfull, LearnsOf, heard_works, sent_works, IsOwnDue, cut_works, begun_works, settled_works, ready_works, is_first_command, asked_works, done_works}
 
 pub record Course : Type 0 where
   -- what was said on the open connection: frames that came and frames that went out, each with its moment, the latest first
@@ -67,10 +68,25 @@ abbrev pub with_frames : Setup → List Apdu → (now : ℕ) → Course → Cour
 with_frames p [] now c = c
 with_frames p (frame ∷ frames) now c = with_frame p frame now (with_frames p frames now c)
 
+-- A frame is taken where it is the next of the octets received, and comes without fault once all confirmations are out (5.1, 5.3); and
+-- only where each own answer found a place (profile).
+pub record MayTake (p : Setup) (octets : Channel) (now : ℕ) (frame : Apdu) (c : Course) : Type 0 where
+  pub fits : Fits frame
+  pub rest : List ℕ
+  pub joined : octets.received ≡ spelled (frame ∷ came_frames c.talk) ++ rest
+  pub rules : KeepsRules p.session (talk.Came frame now ∷ c.talk)
+  pub placed : is_overfull (tasks_of p c.works).history ≡ false
+
+-- each of these frames, the latest first
+abbrev pub AreTaken : Setup → Channel → (now : ℕ) → List Apdu → Course → Type 0
+AreTaken p octets now [] c = Unit {0}
+AreTaken p octets now (frame ∷ older) c = MayTake p octets now frame (with_frames p older now c) × AreTaken p octets now older c
+
 -- Frames are taken, one after another, of the octets received.
 pub record TakesFrames (p : Setup) (octets : Channel) (now : ℕ) (before after : Course) : Type 0 where
   pub frames : List Apdu
   pub taken : after ≡ with_frames p frames now before
+  pub each : AreTaken p octets now frames before
   pub rest : List ℕ
   pub joined : octets.received ≡ spelled (came_frames after.talk) ++ rest
 
@@ -98,15 +114,39 @@ more_sent frame sent = sent
 abbrev pub with_sent : Apdu → (now : ℕ) → Course → Course
 with_sent frame now c = record { talk = told_sent frame now c.talk; sent = more_sent frame c.sent; earlier = c.earlier; works = sent_works frame c.works }
 
--- these octets go out: one frame; an I frame without monitor objects is the oldest own answer
+-- These octets go out: one frame, which is due, or an I frame with the counts that may go out (5.1 to 5.5); an I frame without monitor
+-- objects is the oldest own answer.
 pub record HandsOver (p : Setup) (octets : List ℕ) (now : ℕ) (before after : Course) : Type 0 where
   pub frame : Apdu
   pub fits : Fits frame
   pub spelled_so : octets ≡ spelling frame
+  pub rules : KeepsRules p.session (told_sent frame now before.talk)
   pub own : IsOwnDue p before.works frame
   pub put : after ≡ with_sent frame now before
 
 -- The ends of connections
+
+-- What is next in the octets received closes the connection with this cause: all before it was taken and confirmed (5.1, 5.3), and
+-- each own answer found a place.
+pub record StandsNext (p : Setup) (log : Log) (cause : Close) (c : Course) : Type 0 where
+  pub next : IsConnection (present log) (here_of c) (Some cause)
+  pub confirmed : confirmation_of c.talk ≡ None
+  pub placed : is_overfull (tasks_of p c.works).history ≡ false
+
+-- An I frame or a test has been without an answer for t1 (5.2), and no cause stands before it: all that came was taken without fault, and
+-- each own answer found a place.
+pub record IsLate (p : Setup) (log : Log) (c : Course) : Type 0 where
+  pub all : HasTakenAll (present log) c.talk
+  pub placed : is_overfull (tasks_of p c.works).history ≡ false
+  pub late : has_timed_out p.session.t1 (latest log) c.talk ≡ true
+
+-- Why a connection is closed, where the course is so far: an answer is late; the own answer of the frame taken last, or of the line's
+-- octets, found no place; or what is next in the octets.
+abbrev pub IsCause : Setup → Log → Close → Course → Type 0
+IsCause p log Replaced c = Unit {0}
+IsCause p log Timeout c = IsLate p log c
+IsCause p log OwnAnswers c = is_overfull (tasks_of p c.works).history ≡ true
+IsCause p log cause c = StandsNext p log cause c
 
 -- the connection that was open, if any, is over
 abbrev pub ended_course : (is_open : Bool) → Works → Course → Course
@@ -156,7 +196,8 @@ pub record SendsNext (p : Setup) (log : Log) (octets : List ℕ) (before after :
   pub is : after ≡ with_works (asked_works (latest log) (room_in p log before) request (ready_works p (latest log) before.works)) before
 
 -- The course that the log shows. When an event comes all whole frames received before are taken, and the step before has done what
--- was due. Frames are taken of an event's octets, before and between the frames that go out in its step.
+-- was due. Frames are taken of an event's octets, before and between the frames that go out in its step. A connection is closed where the
+-- cause stands.
 abbrev pub Runs : Setup → Log → Course → Type 0
 Runs p [] c = c ≡ first_course p
 Runs p (Came now event ∷ log) c =
@@ -164,4 +205,5 @@ Runs p (Came now event ∷ log) c =
 Runs p (Went now (TcpOut octets) ∷ log) c =
     (before : Course) × (after : Course) × Runs p log before × HandsOver p octets (latest log) before after × TakesFrames p (present (Went now (TcpOut octets) ∷ log)) (latest log) after c
 Runs p (Went now (LineOut octets) ∷ log) c = (before : Course) × Runs p log before × SendsNext p log octets before c
-Runs p (Went now (Closed cause) ∷ log) c = (before : Course) × Runs p log before × (c ≡ closed_course p cause (present log).is_open (latest log) before)
+Runs p (Went now (Closed cause) ∷ log) c =
+    (before : Course) × Runs p log before × (c ≡ closed_course p cause (present log).is_open (latest log) before) × IsCause p log cause before

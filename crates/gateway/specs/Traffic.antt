@@ -1,20 +1,20 @@
 -- What holds of every log of a gateway.
-use Rattle.std.specs.Prelude.{◌≡◌, ℕ, ◌+◌, ◌<◌, Bool, true, false, List, [], ◌∷◌, length, Some}
+use Rattle.std.specs.Prelude.{◌≡◌, ℕ, ◌+◌, ◌<◌, Bool, true, false, List, [], ◌∷◌, length}
 use Rattle.ft12.specs.Spelling.{spelling}
 use Rattle.link.specs.declared.service.Asked.{Asked}
 use Rattle.link.specs.Requests.{request_frame}
 use Rattle.session.specs.declared.kinds.Close.{Close}
-use Rattle.session.specs.declared.kinds.Close.TheVariants.{Timeout, OwnAnswers, Replaced}
+use Rattle.session.specs.declared.kinds.Close.TheVariants.{Replaced}
 use Rattle.gateway.specs.Log.{Log, Opened, Came, Went, Output, LineOut, TcpOut, Closed, latest}
 use Rattle.gateway.specs.Streams.{IsOneFrame}
-use Rattle.gateway.specs.Frames.{Connection, runs, acknowledged_count, first_unacknowledged, monitor_objects_sent, AreInOrder}
-use Rattle.gateway.specs.Connections.{present, past, ends, IsConnection, AreConnections, IsBegun}
+use Rattle.gateway.specs.Frames.{runs, acknowledged_count, first_unacknowledged, monitor_objects_sent, AreInOrder}
+use Rattle.gateway.specs.Connections.{present, past, ends, AreConnections, IsBegun}
 use Rattle.gateway.specs.Reports.{Setup, address_at, taken_objects, KeepsLinks}
 use Rattle.link.specs.Leave.{is_poll_request}
 use Rattle.gateway.specs.Room.{AreConnectionsOf, HasRoom}
 use Rattle.gateway.specs.Works.{tasks_of, is_overfull}
-use Rattle.gateway.specs.Course.{Course, here_of, Runs}
-use Rattle.gateway.specs.Conversation.{KeepsTimes, IsLate, IsOverfull, IsTalkAtRest}
+use Rattle.gateway.specs.Course.{Course, here_of, IsCause, Runs}
+use Rattle.gateway.specs.Conversation.{KeepsTimes, IsTalkAtRest}
 use Rattle.gateway.specs.Line.{IsWaiting, IsLineAtRest}
 
 -- The octets are a request to a station, while no exchange is outstanding; and a poll only where there is room.
@@ -31,11 +31,9 @@ abbrev pub is_replaced : Log → Bool
 is_replaced (Came now Opened ∷ log) = (present log).is_open
 is_replaced log = false
 
--- The connection is open, and its octets give the cause; or an answer is late; or an own answer found no place.
+-- The connection is open, and its course gives the cause, the first that stands.
 abbrev pub HasCause : Setup → Close → Log → Type 0
-HasCause p Timeout log = IsLate p log
-HasCause p OwnAnswers log = IsOverfull p log
-HasCause p cause log = ends cause ≡ true → ((present log).is_open ≡ true) × ((c : Connection) × IsConnection (present log) c (Some cause))
+HasCause p cause log = ends cause ≡ true → ((present log).is_open ≡ true) × ((c : Course) × Runs p log c × IsCause p log cause c)
 
 -- to the line whole requests, to TCP one APDU at a time while a connection is open, and a close with its cause
 abbrev pub MayGo : Setup → Log → Output → Type 0
