@@ -32,7 +32,7 @@ use Rattle.gateway.specs.Traffic.{is_replaced, replaces, IsAtRest, IsFaithful}
 use Rattle.command.specs.State as tasks
 use Rattle.gateway.specs.State.{has_place, State, disconnected, framed, next_frame, piece_sent, own_sent}
 use Rattle.gateway.specs.Steps.{IsCloseAt, after_closing}
-use Rattle.gateway.specs.Works.{is_overfull, Works, tasks_of, with_call, cut_works, settled_works, ready_works, unasked_works, IsOwnDue}
+use Rattle.gateway.specs.Works.{is_overfull, Works, tasks_of, with_call, cut_works, settled_works, ready_works, unasked_works}
 use Rattle.gateway.specs.Line.{IsServed, done_in}
 use Rattle.gateway.proofs.Serving.{upto_leaves, offers_reach, unasked_stays, left_at_rest}
 use Rattle.link.specs.Offers.{offered_at}
@@ -43,21 +43,20 @@ use Rattle.command.specs.State.{octets_waiting, oldest}
 use Rattle.command.specs.declared.waiting.Waiting.{Waiting}
 use Rattle.command.specs.Calls.{SendOwn}
 use Rattle.command.specs.History as happened
-use Rattle.gateway.specs.Course.{Course, here_of, came_frames, room_by, room_in, kind_of, told_sent, with_sent, with_frame, ended_course, works_at, closed_course, IsCause, Runs}
+use Rattle.gateway.specs.Course.{Course, here_of, came_frames, room_by, room_in, kind_of, told_sent, with_sent, with_frame, ended_course, works_at, closed_course, IsFlushed, IsNextData, IsCause, Runs}
 use Rattle.gateway.specs.Phases.{Phase, Fresh, Taking, Idle, Crowded, Timed, Asked, IsPhase, works_in, IsAsked, IsPlaced, IsOut, after_frame}
 use Rattle.session.specs.History as talk
 use Rattle.session.specs.History.{History, frame_due, has_timed_out}
 use Rattle.session.specs.Runs.{Call, Send, after_call}
-use Rattle.session.specs.Ends.{IsConfirmed}
 use Rattle.gateway.specs.Conversation.{KeepsTalk}
-use Rattle.gateway.specs.Agrees.{IsAt, Presently, Carries, Past, Talks, Agrees, Does, Tied, ArePlain, IsSpent, IsQuiet, pieces_of}
+use Rattle.gateway.specs.Agrees.{IsAt, Presently, Carries, Past, Talks, Agrees, Does, Tied, ArePlain, IsSpent, IsClear, IsQuiet, pieces_of}
 use Rattle.gateway.proofs.Working.{answers_in, does_same, does_heard, does_cut, does_cut_again, does_own, asked_own, own_placed, heard_placed, heard_due, settled_due}
 use Rattle.gateway.proofs.Offering.{count_upto, offers_heard, offers_cut, heard_plain}
-use Rattle.gateway.proofs.Talking.{at, HasNoData, no_own, sends, kept_talk, talk_out, talk_heard, talk_cut, all_taken, confirmed_by, due_by, late_by}
+use Rattle.gateway.proofs.Talking.{at, HasNoData, next_plain, sends, kept_talk, talk_out, talk_heard, talk_cut, all_taken, confirmed_by, due_by, late_by}
 use Rattle.gateway.proofs.Unconfirmed.{numbered_more}
 use Rattle.gateway.proofs.Tied.{tied_taken, tied_piece, tied_own, sent_more, SameWindow, tied_same, fault_cases}
 use Rattle.gateway.proofs.Frames.{pass_grows, taken_stays, nothing_waits}
-use Rattle.gateway.proofs.Objects.{carries_piece, carries_own, carries_end, first_whole, run_now, split_reports}
+use Rattle.gateway.proofs.Objects.{next_objects, carries_piece, carries_own, carries_end, first_whole, run_now, split_reports}
 use Rattle.gateway.proofs.Sound.{no_room_means}
 use Rattle.gateway.specs.LineLaws.{LineLaws}
 use Rattle.gateway.proofs.Stations.{keeps_links, line_rests}
@@ -146,6 +145,19 @@ placed_cut Asked log h = λ o. refl
 acknowledged_within : (p : Setup) (s : State) (log : Log) (unjudged : List ℕ) (phase : Phase) (a : Agrees p s log unjudged phase) → acknowledged_count (came_frames a.course.talk) ≤ length a.course.sent
 acknowledged_within p s log unjudged phase a = omega (arith, a.here.tied.unconfirmed.count)
 
+-- where nothing can be sent any more, all that may go out has gone out
+pub flushed_by : (p : Setup) (s : State) (log : Log) (unjudged : List ℕ) (phase : Phase) (a : Agrees p s log unjudged phase) → IsSpent s → IsFlushed p log a.course
+flushed_by p s log unjudged phase a spent started room =
+    let all = spent (can (is_running s.session) (a.here.tied.running ∙ started) (omega (arith, room, a.here.tied.unconfirmed.count, a.k))) in
+    record {
+      objects = omega (arith, a.carries.front, ap length a.carries.joined, length-append a.carries.gone (objects_of_frames a.course.sent ++ flat_map objects s.queue.unsent), length-append (objects_of_frames a.course.sent) (flat_map objects s.queue.unsent), ap (λ xs. length (flat_map objects xs)) all.0);
+      answers = sym (ap (λ (c : tasks.State). c.answers) a.stands.does.commands ∙ answers_in p phase (latest log) (room_in p log a.course) a.course.works) ∙ all.1;
+    }
+  where
+    can : (b : Bool) → b ≡ true → length s.session.unacknowledged < s.session.k → (b && nat_lt (length s.session.unacknowledged) s.session.k) ≡ true
+    can true h lt = lt-ltb (length s.session.unacknowledged) s.session.k lt
+    can false h lt = cc
+
 -- a frame is handed to TCP
 went_out : (s t : State) (octets : Channel) (unjudged : List ℕ) (c : Connection) (fs : List Sent) (f : Apdu) (h : Presently s octets unjudged c) → Fits f → s.session.connected ≡ true → t.session.connected ≡ s.session.connected → t.so_far ≡ s.so_far →
     fs ≡ data_frames (f ∷ h.put) → length c.sent_frames ≤ length fs →
@@ -205,17 +217,18 @@ module _ (p : Setup) (s t : State) (log : Log) (unjudged asdu : List ℕ) (kind 
   data_room : room_in p data_log after_data ≡ room_in p log a.course
   data_room = room_more p (parts_of_all p.sizes (reports_in p log)) (came_frames a.course.talk) a.course.sent _ a.course.earlier (acknowledged_within p s log unjudged phase a)
 
-  data_talk : may_send s.session ≡ true → kind_of asdu ≡ kind → IsOwnDue p a.course.works (next_frame s.session asdu) → Fits (next_frame s.session asdu) → with_sent (next_frame s.session asdu) s.moment a.course ≡ after_data → Talks p (session.sent kind s.moment s.session) data_log after_data
-  data_talk may is own fits same =
+  data_talk : may_send s.session ≡ true → kind_of asdu ≡ kind → IsNextData p log asdu a.course → Fits (next_frame s.session asdu) → with_sent (next_frame s.session asdu) s.moment a.course ≡ after_data → Talks p (session.sent kind s.moment s.session) data_log after_data
+  data_talk may is next fits same =
       subst (Talks p (session.sent kind s.moment s.session) data_log) same
-      (talk_out p s.session (session.sent kind s.moment s.session) log a.course s.moment s.moment (next_frame s.session asdu) (Send kind s.moment) a.talk fits a.clock own (sends s.session a.course.talk asdu kind s.moment may is) (a.here.so_far ++ unjudged, a.here.joined))
+      (talk_out p s.session (session.sent kind s.moment s.session) log a.course s.moment s.moment (next_frame s.session asdu) (Send kind s.moment) a.talk fits a.clock next (sends s.session a.course.talk asdu kind s.moment may is) (a.here.so_far ++ unjudged, a.here.joined))
 
-pub after_piece : (p : Setup) (s : State) (log : Log) (unjudged asdu : List ℕ) (rest : List (List ℕ)) (phase : Phase) → Agrees p s log unjudged phase → may_send s.session ≡ true → s.session.connected ≡ true → s.queue.unsent ≡ asdu ∷ rest → Fits (next_frame s.session asdu) →
+pub after_piece : (p : Setup) (s : State) (log : Log) (unjudged asdu : List ℕ) (rest : List (List ℕ)) (phase : Phase) → Agrees p s log unjudged phase → may_send s.session ≡ true → s.session.connected ≡ true → s.commands.answers ≡ [] → s.queue.unsent ≡ asdu ∷ rest → Fits (next_frame s.session asdu) →
     Agrees p (piece_sent s) (Went s.moment (TcpOut (spelling (next_frame s.session asdu))) ∷ log) unjudged phase
-after_piece p s log unjudged asdu rest phase a may on unsent fits =
+after_piece p s log unjudged asdu rest phase a may on none unsent fits =
     let f : Sent = record { ns = s.session.next_sent; nr = s.session.next_received; asdu = asdu } in
     let has : has_objects asdu ≡ true = first_whole (taken_objects p log) (parts_of_all p.sizes (reports_in p log)) a.course.earlier a.course.sent s.queue.unsent rest asdu unsent a.carries in
-    let talk = data_talk p s (piece_sent s) log unjudged asdu FromQueue phase a.course.works a may (ap (λ b. if b then FromQueue else Own) has) (λ none. absurd (false≢true (sym none ∙ has))) fits (data_queue s asdu s.moment a.course has) in
+    let answers : (tasks_of p a.course.works).state.answers ≡ [] = sym (ap (λ (c : tasks.State). c.answers) a.stands.does.commands ∙ answers_in p phase (latest log) (room_in p log a.course) a.course.works) ∙ none in
+    let talk = data_talk p s (piece_sent s) log unjudged asdu FromQueue phase a.course.works a may (ap (λ b. if b then FromQueue else Own) has) (record { own = λ no. absurd (false≢true (sym no ∙ has)); none = λ some. answers; report = λ some. next_objects (taken_objects p log) (parts_of_all p.sizes (reports_in p log)) a.course.earlier a.course.sent s.queue.unsent rest asdu unsent a.carries }) fits (data_queue s asdu s.moment a.course has) in
     let room = data_room p s (piece_sent s) log unjudged asdu FromQueue phase a.course.works a in
     record {
       k = a.k;
@@ -257,7 +270,7 @@ after_own p s log unjudged asdu phase a may on first fits =
     let oldest : tasks.first_answer (tasks_of p a.course.works).state.answers ≡ Some asdu =
     ap tasks.first_answer (sym (ap (λ (c : tasks.State). c.answers) a.stands.does.commands ∙ answers_in p phase (latest log) (room_in p log a.course) a.course.works)) ∙ first in
     let w : Works = with_call SendOwn a.course.works in
-    let talk = data_talk p s (own_sent s) log unjudged asdu Own phase w a may (ap (λ b. if b then FromQueue else Own) none) (λ same. oldest) fits (data_own s asdu s.moment a.course none) in
+    let talk = data_talk p s (own_sent s) log unjudged asdu Own phase w a may (ap (λ b. if b then FromQueue else Own) none) (record { own = λ no. oldest; none = λ some. absurd (false≢true (sym none ∙ some)); report = λ some. absurd (false≢true (sym none ∙ some)) }) fits (data_own s asdu s.moment a.course none) in
     let room = data_room p s (own_sent s) log unjudged asdu Own phase w a in
     record {
       k = a.k;
@@ -299,9 +312,9 @@ due_same (I ns nr asdu) moment c none = let no : data_frames (I ns nr asdu ∷ [
 due_same (S nr) moment c none = refl
 due_same (U u) moment c none = refl
 
-pub after_due : (p : Setup) (s : State) (t : Session) (log : Log) (unjudged : List ℕ) (f : Apdu) (phase : Phase) → Agrees p s log unjudged phase → s.session.connected ≡ true → Fits f → HasNoData f → GoesOut s.session t s.moment f → SameWindow s.session t →
+pub after_due : (p : Setup) (s : State) (t : Session) (log : Log) (unjudged : List ℕ) (f : Apdu) (phase : Phase) (a : Agrees p s log unjudged phase) → (talk.confirmation_of a.course.talk ≡ Some f) ⊎ IsFlushed p log a.course → s.session.connected ≡ true → Fits f → HasNoData f → GoesOut s.session t s.moment f → SameWindow s.session t →
     Agrees p (record s { session = t }) (Went s.moment (TcpOut (spelling f)) ∷ log) unjudged phase
-after_due p s t log unjudged f phase a on fits none goes same = record {
+after_due p s t log unjudged f phase a next on fits none goes same = record {
   k = same.same_k ∙ a.k;
   sizes = a.sizes;
   places = a.places;
@@ -322,7 +335,7 @@ after_due p s t log unjudged f phase a on fits none goes same = record {
   where
     talk_due : Talks p t (Went s.moment (TcpOut (spelling f)) ∷ log) (due_course f s.moment a.course)
     talk_due = subst (Talks p t (Went s.moment (TcpOut (spelling f)) ∷ log)) (due_same f s.moment a.course none)
-        (talk_out p s.session t log a.course s.moment s.moment f goes.call a.talk fits a.clock (no_own p a.course.works f none) (goes.made a.course.talk) (a.here.so_far ++ unjudged, a.here.joined))
+        (talk_out p s.session t log a.course s.moment s.moment f goes.call a.talk fits a.clock (next_plain p log a.course f none next) (goes.made a.course.talk) (a.here.so_far ++ unjudged, a.here.joined))
 
 -- the works where a frame is taken, by whether its answer finds a place
 heard_stands : (p : Setup) (s : State) (log : Log) (f : Apdu) (c : Course) (kept : Bool) → has_place f s.moment s.commands ≡ kept → IsAt p log Taking s c → IsAt p log (after_frame kept) (framed f s) (with_frame p f s.moment c)
@@ -340,7 +353,7 @@ heard_stands p s log f c false place h = record {
 }
 
 -- a whole frame without fault is taken
-pub after_heard : (p : Setup) (s : State) (log : Log) (unjudged rest : List ℕ) (f : Apdu) (a : Agrees p s log unjudged Taking) → s.session.connected ≡ true → IsConfirmed s.session → s.so_far ≡ Some [] → Fits f → a.here.so_far ++ unjudged ≡ spelling f ++ rest → refuses s.session f ≡ false → fault_of (length a.course.sent) (came_frames a.course.talk) f ≡ None →
+pub after_heard : (p : Setup) (s : State) (log : Log) (unjudged rest : List ℕ) (f : Apdu) (a : Agrees p s log unjudged Taking) → s.session.connected ≡ true → IsClear s → s.so_far ≡ Some [] → Fits f → a.here.so_far ++ unjudged ≡ spelling f ++ rest → refuses s.session f ≡ false → fault_of (length a.course.sent) (came_frames a.course.talk) f ≡ None →
     (kept : Bool) → has_place f s.moment s.commands ≡ kept → Agrees p (framed f s) log rest (after_frame kept)
 after_heard p s log unjudged rest f a on ready so fits whole passes faultless kept place =
     let joined : (present log).received ≡ spelled (f ∷ came_frames a.course.talk) ++ rest = a.here.joined ∙ ap (λ x. spelled (came_frames a.course.talk) ++ x) whole ∙ sym (append_assoc (spelled (came_frames a.course.talk)) (spelling f) rest) in
@@ -354,7 +367,7 @@ after_heard p s log unjudged rest f a on ready so fits whole passes faultless ke
       found = a.found;
       line = a.line;
       course = with_frame p f s.moment a.course;
-      talk = talk_heard p s.session log a.course s.moment f rest a.talk a.stands.phase_is a.clock on ready fits passes (a.stands.placed (sym a.here.link ∙ on)) joined;
+      talk = talk_heard p s.session log a.course s.moment f rest a.talk a.stands.phase_is a.clock on ready.confirmed fits passes (a.stands.placed (sym a.here.link ∙ on)) (flushed_by p s log unjudged Taking a ready.spent) joined;
       stands = heard_stands p s log f a.course kept place a.stands;
       offers = offers_heard a.talk.command_laws s.line s.line s.commands (framed f s).commands f s.moment refl refl a.offers;
       plain = heard_plain a.talk.command_laws f s.moment s.commands fits a.plain;
@@ -377,7 +390,7 @@ after_heard p s log unjudged rest f a on ready so fits whole passes faultless ke
       before = a.before;
     }
 
-pub heard_course : (p : Setup) (s : State) (log : Log) (unjudged rest : List ℕ) (f : Apdu) (a : Agrees p s log unjudged Taking) (on : s.session.connected ≡ true) (ready : IsConfirmed s.session) (so : s.so_far ≡ Some []) (fits : Fits f) (whole : a.here.so_far ++ unjudged ≡ spelling f ++ rest) (passes : refuses s.session f ≡ false) (faultless : fault_of (length a.course.sent) (came_frames a.course.talk) f ≡ None) (kept : Bool) (place : has_place f s.moment s.commands ≡ kept) →
+pub heard_course : (p : Setup) (s : State) (log : Log) (unjudged rest : List ℕ) (f : Apdu) (a : Agrees p s log unjudged Taking) (on : s.session.connected ≡ true) (ready : IsClear s) (so : s.so_far ≡ Some []) (fits : Fits f) (whole : a.here.so_far ++ unjudged ≡ spelling f ++ rest) (passes : refuses s.session f ≡ false) (faultless : fault_of (length a.course.sent) (came_frames a.course.talk) f ≡ None) (kept : Bool) (place : has_place f s.moment s.commands ≡ kept) →
     (after_heard p s log unjudged rest f a on ready so fits whole passes faultless kept place).course ≡ with_frame p f s.moment a.course
 unfolding after_heard
 heard_course p s log unjudged rest f a on ready so fits whole passes faultless kept place = refl
@@ -708,13 +721,7 @@ rested laws p s log a spent quiet = record {
   are = record { open_one = stands_now p s log Asked a; earlier = a.before.are };
   settled = a.settled;
   placed = a.stands.placed;
-  eager = λ on started room.
-      let may : may_send s.session ≡ true = can (is_running s.session) (a.here.tied.running ∙ started) (omega (arith, room, a.here.tied.unconfirmed.count, a.k)) in
-      let all = spent may in
-      record {
-        objects = omega (arith, a.carries.front, ap length a.carries.joined, length-append a.carries.gone (objects_of_frames a.course.sent ++ flat_map objects s.queue.unsent), length-append (objects_of_frames a.course.sent) (flat_map objects s.queue.unsent), ap (λ xs. length (flat_map objects xs)) all.0);
-        answers = sym (ap (λ (c : tasks.State). c.answers) a.stands.does.commands ∙ answers_in p Asked (latest log) (room_in p log a.course) a.course.works) ∙ all.1;
-      };
+  eager = λ on. flushed_by p s log [] Asked a spent;
   line = line_rests laws p s.line log a.course (room_in p log a.course) a.line (none_left a.course.works.is_due refl) (here_of a.course ∷ a.course.earlier)
       (λ none. is_full p s log [] Asked a (no_room_means s.queue (sym (same_room p s log [] Asked a) ∙ none))) served;
   talk = record {
@@ -725,10 +732,6 @@ rested laws p s log a spent quiet = record {
   };
 }
   where
-    can : (b : Bool) → b ≡ true → length s.session.unacknowledged < s.session.k → (b && nat_lt (length s.session.unacknowledged) s.session.k) ≡ true
-    can true h lt = lt-ltb (length s.session.unacknowledged) s.session.k lt
-    can false h lt = cc
-
     w : Works
     w = a.course.works
 

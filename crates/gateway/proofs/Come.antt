@@ -17,7 +17,6 @@ use Rattle.link.specs.Telling.{Tells, report_in}
 use Rattle.session.specs.declared.kinds.Close.TheVariants.{Replaced}
 use Rattle.session.specs.Session as session
 use Rattle.session.specs.Session.{is_running as is_running_of}
-use Rattle.session.specs.Ends.{IsConfirmed}
 use Rattle.command.specs.State as tasks
 use Rattle.command.specs.State.{line_of, refusal_of, is_used}
 use Rattle.command.specs.Mirrors.{mirrored}
@@ -672,47 +671,45 @@ module _ (laws : LineLaws) (p : Setup) (s t : State) (log : Log) (now : ℕ) (fi
   }
 
 -- octets of no connection count for nothing; else none is judged yet
-pub come_bytes : (p : Setup) (s t : State) (log : Log) (now : ℕ) (octets : List ℕ) (fits : Bool) → fits ≡ true → HasRested p log → (a : Agrees p s log [] (resting log)) → Heard p s t log now (TcpIn octets) (left_of p log a.course) fits → IsConfirmed s.session → Agrees p t (Came now (TcpIn octets) ∷ log) (if t.session.connected then octets else []) Taking × IsConfirmed t.session
-come_bytes p s t log now octets fits settled_fits rest a h ready = (
-  subst (λ b. Agrees p t (Came now (TcpIn octets) ∷ log) (if b then octets else []) Taking) (sym (ap (λ x. x.connected) h.session)) (record {
-    k = ap (λ x. x.k) h.session ∙ a.k;
-    sizes = h.sizes ∙ a.sizes;
-    places = h.places ∙ a.places;
-    clock = h.clock;
-    settled = refl;
-    found = a.found;
-    line = h.line;
-    course = d;
-    talk = talk_now;
-    stands = record { does = h.does; asks = h.due; phase_is = tt; placed = λ o. h.placed settled_fits ∙ placed_before p s log a (sym (opens (present log)) ∙ o) };
-    offers = h.offers;
-    plain = h.plain;
-    here = subst (λ x. Presently t x more (here_of d)) (sym (bytes_at s.session.connected (present log) (sym a.here.link))) (record {
-      link = w.link;
-      none = λ off. (closed s.session.connected (a.here.link ∙ off) (a.here.none off).0, (a.here.none off).1);
-      put = w.put;
-      handed = w.handed;
-      sent = w.sent;
-      so_far = w.so_far;
-      assembler = w.assembler;
-      waits = w.waits;
-      joined = joined_now;
-      fit = w.fit;
-      pass = w.pass;
-      tied = w.tied;
-      numbered = w.numbered;
-    });
-    carries = carried p s t log now (TcpIn octets) left fits a.course.earlier a.course.sent h a.carries;
-    before = record {
-      are = a.before.are;
-      orders = subst (λ objs. AreInOrder objs a.course.earlier) (sym h.taken) (orders_grow (taken_objects p log) h.more a.course.earlier a.before.orders);
-      times = (kept_talk p _ _ _ talk_now, a.before.times);
-      acts = a.before.acts;
-      rests = (rest, a.before.rests);
-    };
-  }),
-  subst IsConfirmed (sym h.session) ready,
-)
+pub come_bytes : (p : Setup) (s t : State) (log : Log) (now : ℕ) (octets : List ℕ) (fits : Bool) → fits ≡ true → HasRested p log → (a : Agrees p s log [] (resting log)) → Heard p s t log now (TcpIn octets) (left_of p log a.course) fits → Agrees p t (Came now (TcpIn octets) ∷ log) (if t.session.connected then octets else []) Taking
+come_bytes p s t log now octets fits settled_fits rest a h =
+    subst (λ b. Agrees p t (Came now (TcpIn octets) ∷ log) (if b then octets else []) Taking) (sym (ap (λ x. x.connected) h.session)) (record {
+      k = ap (λ x. x.k) h.session ∙ a.k;
+      sizes = h.sizes ∙ a.sizes;
+      places = h.places ∙ a.places;
+      clock = h.clock;
+      settled = refl;
+      found = a.found;
+      line = h.line;
+      course = d;
+      talk = talk_now;
+      stands = record { does = h.does; asks = h.due; phase_is = tt; placed = λ o. h.placed settled_fits ∙ placed_before p s log a (sym (opens (present log)) ∙ o) };
+      offers = h.offers;
+      plain = h.plain;
+      here = subst (λ x. Presently t x more (here_of d)) (sym (bytes_at s.session.connected (present log) (sym a.here.link))) (record {
+        link = w.link;
+        none = λ off. (closed s.session.connected (a.here.link ∙ off) (a.here.none off).0, (a.here.none off).1);
+        put = w.put;
+        handed = w.handed;
+        sent = w.sent;
+        so_far = w.so_far;
+        assembler = w.assembler;
+        waits = w.waits;
+        joined = joined_now;
+        fit = w.fit;
+        pass = w.pass;
+        tied = w.tied;
+        numbered = w.numbered;
+      });
+      carries = carried p s t log now (TcpIn octets) left fits a.course.earlier a.course.sent h a.carries;
+      before = record {
+        are = a.before.are;
+        orders = subst (λ objs. AreInOrder objs a.course.earlier) (sym h.taken) (orders_grow (taken_objects p log) h.more a.course.earlier a.before.orders);
+        times = (kept_talk p _ _ _ talk_now, a.before.times);
+        acts = a.before.acts;
+        rests = (rest, a.before.rests);
+      };
+    })
   where
     left : Course
     left = left_of p log a.course
@@ -744,7 +741,7 @@ come_bytes p s t log now octets fits settled_fits rest a h ready = (
     joined_now : (present log).received ++ more ≡ spelled (came_frames a.course.talk) ++ (w.so_far ++ more)
     joined_now = ap (λ x. x ++ more) w.joined ∙ append_assoc (spelled (came_frames a.course.talk)) (w.so_far ++ []) more ∙ ap (λ x. spelled (came_frames a.course.talk) ++ (x ++ more)) (append-nil w.so_far)
 
-    brings : TakesFrames p (present (Came now (TcpIn octets) ∷ log)) (latest (Came now (TcpIn octets) ∷ log)) (with_works (begun_works (TcpIn octets) (latest (Came now (TcpIn octets) ∷ log)) left.works) left) d
+    brings : TakesFrames p (Came (latest (Came now (TcpIn octets) ∷ log)) (TcpIn octets) ∷ log) (latest (Came now (TcpIn octets) ∷ log)) (with_works (begun_works (TcpIn octets) (latest (Came now (TcpIn octets) ∷ log)) left.works) left) d
     brings = record {
       frames = [];
       taken = ap (λ z. with_works z left) h.worked;

@@ -34,7 +34,7 @@ use Rattle.gateway.specs.Runs.{events_told, MoreEvents}
 use Rattle.gateway.specs.State.{State, at_moment, disconnected, connected, put_on_line, commands_after, after_request as after_next}
 use Rattle.gateway.specs.Steps as steps
 use Rattle.gateway.specs.Steps.{HearsEvent, line_timed, settled, Begins, MayClose}
-use Rattle.gateway.specs.Agrees.{Presently, Talks, Agrees, Does, OffersWait, ArePlain, Tracks, Awaits, Leaves, Follows, HasCome, Rests, Carries}
+use Rattle.gateway.specs.Agrees.{Presently, Talks, Agrees, Does, OffersWait, ArePlain, Tracks, Awaits, Leaves, Follows, HasCome, Rests, Carries, IsClear, IsSpent}
 use Rattle.gateway.proofs.Working.{does_settled, settled_placed, put_state, put_placed}
 use Rattle.gateway.proofs.Offering.{offers_stay, offers_made, offers_asked, offers_unasked}
 use Rattle.gateway.proofs.Agreement.{stands_now, stands_overfull, has_places, same_room, now_idle}
@@ -365,8 +365,10 @@ told_unreplaced p (Some log) s t now fits laws b h = subst (IsFaithful p) (sym h
 pub told_bytes : (b : Bool) (p : Setup) (told : Option Log) (s t : State) (now : ℕ) (octets : List ℕ) (fits : Bool) → LineLaws → Begins s now (TcpIn octets) fits t → t.session.connected ≡ b → IfSome told (HasCome p s now (TcpIn octets)) → Awaits p t told (if b then octets else [])
 told_bytes b p None s t now octets fits laws begun is h = tt
 told_bytes b p (Some log) s t now octets fits laws begun is h =
-    let both = come_bytes p s t h.before now octets fits begun.hears.1 h.rested h.agrees (heard_in laws p s t now (TcpIn octets) fits log begun h) h.confirmed in
-    (subst (λ b. Agrees p t log (if b then octets else []) Taking) is (as_log p t now (TcpIn octets) log h.before (if t.session.connected then octets else []) Taking h.is both.0), both.1)
+    let agrees = come_bytes p s t h.before now octets fits begun.hears.1 h.rested h.agrees (heard_in laws p s t now (TcpIn octets) fits log begun h) in (
+      subst (λ b. Agrees p t log (if b then octets else []) Taking) is (as_log p t now (TcpIn octets) log h.before (if t.session.connected then octets else []) Taking h.is agrees),
+      subst IsClear (sym (begun.times ∙ ap line_timed begun.hears.0)) (record { confirmed = h.clear.confirmed; spent = h.clear.spent }),
+    )
 
 -- the octets are taken
 pub told_idle : (p : Setup) (told : Option Log) (s : State) → Awaits p s told [] → Tracks p s told [] Idle
@@ -382,19 +384,19 @@ started p s a =
     let none : a.course.works.is_due ≡ false = ap (λ (c : Course). c.works.is_due) first in
     absurd (subst (λ (c : Course). IsOut c.works.line.outstanding) first (a.stands.asks.1 none))
 
-pub follows : (laws : LineLaws) (p : Setup) (told : Option Log) (s : State) → IsConfirmed s.session → Tracks p s told [] Asked → Follows p s told
+pub follows : (laws : LineLaws) (p : Setup) (told : Option Log) (s : State) → IsClear s → Tracks p s told [] Asked → Follows p s told
 follows laws p None s last h = tt
 follows laws p (Some []) s last a = (started p s a, last)
 follows laws p (Some (entry ∷ log)) s last a = (a, last)
 
-pub step_follows : (laws : LineLaws) (p : Setup) (result : Bool) (told : Option Log) (s : State) → OnTrue result (IsConfirmed s.session) → Leaves result p s told [] Asked → OnTrue result (Follows p s told)
-step_follows laws p true told s last h = follows laws p told s last h
-step_follows laws p false told s last h = tt
+pub step_follows : (laws : LineLaws) (p : Setup) (result : Bool) (told : Option Log) (s : State) → OnTrue result (IsConfirmed s.session) → OnTrue result (IsSpent s) → Leaves result p s told [] Asked → OnTrue result (Follows p s told)
+step_follows laws p true told s last spent h = follows laws p told s (record { confirmed = last; spent = spent }) h
+step_follows laws p false told s last spent h = tt
 
 -- an event that a port told has come
 pub come : (p : Setup) (told after : Option Log) (s : State) (now : ℕ) (event : Input) (news : List LogEntry) → after ≡ tell told news → news ≡ Came now event ∷ [] → Follows p s told → Rests p told → IfSome after (HasCome p s now event)
 come p None after s now event news e is h rest = subst (λ l. IfSome l (HasCome p s now event)) (sym e) tt
-come p (Some log) after s now event news e is h rest = subst (λ l. IfSome l (HasCome p s now event)) (sym (e ∙ ap (λ n. tell (Some log) n) is)) (record { before = log; is = refl; agrees = h.0; confirmed = h.1; rested = rest })
+come p (Some log) after s now event news e is h rest = subst (λ l. IfSome l (HasCome p s now event)) (sym (e ∙ ap (λ n. tell (Some log) n) is)) (record { before = log; is = refl; agrees = h.0; clear = h.1; rested = rest })
 
 -- and is one event more
 pub more_events : (n now : ℕ) (event : Input) (news : List LogEntry) (first told after last : Option Log) → MoreEvents n first told → after ≡ tell told news → news ≡ Came now event ∷ [] → events_told last ≡ events_told after → MoreEvents (n + 1) first last

@@ -24,16 +24,15 @@ use Rattle.gateway.specs.State.{State, disconnected, received, has_place, framed
 use Rattle.gateway.specs.Works.{tasks_of, is_overfull}
 use Rattle.gateway.specs.Course.{Course, here_of, came_frames, with_frame, StandsNext, IsCause}
 use Rattle.gateway.specs.Phases.{Taking, Idle, Crowded, after_frame}
-use Rattle.session.specs.Ends.{IsConfirmed}
 use Rattle.gateway.specs.Frames.{fault_of}
 use Rattle.gateway.specs.Connections.{present, IsConnection}
-use Rattle.gateway.specs.Agrees.{Agrees, Tracks, Awaits}
+use Rattle.gateway.specs.Agrees.{Agrees, Tracks, Awaits, IsClear}
 use Rattle.gateway.specs.Steps.{Judged, IsFaulty, IsTaken, MayClose}
 use Rattle.gateway.proofs.Frames.{taken_stays, nothing_waits}
 use Rattle.gateway.proofs.Tied.{no_close, fault_closes, fault_cases}
 use Rattle.gateway.proofs.Working.{heard_overfull}
 use Rattle.gateway.proofs.Talking.{confirmed_by}
-use Rattle.gateway.proofs.Agreement.{after_heard, heard_course, after_more, with_so_far, now_idle, stands_garbled, stands_faulty, stands_overfull, fault_ends, fault_closes_so}
+use Rattle.gateway.proofs.Agreement.{flushed_by, after_heard, heard_course, after_more, with_so_far, now_idle, stands_garbled, stands_faulty, stands_overfull, fault_ends, fault_closes_so}
 
 unfolded : (s : State) (so_far other : List ℕ) → s.so_far ≡ Some so_far → s.so_far ≡ Some other → so_far ≡ other
 unfolded s so_far other e f = ap val (sym e ∙ f)
@@ -46,7 +45,7 @@ nothing_so_far : (p : Setup) (s : State) (log : Log) (unjudged : List ℕ) (a : 
 nothing_so_far p s log unjudged a e = unfolded s a.here.so_far [] a.here.assembler e
 
 -- The frame is taken.
-module _ (p : Setup) (s : State) (log : Log) (rest : List ℕ) (f : Apdu) (a : Agrees p s log (spelling f ++ rest) Taking) (on : s.session.connected ≡ true) (ready : IsConfirmed s.session) (fits : Fits f) (so : s.so_far ≡ Some []) (goes : is_close (outcome_of s.session f) ≡ false) (kept : Bool) (place : has_place f s.moment s.commands ≡ kept) where
+module _ (p : Setup) (s : State) (log : Log) (rest : List ℕ) (f : Apdu) (a : Agrees p s log (spelling f ++ rest) Taking) (on : s.session.connected ≡ true) (ready : IsClear s) (fits : Fits f) (so : s.so_far ≡ Some []) (goes : is_close (outcome_of s.session f) ≡ false) (kept : Bool) (place : has_place f s.moment s.commands ≡ kept) where
   both : (refuses s.session f ≡ false) × (fault_of (length a.course.sent) (came_frames a.course.talk) f ≡ None)
   both = no_close f (here_of a.course) s.session s.queue.sent (outcome_of s.session f) goes a.here.tied refl
 
@@ -79,14 +78,15 @@ frame_cause p log c sent older f cause fault stands =
     fault_cases (λ cause. StandsNext p log cause c → IsCause p log cause c) (λ st. st) (λ st. st) (λ st. st) sent older f cause fault stands
 
 -- what is next closes the connection
-next_closes : (p : Setup) (s : State) (log : Log) (unjudged : List ℕ) (cause : Close) → s.session.connected ≡ true → IsConfirmed s.session → (a : Agrees p s log unjudged Taking) → IsConnection (present log) (here_of a.course) (Some cause) → StandsNext p log cause a.course
+next_closes : (p : Setup) (s : State) (log : Log) (unjudged : List ℕ) (cause : Close) → s.session.connected ≡ true → IsClear s → (a : Agrees p s log unjudged Taking) → IsConnection (present log) (here_of a.course) (Some cause) → StandsNext p log cause a.course
 next_closes p s log unjudged cause on ready a stands = record {
   next = stands;
-  confirmed = sym (confirmed_by p s.session log a.course a.talk) ∙ ready;
+  confirmed = sym (confirmed_by p s.session log a.course a.talk) ∙ ready.confirmed;
+  flushed = flushed_by p s log unjudged Taking a ready.spent;
   placed = a.stands.placed (sym a.here.link ∙ on);
 }
 
-faulty_closes : (p : Setup) (log : Log) (s t : State) (f : Apdu) (cause : Close) (rest : List ℕ) → s.session.connected ≡ true → Fits f → s.so_far ≡ Some [] → IsFaulty s f cause t → IsConfirmed s.session → Agrees p s log (spelling f ++ rest) Taking → MayClose p t cause Idle log
+faulty_closes : (p : Setup) (log : Log) (s t : State) (f : Apdu) (cause : Close) (rest : List ℕ) → s.session.connected ≡ true → Fits f → s.so_far ≡ Some [] → IsFaulty s f cause t → IsClear s → Agrees p s log (spelling f ++ rest) Taking → MayClose p t cause Idle log
 faulty_closes p log s t f cause rest on fits so j ready a =
     let fault = fault_closes f (here_of a.course) s.session s.queue.sent cause a.here.tied j.fault in
     let closes = fault_closes_so (length a.course.sent) (came_frames a.course.talk) f cause (present log) fault in
@@ -107,7 +107,7 @@ faulty_closes p log s t f cause rest on fits so j ready a =
     }
 
 -- its own answer found no place
-overfull_closes : (p : Setup) (log : Log) (s t : State) (f : Apdu) (rest : List ℕ) → s.session.connected ≡ true → Fits f → s.so_far ≡ Some [] → IsTaken s f false t → IsConfirmed s.session → Agrees p s log (spelling f ++ rest) Taking → MayClose p t OwnAnswers Idle log
+overfull_closes : (p : Setup) (log : Log) (s t : State) (f : Apdu) (rest : List ℕ) → s.session.connected ≡ true → Fits f → s.so_far ≡ Some [] → IsTaken s f false t → IsClear s → Agrees p s log (spelling f ++ rest) Taking → MayClose p t OwnAnswers Idle log
 overfull_closes p log s t f rest on fits so j ready a =
     let b = frame_taken p s log rest f a on ready fits so j.passes false j.place in
     let still : (framed f s).session.connected ≡ true = (taken_stays f s.moment s.session).connected ∙ on in
@@ -140,7 +140,7 @@ fed p s log piece unjudged so_far so e a =
 
 pub told_fed : (p : Setup) (told : Option Log) (s t : State) (piece unjudged so_far : List ℕ) → s.so_far ≡ Some so_far → so_far ++ piece ≡ unjudged → t ≡ record s { so_far = Some [] } → Awaits p s told piece → Awaits p t told unjudged
 told_fed p None s t piece unjudged so_far so e is h = tt
-told_fed p (Some log) s t piece unjudged so_far so e is a = subst (λ x. Agrees p x log unjudged Taking × IsConfirmed x.session) (sym is) (fed p s log piece unjudged so_far so e a.0, a.1)
+told_fed p (Some log) s t piece unjudged so_far so e is a = subst (λ x. Agrees p x log unjudged Taking × IsClear x) (sym is) (fed p s log piece unjudged so_far so e a.0, record { confirmed = a.1.confirmed; spent = a.1.spent })
 
 pub told_more : (p : Setup) (told : Option Log) (s t : State) (piece so_far : List ℕ) → s.so_far ≡ Some so_far → IsMore (so_far ++ piece) → t ≡ record s { so_far = Some (so_far ++ piece) } → Awaits p s told piece → Tracks p t told [] Idle
 told_more p None s t piece so_far so more is h = tt

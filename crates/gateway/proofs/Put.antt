@@ -1,6 +1,6 @@
 -- The lemmas of Agreement where a port may tell no log, in the form that answers cite.
 use Rattle.std.proofs.Common.{◌≡◌, ℕ, ◌<◌, ◌&&◌, ◌||◌, Bool, true, false, not, cond, List, [], ◌∷◌, length, refl, ap, sym, ◌∙◌, subst, Option, Some, None, inl, inr}
-use Rattle.std.specs.Prelude.{IfSome, IfNone, nat_lt, if◌then◌else◌, ◌==◌}
+use Rattle.std.specs.Prelude.{IfSome, IfNone, nat_lt, if◌then◌else◌, ◌==◌, ◌⊎◌}
 use Rattle.std.specs.Bool.{OnTrue}
 use Rattle.std.proofs.lemmas.Bool.{and_parts, not-false}
 use Rattle.apci.specs.declared.apdu.Apdu.{Apdu}
@@ -19,14 +19,15 @@ use Rattle.session.specs.declared.kinds.Kind.TheVariants.{Queue as FromQueue, Ow
 use Rattle.gateway.specs.State.{State, disconnected}
 use Rattle.gateway.specs.Phases.{Phase, Timed, Asked, Taking}
 use Rattle.session.specs.declared.kinds.Close.TheVariants.{Timeout}
-use Rattle.session.specs.History.{has_timed_out}
+use Rattle.session.specs.History.{confirmation_of, has_timed_out}
 use Rattle.session.specs.Runs.{Confirm, Pull}
 use Rattle.session.specs.Ends.{after_confirm, after_pull, IsConfirmed, IsInTime}
 use Rattle.gateway.specs.Agrees.{Agrees, Tracks, Awaits, Leaves, Rests, IsSpent, IsQuiet, StaysInTime}
 use Rattle.gateway.specs.Steps.{SendsPiece, SendsOwn, SendsData, MayClose}
 use Rattle.gateway.proofs.Tied.{SameWindow}
-use Rattle.gateway.proofs.Talking.{HasNoData, confirms, pulls, patient, all_taken, late_by, confirm_t1, pull_t1}
-use Rattle.gateway.proofs.Agreement.{GoesOut, faithful, stands_now, after_piece, after_own, after_due, after_close, rested}
+use Rattle.gateway.proofs.Talking.{HasNoData, confirms, pulls, patient, all_taken, confirmed_by, late_by, confirm_t1, pull_t1}
+use Rattle.gateway.specs.Course.{IsFlushed}
+use Rattle.gateway.proofs.Agreement.{flushed_by, GoesOut, faithful, stands_now, after_piece, after_own, after_due, after_close, rested}
 
 -- The events of a log stay as actions go out.
 pub events_went : (told : Option Log) (now : ℕ) (action : Output) → events_told (tell told (Went now action ∷ [])) ≡ events_told told
@@ -62,15 +63,15 @@ open_of s may =
     let two = (and_parts (s.connected && s.started) (not s.stopping) running).0 in
     (and_parts s.connected s.started two).0
 
-pub sends_piece : (s : State) (f : Apdu) (t : State) → SendsPiece s f t → Sends s f t
-sends_piece s f t h p log unjudged phase a = rw (h.after, h.frame) (after_piece p s log unjudged h.asdu h.rest phase a h.may (open_of s.session h.may) h.first (subst Fits h.frame h.fits))
+pub sends_piece : (s : State) (f : Apdu) (t : State) → s.commands.answers ≡ [] → SendsPiece s f t → Sends s f t
+sends_piece s f t none h p log unjudged phase a = rw (h.after, h.frame) (after_piece p s log unjudged h.asdu h.rest phase a h.may (open_of s.session h.may) none h.first (subst Fits h.frame h.fits))
 
 pub sends_own : (s : State) (f : Apdu) (t : State) → SendsOwn s f t → Sends s f t
 sends_own s f t h p log unjudged phase a = rw (h.after, h.frame) (after_own p s log unjudged h.asdu phase a h.may (open_of s.session h.may) h.first (subst Fits h.frame h.fits))
 
 pub sends_data : (s : State) (f : Apdu) (t : State) → SendsData s f t → Sends s f t
 sends_data s f t (inl h) = sends_own s f t h
-sends_data s f t (inr h) = sends_piece s f t h.1
+sends_data s f t (inr h) = sends_piece s f t h.0 h.1
 
 -- what every I frame leaves of the state
 pub record IsData (s t : State) (kind : Kind) : Type 0 where
@@ -130,14 +131,18 @@ pulled_leaves now s =
     (λ k. record { same = record { same_connected = refl; same_running = refl; same_received = refl; same_next = refl; same_k = refl; same_frames = refl }; sends = (not-false _ h, λ put. refl); none = tt })
     (λ k. nothing_leaves s)))
 
-sends_due : (s : State) (f : Apdu) (t : Session) → Fits f → GoesOut s.session t s.moment f → LeavesWindow s.session (Some f, t) → Sends s f (record s { session = t })
-sends_due s f t fits goes h p log unjudged phase a = after_due p s t log unjudged f phase a h.sends.0 fits h.sends.1 goes h.same
+-- a confirmation, or nothing else can be sent
+abbrev IsNextDue : State → Apdu → Type 0
+IsNextDue s f = (p : Setup) (log : Log) (unjudged : List ℕ) (phase : Phase) (a : Agrees p s log unjudged phase) → (confirmation_of a.course.talk ≡ Some f) ⊎ IsFlushed p log a.course
+
+sends_due : (s : State) (f : Apdu) (t : Session) → Fits f → IsNextDue s f → GoesOut s.session t s.moment f → LeavesWindow s.session (Some f, t) → Sends s f (record s { session = t })
+sends_due s f t fits next goes h p log unjudged phase a = after_due p s t log unjudged f phase a (next p log unjudged phase a) h.sends.0 fits h.sends.1 goes h.same
 
 pub sends_confirmation : (s t : State) (f : Apdu) → Fits f → ◌≡◌ {A = Option Apdu × Session} (Some f, t.session) (session.confirmed s.session) → t ≡ record s { session = t.session } → Sends s f t
-sends_confirmation s t f fits e rest p log unjudged phase a = rw rest (sends_due s f t.session fits (record { call = Confirm s.moment; made = λ h. confirms s.session t.session h f s.moment (subst (LeavesWindow s.session) (sym e) (confirmed_leaves s.session)).sends.1 e }) (subst (LeavesWindow s.session) (sym e) (confirmed_leaves s.session)) p log unjudged phase a)
+sends_confirmation s t f fits e rest p log unjudged phase a = rw rest (sends_due s f t.session fits (λ p log unjudged phase a. inl (sym (confirmed_by p s.session log a.course a.talk) ∙ sym (ap (λ (d : Option Apdu × Session). d.0) e))) (record { call = Confirm s.moment; made = λ h. confirms s.session t.session h f s.moment (subst (LeavesWindow s.session) (sym e) (confirmed_leaves s.session)).sends.1 e }) (subst (LeavesWindow s.session) (sym e) (confirmed_leaves s.session)) p log unjudged phase a)
 
-pub sends_pulled : (s t : State) (f : Apdu) → Fits f → ◌≡◌ {A = Option Apdu × Session} (Some f, t.session) (session.pulled s.moment s.session) → t ≡ record s { session = t.session } → Sends s f t
-sends_pulled s t f fits e rest p log unjudged phase a = rw rest (sends_due s f t.session fits (record { call = Pull s.moment; made = λ h. pulls s.session t.session h f s.moment (subst (LeavesWindow s.session) (sym e) (pulled_leaves s.moment s.session)).sends.1 e }) (subst (LeavesWindow s.session) (sym e) (pulled_leaves s.moment s.session)) p log unjudged phase a)
+pub sends_pulled : (s t : State) (f : Apdu) → IsSpent s → Fits f → ◌≡◌ {A = Option Apdu × Session} (Some f, t.session) (session.pulled s.moment s.session) → t ≡ record s { session = t.session } → Sends s f t
+sends_pulled s t f spent fits e rest p log unjudged phase a = rw rest (sends_due s f t.session fits (λ p log unjudged phase a. inr (flushed_by p s log unjudged phase a spent)) (record { call = Pull s.moment; made = λ h. pulls s.session t.session h f s.moment (subst (LeavesWindow s.session) (sym e) (pulled_leaves s.moment s.session)).sends.1 e }) (subst (LeavesWindow s.session) (sym e) (pulled_leaves s.moment s.session)) p log unjudged phase a)
 
 -- where nothing is due, nothing changes
 pub no_confirmation : (s t : State) → ◌≡◌ {A = Option Apdu × Session} (None, t.session) (session.confirmed s.session) → t ≡ record s { session = t.session } → t ≡ s
@@ -235,9 +240,9 @@ told_late p (Some log) s cause e a =
 
 -- Confirmations
 
-pub awaits : (p : Setup) (told : Option Log) (s : State) (unjudged : List ℕ) → IsConfirmed s.session → Tracks p s told unjudged Taking → Awaits p s told unjudged
-awaits p None s unjudged ready h = tt
-awaits p (Some log) s unjudged ready a = (a, ready)
+pub awaits : (p : Setup) (told : Option Log) (s : State) (unjudged : List ℕ) → IsConfirmed s.session → IsSpent s → Tracks p s told unjudged Taking → Awaits p s told unjudged
+awaits p None s unjudged ready spent h = tt
+awaits p (Some log) s unjudged ready spent a = (a, record { confirmed = ready; spent = spent })
 
 -- no time runs out meanwhile
 

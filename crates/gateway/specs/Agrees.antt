@@ -25,6 +25,7 @@ use Rattle.gateway.specs.Course.{Course, here_of, room_in, Runs}
 use Rattle.gateway.specs.Conversation.{KeepsTimes}
 use Rattle.gateway.specs.Phases.{Phase, Taking, resting, IsPhase, works_in, IsAsked, IsPlaced}
 use Rattle.gateway.specs.CommandLaws.{CommandLaws}
+use Rattle.gateway.specs.LineLaws.{LineLaws}
 use Rattle.gateway.specs.SessionLaws.{SessionLaws}
 use Rattle.gateway.specs.State.{State}
 
@@ -124,6 +125,7 @@ pub record Talks (p : Setup) (s : Session) (log : Log) (c : Course) : Type 0 whe
   pub timely : IsTimely p.session
   pub laws : SessionLaws
   pub command_laws : CommandLaws
+  pub line_laws : LineLaws
   pub calls : List Call
   pub called : run p.session calls ≡ record { session = s; history = c.talk }
   pub course_runs : Runs p log c
@@ -150,9 +152,18 @@ pub record Agrees (p : Setup) (s : State) (log : Log) (unjudged : List ℕ) (pha
 abbrev pub Tracks : Setup → State → Option Log → List ℕ → Phase → Type 0
 Tracks p s told unjudged phase = IfSome told (λ log. Agrees p s log unjudged phase)
 
--- the same with no confirmation left to be sent
+-- nothing can be sent any more
+abbrev pub IsSpent : State → Type 0
+IsSpent s = may_send s.session ≡ true → (s.queue.unsent ≡ []) × (s.commands.answers ≡ [])
+
+-- no confirmation is due, and nothing can be sent any more
+pub record IsClear (s : State) : Type 0 where
+  pub confirmed : IsConfirmed s.session
+  pub spent : IsSpent s
+
+-- the same where all that may go out has gone out
 abbrev pub Awaits : Setup → State → Option Log → List ℕ → Type 0
-Awaits p s told unjudged = IfSome told (λ log. Agrees p s log unjudged Taking × IsConfirmed s.session)
+Awaits p s told unjudged = IfSome told (λ log. Agrees p s log unjudged Taking × IsClear s)
 
 -- what is left of the log by a call that puts actions out: all of it went out, or the log is faithful so far
 abbrev pub Leaves : Bool → Setup → State → Option Log → List ℕ → Phase → Type 0
@@ -161,14 +172,14 @@ Leaves false p s told unjudged phase = IfSome told (IsFaithful p)
 
 -- between steps
 abbrev pub Follows : Setup → State → Option Log → Type 0
-Follows p s told = IfSome told (λ log. Agrees p s log [] (resting log) × IsConfirmed s.session)
+Follows p s told = IfSome told (λ log. Agrees p s log [] (resting log) × IsClear s)
 
 -- the log ends with this event, and before it the state agreed with the log and had done all that it could
 pub record HasCome (p : Setup) (s : State) (now : ℕ) (event : Input) (log : Log) : Type 0 where
   pub before : Log
   pub is : log ≡ Came now event ∷ before
   pub agrees : Agrees p s before [] (resting before)
-  pub confirmed : IsConfirmed s.session
+  pub clear : IsClear s
   pub rested : HasRested p before
 
 -- a step has done all that it could
@@ -184,7 +195,3 @@ pub record IsQuiet (s : State) : Type 0 where
 -- where no answer was late, none is late
 abbrev pub StaysInTime : (before after : State) → Type 0
 StaysInTime s t = 0 < s.session.t1 → IsInTime s.moment s.session → IsInTime t.moment t.session × (0 < t.session.t1)
-
--- nothing can be sent any more
-abbrev pub IsSpent : State → Type 0
-IsSpent s = may_send s.session ≡ true → (s.queue.unsent ≡ []) × (s.commands.answers ≡ [])

@@ -1,5 +1,5 @@
 -- What holds of every log of a gateway.
-use Rattle.std.specs.Prelude.{◌≡◌, ℕ, ◌+◌, ◌<◌, Bool, true, false, List, [], ◌∷◌, length}
+use Rattle.std.specs.Prelude.{◌≡◌, ℕ, ◌<◌, Bool, true, false, List, [], ◌∷◌, length}
 use Rattle.ft12.specs.Spelling.{spelling}
 use Rattle.link.specs.declared.service.Asked.{Asked}
 use Rattle.link.specs.Requests.{request_frame}
@@ -7,13 +7,13 @@ use Rattle.session.specs.declared.kinds.Close.{Close}
 use Rattle.session.specs.declared.kinds.Close.TheVariants.{Replaced}
 use Rattle.gateway.specs.Log.{Log, Opened, Came, Went, Output, LineOut, TcpOut, Closed, latest}
 use Rattle.gateway.specs.Streams.{IsOneFrame}
-use Rattle.gateway.specs.Frames.{runs, acknowledged_count, first_unacknowledged, monitor_objects_sent, AreInOrder}
+use Rattle.gateway.specs.Frames.{AreInOrder}
 use Rattle.gateway.specs.Connections.{present, past, ends, AreConnections, IsBegun}
 use Rattle.gateway.specs.Reports.{Setup, address_at, taken_objects, KeepsLinks}
 use Rattle.link.specs.Leave.{is_poll_request}
 use Rattle.gateway.specs.Room.{AreConnectionsOf, HasRoom}
 use Rattle.gateway.specs.Works.{tasks_of, is_overfull}
-use Rattle.gateway.specs.Course.{Course, here_of, IsCause, Runs}
+use Rattle.gateway.specs.Course.{Course, here_of, IsFlushed, IsCause, Runs}
 use Rattle.gateway.specs.Conversation.{KeepsTimes, IsTalkAtRest}
 use Rattle.gateway.specs.Line.{IsWaiting, IsLineAtRest}
 
@@ -58,11 +58,6 @@ ActsRightly p [] = Unit {0}
 ActsRightly p (Went now action ∷ log) = GoesOut p log now action × ActsRightly p log
 ActsRightly p (entry ∷ log) = ActsRightly p log
 
--- All objects taken and all own answers have gone out.
-pub record HasSentAll (p : Setup) (log : Log) (c : Course) : Type 0 where
-  pub objects : first_unacknowledged c.earlier + length (monitor_objects_sent (here_of c)) ≡ length (taken_objects p log)
-  pub answers : (tasks_of p c.works).state.answers ≡ []
-
 -- After a step nothing stands on the connection that closes it, and all that may be sent is sent: on the connection, where
 -- data transfer is started and the window isn't full, all objects and own answers, and each confirmation, S frame and test that is
 -- due; on the line, all but data for which there is no room.
@@ -72,8 +67,7 @@ pub record IsAtRest (p : Setup) (log : Log) : Type 0 where
   pub are : AreConnectionsOf log (here_of course) course.earlier
   pub settled : is_replaced log ≡ false
   pub placed : (present log).is_open ≡ true → is_overfull (tasks_of p course.works).history ≡ false
-  pub eager : (present log).is_open ≡ true → runs (here_of course).received_frames ≡ true →
-      length (here_of course).sent_frames < acknowledged_count (here_of course).received_frames + p.session.k → HasSentAll p log course
+  pub eager : (present log).is_open ≡ true → IsFlushed p log course
   pub line : IsLineAtRest p log course (here_of course ∷ course.earlier)
   pub talk : IsTalkAtRest p log course
 

@@ -142,11 +142,6 @@ abbrev pub sent_works : Apdu → Works → Works
 sent_works (I ns nr asdu) w = if has_objects asdu.items then w else with_call SendOwn w
 sent_works frame w = w
 
--- an I frame without monitor objects is the oldest own answer
-abbrev pub IsOwnDue : Setup → Works → Apdu → Type 0
-IsOwnDue p w (I ns nr asdu) = has_objects asdu.items ≡ false → tasks.first_answer (tasks_of p w).state.answers ≡ Some asdu.items
-IsOwnDue p w frame = Unit {0}
-
 -- The end of a connection
 
 -- commands that were never put on the line are taken back, and selections and own answers are gone

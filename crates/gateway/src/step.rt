@@ -107,7 +107,7 @@ impl Gateway {
     /// Sends the S frame, or else the TESTFR act, if one is due.
     fn send_due<P: Port>(&mut self, port: &mut P) -> bool
         requires { P.failed port.old < u64.MAX }
-        ensures kept { (p : Setup) (unjudged : List ℕ) (phase : Phase) → Tracks p self.old (P.log port.old) unjudged phase → Leaves result p self.new (P.log port.new) unjudged phase }
+        ensures kept { (p : Setup) (unjudged : List ℕ) (phase : Phase) → IsSpent self.old → Tracks p self.old (P.log port.old) unjudged phase → Leaves result p self.new (P.log port.new) unjudged phase }
         ensures open { self.new.session.connected ≡ self.old.session.connected }
         ensures next { OnTrue result (self.new ≡ record self.old { session = after_pull self.old.moment self.old.session }) }
         ensures events { events_told (P.log port.new) ≡ events_told (P.log port.old) }
@@ -123,7 +123,7 @@ impl Gateway {
     /// Sends the S frame and the TESTFR act that are due.
     fn send_dues<P: Port>(&mut self, port: &mut P) -> bool
         requires { P.failed port.old < u64.MAX }
-        ensures kept { (p : Setup) (unjudged : List ℕ) (phase : Phase) → Tracks p self.old (P.log port.old) unjudged phase → Leaves result p self.new (P.log port.new) unjudged phase }
+        ensures kept { (p : Setup) (unjudged : List ℕ) (phase : Phase) → IsSpent self.old → Tracks p self.old (P.log port.old) unjudged phase → Leaves result p self.new (P.log port.new) unjudged phase }
         ensures open { self.new.session.connected ≡ self.old.session.connected }
         ensures spent { OnTrue result (IsSpent self.old → IsSpent self.new) }
         ensures confirmed { OnTrue result (IsConfirmed self.old.session → IsConfirmed self.new.session) }

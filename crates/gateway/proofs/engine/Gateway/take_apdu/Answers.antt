@@ -14,4 +14,4 @@ returns-then-not-flush-clause-kept g c = λ p rest h.
 
 pub returns-clause-kept : goal.returns-clause-kept
 returns-clause-kept g c = λ p rest h.
-    awaits p _ c.flush.new.self rest c.if-not-flush.ensures.confirmed (c.if-not-flush.ensures.kept p rest Taking (judged_on p _ c.args.self.now c.judge.new.self (owned c.args.apdu) rest c.requires.open c.requires.fits c.requires.whole c.in-None.ensures h))
+    awaits p _ c.flush.new.self rest c.if-not-flush.ensures.confirmed c.if-not-flush.ensures.spent (c.if-not-flush.ensures.kept p rest Taking (judged_on p _ c.args.self.now c.judge.new.self (owned c.args.apdu) rest c.requires.open c.requires.fits c.requires.whole c.in-None.ensures h))
