@@ -26,14 +26,14 @@ use Rattle.gateway.specs.Objects.{objects, has_objects, monitor_objects, parts_o
 use Rattle.gateway.specs.Log.{Log, Input, LineIn, Opened, TcpIn, CutOff, Ticked, Came, Went, Closed, latest, last_moment}
 use Rattle.gateway.specs.Streams.{spelled}
 use Rattle.gateway.specs.Frames.{Sent, Connection, new_connection, runs, AreInOrder}
-use Rattle.gateway.specs.Connections.{Channel, no_channel, new_channel, receiving, present, past, AreConnections}
+use Rattle.gateway.specs.Connections.{is_replaced, Channel, no_channel, new_channel, receiving, present, past, AreConnections}
 use Rattle.gateway.specs.Reports.{Setup, exchanges_of, taken_objects, reports_in, parts_of_all}
-use Rattle.gateway.specs.Traffic.{is_replaced, HasRested, IsFaithful}
+use Rattle.gateway.specs.Traffic.{HasRested, IsFaithful}
 use Rattle.gateway.specs.State.{State, at_moment, disconnected, connected}
 use Rattle.gateway.specs.Counting.{counted, one_mirrored, one_lost}
 use Rattle.gateway.specs.Works.{Works, tasks_of, kept_until, all_kept, is_overfull, listed, is_command_report, IsPassedOn, with_call, mirrored_works, LearnsReport, given_up_works, refused_works, LearnsOf, cut_works, heard_by, silent_by, begun_works, ready_works, unasked_works, done_works}
 use Rattle.gateway.specs.Course.{Course, came_frames, here_of, room_in, TakesFrames, HasTakenAll, ended_course, opened_course, IsLeft, with_works, Comes, Runs}
-use Rattle.gateway.specs.Phases.{Idle, Taking, resting, IsPlaced, after_line}
+use Rattle.gateway.specs.Phases.{Idle, Taking, resting, IsPlaced, IsLeftIn, after_line}
 use Rattle.gateway.specs.LineLaws.{LineLaws}
 use Rattle.gateway.specs.CommandLaws.{CommandLaws}
 use Rattle.gateway.specs.Steps as steps
@@ -465,6 +465,11 @@ other_stands : (p : Setup) (t : State) (new : Log) (d : Course) (kept : Bool) �
 other_stands p t new d true does due placed = record { does = does; asks = due; phase_is = tt; placed = placed refl }
 other_stands p t new d false does due placed = record { does = does; asks = due; phase_is = tt; placed = tt }
 
+-- the line leaves nothing of the connection's octets
+line_left : (kept : Bool) (log : Log) (so_far : List ℕ) → IsLeftIn (after_line kept) log so_far []
+line_left true log so_far = refl
+line_left false log so_far = tt
+
 -- the connection is open where own answers count
 abbrev pub Counts : Bool → Bool → Log → Type 0
 Counts kept fits log = kept ≡ true → (present log).is_open ≡ true → fits ≡ true
@@ -491,6 +496,7 @@ come_other p s t log now event fits kept counts aside on rest a h =
       offers = h.offers;
       plain = h.plain;
       here = subst (λ x. Presently t x [] (here_of a.course)) (sym aside.0) (goes_on p s t log now event left fits (present log) [] (here_of a.course) h a.here);
+      left = line_left kept new _;
       carries = carried p s t log now event left fits a.course.earlier a.course.sent h a.carries;
       before = record {
         are = subst (λ cs. AreConnections cs a.course.earlier) (sym aside.1) a.before.are;
@@ -566,6 +572,7 @@ come_cut laws p s t log now fits rest a h =
       offers = offers_cut laws t.line (tasks.closed t.commands);
       plain = tt;
       here = fresh (disconnected t) no_channel (small laws p s t log now CutOff fits rest a h) refl (λ h. refl) refl refl refl refl refl refl refl refl;
+      left = refl;
       carries = over_carries laws p s t log now CutOff fits rest a h;
       before = record {
         are = (over_ended laws p s t log now CutOff fits rest a h).are;
@@ -614,6 +621,7 @@ module _ (laws : LineLaws) (p : Setup) (s t : State) (log : Log) (now : ℕ) (fi
     offers = offers_cut laws t.line (tasks.closed t.commands);
     plain = tt;
     here = opened_here;
+    left = refl;
     carries = over_carries laws p s t log now Opened fits rest a h;
     before = record {
       are = (over_ended laws p s t log now Opened fits rest a h).are;
@@ -627,7 +635,7 @@ module _ (laws : LineLaws) (p : Setup) (s t : State) (log : Log) (now : ℕ) (fi
   pub come_replaced : t.session.connected ≡ true → Agrees p (connected (disconnected t)) (Went t.moment (Closed Replaced) ∷ Came now Opened ∷ log) [] Idle
   come_replaced on =
       let new : Log = Went t.moment (Closed Replaced) ∷ Came now Opened ∷ log in
-      let talk : Talks p (connected (disconnected t)).session new opened = talk_on p (connected (disconnected t)).session (connected (disconnected t)).session (Came now Opened ∷ log) new opened opened opened_talk refl refl (opened, opened_runs, refl, tt) in
+      let talk : Talks p (connected (disconnected t)).session new opened = talk_on p (connected (disconnected t)).session (connected (disconnected t)).session (Came now Opened ∷ log) new opened opened opened_talk refl refl (opened, opened_runs, refl, sym a.here.link ∙ sym (ap (λ x. x.connected) h.session) ∙ on) in
       let was : is_replaced (Came now Opened ∷ log) ≡ true = sym a.here.link ∙ sym (ap (λ x. x.connected) h.session) ∙ on in
       record {
         k = ap (λ x. x.k) h.session ∙ a.k;
@@ -643,6 +651,7 @@ module _ (laws : LineLaws) (p : Setup) (s t : State) (log : Log) (now : ℕ) (fi
         offers = offers_cut laws t.line (tasks.closed t.commands);
         plain = tt;
         here = opened_here;
+        left = refl;
         carries = over_carries laws p s t log now Opened fits rest a h;
         before = record {
           are = (over_ended laws p s t log now Opened fits rest a h).are;
@@ -701,6 +710,7 @@ come_bytes p s t log now octets fits settled_fits rest a h =
         tied = w.tied;
         numbered = w.numbered;
       });
+      left = tt;
       carries = carried p s t log now (TcpIn octets) left fits a.course.earlier a.course.sent h a.carries;
       before = record {
         are = a.before.are;

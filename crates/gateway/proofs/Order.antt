@@ -19,12 +19,12 @@ use Rattle.gateway.specs.Objects.{has_objects}
 use Rattle.gateway.specs.Log.{Log, LineIn, Opened, TcpIn, CutOff, Ticked, Output, LineOut, TcpOut, Closed, Came, Went, latest}
 use Rattle.gateway.specs.Streams.{spelled, IsRefused}
 use Rattle.gateway.specs.Frames.{Connection}
-use Rattle.gateway.specs.Connections.{Channel, new_channel, present, BeginsWithFault, IsConnection}
+use Rattle.gateway.specs.Connections.{is_replaced, Channel, new_channel, present, BeginsWithFault, IsConnection}
 use Rattle.gateway.specs.Reports.{Setup}
 use Rattle.gateway.specs.Works.{Works, tasks_of, is_overfull, with_call, sent_works, ready_works, is_first_command}
 use Rattle.gateway.specs.Course.{Course, came_frames, with_frames, told_sent, closed_course, Runs}
 use Rattle.gateway.specs.Conversation.{KeepsTalk, KeepsTimes}
-use Rattle.gateway.specs.Traffic.{is_replaced, HasCause, replaces, GoesOut, ActsRightly}
+use Rattle.gateway.specs.Traffic.{HasCause, replaces, GoesOut, ActsRightly}
 use Rattle.gateway.specs.Order.{step_actions, is_request, is_close, MayFollow, KeepsOrder}
 use Rattle.gateway.proofs.Working.{heard_due, settled_due, settled_placed, put_placed}
 

@@ -28,7 +28,7 @@ use Rattle.gateway.specs.Objects.{monitor_objects}
 use Rattle.gateway.specs.LineLaws.{LineLaws}
 use Rattle.gateway.specs.Reports.{Setup, address_at, exchanges_of, taken_objects}
 use Rattle.gateway.specs.Works.{tasks_of, is_overfull}
-use Rattle.gateway.specs.Course.{Course, first_course, came_frames, kind_of, told_sent, with_frame, with_sent, IsFlushed, MayTake, TakesFrames, HasTakenAll, IsNext, Runs}
+use Rattle.gateway.specs.Course.{Course, first_course, came_frames, kind_of, told_sent, with_frame, with_sent, IsFlushed, IsUntouched, HasBegun, MayTake, TakesFrames, HasTakenAll, IsNext, Runs}
 use Rattle.gateway.specs.Conversation.{KeepsTalk}
 use Rattle.gateway.specs.Phases.{IsTaking}
 use Rattle.gateway.specs.CommandLaws.{CommandLaws}
@@ -56,6 +56,7 @@ may_at laws p log now other moment octets f c may = record {
   flushed = λ running room.
       let all = may.flushed running room in
       record { objects = all.objects ∙ ap length (bytes_taken laws p log now octets ∙ sym (bytes_taken laws p log other octets)); answers = all.answers };
+  undue = may.undue;
 }
 
 -- frames are taken only of octets
@@ -102,7 +103,7 @@ plain (S nr) now h none = refl
 plain (U u) now h none = refl
 
 -- and it is next where it is a confirmation, or all has gone out
-pub next_plain : (p : Setup) (log : Log) (c : Course) (f : Apdu) → HasNoData f → (confirmation_of c.talk ≡ Some f) ⊎ IsFlushed p log c → IsNext p log f c
+pub next_plain : (p : Setup) (log : Log) (c : Course) (f : Apdu) → HasNoData f → (confirmation_of c.talk ≡ Some f) ⊎ (IsFlushed p log c × HasBegun log c) → IsNext p log f c
 next_plain p log c (I ns nr asdu) none h = let no : data_frames (I ns nr asdu ∷ []) ≡ [] = none [] in cc
 next_plain p log c (S nr) none h = h
 next_plain p log c (U u) none h = h
@@ -164,9 +165,9 @@ talk_out p s t log c now moment f call k fits clock next made b = record {
 }
 
 -- a frame is taken
-pub talk_heard : (p : Setup) (s : Session) (log : Log) (c : Course) (moment : ℕ) (f : Apdu) (rest : List ℕ) (k : Talks p s log c) → IsTaking log → moment ≡ latest log → s.connected ≡ true → IsConfirmed s → Fits f → refuses s f ≡ false → is_overfull (tasks_of p c.works).history ≡ false → IsFlushed p log c → (present log).received ≡ spelled (f ∷ came_frames c.talk) ++ rest →
+pub talk_heard : (p : Setup) (s : Session) (log : Log) (c : Course) (moment : ℕ) (f : Apdu) (rest : List ℕ) (k : Talks p s log c) → IsTaking log → moment ≡ latest log → s.connected ≡ true → IsConfirmed s → Fits f → refuses s f ≡ false → is_overfull (tasks_of p c.works).history ≡ false → IsFlushed p log c → IsUntouched log c ⊎ (frame_due p.session.w p.session.t2 p.session.t3 (latest log) c.talk ≡ None) → (present log).received ≡ spelled (f ∷ came_frames c.talk) ++ rest →
     Talks p (session.taken f moment s) log (with_frame p f moment c)
-talk_heard p s log c moment f rest k taking clock on ready fits goes placed flushed joined = record {
+talk_heard p s log c moment f rest k taking clock on ready fits goes placed flushed undue joined = record {
   timely = k.timely;
   laws = k.laws;
   command_laws = k.command_laws;
@@ -180,6 +181,7 @@ talk_heard p s log c moment f rest k taking clock on ready fits goes placed flus
     rules = ruled p s (session.taken f moment s) log c (Take f moment) (latest log) moment (λ m. talk.Came f m ∷ c.talk) k clock (takes s c.talk f moment on ready goes);
     placed = placed;
     flushed = flushed;
+    undue = undue;
   }) k.course_runs);
 }
 
@@ -235,6 +237,9 @@ confirmed_by p s log c k = subst (λ (r : Run). (confirmed r.session).0 ≡ conf
 
 pub due_by : (p : Setup) (s : Session) (log : Log) (c : Course) (k : Talks p s log c) (now : ℕ) → (pulled now s).0 ≡ frame_due p.session.w p.session.t2 p.session.t3 now c.talk
 due_by p s log c k now = subst (λ (r : Run). (pulled now r.session).0 ≡ frame_due p.session.w p.session.t2 p.session.t3 now r.history) k.called (k.laws.dues p.session k.calls k.timely.range now)
+
+pub may_by : (p : Setup) (s : Session) (log : Log) (c : Course) (k : Talks p s log c) → may_send s ≡ (talk.is_started c.talk && nat_lt (length (talk.still_unacknowledged c.talk)) p.session.k)
+may_by p s log c k = subst (λ (r : Run). may_send r.session ≡ (talk.is_started r.history && nat_lt (length (talk.still_unacknowledged r.history)) p.session.k)) k.called (k.laws.may_send p.session k.calls k.timely.range)
 
 pub late_by : (p : Setup) (s : Session) (log : Log) (c : Course) (k : Talks p s log c) (now : ℕ) → timed_out now s ≡ has_timed_out p.session.t1 now c.talk
 late_by p s log c k now = subst (λ (r : Run). timed_out now r.session ≡ has_timed_out p.session.t1 now r.history) k.called (k.laws.t1 p.session k.calls k.timely.range now)

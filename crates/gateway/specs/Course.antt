@@ -1,7 +1,7 @@
 -- The course of a run, as its log shows it: what was said on the open connection, what the connections before it were, the line's
 -- primary station and what became of commands (IEC 60870-5-104, 5; IEC 60870-5-2, unbalanced transmission procedures; when a step
 -- takes a frame and whose turn it is, is this gateway's own profile).
-use Rattle.std.specs.Prelude.{◌≡◌, ℕ, ◌+◌, ◌<◌, ◌⊎◌, Bool, true, false, not, nat_lt, if◌then◌else◌, List, [], ◌∷◌, ◌++◌, length, take, drop, Some, None}
+use Rattle.std.specs.Prelude.{◌≡◌, ℕ, ◌+◌, ◌<◌, ◌≤◌, ◌⊎◌, Bool, true, false, not, nat_lt, if◌then◌else◌, List, [], ◌∷◌, ◌++◌, length, take, drop, Some, None}
 use Rattle.ft12.specs.Spelling as line
 use Rattle.apci.specs.declared.apdu.Apdu.{Apdu}
 use Rattle.apci.specs.declared.apdu.Apdu.TheVariants.{I}
@@ -18,14 +18,14 @@ use Rattle.session.specs.declared.kinds.Close.TheVariants.{Timeout, OwnAnswers, 
 use Rattle.session.specs.declared.kinds.Kind.{Kind}
 use Rattle.session.specs.declared.kinds.Kind.TheVariants.{Queue, Own}
 use Rattle.session.specs.History as talk
-use Rattle.session.specs.History.{History, confirmation_of, has_timed_out}
+use Rattle.session.specs.History.{History, is_started, still_unacknowledged, confirmation_of, frame_due, has_timed_out}
 use Rattle.session.specs.Rules.{KeepsRules}
 use Rattle.command.specs.State.{octets_waiting, first_answer}
 use Rattle.gateway.specs.Objects.{objects, has_objects}
 use Rattle.gateway.specs.Log.{Log, Input, LineIn, Opened, TcpIn, CutOff, Ticked, Came, Went, LineOut, TcpOut, Closed, latest}
 use Rattle.gateway.specs.Streams.{spelled}
-use Rattle.gateway.specs.Frames.{Sent, Connection, runs, acknowledged_count, first_unacknowledged, monitor_objects_sent, acknowledged_reports}
-use Rattle.gateway.specs.Connections.{Channel, present, IsConnection}
+use Rattle.gateway.specs.Frames.{Sent, Connection, runs, first_unacknowledged, monitor_objects_sent, acknowledged_reports}
+use Rattle.gateway.specs.Connections.{Channel, present, received_before, is_replaced, IsConnection}
 use Rattle.gateway.specs.Reports.{Setup, address_at, reports_in, parts_of_all, taken_objects}
 use Rattle.gateway.specs.Works.{Works, first_works, tasks_of, is_overfull, LearnsOf, heard_works, sent_works, cut_works, begun_works, settled_works, ready_works, is_first_command, asked_works, done_works}
 
@@ -69,11 +69,25 @@ pub record HasSentAll (p : Setup) (log : Log) (c : Course) : Type 0 where
   pub objects : sent_objects c ≡ length (taken_objects p log)
   pub answers : (tasks_of p c.works).state.answers ≡ []
 
--- where data transfer runs and the window isn't full, all has gone out (5.3, 5.5)
+-- where data transfer runs and fewer than k I frames are unacknowledged, all has gone out (5.3, 5.5)
 abbrev pub IsFlushed : Setup → Log → Course → Type 0
-IsFlushed p log c = runs (came_frames c.talk) ≡ true → length c.sent < acknowledged_count (came_frames c.talk) + p.session.k → HasSentAll p log c
+IsFlushed p log c = is_started c.talk ≡ true → length (still_unacknowledged c.talk) < p.session.k → HasSentAll p log c
 
 -- Frames that come
+
+-- none of the frames that end in the latest event's octets is taken yet
+abbrev pub IsUntouched : Log → Course → Type 0
+IsUntouched log c = length (spelled (came_frames c.talk)) ≤ length (received_before log)
+
+-- all whole frames of the octets received are taken
+pub record HasTakenAll (octets : Channel) (h : History) : Type 0 where
+  pub rest : List ℕ
+  pub joined : octets.received ≡ spelled (came_frames h) ++ rest
+  pub more : IsMore rest
+
+-- one of them is taken, or there are none
+abbrev pub HasBegun : Log → Course → Type 0
+HasBegun log c = (length (received_before log) < length (spelled (came_frames c.talk))) ⊎ HasTakenAll (present log) c.talk
 
 abbrev pub with_frame : Setup → Apdu → (now : ℕ) → Course → Course
 with_frame p frame now c = record { talk = talk.Came frame now ∷ c.talk; sent = c.sent; earlier = c.earlier; works = heard_works p frame now c.works }
@@ -84,7 +98,8 @@ with_frames p [] now c = c
 with_frames p (frame ∷ frames) now c = with_frame p frame now (with_frames p frames now c)
 
 -- A frame is taken where it is the next of the octets received, and comes without fault once all confirmations are out (5.1, 5.3); and
--- only where each own answer found a place, and what may go out has gone out (profile).
+-- only where each own answer found a place, and all that may go out has gone out: what the moment of the event makes due goes out
+-- behind its first frame (profile).
 pub record MayTake (p : Setup) (log : Log) (now : ℕ) (frame : Apdu) (c : Course) : Type 0 where
   pub fits : Fits frame
   pub rest : List ℕ
@@ -92,6 +107,7 @@ pub record MayTake (p : Setup) (log : Log) (now : ℕ) (frame : Apdu) (c : Cours
   pub rules : KeepsRules p.session (talk.Came frame now ∷ c.talk)
   pub placed : is_overfull (tasks_of p c.works).history ≡ false
   pub flushed : IsFlushed p log c
+  pub undue : IsUntouched log c ⊎ (frame_due p.session.w p.session.t2 p.session.t3 now c.talk ≡ None)
 
 -- each of these frames, the latest first
 abbrev pub AreTaken : Setup → Log → (now : ℕ) → List Apdu → Course → Type 0
@@ -105,12 +121,6 @@ pub record TakesFrames (p : Setup) (log : Log) (now : ℕ) (before after : Cours
   pub each : AreTaken p log now frames before
   pub rest : List ℕ
   pub joined : (present log).received ≡ spelled (came_frames after.talk) ++ rest
-
--- all whole frames of the octets received are taken
-pub record HasTakenAll (octets : Channel) (h : History) : Type 0 where
-  pub rest : List ℕ
-  pub joined : octets.received ≡ spelled (came_frames h) ++ rest
-  pub more : IsMore rest
 
 -- Frames that go out
 
@@ -136,10 +146,11 @@ pub record IsNextData (p : Setup) (log : Log) (asdu : List ℕ) (c : Course) : T
   pub none : has_objects asdu ≡ true → (tasks_of p c.works).state.answers ≡ []
   pub report : has_objects asdu ≡ true → objects asdu ≡ take (length (objects asdu)) (drop (sent_objects c) (taken_objects p log))
 
--- An S frame or a test goes out once all that may has gone out, since an I frame bears N(R) too; but for a confirmation (5.1, 5.3).
+-- An S frame or a test goes out once all other frames that may have gone out, since an I frame bears N(R) too, and behind the first frame
+-- of the event; but for a confirmation (5.1, 5.3; profile).
 abbrev pub IsNext : Setup → Log → Apdu → Course → Type 0
 IsNext p log (I ns nr asdu) c = IsNextData p log asdu.items c
-IsNext p log frame c = (confirmation_of c.talk ≡ Some frame) ⊎ IsFlushed p log c
+IsNext p log frame c = (confirmation_of c.talk ≡ Some frame) ⊎ (IsFlushed p log c × HasBegun log c)
 
 -- These octets go out: one frame, the next one, by the rules of 5.1 to 5.5.
 pub record HandsOver (p : Setup) (log : Log) (octets : List ℕ) (now : ℕ) (before after : Course) : Type 0 where
@@ -168,9 +179,9 @@ pub record IsLate (p : Setup) (log : Log) (c : Course) : Type 0 where
   pub late : has_timed_out p.session.t1 (latest log) c.talk ≡ true
 
 -- Why a connection is closed, where the course is so far: an answer is late; the own answer of the frame taken last, or of the line's
--- octets, found no place; or what is next in the octets.
+-- octets, found no place; or what is next in the octets. The connection before an `Open` has ended with it.
 abbrev pub IsCause : Setup → Log → Close → Course → Type 0
-IsCause p log Replaced c = Unit {0}
+IsCause p log Replaced c = is_replaced log ≡ true
 IsCause p log Timeout c = IsLate p log c
 IsCause p log OwnAnswers c = is_overfull (tasks_of p c.works).history ≡ true
 IsCause p log cause c = StandsNext p log cause c
@@ -211,9 +222,10 @@ Comes p log at Ticked c d = d ≡ with_works (begun_works Ticked at c.works) c
 Comes p log at Opened c d = d ≡ opened_course at (ended_course (present log).is_open (begun_works Opened at c.works) c)
 Comes p log at CutOff c d = d ≡ ended_course (present log).is_open (begun_works CutOff at c.works) c
 
--- The octets are the request that is next, where the queue has the room that the log shows; and a command that goes out for the first
--- time is the oldest that waits for its station.
+-- The octets are the request that is next, where the queue has the room that the log shows, once all that came is taken; and a command
+-- that goes out for the first time is the oldest that waits for its station.
 pub record SendsNext (p : Setup) (log : Log) (octets : List ℕ) (before after : Course) : Type 0 where
+  pub all : HasTakenAll (present log) before.talk
   pub due : before.works.is_due ≡ true
   pub request : Sending
   pub next : sending (ready_works p (latest log) before.works).line (room_in p log before) ≡ Some request

@@ -1,19 +1,19 @@
 -- What holds of every log of a gateway.
-use Rattle.std.specs.Prelude.{◌≡◌, ℕ, ◌<◌, Bool, true, false, List, [], ◌∷◌, length}
+use Rattle.std.specs.Prelude.{◌≡◌, ℕ, ◌+◌, ◌<◌, Bool, true, false, List, [], ◌∷◌, length}
 use Rattle.ft12.specs.Spelling.{spelling}
 use Rattle.link.specs.declared.service.Asked.{Asked}
 use Rattle.link.specs.Requests.{request_frame}
 use Rattle.session.specs.declared.kinds.Close.{Close}
 use Rattle.session.specs.declared.kinds.Close.TheVariants.{Replaced}
-use Rattle.gateway.specs.Log.{Log, Opened, Came, Went, Output, LineOut, TcpOut, Closed, latest}
+use Rattle.gateway.specs.Log.{Log, Came, Went, Output, LineOut, TcpOut, Closed, latest}
 use Rattle.gateway.specs.Streams.{IsOneFrame}
-use Rattle.gateway.specs.Frames.{AreInOrder}
-use Rattle.gateway.specs.Connections.{present, past, ends, AreConnections, IsBegun}
+use Rattle.gateway.specs.Frames.{runs, acknowledged_count, AreInOrder}
+use Rattle.gateway.specs.Connections.{present, past, ends, is_replaced, AreConnections, IsBegun}
 use Rattle.gateway.specs.Reports.{Setup, address_at, taken_objects, KeepsLinks}
 use Rattle.link.specs.Leave.{is_poll_request}
 use Rattle.gateway.specs.Room.{AreConnectionsOf, HasRoom}
 use Rattle.gateway.specs.Works.{tasks_of, is_overfull}
-use Rattle.gateway.specs.Course.{Course, here_of, IsFlushed, IsCause, Runs}
+use Rattle.gateway.specs.Course.{Course, here_of, HasSentAll, IsCause, Runs}
 use Rattle.gateway.specs.Conversation.{KeepsTimes, IsTalkAtRest}
 use Rattle.gateway.specs.Line.{IsWaiting, IsLineAtRest}
 
@@ -25,11 +25,6 @@ pub record IsRequest (p : Setup) (log : Log) (octets : List ℕ) : Type 0 where
   pub spelled : octets ≡ spelling p.link.size (request_frame (address_at p.addresses station) request)
   pub alone : IsWaiting p log → ⊥
   pub room : is_poll_request request ≡ true → HasRoom p log
-
--- an `Open` has ended the connection that was open, and its close is due
-abbrev pub is_replaced : Log → Bool
-is_replaced (Came now Opened ∷ log) = (present log).is_open
-is_replaced log = false
 
 -- The connection is open, and its course gives the cause, the first that stands.
 abbrev pub HasCause : Setup → Close → Log → Type 0
@@ -67,7 +62,8 @@ pub record IsAtRest (p : Setup) (log : Log) : Type 0 where
   pub are : AreConnectionsOf log (here_of course) course.earlier
   pub settled : is_replaced log ≡ false
   pub placed : (present log).is_open ≡ true → is_overfull (tasks_of p course.works).history ≡ false
-  pub eager : (present log).is_open ≡ true → IsFlushed p log course
+  pub eager : (present log).is_open ≡ true → runs (here_of course).received_frames ≡ true →
+      length (here_of course).sent_frames < acknowledged_count (here_of course).received_frames + p.session.k → HasSentAll p log course
   pub line : IsLineAtRest p log course (here_of course ∷ course.earlier)
   pub talk : IsTalkAtRest p log course
 
