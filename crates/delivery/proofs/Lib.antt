@@ -1,3 +1,4 @@
 pub mod Merging
 pub mod Stations
 pub mod Learnt
+pub mod Sessions
