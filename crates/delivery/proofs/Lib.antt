@@ -2,3 +2,17 @@ pub mod Merging
 pub mod Stations
 pub mod Learnt
 pub mod Sessions
+pub mod Sublists
+pub mod Steps
+pub mod Waiting
+pub mod History
+pub mod Exchanging
+pub mod Line
+pub mod Works
+pub mod Frames
+pub mod Joining
+pub mod Judgements
+pub mod Given
+pub mod Accepted
+pub mod Centre
+pub mod Settings
