@@ -1,4 +1,5 @@
 pub mod Octets
+pub mod Standard
 pub mod Command
 pub mod Selection
 pub mod Stations
