@@ -15,5 +15,7 @@ pub mod Ruled
 pub mod Passing
 pub mod Full
 pub mod Converse
+pub mod Distinct
+pub mod Standing
 pub mod Staying
 pub mod OwnAnswers

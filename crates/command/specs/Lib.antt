@@ -8,6 +8,7 @@ pub mod Judging
 pub mod Mirrors
 pub mod Fields
 pub mod History
+pub mod Selections
 pub mod Calls
 pub mod Rules
 pub mod Laws

@@ -4,6 +4,7 @@
 //! answered, and the own answers. Each law says what the calls do by what the rules make of that history.
 
 ghost use Rattle.std.specs.Prelude.{◌≡◌, ◌≤◌, ◌<◌, ◌==◌, ◌++◌, ℕ, List, [], length, slice_index, Some, None, false, true, option_map};
+ghost use Rattle.std.specs.List.{AllByRecursion};
 ghost use Rattle.asdu.specs.Asdu.{AsduValue};
 ghost use Rattle.asdu.specs.InformationObjects.{monitor_objects_of};
 ghost use Rattle.asdu.specs.Sizes.{tcp};
@@ -14,7 +15,8 @@ ghost use Rattle.command.specs.Mirrors.{mirrored};
 ghost use Rattle.command.specs.Standard.{first_cause, cause_of_fault, executes};
 ghost use Rattle.command.specs.Rules.{rules_for, not_selected, no_place};
 ghost use Rattle.command.specs.History.{ForwardsCommands, next_octets, ExecutesAreSelected, IsSelected, GivesOwnAnswers, own_kept, own_sent, KeepsOwnAnswers};
-ghost use Rattle.command.specs.Laws.{AfterEachRun, AtEachMoment};
+ghost use Rattle.command.specs.Selections.{AreDistinct, IsStanding, IsInTime};
+ghost use Rattle.command.specs.Laws.{AfterEachRun, AtEachMoment, AfterEachDue};
 
 /// The answer to an ASDU is the one that the first rule that applies gives; where none applies it is forwarded.
 pub fn judgement_is_the_first_rule_that_applies()
@@ -39,6 +41,14 @@ pub fn executes_are_selected()
 pub fn selected_executes_pass()
     ensures selected { AtEachMoment (λ stations sizes select_ms now s h. (xs : List ℕ) → cause_of_fault sizes stations xs ≡ None → executes xs ≡ true → IsSelected sizes stations select_ms xs now h → (not_selected xs now s).applies ≡ false) }
     ensures forwarded { AtEachMoment (λ stations sizes select_ms now s h. (xs : List ℕ) → cause_of_fault sizes stations xs ≡ None → executes xs ≡ true → IsSelected sizes stations select_ms xs now h → (no_place xs s).applies ≡ false → (judged xs now s).0 ≡ None) }
+{}
+
+/// No two selections are of one target, and each is the select that stands for its target, as far as that has come.
+/// After `due`, where moments never fall, each one's select, or its latest confirmation, came less than `select_ms` ago.
+pub fn selections_are_selects_that_stand()
+    ensures distinct { AfterEachRun (λ stations sizes select_ms s h. AreDistinct s.selections) }
+    ensures standing { AfterEachRun (λ stations sizes select_ms s h. (xs : List ℕ) → AllByRecursion (IsStanding sizes stations select_ms h xs) s.selections) }
+    ensures in_time { AfterEachDue (λ stations sizes select_ms now s h. (xs : List ℕ) → AllByRecursion (IsInTime sizes stations select_ms now h xs) s.selections) }
 {}
 
 /// Each answer is the right one, and the own answers that are kept go out first in, first out: 16 of them at most
