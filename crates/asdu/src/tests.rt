@@ -249,8 +249,10 @@ fn two_objects(kind: TypeId, head: &[u8], address: &[u8]) -> Octets {
 /// Two objects at 16 and 17, as a line of one-octet sizes and as a connection has them.
 #[test]
 fn carries_every_type(rt: HostRuntime) {
+    let mut types = 0u32;
     for octet in 0..=255u8 {
         if let Some(kind) = kind(octet) {
+            types = types.wrapping_add(1);
             let small = two_objects(kind, &[octet, 0x02, 0x43, 9, 16], &[17]);
             let wide = two_objects(kind, &[octet, 0x02, 0x43, 0, 9, 0, 16, 0, 0], &[17, 0, 0]);
             check_carried(&rt, kind, small.as_slice(), wide.as_slice());
@@ -259,6 +261,8 @@ fn carries_every_type(rt: HostRuntime) {
             check_carried(&rt, kind, small.as_slice(), wide.as_slice());
         }
     }
+    // Eight of reports without and with a tag, the end of initialisation, and six of commands.
+    assert_eq!(rt; types, 23);
 }
 
 fn check_carried<R: Abort>(rt: &R, kind: TypeId, small: &[u8], wide: &[u8]) {
@@ -269,7 +273,7 @@ fn check_carried<R: Abort>(rt: &R, kind: TypeId, small: &[u8], wide: &[u8]) {
     check_piece(rt, &asdu, wide);
     let asdu = read(Sizes::TCP, wide).expect(rt, "an ASDU of a connection");
     check_objects(rt, &asdu);
-    check_written(rt, &asdu, small);
+    check_written(rt, &asdu, SMALL, small);
 }
 
 /// It is translated into this piece alone.
@@ -283,12 +287,10 @@ fn check_piece<R: Abort>(rt: &R, asdu: &Asdu, wanted: &[u8]) {
     }
 }
 
-/// In one-octet sizes it has these octets.
-fn check_written<R: Abort>(rt: &R, asdu: &Asdu, wanted: &[u8]) {
-    assert!(rt; can_write(SMALL, asdu));
-    if can_write(SMALL, asdu) {
-        assert_eq!(rt; write(SMALL, asdu).as_slice(), wanted);
-    }
+/// In these sizes it has these octets.
+fn check_written<R: Abort>(rt: &R, asdu: &Asdu, sizes: Sizes, wanted: &[u8]) {
+    let is_written = can_write(sizes, asdu) && write(sizes, asdu).as_slice() == wanted;
+    assert!(rt; is_written);
 }
 
 fn check_objects<R: Abort>(rt: &R, asdu: &Asdu) {
@@ -399,15 +401,14 @@ fn writes_what_fits(rt: HostRuntime) {
     // The originator 7 goes where the cause has one octet.
     let octets = [45, 0x01, 0x46, 7, 0x34, 0x12, 0xFF, 0x00, 0x00, 0x81];
     let asdu = read(Sizes::TCP, &octets).expect(&rt, "a command");
-    assert!(rt; can_write(MIDDLE, &asdu));
-    if can_write(MIDDLE, &asdu) {
-        let wanted = [45, 0x01, 0x46, 0x34, 0x12, 0xFF, 0x00, 0x81];
-        assert_eq!(rt; write(MIDDLE, &asdu).as_slice(), wanted.as_slice());
-    }
+    check_written(
+        &rt,
+        &asdu,
+        MIDDLE,
+        &[45, 0x01, 0x46, 0x34, 0x12, 0xFF, 0x00, 0x81],
+    );
     // In its own sizes it has its own octets.
-    if can_write(Sizes::TCP, &asdu) {
-        assert_eq!(rt; write(Sizes::TCP, &asdu).as_slice(), octets.as_slice());
-    }
+    check_written(&rt, &asdu, Sizes::TCP, &octets);
     // A common address past one octet, an object address past two, and too many octets.
     assert!(rt; !can_write(SMALL, &asdu));
     let octets = [45, 0x01, 6, 0, 1, 0, 0x00, 0x00, 0x01, 1];

@@ -16,7 +16,7 @@ use link::{
     master_tells_the_log, next_changes_nothing, offers_wait, outcomes_bear_the_reports,
     requests_are_read_back, requests_wait_their_turn, rests_mean,
 };
-use session::{histories_keep_the_rules, timers_are_kept, transfer_is_controlled};
+use session::{histories_keep_the_rules, timers_are_kept, transfer_is_controlled, window_is_kept};
 
 /// The octets of a connection have one reading: its frames, and what closes it, if anything does; but for a connection that was
 /// closed for want of a place for an own answer, whose octets don't tell at which frame.
@@ -57,5 +57,6 @@ pub(crate) fn session_is_told()
 {
     histories_keep_the_rules();
     transfer_is_controlled();
+    window_is_kept();
     timers_are_kept();
 }

@@ -23,3 +23,5 @@ pub mod Running
 pub mod Turning
 pub mod Leaving
 pub mod Resting
+pub mod Flagging
+pub mod Heeding

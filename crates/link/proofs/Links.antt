@@ -54,7 +54,7 @@ views-append front [] ys = refl
 views-append front (x ∷ xs) ys = ap (λ (es : List LineExchange). view front x ∷ es) (views-append front xs ys)
 
 -- the exchanges with station i, one more being the last
-with_one : (front : List ℕ → Front) (xs : List OpenExchange) (x : OpenExchange) (i : ℕ) →
+pub with_one : (front : List ℕ → Front) (xs : List OpenExchange) (x : OpenExchange) (i : ℕ) →
     with_station i (views front (xs ++ x ∷ [])) ≡ with_station i (views front xs) ++ (if x.station == i then (view front x).exchange ∷ [] else [])
 with_one front xs x i = ap (λ (es : List LineExchange). with_station i es) (views-append front xs (x ∷ [])) ∙ with_station-append i (views front xs) (view front x ∷ [])
 

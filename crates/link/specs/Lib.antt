@@ -1,6 +1,7 @@
 pub mod Answers
 pub mod Counts
 pub mod Exchanges
+pub mod Flags
 pub mod Procedure
 pub mod Requests
 pub mod Turns

@@ -23,6 +23,7 @@ mod answer;
 mod asdu;
 mod asking;
 mod awaited;
+mod flags;
 mod laws;
 mod leave;
 mod life;
@@ -42,6 +43,7 @@ mod turn;
 pub use answer::Answer;
 pub use asdu::Asdu;
 pub use asking::next_changes_nothing;
+pub use flags::flags_are_heeded;
 pub use laws::{
     master_tells_the_log, outcomes_bear_the_reports, requests_are_read_back,
     requests_wait_their_turn, services_need_a_station_that_is_up,
