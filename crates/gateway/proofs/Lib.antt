@@ -19,6 +19,8 @@ pub mod Sound
 pub mod Kept
 pub mod Stored
 pub mod Unique
+pub mod OnePassing
+pub mod OneCourse
 pub mod Checks
 pub mod Accounting
 pub mod Order
