@@ -21,6 +21,7 @@ pub mod Stored
 pub mod Unique
 pub mod OnePassing
 pub mod OneCourse
+pub mod OneCause
 pub mod Checks
 pub mod Accounting
 pub mod Order

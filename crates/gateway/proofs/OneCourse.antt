@@ -44,11 +44,11 @@ frames_on p [] fs now c = refl
 frames_on p (h ∷ hs) fs now c = ap (with_frame p h now) (frames_on p hs fs now c)
 
 -- a frame that may be taken stands first in what is left
-may_front : (p : Setup) (log : Log) (now : ℕ) (f : Apdu) (c : Course) (rest : List ℕ) → (present log).received ≡ spelled (came_frames c.talk) ++ rest → (may : MayTake p log now f c) → rest ≡ spelling f ++ may.rest
+pub may_front : (p : Setup) (log : Log) (now : ℕ) (f : Apdu) (c : Course) (rest : List ℕ) → (present log).received ≡ spelled (came_frames c.talk) ++ rest → (may : MayTake p log now f c) → rest ≡ spelling f ++ may.rest
 may_front p log now f c rest e may =
     append_cancel_left (spelled (came_frames c.talk)) rest (spelling f ++ may.rest) (sym e ∙ may.joined ∙ append_assoc (spelled (came_frames c.talk)) (spelling f) may.rest)
 
-none_whole : AreUnique → (p : Setup) (log : Log) (now : ℕ) (f : Apdu) (c : Course) → HasTakenAll (present log) c.talk → MayTake p log now f c → ⊥
+pub none_whole : AreUnique → (p : Setup) (log : Log) (now : ℕ) (f : Apdu) (c : Course) → HasTakenAll (present log) c.talk → MayTake p log now f c → ⊥
 none_whole u p log now f c all may =
     never_more u all.rest f (length (spelling f)) (whole_front f may.rest all.rest may.fits (may_front p log now f c all.rest all.joined may)) all.more
 
@@ -111,7 +111,7 @@ first_may p log now (f ∷ g ∷ fs) c h = elim (first_may p log now (g ∷ fs) 
     never : g ∷ fs ≡ [] → ⊥
     never e = cc
 
-stays : (p : Setup) (log : Log) (c d : Course) → GoesOn p log c d → ((f : Apdu) → MayTake p log (latest log) f c → ⊥) → d ≡ c
+pub stays : (p : Setup) (log : Log) (c d : Course) → GoesOn p log c d → ((f : Apdu) → MayTake p log (latest log) f c → ⊥) → d ≡ c
 stays p log c d g none = elim (first_may p log (latest log) g.0 c g.2) [ inl e ↦ g.1 ∙ ap (λ fs. with_frames p fs (latest log) c) e | inr may ↦ absurd (none may.0 may.1) ]
 
 -- where both hold what leaves no frame to be taken, they are the same
@@ -158,7 +158,7 @@ hands_none u p log c (U function) f rules next may = by_due u p log c f (U funct
 -- The cause of a close stands at one place
 
 -- the open connection isn't one that was closed
-present_plain : (log : Log) → (present log).overfull ≡ false
+pub present_plain : (log : Log) → (present log).overfull ≡ false
 present_plain [] = refl
 present_plain (Came now (LineIn octets) ∷ log) = present_plain log
 present_plain (Came now Opened ∷ log) = refl
@@ -199,7 +199,7 @@ replaced_nothing (Came now CutOff ∷ log) e = cc
 replaced_nothing (Came now Ticked ∷ log) e = cc
 replaced_nothing (Went now action ∷ log) e = cc
 
-replaced_none : (p : Setup) (log : Log) (now : ℕ) (f : Apdu) (c : Course) → is_replaced log ≡ true → MayTake p log now f c → ⊥
+pub replaced_none : (p : Setup) (log : Log) (now : ℕ) (f : Apdu) (c : Course) → is_replaced log ≡ true → MayTake p log now f c → ⊥
 replaced_none p log now f c e may =
     let no : f ∷ came_frames c.talk ≡ [] = no_frames (f ∷ came_frames c.talk) may.rest (sym (replaced_nothing log e) ∙ may.joined) in
     cc

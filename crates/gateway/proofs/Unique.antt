@@ -70,7 +70,7 @@ whole_front f more r fits e = (record { fits = fits; spelled = ap (take (length 
 pub never_more : AreUnique → (r : List ℕ) (f : Apdu) (n : ℕ) → IsFront r (Whole f n) → IsFront r More → ⊥
 never_more u r f n h k = let e : More ≡ Whole f n = u.front r More (Whole f n) k h in cc
 
-never_refused : AreUnique → (r : List ℕ) (f : Apdu) (n : ℕ) → IsFront r (Whole f n) → IsRefused r → ⊥
+pub never_refused : AreUnique → (r : List ℕ) (f : Apdu) (n : ℕ) → IsFront r (Whole f n) → IsRefused r → ⊥
 never_refused u r f n h k = let e : Never k.0 k.1 ≡ Whole f n = u.front r (Never k.0 k.1) (Whole f n) k.2 h in cc
 
 not_both : AreUnique → (r : List ℕ) → IsFront r More → IsRefused r → ⊥
