@@ -106,7 +106,7 @@ no_rest : (xs ys : List ℕ) → [] ≡ xs ++ ys → ys ≡ []
 no_rest [] ys e = sym e
 no_rest (x ∷ xs) ys e = cc
 
-no_frames : (frames : List Apdu) (rest : List ℕ) → [] ≡ spelled frames ++ rest → frames ≡ []
+pub no_frames : (frames : List Apdu) (rest : List ℕ) → [] ≡ spelled frames ++ rest → frames ≡ []
 no_frames [] rest e = refl
 no_frames (f ∷ fs) rest e =
     let none : spelled fs ++ spelling f ≡ [] = no_front (spelled fs ++ spelling f) rest e in

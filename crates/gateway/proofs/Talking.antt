@@ -46,7 +46,7 @@ bytes_taken laws p log now octets =
     ap (λ (reports : List (ℕ × List ℕ)). flat_map (λ report. monitor_objects p.sizes report.1) reports)
     (laws.due_reports p.link.size (address_at p.addresses) p.link.answer_ms (latest (Came now (TcpIn octets) ∷ log)) (exchanges_of p log))
 
-may_at : LineLaws → (p : Setup) (log : Log) (now other moment : ℕ) (octets : List ℕ) (f : Apdu) (c : Course) → MayTake p (Came now (TcpIn octets) ∷ log) moment f c → MayTake p (Came other (TcpIn octets) ∷ log) moment f c
+pub may_at : LineLaws → (p : Setup) (log : Log) (now other moment : ℕ) (octets : List ℕ) (f : Apdu) (c : Course) → MayTake p (Came now (TcpIn octets) ∷ log) moment f c → MayTake p (Came other (TcpIn octets) ∷ log) moment f c
 may_at laws p log now other moment octets f c may = record {
   fits = may.fits;
   rest = may.rest;
