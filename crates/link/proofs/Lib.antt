@@ -25,3 +25,6 @@ pub mod Leaving
 pub mod Resting
 pub mod Flagging
 pub mod Heeding
+pub mod Visiting
+pub mod VisitRuns
+pub mod Fairness

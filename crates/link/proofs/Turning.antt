@@ -6,14 +6,14 @@ use Rattle.link.specs.Primary.{Outstanding, Primary, sending_by, sending_from, s
 use Rattle.link.specs.Runs.{nth_after, BeginsTurn, HaveNone}
 
 -- the first of so many stations after a place that has a request
-record IsFound (burst : ℕ) (may_poll : Bool) (stations : List StationState) (many place : ℕ) (c : Chosen) : Type 0 where
+pub record IsFound (burst : ℕ) (may_poll : Bool) (stations : List StationState) (many place : ℕ) (c : Chosen) : Type 0 where
   pub steps : ℕ
   pub within : steps < many
   pub station : c.station ≡ nth_after (length stations) place (suc steps)
   pub first : wanted burst may_poll false (station_at stations c.station) Starting ≡ Some c.wanted
   pub nearer : (n : ℕ) → n < steps → wanted burst may_poll false (station_at stations (nth_after (length stations) place (suc n))) Starting ≡ None
 
-found : (burst : ℕ) (may_poll : Bool) (stations : List StationState) (many place : ℕ) (c : Chosen) → first_after burst may_poll stations many place ≡ Some c →
+pub found : (burst : ℕ) (may_poll : Bool) (stations : List StationState) (many place : ℕ) (c : Chosen) → first_after burst may_poll stations many place ≡ Some c →
     IsFound burst may_poll stations many place c
 found burst may_poll stations zero place c is = cc
 found burst may_poll stations (suc many) place c is =

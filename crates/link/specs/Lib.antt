@@ -15,3 +15,5 @@ pub mod Life
 pub mod Runs
 pub mod Leave
 pub mod Offers
+pub mod Visits
+pub mod Waits

@@ -39,6 +39,7 @@ mod service;
 mod settings;
 mod station;
 mod turn;
+mod visits;
 
 pub use answer::Answer;
 pub use asdu::Asdu;
@@ -67,6 +68,7 @@ pub use runs::{
 pub use service::{Asked, Service};
 pub use settings::LinkSettings;
 pub use station::Station;
+pub use visits::{no_station_starves, turns_end};
 
 #[cfg(test)]
 mod tests;
