@@ -138,7 +138,7 @@ fn refuses_what_is_no_asdu(rt: HostRuntime) {
     }
     // The greatest address that isn't.
     assert!(rt; read(SMALL, &[0x01, 0x82, 0x03, 0x01, 0xFE, 0x01, 0x00]).is_ok());
-    // The types of commands with a time tag.
+    // A set point as a short float and a bitstring, each with a time tag, are not carried.
     for octet in 63..=64u8 {
         let tagged = [
             octet, 0x01, 6, 1, 10, 0x81, 0xD5, 0xDD, 0x22, 0x0C, 0x9D, 0x02, 0x18,
