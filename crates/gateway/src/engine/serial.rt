@@ -1,30 +1,21 @@
 //! The line's side: its primary station, what its octets bring, and the commands that go down to it.
-ghost use Rattle.std.specs.Prelude.{◌≡◌, ℕ, ◌<◌, ◌≤◌, true, false, List, [], length, map, IfSome, IfNone, IfOk, Some, None, option_map, if◌then◌else◌};
+ghost use Rattle.std.specs.Prelude.{◌≡◌, ℕ, ◌<◌, ◌≤◌, true, false, List, [], length, Some, None, option_map};
 ghost use Rattle.link.specs.declared.settings.LinkSettings.{LinkSettings};
 ghost use Rattle.link.specs.Exchanges.{Sending, Exchanges};
 ghost use Rattle.link.specs.Telling.{Tells};
-ghost use Rattle.link.specs.Primary.{start, offered_to, sending, request_of};
-ghost use Rattle.apci.specs.Spelling.{Fits};
-ghost use Rattle.apci.specs.Borrowed.{owned};
-ghost use Rattle.session.specs.Session.{new_session, confirmed, pulled, may_send, outcome_of, timed_out as answers_late};
-ghost use Rattle.command.specs.State as tasks;
+ghost use Rattle.link.specs.Primary.{offered_to, sending, request_of};
 ghost use Rattle.command.specs.State.{oldest};
-ghost use Rattle.command.specs.Judging.{judged};
-ghost use Rattle.events.specs.Queue.{empty, free_places, kept, octets_of};
+ghost use Rattle.events.specs.Queue.{free_places, octets_of};
 ghost use Rattle.link.specs.Leave.{is_poll_request, is_polling, is_report};
 ghost use Rattle.std.specs.List.{AllByRecursion};
 ghost use Rattle.asdu.specs.Asdu.{IsAsdu};
 ghost use Rattle.asdu.specs.InformationObjects.{monitor_objects_of};
 ghost use Rattle.asdu.specs.Reading.{value_of};
-ghost use Rattle.gateway.specs.Agrees.{IsSpent, Follows};
 ghost use Rattle.gateway.specs.Polls.{has_room};
 ghost use Rattle.gateway.specs.Counting.{one_skipped, one_mirrored, one_lost};
-ghost use Rattle.gateway.specs.Works.{kept_until, all_kept, listed, is_command_report, offered_by, offered_upto};
-ghost use Rattle.gateway.specs.Setups.{link_of, info_of, setup_of};
-ghost use Rattle.gateway.specs.declared.settings.Station.{Station};
-ghost use Rattle.gateway.specs.State.{counts_of, first_state, after_request, at_moment, disconnected, connected, received as frame_received, heard_commands, has_place};
-ghost use Rattle.gateway.specs.Steps.{Judged, SendsPiece, SendsOwn, SendsData, Mirrors, LearnsReport, Hears, Learns, refused, refusal_fits, given_up, line_timed, settled};
-ghost use Rattle.gateway.specs.Finding.{Finds};
+ghost use Rattle.gateway.specs.Works.{kept_until, all_kept, is_command_report, offered_by, offered_upto};
+ghost use Rattle.gateway.specs.State.{after_request};
+ghost use Rattle.gateway.specs.Steps.{Mirrors, LearnsReport, Hears, Learns, refused, refusal_fits, given_up, line_timed, settled};
 
 use super::Gateway;
 use crate::counts::Tally;
