@@ -88,7 +88,7 @@ pub record BeginsWithFault (sent : ℕ) (received : List Apdu) (cause : Close) (
   pub fault : fault_of sent received frame ≡ Some cause
 
 -- What stands behind the frames received: the beginning of a frame, or what closes the connection. Where that is an own answer
--- without a place, what is left of the octets was dropped; which frames came, `Course` tells.
+-- without a place, what is left of the octets was dropped; which frames came, the log's one course tells (the law `one_course`).
 abbrev pub IsBehind : Bool → ℕ → List Apdu → Option Close → List ℕ → Type 0
 IsBehind overfull sent received None rest = IsMore rest
 IsBehind overfull sent received (Some Grammar) rest = IsRefused rest
@@ -97,7 +97,8 @@ IsBehind overfull sent received (Some cause) rest = BeginsWithFault sent receive
 
 -- The frames of a connection are those that the grammar finds, one after another, in its joined octets. In the octets
 -- handed to TCP there is nothing else. In those received they go up to what closes the connection, if anything does.
--- (The law `one_reading`: but for want of a place for an own answer there are no other frames, and no other cause.)
+-- (The law `one_reading`: there are no other frames, and no other cause, but for want of a place for an own answer, where the octets
+-- alone don't tell them.)
 pub record IsConnection (octets : Channel) (c : Connection) (fault : Option Close) : Type 0 where
   pub put : List Apdu
   pub handed : AreFrames octets.sent put

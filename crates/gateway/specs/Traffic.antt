@@ -78,15 +78,23 @@ RestsBetweenSteps p [] = Unit {0}
 RestsBetweenSteps p (Came now event ∷ log) = HasRested p log × RestsBetweenSteps p log
 RestsBetweenSteps p (Went now action ∷ log) = RestsBetweenSteps p log
 
--- What holds of every log of a gateway. Of what the open connection received perhaps only the first frames are told here,
--- where the device failed in mid-step; `HasRested` tells them all.
+-- What holds of every log of a gateway. A log has one course (the law `one_course`), so the courses that its parts speak of are this one
+-- and those before it. Of what the open connection received perhaps only the first frames are told here, where the device failed in
+-- mid-step; `HasRested` tells them all.
 pub record IsFaithful (p : Setup) (log : Log) : Type 0 where
   pub course : Course
   pub course_runs : Runs p log course
+  -- the open connection's frames are those of its octets, so far
   pub begun : IsBegun (present log) (here_of course)
+  -- and those of each connection that is over are those of its octets, up to what closed it
   pub are : AreConnections (past log) course.earlier
+  -- on each the monitor objects go out in order, from the first on that none before acknowledged
   pub orders : AreInOrder (taken_objects p log) (here_of course ∷ course.earlier)
+  -- each station is asked as its link allows
   pub links : KeepsLinks p log
+  -- at each point frames and commands kept the rules
   pub times : KeepsTimes p log
+  -- each action went out at its step's moment, for its reason
   pub acts : ActsRightly p log
+  -- and each step had done all that it could when the next event came
   pub rests : RestsBetweenSteps p log

@@ -25,7 +25,7 @@ use link::{
 use session::{histories_keep_the_rules, timers_are_kept, transfer_is_controlled, window_is_kept};
 
 /// The octets of a connection have one reading: its frames, and what closes it, if anything does; but for a connection that was
-/// closed for want of a place for an own answer, whose octets don't tell at which frame.
+/// closed for want of a place for an own answer, whose octets alone don't tell at which frame: of a log `one_course` tells it.
 pub fn one_reading()
     ensures { (octets : Channel) (c d : Connection) (fault other : Option Close) → octets.overfull ≡ false → IsConnection octets c fault → IsConnection octets d other → (c ≡ d) × (fault ≡ other) }
 {

@@ -6,7 +6,7 @@ use Rattle.ft12.specs.declared.frame.LinkSize.{LinkSize}
 use Rattle.ft12.specs.declared.frame.LinkSize.TheVariants.{One, Two}
 use Rattle.link.specs.Requests.{IsUserData}
 use Rattle.link.specs.Telling.{Tells}
-use Rattle.gateway.proofs.engine.offer_to.Goals as goal
+use Rattle.gateway.proofs.engine.serial.offer_to.Goals as goal
 
 short_address : (size : LinkSize) → address_len size ≤ 2
 short_address One = omega arith
