@@ -13,15 +13,24 @@
 //! no failure; the line's end alone is one. What sockets do is no matter of a proof.
 #![tactic(auto)]
 
+#[cfg(test)]
+mod configured;
 mod found;
+mod laws;
 #[cfg(test)]
 mod memory;
 mod port;
+mod redial;
 mod sockets;
 mod source;
+mod stream;
+#[cfg(test)]
+mod timed;
 mod timing;
 mod wires;
 
+pub use laws::no_exchange_ends_unheard;
 pub use port::Live;
-pub use sockets::{CentreListener, CentreSocket, LineSocket, SystemClock};
+pub use redial::{Dialler, Redialled};
+pub use sockets::{CentreListener, CentreSocket, LineDialler, LineSocket, SystemClock};
 pub use wires::{Clock, Door, Got, Wire};
