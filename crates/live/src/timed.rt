@@ -5,6 +5,7 @@ use crate::wires::{Clock, Door, Got, Wire};
 use std::cell::Cell;
 
 /// The time, in ms, and when the gateway stalls in it.
+#[derive(Drop)]
 pub(crate) struct Time {
     now: Cell<u64>,
     /// How many calls to an end go by before the next stall; 0 for no stall any more.

@@ -3,6 +3,7 @@ use super::Live;
 use crate::configured::config;
 use crate::timed::{Time, TimedClock, TimedDoor, TimedLine};
 use gateway::{Action, End, Gateway, Next, Port, drive_on};
+use std::alloc::Global;
 use std::process::Abort;
 use std::test::Fail;
 
@@ -110,13 +111,18 @@ fn a_stall_makes_no_selection_longer(rt: HostRuntime) {
 }
 
 /// The gateway stalls before each so manieth call to an end, while the station answers in time: no request goes out twice.
-fn runs_without_repeat(rt: &HostRuntime, every: u64, stall_ms: u64) -> Result<(), Fail> {
+fn runs_without_repeat(
+    rt: &impl Abort,
+    alloc: Global,
+    every: u64,
+    stall_ms: u64,
+) -> Result<(), Fail> {
     let time = Time::new(every, stall_ms);
     let line = TimedLine::new(&time, 300, 650);
     let door = TimedDoor::new(&time, true);
     let mut port = Live::new(line, door, TimedClock(&time), ANSWER_MS);
-    let config = config(rt.alloc(), ANSWER_MS)?;
-    let mut gateway = Gateway::new(rt.alloc(), &config).ok().ok_or("no memory")?;
+    let config = config(alloc, ANSWER_MS)?;
+    let mut gateway = Gateway::new(alloc, &config).ok().ok_or("no memory")?;
     assert!(rt; port.failures() < 9);
     assert_eq!(rt; drive_on(&mut gateway, &mut port, 2000), End::Turns);
     assert_eq!(rt; port.line.repeats, 0, "every {every}, {stall_ms} ms");
@@ -128,7 +134,7 @@ fn runs_without_repeat(rt: &HostRuntime, every: u64, stall_ms: u64) -> Result<()
 fn wherever_it_stalls_no_exchange_is_unanswered(rt: HostRuntime) -> Result<(), Fail> {
     for every in 1..60 {
         for stall_ms in [20, 150, 400, 600, 1200, 5000] {
-            runs_without_repeat(&rt, every, stall_ms)?;
+            runs_without_repeat(&rt, rt.alloc(), every, stall_ms)?;
         }
     }
     Ok(())
