@@ -252,4 +252,6 @@ impl<L: Wire, D: Door + Drop, C: Clock + Drop> Port for Live<L, D, C> {
 }
 
 #[cfg(test)]
+mod stalls;
+#[cfg(test)]
 mod tests;
