@@ -233,6 +233,8 @@ selection_examples =
     refused
     ∷ example (selected (asdu 45 134 1 (129 ∷ [])) (mirror CScNa1 135 1 (129 ∷ []))) 90 (asdu 45
     134 1 (1 ∷ [])) None
+    -- P/N of the execute is not compared (this gateway's own profile)
+    ∷ example confirmed 90 (asdu 45 70 1 (1 ∷ [])) None
     -- the confirmation: of the other test bit; of cause 6, 9 and 10; negative, without and with the
     -- test bit
     ∷ example (selected (asdu 45 6 1 (129 ∷ [])) (mirror CScNa1 135 1 (129 ∷ []))) 90 execute None
@@ -288,6 +290,9 @@ selection_examples =
     confirmed) 90 execute refused
     ∷ example (Mirror (mirror CScNa1 7 1 (129 ∷ [])) 86 ∷ Accept 0 ∷ PutOnLine 0 ∷ Judge (asdu 45 6
     1 (129 ∷ [])) 85 ∷ confirmed) 90 execute None
+    -- the older of two selects that wait was accepted and confirmed
+    ∷ example (Mirror (mirror CScNa1 7 1 (129 ∷ [])) 80 ∷ Accept 0 ∷ PutOnLine 0
+    ∷ Judge (asdu 45 6 1 (129 ∷ [])) 60 ∷ Judge (asdu 45 6 1 (129 ∷ [])) 50 ∷ []) 90 execute refused
     -- the end of the connection
     ∷ example (Cut ∷ confirmed) 90 execute refused
     -- the select was never accepted: it waits still, is on the line, was busy, was lost
@@ -301,6 +306,15 @@ selection_examples =
     (129 ∷ [])) 50 ∷ []) 90 execute refused
     ∷ example (Mirror (mirror CScNa1 7 1 (129 ∷ [])) 80 ∷ Accept 1 ∷ PutOnLine 0 ∷ Judge (asdu 45 6
     1 (129 ∷ [])) 50 ∷ []) 90 execute refused
+    -- nothing stands on the line when the station accepts
+    ∷ example (Mirror (mirror CScNa1 7 1 (129 ∷ [])) 80 ∷ Accept 0 ∷ Busy 0 ∷ PutOnLine 0
+    ∷ Judge (asdu 45 6 1 (129 ∷ [])) 50 ∷ []) 90 execute refused
+    ∷ example (Mirror (mirror CScNa1 7 1 (129 ∷ [])) 80 ∷ Accept 0 ∷ Lose 0 ∷ PutOnLine 0
+    ∷ Judge (asdu 45 6 1 (129 ∷ [])) 50 ∷ []) 90 execute refused
+    -- another command goes out between acceptance and confirmation
+    ∷ example (Mirror (mirror CScNa1 7 1 (129 ∷ [])) 80 ∷ PutOnLine 0
+    ∷ Judge (asdu 46 6 1 (129 ∷ [])) 60 ∷ Accept 0 ∷ PutOnLine 0
+    ∷ Judge (asdu 45 6 1 (129 ∷ [])) 50 ∷ []) 90 execute None
     -- what another station does is no matter
     ∷ example (Busy 1 ∷ Lose 2 ∷ PutOnLine 1 ∷ Accept 0 ∷ confirmed) 90 execute None
     -- its time: since the confirmation, and from the select to the confirmation
