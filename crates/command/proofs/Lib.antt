@@ -17,5 +17,7 @@ pub mod Full
 pub mod Converse
 pub mod Distinct
 pub mod Standing
+pub mod Refusals
+pub mod Examples
 pub mod Staying
 pub mod OwnAnswers

@@ -1,4 +1,5 @@
--- What can be seen of commands from outside, and what the rules make of it. Nothing here knows how it is kept.
+-- What can be seen of commands from outside, and what the rules make of it. Nothing here knows how
+-- it is kept.
 use Rattle.std.specs.Prelude.{◌≡◌, ℕ, suc, ◌+◌, ◌-◌, ◌<◌, Bool, true, false, not, ◌&&◌, ◌||◌, ◌==◌, nat_lt, if◌then◌else◌, List, [], ◌∷◌, ◌++◌, length, drop, Option, Some, None, option_map, is_none, unwrap_or, slice_get, slice_index}
 use Rattle.std.specs.Option.{option_map_or}
 use Rattle.elements.specs.declared.types.TypeId.{TypeId}
@@ -13,7 +14,8 @@ use Rattle.command.specs.Standard.{is_deactivating, selects, executes, have_one_
 use Rattle.command.specs.declared.station.StationInfo.{StationInfo}
 
 pub data Told : Type 0 where
-  -- at this moment an ASDU came from the control centre; it was answered so, or forwarded (no answer)
+  -- at this moment an ASDU came from the control centre; it was answered so, or forwarded (no
+  -- answer)
   Judged : ℕ → List ℕ → Option (List ℕ) → Told
   -- a command went to the station for the first time, with these octets
   Sent : ℕ → List ℕ → Told
@@ -52,7 +54,8 @@ line_octets sizes xs station = typed_line_octets sizes station.ca (type_of (slic
 
 -- ---- Selects
 
--- A select, as it came; when it came; and how many commands for its station were forwarded before it on its connection.
+-- A select, as it came; when it came; and how many commands for its station were forwarded before
+-- it on its connection.
 pub record Select : Type 0 where
   pub octets : List ℕ
   pub came : ℕ
@@ -90,8 +93,9 @@ module _ (sizes : Sizes) (stations : List StationInfo) (select_ms : ℕ) where
   abbrev pub next_octets : ℕ → History → Option (List ℕ)
   next_octets k h = option_map (λ xs. option_map_or (line_octets sizes xs) (slice_get stations k) []) (next_for k h)
 
-  -- Each first sending is the oldest command that was forwarded to its station on the open connection and didn't go
-  -- out: in the order in which they came, each once, and only while their connection is open.
+  -- Each first sending is the oldest command that was forwarded to its station on the open
+  -- connection and didn't go out: in the order in which they came, each once, and only while their
+  -- connection is open.
   abbrev pub ForwardsCommands : History → Type 0
   ForwardsCommands [] = Unit {0}
   ForwardsCommands (Sent k octets ∷ h) = (next_octets k h ≡ Some octets) × ForwardsCommands h
@@ -99,7 +103,8 @@ module _ (sizes : Sizes) (stations : List StationInfo) (select_ms : ℕ) where
 
   -- ---- The line
 
-  -- the ASDU whose command stands on the line of station k: it was put there on the open connection and isn't done
+  -- the ASDU whose command stands on the line of station k: it was put there on the open connection
+  -- and isn't done
   abbrev pub on_line : ℕ → History → Option (List ℕ)
   on_line k [] = None
   on_line k (Sent j octets ∷ h) = if k == j then next_for k h else on_line k h
@@ -120,7 +125,8 @@ module _ (sizes : Sizes) (stations : List StationInfo) (select_ms : ℕ) where
 
   -- ---- Answers
 
-  -- the cause of the answer to an ASDU that isn't forwarded: that of its own fault, or else a negative one
+  -- the cause of the answer to an ASDU that isn't forwarded: that of its own fault, or else a
+  -- negative one
   abbrev pub cause_given : List ℕ → ℕ
   cause_given xs = unwrap_or (cause_of_fault sizes stations xs) (negative_of xs)
 
@@ -128,7 +134,8 @@ module _ (sizes : Sizes) (stations : List StationInfo) (select_ms : ℕ) where
   abbrev pub busy_answer : ℕ → History → Option (List ℕ)
   busy_answer k h = option_map (λ xs. answer (negative_of xs) xs) (on_line k h)
 
-  -- Each answer is the ASDU that came with its cause octet replaced, and nothing that has a fault of its own is forwarded.
+  -- Each answer is the ASDU that came with its cause octet replaced, and nothing that has a fault
+  -- of its own is forwarded.
   abbrev pub GivesOwnAnswers : History → Type 0
   GivesOwnAnswers [] = Unit {0}
   GivesOwnAnswers (Judged now xs (Some a) ∷ h) = (a ≡ answer (cause_given xs) xs) × GivesOwnAnswers h
@@ -147,9 +154,9 @@ module _ (sizes : Sizes) (stations : List StationInfo) (select_ms : ℕ) where
   abbrev pub begins_selection : Option (List ℕ) → List ℕ → Bool
   begins_selection a ys = is_none a && (must_be_selected stations ys && selects ys)
 
-  -- The select that stands for the target of xs: the latest that was forwarded on the open connection, if none of these
-  -- came since: a deactivation or an execute of this target that nothing is wrong with (forwarded or not), and a
-  -- station's negative confirmation of this target.
+  -- The select that stands for the target of xs: the latest that was forwarded on the open
+  -- connection, if none of these came since: a deactivation or an execute of this target that
+  -- nothing is wrong with (forwarded or not), and a station's negative confirmation of this target.
   abbrev pub standing : List ℕ → History → Option Select
   standing xs [] = None
   standing xs (Judged now ys a ∷ h) =
@@ -177,7 +184,8 @@ module _ (sizes : Sizes) (stations : List StationInfo) (select_ms : ℕ) where
   is_accepted_at k place (Ended ∷ h) = false
   is_accepted_at k place (_ ∷ h) = is_accepted_at k place h
 
-  -- when the select was confirmed: its latest confirmation that came in time, after the station accepted it
+  -- when the select was confirmed: its latest confirmation that came in time, after the station
+  -- accepted it
   abbrev pub confirmed_at : Select → History → Option ℕ
   confirmed_at z [] = None
   confirmed_at z (Mirrored now v ∷ h) =
@@ -185,8 +193,9 @@ module _ (sizes : Sizes) (stations : List StationInfo) (select_ms : ℕ) where
   confirmed_at z (Ended ∷ h) = None
   confirmed_at z (_ ∷ h) = confirmed_at z h
 
-  -- The execute xs, which comes now, is selected: a select of its type and addresses stands, with its test bit and its
-  -- element apart from S/E; the station accepted it, and confirmed it less than select_ms ago.
+  -- The execute xs, which comes now, is selected: a select of its type and addresses stands, with
+  -- its test bit and its element apart from S/E; the station accepted it, and confirmed it less
+  -- than select_ms ago.
   pub record IsSelected (xs : List ℕ) (now : ℕ) (h : History) : Type 0 where
     pub select : Select
     pub stands : standing xs h ≡ Some select

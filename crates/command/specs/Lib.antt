@@ -12,3 +12,4 @@ pub mod Selections
 pub mod Calls
 pub mod Rules
 pub mod Laws
+pub mod Examples

@@ -1,5 +1,5 @@
--- The rules by which an ASDU from the control centre is judged: those of the command alone, then those of what is kept
--- (in this order by this gateway's own profile).
+-- The rules by which an ASDU from the control centre is judged: those of the command alone, then
+-- those of what is kept (in this order by this gateway's own profile).
 use Rattle.std.specs.Prelude.{ℕ, ◌+◌, not, ◌&&◌, ◌||◌, nat_lt, nat_le, List, [], ◌∷◌, ◌++◌, length, count_by}
 use Rattle.std.specs.List.{list_any}
 use Rattle.command.specs.Standard.{Rule, negative_of, own_rules, executes, selects, must_be_selected, is_for_station}
@@ -15,7 +15,8 @@ not_selected xs now s = record {
   cause = negative_of xs;
 }
 
--- more than 64 commands would wait, or a select to a station that asks for selects finds 16 selections of other targets
+-- more than 64 commands would wait, or a select to a station that asks for selects finds 16
+-- selections of other targets
 abbrev pub no_place : List ℕ → State → Rule
 no_place xs s = record {
   applies =

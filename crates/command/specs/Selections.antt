@@ -1,4 +1,5 @@
--- Which selects are kept, by the history (how long a selection lasts is this gateway's own profile).
+-- Which selects are kept, by the history (how long a selection lasts is this gateway's own
+-- profile).
 use Rattle.std.specs.Prelude.{◌≡◌, ℕ, ◌+◌, ◌-◌, ◌<◌, Bool, true, ◌&&◌, ◌==◌, List, [], ◌∷◌, Some, unwrap_or, slice_index}
 use Rattle.std.specs.List.{AllByRecursion}
 use Rattle.asdu.specs.declared.sizes.Sizes.{Sizes}

@@ -1,7 +1,8 @@
--- What the standard says of the octets of a command and of a station's answer to it (IEC 60870-5-101, 7.2 and 7.3.2, in
--- the sizes of IEC 60870-5-104: two octets of cause, two of common address, three of object address, each low octet
--- first). Nothing of the machine is borrowed here: laws say that its functions read the same.
-use Rattle.std.specs.Prelude.{ℕ, suc, ◌+◌, ◌*◌, ◌-◌, ◌%◌, ◌^◌, Bool, true, false, not, ◌&&◌, ◌||◌, ◌==◌, nat_lt, nat_le, if◌then◌else◌, List, [], ◌∷◌, length, drop, slice_index, Option, Some, None}
+-- What the standard says of the octets of a command and of a station's answer to it (IEC
+-- 60870-5-101, 7.2 and 7.3.2, in the sizes of IEC 60870-5-104: two octets of cause, two of common
+-- address, three of object address, each low octet first). Nothing of the machine is borrowed here:
+-- laws say that its functions read the same.
+use Rattle.std.specs.Prelude.{◌≡◌, ◌≢◌, ℕ, suc, ◌+◌, ◌*◌, ◌-◌, ◌%◌, ◌^◌, Bool, true, false, not, ◌&&◌, ◌||◌, ◌==◌, nat_lt, nat_le, if◌then◌else◌, List, [], ◌∷◌, length, drop, slice_index, Option, Some, None}
 use Rattle.std.specs.List.{list_any}
 use Rattle.elements.specs.Types.{row}
 use Rattle.asdu.specs.Asdu.{AsduValue, Info}
@@ -135,6 +136,15 @@ first_cause (r ∷ rs) = if r.applies then Some r.cause else first_cause rs
 abbrev pub negative_of : List ℕ → ℕ
 negative_of xs = if is_activation xs then 7 else 9
 
+-- An own answer: the ASDU that came, with another cause, P/N 1 and the test bit that it had
+-- (7.2.3).
+pub record IsRefusal (cause : ℕ) (xs a : List ℕ) : Type 0 where
+  pub same_length : length a ≡ length xs
+  pub same_octets : (k : ℕ) → k ≢ 2 → slice_index a k ≡ slice_index xs k
+  pub new_cause : slice_index a 2 % 64 ≡ cause
+  pub negative : nat_le 64 (slice_index a 2 % 128) ≡ true
+  pub test : is_test (slice_index a 2) ≡ is_test (slice_index xs 2)
+
 -- the type is none of 45 to 49 and 100
 abbrev pub unknown_type : List ℕ → Rule
 unknown_type xs = record { applies = not (is_process_type (slice_index xs 0) || slice_index xs 0 == 100); cause = 44 }
@@ -160,16 +170,16 @@ unknown_object sizes xs = record { applies = not (names_object sizes xs); cause 
 abbrev pub element_length : ℕ → ℕ
 element_length octet = if octet == 48 || octet == 49 then 3 else 1
 
--- SQ, bit 7 of the variable structure qualifier, is 1, or the number in its bits 6 to 0 isn't 1 (7.2.2), or the length
--- isn't that of header, address and element
+-- SQ, bit 7 of the variable structure qualifier, is 1, or the number in its bits 6 to 0 isn't 1
+-- (7.2.2), or the length isn't that of header, address and element
 abbrev pub malformed : List ℕ → Rule
 malformed xs = record {
   applies = (nat_le 128 (slice_index xs 1) || not (slice_index xs 1 % 128 == 1)) || not (length xs == 9 + element_length (slice_index xs 0));
   cause = negative_of xs;
 }
 
--- QOI is 20 for the station and 21 to 36 for its groups (7.2.6.22); a double or step command's state is in bits 1 and 0,
--- where 0 and 3 are not permitted (7.2.6.16 and 7.2.6.17)
+-- QOI is 20 for the station and 21 to 36 for its groups (7.2.6.22); a double or step command's
+-- state is in bits 1 and 0, where 0 and 3 are not permitted (7.2.6.16 and 7.2.6.17)
 abbrev pub may_operate : List ℕ → Bool
 may_operate xs =
     if slice_index xs 0 == 100 then nat_lt 19 (last_octet xs) && nat_lt (last_octet xs) 37
@@ -183,6 +193,7 @@ abbrev pub own_rules : Sizes → List StationInfo → List ℕ → List Rule
 own_rules sizes stations xs =
     unknown_type xs ∷ unknown_cause xs ∷ unknown_station stations xs ∷ unknown_object sizes xs ∷ malformed xs ∷ not_permitted xs ∷ []
 
--- the cause of the answer that the command gets for what it is itself; none where nothing is wrong with it
+-- the cause of the answer that the command gets for what it is itself; none where nothing is wrong
+-- with it
 abbrev pub cause_of_fault : Sizes → List StationInfo → List ℕ → Option ℕ
 cause_of_fault sizes stations xs = first_cause (own_rules sizes stations xs)
