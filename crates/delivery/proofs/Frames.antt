@@ -1,20 +1,19 @@
 -- The frames of a course: they fit, and where no connection is open there are none.
-use Rattle.std.proofs.Common.{◌≡◌, ℕ, ◌+◌, Bool, true, false, List, [], ◌∷◌, ◌++◌, length, Option, Some, None, refl, ap, sym, subst, ◌∙◌, append_assoc, length-append, arith, if◌then◌else◌}
+use Rattle.std.proofs.Common.{◌≡◌, ℕ, Bool, true, false, List, [], ◌∷◌, ◌++◌, length, refl, ap, sym, subst, ◌∙◌, length-append, arith, if◌then◌else◌}
 use Rattle.std.specs.List.{AllByRecursion}
-use Rattle.std.proofs.lemmas.List.{append-nil}
 use Rattle.apci.specs.declared.apdu.Apdu.{Apdu}
 use Rattle.apci.specs.declared.apdu.Apdu.TheVariants.{I, S, U}
 use Rattle.apci.specs.Spelling.{spelling}
 use Rattle.session.specs.declared.kinds.Close.{Close}
 use Rattle.session.specs.declared.kinds.Close.TheVariants.{Grammar, SendNumber, ReceiveNumber, Stopped, Timeout, OwnAnswers, Replaced}
 use Rattle.session.specs.History.{History}
-use Rattle.gateway.specs.Log.{Log, LogEntry, Came, Went, Opened, LineIn, TcpIn, CutOff, Ticked, LineOut, TcpOut, Closed, latest}
+use Rattle.gateway.specs.Log.{Log, Came, Went, Opened, LineIn, TcpIn, CutOff, Ticked, LineOut, TcpOut, Closed, latest}
 use Rattle.gateway.specs.Streams.{spelled, AllFit}
 use Rattle.gateway.specs.Frames.{Connection}
-use Rattle.gateway.specs.Connections.{Channel, present, past, AreConnections}
+use Rattle.gateway.specs.Connections.{Channel, present, AreConnections}
 use Rattle.gateway.specs.Reports.{Setup}
 use Rattle.gateway.specs.Works.{Works}
-use Rattle.gateway.specs.Course.{Course, came_frames, here_of, with_frame, with_frames, told_sent, with_sent, ended_course, opened_course, works_at, closed_course, with_works, IsLeft, Runs}
+use Rattle.gateway.specs.Course.{Course, came_frames, with_frames, told_sent, ended_course, works_at, closed_course, Runs}
 
 -- No frame has no octets.
 
@@ -102,11 +101,13 @@ fit_parts (x ∷ xs) ys h = let rest = fit_parts xs ys h.1 in ((h.0, rest.0), re
 
 pub fit_frames : (p : Setup) (frames : List Apdu) (now : ℕ) (before after : Course) → after ≡ with_frames p frames now before → IsFit after → AllFit frames × IsFit before
 fit_frames p frames now before after is f =
-    let parts = fit_parts frames (came_frames before.talk) (subst AllFit (ap (λ (x : Course). came_frames x.talk) is ∙ came_more p frames now before) f.here) in
-    (parts.0, record {
-      here = parts.1;
-      earlier = subst AllFitted (ap (λ (x : Course). x.earlier) is ∙ sent_more p frames now before) f.earlier;
-    })
+    let parts = fit_parts frames (came_frames before.talk) (subst AllFit (ap (λ (x : Course). came_frames x.talk) is ∙ came_more p frames now before) f.here) in (
+      parts.0,
+      record {
+        here = parts.1;
+        earlier = subst AllFitted (ap (λ (x : Course). x.earlier) is ∙ sent_more p frames now before) f.earlier;
+      },
+    )
 
 -- the course before had the same frames
 pub fit_same : (before after : Course) → came_frames after.talk ≡ came_frames before.talk → after.earlier ≡ before.earlier → IsFit after → IsFit before

@@ -1,44 +1,37 @@
 -- The course of a log and the exchanges of its line are one story: from entry to entry.
-use Rattle.std.specs.Prelude.{◌==◌, ◌&&◌, not, option_and_then, option_map}
-use Rattle.std.proofs.Common.{◌≡◌, ℕ, Bool, true, false, List, [], ◌∷◌, ◌++◌, Option, Some, None, refl, ap, sym, subst, ◌∙◌, append_assoc, if◌then◌else◌}
-use Rattle.std.proofs.lemmas.List.{append-nil}
+use Rattle.std.specs.Prelude.{not, option_and_then, option_map}
+use Rattle.std.proofs.Common.{◌≡◌, ℕ, Bool, true, false, List, [], ◌∷◌, Option, Some, None, refl, ap, sym, subst, ◌∙◌, if◌then◌else◌}
 use Rattle.std.proofs.lemmas.Bool.{and_parts}
 use Rattle.ft12.specs.Fronts.{front_of}
 use Rattle.ft12.specs.Spelling as line
 use Rattle.asdu.specs.Asdu.{AsduValue}
 use Rattle.apci.specs.declared.apdu.Apdu.{Apdu}
-use Rattle.apci.specs.declared.apdu.Apdu.TheVariants.{I, S, U}
 use Rattle.link.specs.declared.service.Service.TheVariants.{Command}
-use Rattle.link.specs.declared.service.Asked.{Asked}
 use Rattle.link.specs.declared.service.Asked.TheVariants.{Counted}
-use Rattle.link.specs.declared.outcome.Outcome.{Outcome}
-use Rattle.link.specs.declared.settings.LinkSettings.{LinkSettings}
 use Rattle.link.specs.Exchanges.{Exchanges, Sending, begun_by, heard_current, timed_current, reports_of_exchanges}
 use Rattle.link.specs.Procedure.{is_held}
 use Rattle.link.specs.Requests.{request_frame, request_in}
 use Rattle.link.specs.Turns.{station_at}
-use Rattle.link.specs.Primary.{Primary, asked, sending, received, received_outcome, timed_out, is_command, withdrawn}
+use Rattle.link.specs.Primary.{Primary, asked, sending, received, received_outcome, timed_out, is_command}
 use Rattle.link.specs.Telling.{Tells}
 use Rattle.session.specs.declared.kinds.Close.{Close}
 use Rattle.session.specs.declared.kinds.Close.TheVariants.{Grammar, SendNumber, ReceiveNumber, Stopped, Timeout, OwnAnswers, Replaced}
 use Rattle.command.specs.State.{octets_waiting}
 use Rattle.command.specs.Calls.{Call, Cut}
-use Rattle.gateway.specs.Log.{Log, Input, Came, Went, Opened, LineIn, TcpIn, CutOff, Ticked, LineOut, TcpOut, Closed, latest}
+use Rattle.gateway.specs.Log.{Log, Came, Went, Opened, LineIn, TcpIn, CutOff, Ticked, LineOut, TcpOut, Closed, latest}
 use Rattle.gateway.specs.Streams.{AllFit}
-use Rattle.gateway.specs.Frames.{Connection}
 use Rattle.gateway.specs.Connections.{present}
 use Rattle.gateway.specs.Reports.{Setup, address_at, sent_to, sending_in, exchanges_of}
 use Rattle.gateway.specs.Traffic.{ActsRightly}
-use Rattle.gateway.specs.Works.{Works, tasks_of, LearnsOf, begun_works, cut_works, ready_works, settled_works, with_offers, unasked_works, done_works, asked_works, is_first_command, put_calls}
-use Rattle.gateway.specs.Course.{Course, came_frames, here_of, with_frames, with_sent, ended_course, opened_course, works_at, closed_course, with_works, IsLeft, Comes, SendsNext, room_in, Runs}
-use Rattle.delivery.specs.Commands.{asdus_in, asdus_received, asdus_judged}
+use Rattle.gateway.specs.Works.{Works, tasks_of, LearnsOf, begun_works, cut_works, ready_works, settled_works, unasked_works, done_works, asked_works, is_first_command, put_calls}
+use Rattle.gateway.specs.Course.{Course, came_frames, with_frames, with_sent, closed_course, with_works, IsLeft, SendsNext, room_in, Runs}
 use Rattle.delivery.specs.Joined.{IsSetUp, mirrored_in, command_reports, AreValues}
 use Rattle.delivery.proofs.Waiting.{AnswersStay}
-use Rattle.delivery.proofs.History.{told_of, run_of, line_told, WaitsFit, one_fits}
-use Rattle.delivery.proofs.Exchanging.{exchanges_at, IsTold, stays_told, told_by}
+use Rattle.delivery.proofs.History.{told_of, line_told, WaitsFit, one_fits}
+use Rattle.delivery.proofs.Exchanging.{exchanges_at, IsTold, stays_told}
 use Rattle.delivery.proofs.Line.{LinkLaws, heard_told, asked_told, timed_told}
-use Rattle.delivery.proofs.Works.{IsLearnt, learnt_of, IsQuiet, heard_quiet, heard_line, heard_judged, judged_by, sent_quiet, sent_line, sent_judged, settled_quiet, settled_line, settled_judged, offers_tell, put_told, put_mirrors, put_judged, put_fits}
-use Rattle.delivery.proofs.Frames.{came_more, sent_more, told_came, none_came, IsFit, AllFitted, fit_frames, fit_same, fit_ended, fit_closed}
+use Rattle.delivery.proofs.Works.{IsLearnt, learnt_of, IsQuiet, heard_quiet, heard_line, sent_quiet, sent_line, settled_quiet, settled_line, offers_tell, put_told, put_mirrors, put_fits}
+use Rattle.delivery.proofs.Frames.{told_came, none_came, IsFit, AllFitted, fit_frames, fit_same, fit_ended, fit_closed}
 
 -- the works are what these exchanges make them
 pub record Joins (p : Setup) (e : Exchanges) (w : Works) : Type 0 where
@@ -165,7 +158,7 @@ module _ (laws : LinkLaws) (stay : AnswersStay) (p : Setup) where
       let ready : Joins p (exchanges_of p log) (ready_works p (latest log) before.works) = ready_joins (latest log) (exchanges_of p log) before.works j in
       let read : sending_in p octets ≡ Some sends.request = ap (λ (xs : List ℕ). sending_in p xs) sends.spelled_so ∙ back (ready_works p (latest log) before.works).line (exchanges_of p log) (room_in p log before) sends.request set ready.tells sends.next in
       let made : Joins p (begun_by (latest log) (Some sends.request) (exchanges_of p log)) (asked_works (latest log) (room_in p log before) sends.request (ready_works p (latest log) before.works)) =
-          asked_joins (latest log) (room_in p log before) sends.request (exchanges_of p log) (ready_works p (latest log) before.works) sends.next sends.waits ready in
+      asked_joins (latest log) (room_in p log before) sends.request (exchanges_of p log) (ready_works p (latest log) before.works) sends.next sends.waits ready in
       subst (λ (c : Course). Joins p (exchanges_of p (Went now (LineOut octets) ∷ log)) c.works) (sym sends.is)
       (subst (λ (e : Exchanges). Joins p e (asked_works (latest log) (room_in p log before) sends.request (ready_works p (latest log) before.works)))
       (sym (ap (λ (o : Option Sending). begun_by now o (exchanges_of p log)) read ∙ ap (λ (n : ℕ). begun_by n (Some sends.request) (exchanges_of p log)) moment)) made)

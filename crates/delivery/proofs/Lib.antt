@@ -16,3 +16,4 @@ pub mod Given
 pub mod Accepted
 pub mod Centre
 pub mod Settings
+mod Examples
