@@ -7,7 +7,7 @@ use Rattle.arrayvec.specs.ArrayVec.{ArrayVec}
 use Rattle.asdu.specs.declared.sizes.Sizes.{Sizes}
 use Rattle.asdu.specs.Sizes.{tcp}
 use Rattle.asdu.specs.InformationObjects.{InformationObject, object_in, value_objects, objects_of, monitor_objects_of, is_passed_on}
-use Rattle.asdu.specs.Translation.{parts, IsPiece}
+use Rattle.asdu.specs.Translation.{parts, IsPiece, IsFull, AllButLast}
 use Rattle.events.specs.Queue as queue
 use Rattle.events.specs.Queue.{octets_of}
 use Rattle.gateway.specs.Objects.{objects, has_objects, monitor_objects, parts_of}
@@ -109,12 +109,18 @@ joined_map : (ps : List (ArrayVec ℕ)) → flat_map (λ piece. objects_of tcp p
 joined_map [] = refl
 joined_map (p ∷ ps) = ap (λ xs. objects_of tcp p.items ++ xs) (joined_map ps)
 
-pub passed_on : (sizes known : Sizes) (v : AsduValue) (report : List ℕ) (ps : List (ArrayVec ℕ)) → sizes ≡ known → IsAsdu sizes v report → flat_map (λ p. objects_of tcp p.items) ps ≡ objects_of sizes report → AllByRecursion (λ p. IsPiece v p.items) ps →
+full_map : (v : AsduValue) (ps : List (ArrayVec ℕ)) → AllButLast (λ p. IsFull v p.items) ps → AllButLast (λ piece. IsFull v piece) (octets_of ps)
+full_map v [] h = tt
+full_map v (p ∷ []) h = tt
+full_map v (p ∷ q ∷ ps) h = (h.0, full_map v (q ∷ ps) h.1)
+
+pub passed_on : (sizes known : Sizes) (v : AsduValue) (report : List ℕ) (ps : List (ArrayVec ℕ)) → sizes ≡ known → IsAsdu sizes v report → flat_map (λ p. objects_of tcp p.items) ps ≡ objects_of sizes report → AllByRecursion (λ p. IsPiece v p.items) ps → AllButLast (λ p. IsFull v p.items) ps →
     length ps ≡ parts sizes report → IsPassedOn known v report (octets_of ps)
-passed_on sizes known v report ps same found joined each number = subst (λ z. IsPassedOn z v report (octets_of ps)) same (record {
+passed_on sizes known v report ps same found joined each full number = subst (λ z. IsPassedOn z v report (octets_of ps)) same (record {
   value = found;
   joined = joined_map ps ∙ joined;
   each = pieces_map v ps each;
+  full = full_map v ps full;
   number = length_map ps ∙ number;
 })
 

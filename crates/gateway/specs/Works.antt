@@ -9,7 +9,7 @@ use Rattle.asdu.specs.declared.sizes.Sizes.{Sizes}
 use Rattle.asdu.specs.Sizes.{tcp}
 use Rattle.asdu.specs.Asdu.{AsduValue, IsAsdu}
 use Rattle.asdu.specs.InformationObjects.{InformationObject, objects_of}
-use Rattle.asdu.specs.Translation.{parts, IsPiece}
+use Rattle.asdu.specs.Translation.{parts, IsPiece, IsFull, AllButLast}
 use Rattle.apci.specs.declared.apdu.Apdu.{Apdu}
 use Rattle.apci.specs.declared.apdu.Apdu.TheVariants.{I}
 use Rattle.link.specs.Procedure.{is_held}
@@ -85,11 +85,12 @@ is_command_by (o ∷ objects) = not (row o.kind).monitor
 abbrev pub is_command_report : Sizes → List ℕ → Bool
 is_command_report sizes report = is_command_by (objects_of sizes report)
 
--- The pieces carry the report's objects to the connection.
+-- The pieces carry the report's objects to the connection, as many in each but the last as it takes.
 pub record IsPassedOn (sizes : Sizes) (v : AsduValue) (report : List ℕ) (pieces : List (List ℕ)) : Type 0 where
   pub value : IsAsdu sizes v report
   pub joined : flat_map (λ piece. objects_of tcp piece) pieces ≡ objects_of sizes report
   pub each : AllByRecursion (λ piece. IsPiece v piece) pieces
+  pub full : AllButLast (λ piece. IsFull v piece) pieces
   pub number : length pieces ≡ parts sizes report
 
 abbrev pub with_call : Call → Works → Works
@@ -141,11 +142,6 @@ heard_works p frame now w = w
 abbrev pub sent_works : Apdu → Works → Works
 sent_works (I ns nr asdu) w = if has_objects asdu.items then w else with_call SendOwn w
 sent_works frame w = w
-
--- an I frame without monitor objects is the oldest own answer
-abbrev pub IsOwnDue : Setup → Works → Apdu → Type 0
-IsOwnDue p w (I ns nr asdu) = has_objects asdu.items ≡ false → tasks.first_answer (tasks_of p w).state.answers ≡ Some asdu.items
-IsOwnDue p w frame = Unit {0}
 
 -- The end of a connection
 

@@ -28,7 +28,7 @@ ghost use Rattle.gateway.specs.Finding.{Finds};
 
 use crate::config::Config;
 use crate::counts::{Counts, Tally};
-use crate::laws::{command_is_told, session_is_told};
+use crate::laws::{command_is_told, line_is_told, session_is_told};
 use crate::settings::{LineSettings, Silence};
 use apci::{Apdu, ApduRef, Assembler, FrontRef, Heard, front_ref};
 use arrayvec::ArrayVec;
@@ -230,6 +230,7 @@ impl Gateway {
         ensures begins { IfOk result (λ s. Follows (setup_of config.now) s (Some [])) }
     {
         master_tells_the_log();
+        line_is_told();
         session_is_told();
         command_is_told();
         let _stations = config.stations();
