@@ -96,7 +96,7 @@ accepted_all : (a : ℕ) (ss : List Session) → AllByRecursion (λ s. AcceptsSe
 accepted_all a [] h = tt
 accepted_all a (s ∷ ss) h = sub_append (commands (all_done s.turns)) (in_session a s) (flat_map (λ (s : Session). commands (all_done s.turns)) ss) (flat_map (in_session a) ss) (accepted_some a s h.0) (accepted_all a ss h.1)
 
-commands-append : (es fs : List Effect) → commands (es ++ fs) ≡ commands es ++ commands fs
+pub commands-append : (es fs : List Effect) → commands (es ++ fs) ≡ commands es ++ commands fs
 commands-append [] fs = refl
 commands-append (e ∷ es) fs = ap (λ (l : List (List ℕ)). accepted_by e ++ l) (commands-append es fs) ∙ sym (append_assoc (accepted_by e) (commands es) (commands fs))
 

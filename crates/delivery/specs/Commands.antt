@@ -57,6 +57,12 @@ first_sendings station pending (x ∷ xs) =
     first_sending pending x.request
     ++ first_sendings station (pending_by x.request (answer_to station x) pending) xs
 
+-- the commands that were confirmed
+abbrev pub confirmed_by : List LineStep → List (List ℕ)
+confirmed_by [] = []
+confirmed_by (Confirmed asdu ∷ steps) = asdu ∷ confirmed_by steps
+confirmed_by (_ ∷ steps) = confirmed_by steps
+
 -- As the course's history of commands tells it
 
 -- the command that was sent to station k last

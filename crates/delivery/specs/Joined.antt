@@ -3,6 +3,7 @@
 use Rattle.std.specs.Prelude.{◌≡◌, ℕ, ◌<◌, List, [], ◌∷◌, ◌++◌, All, length, None, if◌then◌else◌}
 use Rattle.asdu.specs.declared.sizes.Sizes.{Sizes}
 use Rattle.asdu.specs.Asdu.{AsduValue, IsAsdu}
+use Rattle.link.specs.Delivery.{learnt, commands}
 use Rattle.link.specs.Requests.{FitsAddress}
 use Rattle.link.specs.Telling.{Tells}
 use Rattle.command.specs.History.{History, Mirrored}
@@ -11,7 +12,7 @@ use Rattle.gateway.specs.Reports.{Setup, AreFound, address_at}
 use Rattle.gateway.specs.Reports.{exchanges_of, exchanges_with, reports_in}
 use Rattle.gateway.specs.Works.{tasks_of, is_command_report}
 use Rattle.gateway.specs.Course.{Course, here_of}
-use Rattle.delivery.specs.Commands.{steps_in, steps_told, first_sendings, sent_to}
+use Rattle.delivery.specs.Commands.{steps_in, steps_told, confirmed_by, first_sendings, sent_to}
 use Rattle.delivery.specs.Commands.{asdus_judged, asdus_received}
 
 -- There are stations, their link addresses fit the line, and each is another.
@@ -49,6 +50,9 @@ pub record IsJoined (p : Setup) (log : Log) (c : Course) : Type 0 where
       ≡ steps_in (address_at p.addresses k) None (exchanges_with p k log)
   pub sent : (k : ℕ) → sent_to k (tasks_of p c.works).history
       ≡ first_sendings (address_at p.addresses k) None (exchanges_with p k log)
+  -- those confirmed are those that the exchanges told of as accepted by the outstation
+  pub confirmed : (k : ℕ) → confirmed_by (steps_told k (tasks_of p c.works).history)
+      ≡ commands (learnt (address_at p.addresses k) (exchanges_with p k log))
   -- the stations' answers to commands are, in order, the reports of command types that were taken
   pub mirrored : AreValues p.sizes (mirrored_in (tasks_of p c.works).history)
       (command_reports p.sizes (reports_in p log))

@@ -1,4 +1,7 @@
-use Rattle.gateway.specs.Reports.{exchanges_of}
+use Rattle.std.proofs.Common.{List, None, ap, ◌∙◌}
+use Rattle.gateway.specs.Reports.{address_at, exchanges_of, exchanges_with}
+use Rattle.delivery.specs.Commands.{LineStep, confirmed_by}
+use Rattle.delivery.proofs.Confirmed.{confirmed_learnt}
 use Rattle.delivery.proofs.Joining.{Joins, joins}
 use Rattle.delivery.proofs.Judgements.{judged_all}
 use Rattle.delivery.proofs.Line.{LinkLaws}
@@ -26,6 +29,7 @@ returns c = λ p log course f set runs.
       tells = j.tells;
       steps = λ k. (j.told k).steps;
       sent = λ k. (j.told k).sent;
+      confirmed = λ k. ap (λ (steps : List LineStep). confirmed_by steps) (j.told k).steps ∙ confirmed_learnt (address_at p.addresses k) None (exchanges_with p k log);
       mirrored = j.mirrors;
       judged = judged_all c.waiting_commands_stay.ensures.mirrored p log course runs;
     }
