@@ -3,23 +3,20 @@
 //! The history has what came from the control centre and what became of it, what went to the stations and what they
 //! answered, and the own answers. Each law says what the calls do by what the rules make of that history.
 
-ghost use Rattle.std.specs.Prelude.{◌≡◌, ◌≤◌, ◌<◌, ◌==◌, ◌++◌, ℕ, List, [], length, slice_index, Some, false, true, option_map};
-ghost use Rattle.std.specs.List.{list_any};
+ghost use Rattle.std.specs.Prelude.{◌≡◌, ◌≤◌, ◌<◌, ◌==◌, ◌++◌, ℕ, List, [], length, slice_index, Some, None, false, true, option_map};
+ghost use Rattle.std.specs.List.{AllByRecursion};
 ghost use Rattle.asdu.specs.Asdu.{AsduValue};
 ghost use Rattle.asdu.specs.InformationObjects.{monitor_objects_of};
 ghost use Rattle.asdu.specs.Sizes.{tcp};
-ghost use Rattle.asdu.specs.declared.sizes.Sizes.{Sizes};
-ghost use Rattle.command.specs.declared.station.StationInfo.{StationInfo};
-ghost use Rattle.command.specs.declared.content.Command.{Command};
 ghost use Rattle.command.specs.Octets.{answer};
-ghost use Rattle.command.specs.Selection.{lets_through};
-ghost use Rattle.command.specs.Calls.{Call, run, latest, NeverFall};
 ghost use Rattle.command.specs.State.{State, octets_waiting, sent, line_of, refusal_of};
 ghost use Rattle.command.specs.Judging.{judged};
 ghost use Rattle.command.specs.Mirrors.{mirrored};
-ghost use Rattle.command.specs.Rules.{rules_for, first_cause};
+ghost use Rattle.command.specs.Standard.{first_cause, cause_of_fault, executes};
+ghost use Rattle.command.specs.Rules.{rules_for, not_selected, no_place};
 ghost use Rattle.command.specs.History.{ForwardsCommands, next_octets, ExecutesAreSelected, IsSelected, GivesOwnAnswers, own_kept, own_sent, KeepsOwnAnswers};
-ghost use Rattle.command.specs.Laws.{AfterEachRun};
+ghost use Rattle.command.specs.Selections.{AreDistinct, IsStanding, IsInTime};
+ghost use Rattle.command.specs.Laws.{AfterEachRun, AtEachMoment, AfterEachDue};
 
 /// The answer to an ASDU is the one that the first rule that applies gives; where none applies it is forwarded.
 pub fn judgement_is_the_first_rule_that_applies()
@@ -39,9 +36,19 @@ pub fn executes_are_selected()
     ensures { AfterEachRun (λ stations sizes select_ms s h. ExecutesAreSelected sizes stations select_ms h) }
 {}
 
-/// Where moments never fall, a selected execute is refused for no want of a selection: one that is live lets it through.
+/// Where moments never fall, a selected execute is refused for no want of a selection: one that is live lets it
+/// through. So it is forwarded where there are places for it.
 pub fn selected_executes_pass()
-    ensures { (stations : List StationInfo) (sizes : Sizes) (select_ms : ℕ) (calls : List Call) → NeverFall calls → (x : Command) (now : ℕ) → latest calls ≤ now → IsSelected sizes stations select_ms x now (run stations sizes select_ms calls).history → list_any (lets_through select_ms x now) (run stations sizes select_ms calls).state.selections ≡ true }
+    ensures selected { AtEachMoment (λ stations sizes select_ms now s h. (xs : List ℕ) → cause_of_fault sizes stations xs ≡ None → executes xs ≡ true → IsSelected sizes stations select_ms xs now h → (not_selected xs now s).applies ≡ false) }
+    ensures forwarded { AtEachMoment (λ stations sizes select_ms now s h. (xs : List ℕ) → cause_of_fault sizes stations xs ≡ None → executes xs ≡ true → IsSelected sizes stations select_ms xs now h → (no_place xs s).applies ≡ false → (judged xs now s).0 ≡ None) }
+{}
+
+/// No two selections are of one target, and each is the select that stands for its target, as far as that has come.
+/// After `due`, where moments never fall, each one's select, or its latest confirmation, came less than `select_ms` ago.
+pub fn selections_are_selects_that_stand()
+    ensures distinct { AfterEachRun (λ stations sizes select_ms s h. AreDistinct s.selections) }
+    ensures standing { AfterEachRun (λ stations sizes select_ms s h. (xs : List ℕ) → AllByRecursion (IsStanding sizes stations select_ms h xs) s.selections) }
+    ensures in_time { AfterEachDue (λ stations sizes select_ms now s h. (xs : List ℕ) → AllByRecursion (IsInTime sizes stations select_ms now h xs) s.selections) }
 {}
 
 /// Each answer is the right one, and the own answers that are kept go out first in, first out: 16 of them at most

@@ -33,8 +33,8 @@ pub use act::{Act, Answer};
 pub use commands::{Commands, NoMemory};
 pub use laws::{
     commands_are_forwarded, executes_are_selected, judgement_is_the_first_rule_that_applies,
-    own_answers_are_given, own_answers_bear_no_objects, selected_executes_pass, settings_stay,
-    waiting_commands_stay,
+    own_answers_are_given, own_answers_bear_no_objects, selected_executes_pass,
+    selections_are_selects_that_stand, settings_stay, waiting_commands_stay,
 };
 pub use station::StationInfo;
 

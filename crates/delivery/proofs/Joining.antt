@@ -31,7 +31,7 @@ use Rattle.delivery.proofs.History.{told_of, line_told, WaitsFit, one_fits}
 use Rattle.delivery.proofs.Exchanging.{exchanges_at, IsTold, stays_told}
 use Rattle.delivery.proofs.Line.{LinkLaws, heard_told, asked_told, timed_told}
 use Rattle.delivery.proofs.Works.{IsLearnt, learnt_of, IsQuiet, heard_quiet, heard_line, sent_quiet, sent_line, settled_quiet, settled_line, offers_tell, put_told, put_mirrors, put_fits}
-use Rattle.delivery.proofs.Frames.{told_came, none_came, IsFit, AllFitted, fit_frames, fit_same, fit_ended, fit_closed}
+use Rattle.delivery.proofs.Frames.{taken_fit}
 
 -- the works are what these exchanges make them
 pub record Joins (p : Setup) (e : Exchanges) (w : Works) : Type 0 where
@@ -177,59 +177,43 @@ module _ (laws : LinkLaws) (stay : AnswersStay) (p : Setup) where
   moment_of : (log : Log) (now : ℕ) (octets : List ℕ) → ActsRightly p (Went now (LineOut octets) ∷ log) → now ≡ latest log
   moment_of log now octets acts = acts.0.moment
 
-  pub joins : (set : IsSetUp p) (log : Log) (c : Course) → Runs p log c → ActsRightly p log → IsFit c → Joins p (exchanges_of p log) c.works
-  joins set [] c r acts f = subst (λ (x : Course). Joins p (exchanges_of p []) x.works) (sym r) (record {
+  pub joins : (set : IsSetUp p) (log : Log) (c : Course) → Runs p log c → ActsRightly p log → Joins p (exchanges_of p log) c.works
+  joins set [] c r acts = subst (λ (x : Course). Joins p (exchanges_of p []) x.works) (sym r) (record {
     tells = laws.begins p.link p.addresses set.some set.fit;
     told = λ k. record { steps = refl; last = λ asdu e. cc; sent = refl };
     mirrors = tt;
     fits = tt;
   })
-  joins set (Came now (LineIn octets) ∷ log) c r acts f =
+  joins set (Came now (LineIn octets) ∷ log) c r acts =
       let at : ℕ = latest (Came now (LineIn octets) ∷ log) in
-      let left_fit : IsFit r.1 = fit_same r.1 c (ap (λ (x : Course). came_frames x.talk) r.5.2) (ap (λ (x : Course). x.earlier) r.5.2) f in
-      let before_fit : IsFit r.0 = fit_same r.0 r.1 (ap (λ (x : Course). came_frames x.talk) r.4.is) (ap (λ (x : Course). x.earlier) r.4.is) left_fit in
-      let before : Joins p (exchanges_of p log) r.0.works = joins set log r.0 r.2 acts before_fit in
-      let left : Joins p (exchanges_of p log) r.1.works = left_joins log r.0 r.1 (exchanges_of p log) r.4 before in
+      let left : Joins p (exchanges_of p log) r.1.works = left_joins log r.0 r.1 (exchanges_of p log) r.4 (joins set log r.0 r.2 acts) in
       subst (λ (x : Course). Joins p (exchanges_of p (Came now (LineIn octets) ∷ log)) x.works) (sym r.5.2) (heard_joins octets at _ (exchanges_of p log) r.1.works r.5.0 r.5.1 left)
-  joins set (Came now (TcpIn octets) ∷ log) c r acts f =
+  joins set (Came now (TcpIn octets) ∷ log) c r acts =
       let at : ℕ = latest (Came now (TcpIn octets) ∷ log) in
-      let parts = fit_frames p r.5.frames at (with_works (begun_works (TcpIn octets) at r.1.works) r.1) c r.5.taken f in
-      let before_fit : IsFit r.0 = fit_same r.0 r.1 (ap (λ (x : Course). came_frames x.talk) r.4.is) (ap (λ (x : Course). x.earlier) r.4.is) (fit_same r.1 (with_works (begun_works (TcpIn octets) at r.1.works) r.1) refl refl parts.1) in
-      let left : Joins p (exchanges_of p log) r.1.works = left_joins log r.0 r.1 (exchanges_of p log) r.4 (joins set log r.0 r.2 acts before_fit) in
+      let left : Joins p (exchanges_of p log) r.1.works = left_joins log r.0 r.1 (exchanges_of p log) r.4 (joins set log r.0 r.2 acts) in
       subst (λ (x : Course). Joins p (exchanges_of p (Came now (TcpIn octets) ∷ log)) x.works) (sym r.5.taken)
-      (frames_join r.5.frames at (exchanges_of p (Came now (TcpIn octets) ∷ log)) (with_works (begun_works (TcpIn octets) at r.1.works) r.1) parts.0
+      (frames_join r.5.frames at (exchanges_of p (Came now (TcpIn octets) ∷ log)) (with_works (begun_works (TcpIn octets) at r.1.works) r.1)
+      (taken_fit p (Came at (TcpIn octets) ∷ log) at r.5.frames (with_works (begun_works (TcpIn octets) at r.1.works) r.1) r.5.each)
       (timed_joins at (begun_works (TcpIn octets) at r.1.works).silent (exchanges_of p log) r.1.works left))
-  joins set (Came now Ticked ∷ log) c r acts f =
+  joins set (Came now Ticked ∷ log) c r acts =
       let at : ℕ = latest (Came now Ticked ∷ log) in
-      let left_fit : IsFit r.1 = fit_same r.1 c (ap (λ (x : Course). came_frames x.talk) r.5) (ap (λ (x : Course). x.earlier) r.5) f in
-      let before_fit : IsFit r.0 = fit_same r.0 r.1 (ap (λ (x : Course). came_frames x.talk) r.4.is) (ap (λ (x : Course). x.earlier) r.4.is) left_fit in
-      let left : Joins p (exchanges_of p log) r.1.works = left_joins log r.0 r.1 (exchanges_of p log) r.4 (joins set log r.0 r.2 acts before_fit) in
+      let left : Joins p (exchanges_of p log) r.1.works = left_joins log r.0 r.1 (exchanges_of p log) r.4 (joins set log r.0 r.2 acts) in
       subst (λ (x : Course). Joins p (exchanges_of p (Came now Ticked ∷ log)) x.works) (sym r.5) (timed_joins at (begun_works Ticked at r.1.works).silent (exchanges_of p log) r.1.works left)
-  joins set (Came now Opened ∷ log) c r acts f =
+  joins set (Came now Opened ∷ log) c r acts =
       let at : ℕ = latest (Came now Opened ∷ log) in
-      let talk : came_frames r.1.talk ≡ came_frames r.0.talk = ap (λ (x : Course). came_frames x.talk) r.4.is in
-      let left_fit : IsFit r.1 = fit_ended (present log).is_open (begun_works Opened at r.1.works) r.1 (λ closed. talk ∙ none_came p log r.0 r.2 closed) (subst (λ (x : Course). AllFitted x.earlier) r.5 f.earlier) in
-      let before_fit : IsFit r.0 = fit_same r.0 r.1 talk (ap (λ (x : Course). x.earlier) r.4.is) left_fit in
-      let left : Joins p (exchanges_of p log) r.1.works = left_joins log r.0 r.1 (exchanges_of p log) r.4 (joins set log r.0 r.2 acts before_fit) in
+      let left : Joins p (exchanges_of p log) r.1.works = left_joins log r.0 r.1 (exchanges_of p log) r.4 (joins set log r.0 r.2 acts) in
       subst (λ (x : Course). Joins p (exchanges_of p (Came now Opened ∷ log)) x.works) (sym r.5)
       (cut_joins (exchanges_of p (Came now Opened ∷ log)) (begun_works Opened at r.1.works) (timed_joins at (begun_works Opened at r.1.works).silent (exchanges_of p log) r.1.works left))
-  joins set (Came now CutOff ∷ log) c r acts f =
+  joins set (Came now CutOff ∷ log) c r acts =
       let at : ℕ = latest (Came now CutOff ∷ log) in
-      let talk : came_frames r.1.talk ≡ came_frames r.0.talk = ap (λ (x : Course). came_frames x.talk) r.4.is in
-      let left_fit : IsFit r.1 = fit_ended (present log).is_open (begun_works CutOff at r.1.works) r.1 (λ closed. talk ∙ none_came p log r.0 r.2 closed) (subst (λ (x : Course). AllFitted x.earlier) r.5 f.earlier) in
-      let before_fit : IsFit r.0 = fit_same r.0 r.1 talk (ap (λ (x : Course). x.earlier) r.4.is) left_fit in
-      let left : Joins p (exchanges_of p log) r.1.works = left_joins log r.0 r.1 (exchanges_of p log) r.4 (joins set log r.0 r.2 acts before_fit) in
+      let left : Joins p (exchanges_of p log) r.1.works = left_joins log r.0 r.1 (exchanges_of p log) r.4 (joins set log r.0 r.2 acts) in
       subst (λ (x : Course). Joins p (exchanges_of p (Came now CutOff ∷ log)) x.works) (sym r.5)
       (cut_joins (exchanges_of p (Came now CutOff ∷ log)) (begun_works CutOff at r.1.works) (timed_joins at (begun_works CutOff at r.1.works).silent (exchanges_of p log) r.1.works left))
-  joins set (Went now (LineOut octets) ∷ log) c r acts f =
-      let before_fit : IsFit r.0 = fit_same r.0 c (ap (λ (x : Course). came_frames x.talk) r.2.is) (ap (λ (x : Course). x.earlier) r.2.is) f in
-      sends_joins set log now octets r.0 c (moment_of log now octets acts) r.2 (joins set log r.0 r.1 acts.1 before_fit)
-  joins set (Went now (TcpOut octets) ∷ log) c r acts f =
-      let parts = fit_frames p r.4.frames (latest log) r.1 c r.4.taken f in
-      let sent_fit : IsFit (with_sent r.3.frame (latest log) r.0) = subst IsFit r.3.put parts.1 in
-      let before_fit : IsFit r.0 = fit_same r.0 (with_sent r.3.frame (latest log) r.0) (told_came r.3.frame (latest log) r.0.talk) refl sent_fit in
-      let sent : Joins p (exchanges_of p log) r.1.works = subst (λ (x : Course). Joins p (exchanges_of p log) x.works) (sym r.3.put) (sent_joins r.3.frame (latest log) (exchanges_of p log) r.0 (joins set log r.0 r.2 acts.1 before_fit)) in
-      subst (λ (x : Course). Joins p (exchanges_of p log) x.works) (sym r.4.taken) (frames_join r.4.frames (latest log) (exchanges_of p log) r.1 parts.0 sent)
-  joins set (Went now (Closed cause) ∷ log) c r acts f =
-      let before_fit : IsFit r.0 = fit_closed p cause (present log).is_open (latest log) r.0 (none_came p log r.0 r.1) (subst IsFit r.2 f) in
-      subst (λ (x : Course). Joins p (exchanges_of p log) x.works) (sym r.2) (closed_joins cause (present log).is_open (latest log) (exchanges_of p log) r.0 (joins set log r.0 r.1 acts.1 before_fit))
+  joins set (Went now (LineOut octets) ∷ log) c r acts =
+      sends_joins set log now octets r.0 c (moment_of log now octets acts) r.2 (joins set log r.0 r.1 acts.1)
+  joins set (Went now (TcpOut octets) ∷ log) c r acts =
+      let sent : Joins p (exchanges_of p log) r.1.works = subst (λ (x : Course). Joins p (exchanges_of p log) x.works) (sym r.3.put) (sent_joins r.3.frame (latest log) (exchanges_of p log) r.0 (joins set log r.0 r.2 acts.1)) in
+      subst (λ (x : Course). Joins p (exchanges_of p log) x.works) (sym r.4.taken)
+      (frames_join r.4.frames (latest log) (exchanges_of p log) r.1 (taken_fit p (Went now (TcpOut octets) ∷ log) (latest log) r.4.frames r.1 r.4.each) sent)
+  joins set (Went now (Closed cause) ∷ log) c r acts =
+      subst (λ (x : Course). Joins p (exchanges_of p log) x.works) (sym r.2) (closed_joins cause (present log).is_open (latest log) (exchanges_of p log) r.0 (joins set log r.0 r.1 acts.1))

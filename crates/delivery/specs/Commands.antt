@@ -15,7 +15,7 @@ use Rattle.link.specs.declared.answer.Answer.{Answer}
 use Rattle.link.specs.declared.answer.Answer.TheVariants as answer
 use Rattle.link.specs.Exchanges.{Exchange, answer_to}
 use Rattle.link.specs.Delivery.{first_sending, pending_by}
-use Rattle.command.specs.Judging.{fault}
+use Rattle.command.specs.Standard.{cause_of_fault}
 use Rattle.command.specs.History.{History, Judged, Sent, Accepted, Refused, is_for, line_octets}
 use Rattle.gateway.specs.Frames.{Connection}
 use Rattle.gateway.specs.Reports.{Setup}
@@ -115,10 +115,11 @@ abbrev pub asdus_received : List Connection → List (List ℕ)
 asdus_received [] = []
 asdus_received (c ∷ before) = asdus_received before ++ asdus_in c.received_frames
 
--- The command is for station k, and has no fault of its own.
+-- The command is for station k, and nothing is wrong with it (IEC 60870-5-101, 7.2.3: causes 44 to
+-- 47).
 pub record IsCommandTo (p : Setup) (k : ℕ) (asdu : List ℕ) : Type 0 where
   pub addressed : is_for p.sizes p.stations p.select_ms k asdu ≡ true
-  pub faultless : fault p.sizes p.stations asdu ≡ None
+  pub faultless : cause_of_fault p.sizes p.stations asdu ≡ None
 
 -- the command as it is put on the line for station k: in the line's sizes, with the station's own
 -- common address

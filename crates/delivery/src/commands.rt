@@ -3,7 +3,7 @@
 ghost use Rattle.std.specs.Prelude.{◌<◌, ℕ, List, ◌∷◌, length, None};
 ghost use Rattle.link.specs.Outstation.{Turn, all_done};
 ghost use Rattle.link.specs.Delivery.{commands};
-ghost use Rattle.gateway.specs.Course.{here_of};
+ghost use Rattle.gateway.specs.Course.{Course, here_of, Runs};
 ghost use Rattle.gateway.specs.Config.{Settings, AreStations};
 ghost use Rattle.gateway.specs.Log.{Log};
 ghost use Rattle.gateway.specs.Reports.{Setup, address_at, exchanges_with};
@@ -32,7 +32,8 @@ pub fn settings_are_set_up()
 /// busy is, in the same order, what they show; a station's answer to a command is a report that was
 /// taken; and what was judged are the ASDUs of the I frames of the log's connections.
 pub fn the_course_is_the_logs()
-    ensures { (p : Setup) (log : Log) (f : IsFaithful p log) → IsSetUp p → IsJoined p log f.course }
+    ensures { (p : Setup) (log : Log) (c : Course) → IsFaithful p log → IsSetUp p → Runs p log c →
+        IsJoined p log c }
 {
     master_tells_the_log();
     outcomes_bear_the_reports();

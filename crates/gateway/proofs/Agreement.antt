@@ -24,15 +24,15 @@ use Rattle.gateway.specs.Objects.{objects, has_objects}
 use Rattle.gateway.specs.Log.{Log, Went, TcpOut, Closed, latest}
 use Rattle.gateway.specs.Streams.{spelled, IsRefused}
 use Rattle.gateway.specs.Frames.{Sent, Connection, new_connection, data_frames, acknowledged_count, acknowledged_reports, reports_among, fault_of, objects_of_frames, IsNumberedFrom, IsInOrder, AreInOrder}
-use Rattle.gateway.specs.Connections.{Channel, no_channel, sending, ends, present, past, over, closed_by, IsBehind, BeginsWithFault, IsConnection, AreConnections}
+use Rattle.gateway.specs.Connections.{is_replaced, Channel, no_channel, sending, ends, present, past, over, closed_by, IsBehind, BeginsWithFault, IsConnection, AreConnections}
 use Rattle.gateway.specs.Reports.{Setup, exchanges_of, taken_objects, reports_in, parts_of_all}
 use Rattle.gateway.specs.Polls.{has_room}
 use Rattle.gateway.specs.Room.{IsFull}
-use Rattle.gateway.specs.Traffic.{is_replaced, replaces, HasCause, IsAtRest, IsFaithful}
+use Rattle.gateway.specs.Traffic.{replaces, IsAtRest, IsFaithful}
 use Rattle.command.specs.State as tasks
 use Rattle.gateway.specs.State.{has_place, State, disconnected, framed, next_frame, piece_sent, own_sent}
 use Rattle.gateway.specs.Steps.{IsCloseAt, after_closing}
-use Rattle.gateway.specs.Works.{is_overfull, Works, tasks_of, with_call, cut_works, settled_works, ready_works, unasked_works, IsOwnDue}
+use Rattle.gateway.specs.Works.{is_overfull, Works, tasks_of, with_call, cut_works, settled_works, ready_works, unasked_works}
 use Rattle.gateway.specs.Line.{IsServed, done_in}
 use Rattle.gateway.proofs.Serving.{upto_leaves, offers_reach, unasked_stays, left_at_rest}
 use Rattle.link.specs.Offers.{offered_at}
@@ -43,21 +43,20 @@ use Rattle.command.specs.State.{octets_waiting, oldest}
 use Rattle.command.specs.declared.waiting.Waiting.{Waiting}
 use Rattle.command.specs.Calls.{SendOwn}
 use Rattle.command.specs.History as happened
-use Rattle.gateway.specs.Course.{Course, here_of, came_frames, room_by, room_in, kind_of, told_sent, with_sent, with_frame, ended_course, works_at, closed_course, Runs}
-use Rattle.gateway.specs.Phases.{Phase, Fresh, Taking, Idle, Crowded, Timed, Asked, IsPhase, works_in, IsAsked, IsPlaced, IsOut, after_frame}
+use Rattle.gateway.specs.Course.{Course, here_of, came_frames, room_by, room_in, kind_of, told_sent, with_sent, with_frame, ended_course, works_at, closed_course, HasSentAll, IsFlushed, IsUntouched, HasBegun, IsNextData, IsCause, Runs}
+use Rattle.gateway.specs.Phases.{Phase, Fresh, Taking, Judged, Idle, Crowded, Timed, Asked, IsPast, IsLeftIn, IsFlushing, IsPhase, works_in, IsAsked, IsPlaced, IsOut, after_frame}
 use Rattle.session.specs.History as talk
 use Rattle.session.specs.History.{History, frame_due, has_timed_out}
 use Rattle.session.specs.Runs.{Call, Send, after_call}
-use Rattle.session.specs.Ends.{IsConfirmed}
 use Rattle.gateway.specs.Conversation.{KeepsTalk}
-use Rattle.gateway.specs.Agrees.{IsAt, Presently, Carries, Past, Talks, Agrees, Does, Tied, ArePlain, IsSpent, IsQuiet, pieces_of}
+use Rattle.gateway.specs.Agrees.{IsAt, Presently, Carries, Past, Talks, Agrees, Does, Tied, ArePlain, IsSpent, IsClear, IsUndue, IsQuiet, pending, pieces_of}
 use Rattle.gateway.proofs.Working.{answers_in, does_same, does_heard, does_cut, does_cut_again, does_own, asked_own, own_placed, heard_placed, heard_due, settled_due}
 use Rattle.gateway.proofs.Offering.{count_upto, offers_heard, offers_cut, heard_plain}
-use Rattle.gateway.proofs.Talking.{at, HasNoData, no_own, sends, kept_talk, talk_out, talk_heard, talk_cut, all_taken, confirmed_by, due_by, late_by}
+use Rattle.gateway.proofs.Talking.{at, HasNoData, next_plain, sends, kept_talk, talk_out, talk_heard, talk_cut, all_taken, confirmed_by, may_by, due_by, late_by}
 use Rattle.gateway.proofs.Unconfirmed.{numbered_more}
 use Rattle.gateway.proofs.Tied.{tied_taken, tied_piece, tied_own, sent_more, SameWindow, tied_same, fault_cases}
 use Rattle.gateway.proofs.Frames.{pass_grows, taken_stays, nothing_waits}
-use Rattle.gateway.proofs.Objects.{carries_piece, carries_own, carries_end, first_whole, run_now, split_reports}
+use Rattle.gateway.proofs.Objects.{next_objects, carries_piece, carries_own, carries_end, first_whole, run_now, split_reports}
 use Rattle.gateway.proofs.Sound.{no_room_means}
 use Rattle.gateway.specs.LineLaws.{LineLaws}
 use Rattle.gateway.proofs.Stations.{keeps_links, line_rests}
@@ -122,12 +121,23 @@ phase_out Fresh log now octets on h = let no : false ≡ true = sym (ap (λ l. (
 phase_out Taking log now octets on h = h
 phase_out Idle log now octets on h = tt
 phase_out Crowded log now octets on h = tt
+phase_out Judged log now octets on h = h
 phase_out Timed log now octets on h = tt
 phase_out Asked log now octets on h = tt
+
+left_out : (phase : Phase) (log : Log) (now : ℕ) (octets so_far unjudged : List ℕ) → IsLeftIn phase log so_far unjudged → IsLeftIn phase (Went now (TcpOut octets) ∷ log) so_far unjudged
+left_out Fresh log now octets so_far unjudged h = h
+left_out Taking log now octets so_far unjudged h = h
+left_out Judged log now octets so_far unjudged h = h
+left_out Idle log now octets so_far unjudged h = h
+left_out Crowded log now octets so_far unjudged h = h
+left_out Timed log now octets so_far unjudged h = h
+left_out Asked log now octets so_far unjudged h = h
 
 -- what found a place before found one still
 pub placed_on : (phase : Phase) (log new : Log) (h g : happened.History) → ((present new).is_open ≡ true → (present log).is_open ≡ true) → is_overfull g ≡ is_overfull h → IsPlaced phase log h → IsPlaced phase new g
 placed_on Crowded log new h g on same k = tt
+placed_on Judged log new h g on same k = λ o. same ∙ k (on o)
 placed_on Fresh log new h g on same k = λ o. same ∙ k (on o)
 placed_on Taking log new h g on same k = λ o. same ∙ k (on o)
 placed_on Idle log new h g on same k = λ o. same ∙ k (on o)
@@ -137,6 +147,7 @@ placed_on Asked log new h g on same k = λ o. same ∙ k (on o)
 -- where a connection has just ended nothing is overfull
 pub placed_cut : (phase : Phase) (log : Log) (h : happened.History) → IsPlaced phase log (happened.Ended ∷ h)
 placed_cut Crowded log h = tt
+placed_cut Judged log h = λ o. refl
 placed_cut Fresh log h = λ o. refl
 placed_cut Taking log h = λ o. refl
 placed_cut Idle log h = λ o. refl
@@ -145,6 +156,49 @@ placed_cut Asked log h = λ o. refl
 
 acknowledged_within : (p : Setup) (s : State) (log : Log) (unjudged : List ℕ) (phase : Phase) (a : Agrees p s log unjudged phase) → acknowledged_count (came_frames a.course.talk) ≤ length a.course.sent
 acknowledged_within p s log unjudged phase a = omega (arith, a.here.tied.unconfirmed.count)
+
+-- where nothing can be sent any more, all has gone out
+sent_all : (p : Setup) (s : State) (log : Log) (unjudged : List ℕ) (phase : Phase) (a : Agrees p s log unjudged phase) → (s.queue.unsent ≡ []) × (s.commands.answers ≡ []) → HasSentAll p log a.course
+sent_all p s log unjudged phase a all = record {
+  objects = omega (arith, a.carries.front, ap length a.carries.joined, length-append a.carries.gone (objects_of_frames a.course.sent ++ flat_map objects s.queue.unsent), length-append (objects_of_frames a.course.sent) (flat_map objects s.queue.unsent), ap (λ xs. length (flat_map objects xs)) all.0);
+  answers = sym (ap (λ (c : tasks.State). c.answers) a.stands.does.commands ∙ answers_in p phase (latest log) (room_in p log a.course) a.course.works) ∙ all.1;
+}
+
+pub flushed_by : (p : Setup) (s : State) (log : Log) (unjudged : List ℕ) (phase : Phase) (a : Agrees p s log unjudged phase) → IsSpent s → IsFlushed p log a.course
+flushed_by p s log unjudged phase a spent started room =
+    sent_all p s log unjudged phase a (spent (may_by p s.session log a.course a.talk ∙ can (talk.is_started a.course.talk) started))
+  where
+    can : (b : Bool) → b ≡ true → (b && nat_lt (length (talk.still_unacknowledged a.course.talk)) p.session.k) ≡ true
+    can true h = lt-ltb (length (talk.still_unacknowledged a.course.talk)) p.session.k room
+    can false h = cc
+
+-- a frame of the event is taken, or there is none
+pub begun_by : (p : Setup) (s : State) (log : Log) (unjudged : List ℕ) (phase : Phase) (a : Agrees p s log unjudged phase) → IsFlushing phase → HasBegun log a.course
+begun_by p s log unjudged phase a flushing = by_phase phase flushing a.left
+  where
+    reads : pending s.so_far ≡ a.here.so_far
+    reads = ap pending a.here.assembler
+
+    none_left : unjudged ≡ [] → HasBegun log a.course
+    none_left e = inr (all_taken log a.course a.here.so_far (a.here.joined ∙ ap (λ x. spelled (came_frames a.course.talk) ++ (a.here.so_far ++ x)) e) a.here.waits)
+
+    some_left : IsPast log (length (pending s.so_far ++ unjudged)) → HasBegun log a.course
+    some_left h = inl (omega (arith, h, ap (λ x. length (x ++ unjudged)) reads, ap length a.here.joined, length-append (spelled (came_frames a.course.talk)) (a.here.so_far ++ unjudged)))
+
+    by_phase : (phase : Phase) → IsFlushing phase → IsLeftIn phase log (pending s.so_far) unjudged → HasBegun log a.course
+    by_phase Fresh f h = none_left h
+    by_phase Taking f h = absurd f
+    by_phase Judged f h = some_left h
+    by_phase Idle f h = none_left h
+    by_phase Crowded f h = absurd f
+    by_phase Timed f h = none_left h
+    by_phase Asked f h = none_left h
+
+-- none is taken yet, or nothing else is due
+undue_by : (p : Setup) (s : State) (log : Log) (unjudged : List ℕ) (phase : Phase) (a : Agrees p s log unjudged phase) → IsUndue s log unjudged → IsUntouched log a.course ⊎ (frame_due p.session.w p.session.t2 p.session.t3 (latest log) a.course.talk ≡ None)
+undue_by p s log unjudged phase a (inl h) =
+    inl (omega (arith, h, ap (λ x. length (pending x ++ unjudged)) a.here.assembler, ap length a.here.joined, length-append (spelled (came_frames a.course.talk)) (a.here.so_far ++ unjudged)))
+undue_by p s log unjudged phase a (inr h) = inr (subst (λ m. frame_due p.session.w p.session.t2 p.session.t3 m a.course.talk ≡ None) a.clock (sym (due_by p s.session log a.course a.talk s.moment) ∙ h))
 
 -- a frame is handed to TCP
 went_out : (s t : State) (octets : Channel) (unjudged : List ℕ) (c : Connection) (fs : List Sent) (f : Apdu) (h : Presently s octets unjudged c) → Fits f → s.session.connected ≡ true → t.session.connected ≡ s.session.connected → t.so_far ≡ s.so_far →
@@ -205,17 +259,18 @@ module _ (p : Setup) (s t : State) (log : Log) (unjudged asdu : List ℕ) (kind 
   data_room : room_in p data_log after_data ≡ room_in p log a.course
   data_room = room_more p (parts_of_all p.sizes (reports_in p log)) (came_frames a.course.talk) a.course.sent _ a.course.earlier (acknowledged_within p s log unjudged phase a)
 
-  data_talk : may_send s.session ≡ true → kind_of asdu ≡ kind → IsOwnDue p a.course.works (next_frame s.session asdu) → Fits (next_frame s.session asdu) → with_sent (next_frame s.session asdu) s.moment a.course ≡ after_data → Talks p (session.sent kind s.moment s.session) data_log after_data
-  data_talk may is own fits same =
+  data_talk : may_send s.session ≡ true → kind_of asdu ≡ kind → IsNextData p log asdu a.course → Fits (next_frame s.session asdu) → with_sent (next_frame s.session asdu) s.moment a.course ≡ after_data → Talks p (session.sent kind s.moment s.session) data_log after_data
+  data_talk may is next fits same =
       subst (Talks p (session.sent kind s.moment s.session) data_log) same
-      (talk_out p s.session (session.sent kind s.moment s.session) log a.course s.moment s.moment (next_frame s.session asdu) (Send kind s.moment) a.talk fits a.clock own (sends s.session a.course.talk asdu kind s.moment may is) (a.here.so_far ++ unjudged, a.here.joined))
+      (talk_out p s.session (session.sent kind s.moment s.session) log a.course s.moment s.moment (next_frame s.session asdu) (Send kind s.moment) a.talk fits a.clock next (sends s.session a.course.talk asdu kind s.moment may is) (a.here.so_far ++ unjudged, a.here.joined))
 
-pub after_piece : (p : Setup) (s : State) (log : Log) (unjudged asdu : List ℕ) (rest : List (List ℕ)) (phase : Phase) → Agrees p s log unjudged phase → may_send s.session ≡ true → s.session.connected ≡ true → s.queue.unsent ≡ asdu ∷ rest → Fits (next_frame s.session asdu) →
+pub after_piece : (p : Setup) (s : State) (log : Log) (unjudged asdu : List ℕ) (rest : List (List ℕ)) (phase : Phase) → Agrees p s log unjudged phase → may_send s.session ≡ true → s.session.connected ≡ true → s.commands.answers ≡ [] → s.queue.unsent ≡ asdu ∷ rest → Fits (next_frame s.session asdu) →
     Agrees p (piece_sent s) (Went s.moment (TcpOut (spelling (next_frame s.session asdu))) ∷ log) unjudged phase
-after_piece p s log unjudged asdu rest phase a may on unsent fits =
+after_piece p s log unjudged asdu rest phase a may on none unsent fits =
     let f : Sent = record { ns = s.session.next_sent; nr = s.session.next_received; asdu = asdu } in
     let has : has_objects asdu ≡ true = first_whole (taken_objects p log) (parts_of_all p.sizes (reports_in p log)) a.course.earlier a.course.sent s.queue.unsent rest asdu unsent a.carries in
-    let talk = data_talk p s (piece_sent s) log unjudged asdu FromQueue phase a.course.works a may (ap (λ b. if b then FromQueue else Own) has) (λ none. absurd (false≢true (sym none ∙ has))) fits (data_queue s asdu s.moment a.course has) in
+    let answers : (tasks_of p a.course.works).state.answers ≡ [] = sym (ap (λ (c : tasks.State). c.answers) a.stands.does.commands ∙ answers_in p phase (latest log) (room_in p log a.course) a.course.works) ∙ none in
+    let talk = data_talk p s (piece_sent s) log unjudged asdu FromQueue phase a.course.works a may (ap (λ b. if b then FromQueue else Own) has) (record { own = λ no. absurd (false≢true (sym no ∙ has)); none = λ some. answers; report = λ some. next_objects (taken_objects p log) (parts_of_all p.sizes (reports_in p log)) a.course.earlier a.course.sent s.queue.unsent rest asdu unsent a.carries }) fits (data_queue s asdu s.moment a.course has) in
     let room = data_room p s (piece_sent s) log unjudged asdu FromQueue phase a.course.works a in
     record {
       k = a.k;
@@ -234,6 +289,7 @@ after_piece p s log unjudged asdu rest phase a may on unsent fits =
           (ap (λ xs. xs ++ f ∷ []) a.here.sent) (omega (arith, length-append a.course.sent (f ∷ [])))
           (subst (λ u. Tied (sent_more f (here_of a.course)) (session.sent FromQueue s.moment s.session) (s.queue.sent ++ take 1 u)) (sym unsent) (tied_piece f s.moment (here_of a.course) s.session s.queue.sent a.here.tied may has))
           (numbered_more 0 a.course.sent f (a.here.tied.next ∙ ap (λ n. n % 32768) (sym (zero-add (length a.course.sent)))) a.here.numbered);
+      left = left_out phase log s.moment _ _ unjudged a.left;
       carries = carries_piece (taken_objects p log) (parts_of_all p.sizes (reports_in p log)) a.course.earlier a.course.sent s.queue.unsent rest f unsent has a.carries;
       before = past_put p log a.course.earlier s.moment (next_frame s.session asdu) a.clock a.settled (sym a.here.link ∙ on) fits (kept_talk p _ _ _ talk) a.before;
     }
@@ -257,7 +313,7 @@ after_own p s log unjudged asdu phase a may on first fits =
     let oldest : tasks.first_answer (tasks_of p a.course.works).state.answers ≡ Some asdu =
     ap tasks.first_answer (sym (ap (λ (c : tasks.State). c.answers) a.stands.does.commands ∙ answers_in p phase (latest log) (room_in p log a.course) a.course.works)) ∙ first in
     let w : Works = with_call SendOwn a.course.works in
-    let talk = data_talk p s (own_sent s) log unjudged asdu Own phase w a may (ap (λ b. if b then FromQueue else Own) none) (λ same. oldest) fits (data_own s asdu s.moment a.course none) in
+    let talk = data_talk p s (own_sent s) log unjudged asdu Own phase w a may (ap (λ b. if b then FromQueue else Own) none) (record { own = λ no. oldest; none = λ some. absurd (false≢true (sym none ∙ some)); report = λ some. absurd (false≢true (sym none ∙ some)) }) fits (data_own s asdu s.moment a.course none) in
     let room = data_room p s (own_sent s) log unjudged asdu Own phase w a in
     record {
       k = a.k;
@@ -281,6 +337,7 @@ after_own p s log unjudged asdu phase a may on first fits =
           (ap (λ xs. xs ++ f ∷ []) a.here.sent) (omega (arith, length-append a.course.sent (f ∷ [])))
           (tied_own f s.moment (here_of a.course) s.session s.queue.sent a.here.tied may none)
           (numbered_more 0 a.course.sent f (a.here.tied.next ∙ ap (λ n. n % 32768) (sym (zero-add (length a.course.sent)))) a.here.numbered);
+      left = left_out phase log s.moment _ _ unjudged a.left;
       carries = carries_own (taken_objects p log) (parts_of_all p.sizes (reports_in p log)) a.course.earlier a.course.sent s.queue.unsent f none a.carries;
       before = past_put p log a.course.earlier s.moment (next_frame s.session asdu) a.clock a.settled (sym a.here.link ∙ on) fits (kept_talk p _ _ _ talk) a.before;
     }
@@ -299,9 +356,9 @@ due_same (I ns nr asdu) moment c none = let no : data_frames (I ns nr asdu ∷ [
 due_same (S nr) moment c none = refl
 due_same (U u) moment c none = refl
 
-pub after_due : (p : Setup) (s : State) (t : Session) (log : Log) (unjudged : List ℕ) (f : Apdu) (phase : Phase) → Agrees p s log unjudged phase → s.session.connected ≡ true → Fits f → HasNoData f → GoesOut s.session t s.moment f → SameWindow s.session t →
+pub after_due : (p : Setup) (s : State) (t : Session) (log : Log) (unjudged : List ℕ) (f : Apdu) (phase : Phase) (a : Agrees p s log unjudged phase) → (talk.confirmation_of a.course.talk ≡ Some f) ⊎ (IsFlushed p log a.course × HasBegun log a.course) → s.session.connected ≡ true → Fits f → HasNoData f → GoesOut s.session t s.moment f → SameWindow s.session t →
     Agrees p (record s { session = t }) (Went s.moment (TcpOut (spelling f)) ∷ log) unjudged phase
-after_due p s t log unjudged f phase a on fits none goes same = record {
+after_due p s t log unjudged f phase a next on fits none goes same = record {
   k = same.same_k ∙ a.k;
   sizes = a.sizes;
   places = a.places;
@@ -316,13 +373,14 @@ after_due p s t log unjudged f phase a on fits none goes same = record {
   plain = a.plain;
   here = went_out s (record s { session = t }) (present log) unjudged (here_of a.course) a.course.sent f a.here fits on same.same_connected refl (a.here.sent ∙ sym (none a.here.put)) (omega arith)
       (tied_same (here_of a.course) s.session t s.queue.sent same a.here.tied) a.here.numbered;
+  left = left_out phase log s.moment _ _ unjudged a.left;
   carries = a.carries;
   before = past_put p log a.course.earlier s.moment f a.clock a.settled (sym a.here.link ∙ on) fits (kept_talk p _ _ _ talk_due) a.before;
 }
   where
     talk_due : Talks p t (Went s.moment (TcpOut (spelling f)) ∷ log) (due_course f s.moment a.course)
     talk_due = subst (Talks p t (Went s.moment (TcpOut (spelling f)) ∷ log)) (due_same f s.moment a.course none)
-        (talk_out p s.session t log a.course s.moment s.moment f goes.call a.talk fits a.clock (no_own p a.course.works f none) (goes.made a.course.talk) (a.here.so_far ++ unjudged, a.here.joined))
+        (talk_out p s.session t log a.course s.moment s.moment f goes.call a.talk fits a.clock (next_plain p log a.course f none next) (goes.made a.course.talk) (a.here.so_far ++ unjudged, a.here.joined))
 
 -- the works where a frame is taken, by whether its answer finds a place
 heard_stands : (p : Setup) (s : State) (log : Log) (f : Apdu) (c : Course) (kept : Bool) → has_place f s.moment s.commands ≡ kept → IsAt p log Taking s c → IsAt p log (after_frame kept) (framed f s) (with_frame p f s.moment c)
@@ -339,10 +397,14 @@ heard_stands p s log f c false place h = record {
   placed = tt;
 }
 
+heard_left : (kept : Bool) (log : Log) (rest : List ℕ) {o : Option (List ℕ)} → IsPast log (length rest) → o ≡ Some [] → IsLeftIn (after_frame kept) log (pending o) rest
+heard_left true log rest past e = subst (λ x. IsPast log (length (pending x ++ rest))) (sym e) past
+heard_left false log rest past e = tt
+
 -- a whole frame without fault is taken
-pub after_heard : (p : Setup) (s : State) (log : Log) (unjudged rest : List ℕ) (f : Apdu) (a : Agrees p s log unjudged Taking) → s.session.connected ≡ true → IsConfirmed s.session → s.so_far ≡ Some [] → Fits f → a.here.so_far ++ unjudged ≡ spelling f ++ rest → refuses s.session f ≡ false → fault_of (length a.course.sent) (came_frames a.course.talk) f ≡ None →
+pub after_heard : (p : Setup) (s : State) (log : Log) (unjudged rest : List ℕ) (f : Apdu) (a : Agrees p s log unjudged Taking) → s.session.connected ≡ true → IsClear s → IsUndue s log unjudged → IsPast log (length rest) → s.so_far ≡ Some [] → Fits f → a.here.so_far ++ unjudged ≡ spelling f ++ rest → refuses s.session f ≡ false → fault_of (length a.course.sent) (came_frames a.course.talk) f ≡ None →
     (kept : Bool) → has_place f s.moment s.commands ≡ kept → Agrees p (framed f s) log rest (after_frame kept)
-after_heard p s log unjudged rest f a on ready so fits whole passes faultless kept place =
+after_heard p s log unjudged rest f a on ready undue past so fits whole passes faultless kept place =
     let joined : (present log).received ≡ spelled (f ∷ came_frames a.course.talk) ++ rest = a.here.joined ∙ ap (λ x. spelled (came_frames a.course.talk) ++ x) whole ∙ sym (append_assoc (spelled (came_frames a.course.talk)) (spelling f) rest) in
     let stays = taken_stays f s.moment s.session in
     record {
@@ -354,7 +416,7 @@ after_heard p s log unjudged rest f a on ready so fits whole passes faultless ke
       found = a.found;
       line = a.line;
       course = with_frame p f s.moment a.course;
-      talk = talk_heard p s.session log a.course s.moment f rest a.talk a.stands.phase_is a.clock on ready passes joined;
+      talk = talk_heard p s.session log a.course s.moment f rest a.talk a.stands.phase_is a.clock on ready.confirmed fits passes (a.stands.placed (sym a.here.link ∙ on)) (flushed_by p s log unjudged Taking a ready.spent) (undue_by p s log unjudged Taking a undue) joined;
       stands = heard_stands p s log f a.course kept place a.stands;
       offers = offers_heard a.talk.command_laws s.line s.line s.commands (framed f s).commands f s.moment refl refl a.offers;
       plain = heard_plain a.talk.command_laws f s.moment s.commands fits a.plain;
@@ -373,18 +435,19 @@ after_heard p s log unjudged rest f a on ready so fits whole passes faultless ke
         tied = tied_taken f s.moment (here_of a.course) s.session s.queue.sent on a.here.tied passes;
         numbered = a.here.numbered;
       };
+      left = heard_left kept log rest past so;
       carries = a.carries;
       before = a.before;
     }
 
-pub heard_course : (p : Setup) (s : State) (log : Log) (unjudged rest : List ℕ) (f : Apdu) (a : Agrees p s log unjudged Taking) (on : s.session.connected ≡ true) (ready : IsConfirmed s.session) (so : s.so_far ≡ Some []) (fits : Fits f) (whole : a.here.so_far ++ unjudged ≡ spelling f ++ rest) (passes : refuses s.session f ≡ false) (faultless : fault_of (length a.course.sent) (came_frames a.course.talk) f ≡ None) (kept : Bool) (place : has_place f s.moment s.commands ≡ kept) →
-    (after_heard p s log unjudged rest f a on ready so fits whole passes faultless kept place).course ≡ with_frame p f s.moment a.course
+pub heard_course : (p : Setup) (s : State) (log : Log) (unjudged rest : List ℕ) (f : Apdu) (a : Agrees p s log unjudged Taking) (on : s.session.connected ≡ true) (ready : IsClear s) (undue : IsUndue s log unjudged) (past : IsPast log (length rest)) (so : s.so_far ≡ Some []) (fits : Fits f) (whole : a.here.so_far ++ unjudged ≡ spelling f ++ rest) (passes : refuses s.session f ≡ false) (faultless : fault_of (length a.course.sent) (came_frames a.course.talk) f ≡ None) (kept : Bool) (place : has_place f s.moment s.commands ≡ kept) →
+    (after_heard p s log unjudged rest f a on ready undue past so fits whole passes faultless kept place).course ≡ with_frame p f s.moment a.course
 unfolding after_heard
-heard_course p s log unjudged rest f a on ready so fits whole passes faultless kept place = refl
+heard_course p s log unjudged rest f a on ready undue past so fits whole passes faultless kept place = refl
 
 -- the same of another assembler's state
-pub with_so_far : (p : Setup) (s : State) (log : Log) (unjudged rest so_far : List ℕ) (phase : Phase) (a : Agrees p s log unjudged phase) → IsMore so_far → (present log).received ≡ spelled (came_frames a.course.talk) ++ (so_far ++ rest) → Agrees p (record s { so_far = Some so_far }) log rest phase
-with_so_far p s log unjudged rest so_far phase a waits joined = record {
+pub with_so_far : (p : Setup) (s : State) (log : Log) (unjudged rest so_far : List ℕ) (phase : Phase) (a : Agrees p s log unjudged phase) → IsMore so_far → (present log).received ≡ spelled (came_frames a.course.talk) ++ (so_far ++ rest) → IsLeftIn phase log so_far rest → Agrees p (record s { so_far = Some so_far }) log rest phase
+with_so_far p s log unjudged rest so_far phase a waits joined left = record {
   k = a.k;
   sizes = a.sizes;
   places = a.places;
@@ -412,15 +475,16 @@ with_so_far p s log unjudged rest so_far phase a waits joined = record {
     tied = a.here.tied;
     numbered = a.here.numbered;
   };
+  left = left;
   carries = a.carries;
   before = a.before;
 }
 
 -- the octets left are the beginning of a frame
-pub after_more : (p : Setup) (s t : State) (log : Log) (unjudged : List ℕ) (phase : Phase) (a : Agrees p s log unjudged phase) → IsMore (a.here.so_far ++ unjudged) → t ≡ record s { so_far = Some (a.here.so_far ++ unjudged) } → Agrees p t log [] phase
-after_more p s t log unjudged phase a waits e =
-    subst (λ x. Agrees p x log [] phase) (sym e)
-    (with_so_far p s log unjudged [] (a.here.so_far ++ unjudged) phase a waits (a.here.joined ∙ ap (λ x. spelled (came_frames a.course.talk) ++ x) (sym (append-nil (a.here.so_far ++ unjudged)))))
+pub after_more : (p : Setup) (s t : State) (log : Log) (unjudged : List ℕ) (a : Agrees p s log unjudged Taking) → IsMore (a.here.so_far ++ unjudged) → t ≡ record s { so_far = Some (a.here.so_far ++ unjudged) } → Agrees p t log [] Taking
+after_more p s t log unjudged a waits e =
+    subst (λ x. Agrees p x log [] Taking) (sym e)
+    (with_so_far p s log unjudged [] (a.here.so_far ++ unjudged) Taking a waits (a.here.joined ∙ ap (λ x. spelled (came_frames a.course.talk) ++ x) (sym (append-nil (a.here.so_far ++ unjudged)))) tt)
 
 -- The event is taken.
 pub now_idle : (p : Setup) (s : State) (log : Log) → Agrees p s log [] Taking → Agrees p s log [] Idle
@@ -438,6 +502,28 @@ now_idle p s log a = record {
   offers = a.offers;
   plain = a.plain;
   here = a.here;
+  left = refl;
+  carries = a.carries;
+  before = a.before;
+}
+
+-- What follows from a frame has gone out.
+pub now_taking : (p : Setup) (s : State) (log : Log) (unjudged : List ℕ) → Agrees p s log unjudged Judged → Agrees p s log unjudged Taking
+now_taking p s log unjudged a = record {
+  k = a.k;
+  sizes = a.sizes;
+  places = a.places;
+  clock = a.clock;
+  settled = a.settled;
+  found = a.found;
+  line = a.line;
+  course = a.course;
+  talk = a.talk;
+  stands = record { does = a.stands.does; asks = a.stands.asks; phase_is = a.stands.phase_is; placed = a.stands.placed };
+  offers = a.offers;
+  plain = a.plain;
+  here = a.here;
+  left = tt;
   carries = a.carries;
   before = a.before;
 }
@@ -551,6 +637,25 @@ not_fresh Stopped h = h
 not_fresh OwnAnswers h = h
 not_fresh Replaced h = h
 
+not_judged : (cause : Close) → IsCloseAt cause Judged → ⊥
+not_judged Timeout h = h
+not_judged Grammar h = h
+not_judged SendNumber h = h
+not_judged ReceiveNumber h = h
+not_judged Stopped h = h
+not_judged OwnAnswers h = h
+not_judged Replaced h = h
+
+-- and leaves nothing to be judged
+closed_left : (phase : Phase) (log : Log) (so_far : List ℕ) (cause : Close) → IsCloseAt cause phase → IsLeftIn (after_closing phase) log so_far []
+closed_left Fresh log so_far cause timely = refl
+closed_left Taking log so_far cause timely = refl
+closed_left Judged log so_far cause timely = absurd (not_judged cause timely)
+closed_left Idle log so_far cause timely = refl
+closed_left Crowded log so_far cause timely = refl
+closed_left Timed log so_far cause timely = refl
+closed_left Asked log so_far cause timely = refl
+
 -- the cut takes place where the step is
 closed_does : (p : Setup) (s : State) (cause : Close) (phase : Phase) (at : ℕ) (room other : Bool) (w : Works) → IsCloseAt cause phase → Does p s (works_in phase p at room w) → Does p (disconnected s) (works_in (after_closing phase) p at other (cut_works (works_at p cause at w)))
 closed_does p s Grammar Taking at room other w timely d = does_cut p s w d
@@ -588,6 +693,7 @@ closed_does p s Stopped Asked at room other w timely d = absurd timely
 closed_does p s Timeout Asked at room other w timely d = absurd timely
 closed_does p s OwnAnswers Asked at room other w timely d = absurd timely
 closed_does p s Replaced Asked at room other w timely d = absurd timely
+closed_does p s cause Judged at room other w timely d = absurd (not_judged cause timely)
 closed_does p s cause Fresh at room other w timely d = absurd (not_fresh cause timely)
 
 works_due : (p : Setup) (cause : Close) (at : ℕ) (w : Works) → (works_at p cause at w).is_due ≡ w.is_due
@@ -613,6 +719,7 @@ closed_asks p cause Idle at room other w timely h = absurd (never cause timely)
     never Replaced h = h
 closed_asks p cause Crowded at room other w timely h = works_due p cause at w ∙ h
 closed_asks p cause Timed at room other w timely h = works_due p cause at w ∙ h
+closed_asks p cause Judged at room other w timely h = absurd (not_judged cause timely)
 closed_asks p cause Fresh at room other w timely h = absurd (not_fresh cause timely)
 closed_asks p cause Asked at room other w timely h = absurd (never cause timely)
   where
@@ -630,6 +737,7 @@ closed_phase Fresh log now cause timely = absurd (not_fresh cause timely)
 closed_phase Taking log now cause timely = tt
 closed_phase Idle log now cause timely = tt
 closed_phase Crowded log now cause timely = tt
+closed_phase Judged log now cause timely = absurd (not_judged cause timely)
 closed_phase Timed log now cause timely = tt
 closed_phase Asked log now cause timely = tt
 
@@ -651,14 +759,14 @@ same_open Timeout c = refl
 same_open OwnAnswers c = refl
 same_open Replaced c = refl
 
-pub after_close : (laws : LineLaws) (p : Setup) (s : State) (log : Log) (unjudged : List ℕ) (cause : Close) (phase : Phase) (fault : Option Close) (a : Agrees p s log unjudged phase) → s.session.connected ≡ true → ends cause ≡ true → IsCloseAt cause phase → IsConnection (closed_by cause (present log)) (here_of a.course) fault → HasCause p cause log →
+pub after_close : (laws : LineLaws) (p : Setup) (s : State) (log : Log) (unjudged : List ℕ) (cause : Close) (phase : Phase) (fault : Option Close) (a : Agrees p s log unjudged phase) → s.session.connected ≡ true → ends cause ≡ true → IsCloseAt cause phase → IsConnection (closed_by cause (present log)) (here_of a.course) fault → IsCause p log cause a.course →
     Agrees p (disconnected s) (Went s.moment (Closed cause) ∷ log) [] (after_closing phase)
 after_close laws p s log unjudged cause phase fault a on last timely stands why =
     let new : Log = Went s.moment (Closed cause) ∷ log in
     let octets : Channel = closed_by cause (present log) in
     let course : Course = ended_course octets.is_open (works_at p cause (latest log) a.course.works) a.course in
     let end = ended p s log unjudged phase a octets fault (same_open cause (present log)) stands in
-    let runs : Runs p new course = (a.course, a.talk.course_runs, sym (closed_is p cause (present log).is_open (latest log) a.course last ∙ ap (λ b. ended_course b (works_at p cause (latest log) a.course.works) a.course) (sym (same_open cause (present log))))) in
+    let runs : Runs p new course = (a.course, a.talk.course_runs, sym (closed_is p cause (present log).is_open (latest log) a.course last ∙ ap (λ b. ended_course b (works_at p cause (latest log) a.course.works) a.course) (sym (same_open cause (present log)))), why) in
     let talk : Talks p (session.closed s.session) new course = talk_cut p s.session s.session log new a.course course a.talk refl refl runs in
     let shut : present new ≡ no_channel = ap (λ b. if b then no_channel else present log) last in
     let gone : past new ≡ over octets (past log) = ap (λ b. if b then over octets (past log) else past log) last in
@@ -681,12 +789,13 @@ after_close laws p s log unjudged cause phase fault a on last timely stands why 
       offers = offers_cut laws s.line (tasks.closed s.commands);
       plain = tt;
       here = subst (λ octets. Presently (disconnected s) octets [] new_connection) (sym shut) (fresh (disconnected s) no_channel a.here.tied.small refl (λ h. refl) refl refl refl refl refl refl refl refl);
+      left = closed_left phase new [] cause timely;
       carries = end.carries;
       before = record {
         are = subst (λ cs. AreConnections cs course.earlier) (sym gone) end.are;
         orders = end.orders;
         times = (kept_talk p _ _ _ talk, a.before.times);
-        acts = (record { moment = a.clock; replaced = no_replaced cause last ∙ sym a.settled; may = why }, a.before.acts);
+        acts = (record { moment = a.clock; replaced = no_replaced cause last ∙ sym a.settled; may = λ h. (sym a.here.link ∙ on, (a.course, a.talk.course_runs, why)) }, a.before.acts);
         rests = a.before.rests;
       };
     }
@@ -708,13 +817,7 @@ rested laws p s log a spent quiet = record {
   are = record { open_one = stands_now p s log Asked a; earlier = a.before.are };
   settled = a.settled;
   placed = a.stands.placed;
-  eager = λ on started room.
-      let may : may_send s.session ≡ true = can (is_running s.session) (a.here.tied.running ∙ started) (omega (arith, room, a.here.tied.unconfirmed.count, a.k)) in
-      let all = spent may in
-      record {
-        objects = omega (arith, a.carries.front, ap length a.carries.joined, length-append a.carries.gone (objects_of_frames a.course.sent ++ flat_map objects s.queue.unsent), length-append (objects_of_frames a.course.sent) (flat_map objects s.queue.unsent), ap (λ xs. length (flat_map objects xs)) all.0);
-        answers = sym (ap (λ (c : tasks.State). c.answers) a.stands.does.commands ∙ answers_in p Asked (latest log) (room_in p log a.course) a.course.works) ∙ all.1;
-      };
+  eager = λ on started room. sent_all p s log [] Asked a (spent (can (is_running s.session) (a.here.tied.running ∙ started) (omega (arith, room, a.here.tied.unconfirmed.count, a.k))));
   line = line_rests laws p s.line log a.course (room_in p log a.course) a.line (none_left a.course.works.is_due refl) (here_of a.course ∷ a.course.earlier)
       (λ none. is_full p s log [] Asked a (no_room_means s.queue (sym (same_room p s log [] Asked a) ∙ none))) served;
   talk = record {

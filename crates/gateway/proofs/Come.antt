@@ -17,7 +17,6 @@ use Rattle.link.specs.Telling.{Tells, report_in}
 use Rattle.session.specs.declared.kinds.Close.TheVariants.{Replaced}
 use Rattle.session.specs.Session as session
 use Rattle.session.specs.Session.{is_running as is_running_of}
-use Rattle.session.specs.Ends.{IsConfirmed}
 use Rattle.command.specs.State as tasks
 use Rattle.command.specs.State.{line_of, refusal_of, is_used}
 use Rattle.command.specs.Mirrors.{mirrored}
@@ -27,14 +26,14 @@ use Rattle.gateway.specs.Objects.{objects, has_objects, monitor_objects, parts_o
 use Rattle.gateway.specs.Log.{Log, Input, LineIn, Opened, TcpIn, CutOff, Ticked, Came, Went, Closed, latest, last_moment}
 use Rattle.gateway.specs.Streams.{spelled}
 use Rattle.gateway.specs.Frames.{Sent, Connection, new_connection, runs, AreInOrder}
-use Rattle.gateway.specs.Connections.{Channel, no_channel, new_channel, receiving, present, past, AreConnections}
+use Rattle.gateway.specs.Connections.{is_replaced, Channel, no_channel, new_channel, receiving, present, past, AreConnections}
 use Rattle.gateway.specs.Reports.{Setup, exchanges_of, taken_objects, reports_in, parts_of_all}
-use Rattle.gateway.specs.Traffic.{is_replaced, HasRested, IsFaithful}
+use Rattle.gateway.specs.Traffic.{HasRested, IsFaithful}
 use Rattle.gateway.specs.State.{State, at_moment, disconnected, connected}
 use Rattle.gateway.specs.Counting.{counted, one_mirrored, one_lost}
 use Rattle.gateway.specs.Works.{Works, tasks_of, kept_until, all_kept, is_overfull, listed, is_command_report, IsPassedOn, with_call, mirrored_works, LearnsReport, given_up_works, refused_works, LearnsOf, cut_works, heard_by, silent_by, begun_works, ready_works, unasked_works, done_works}
 use Rattle.gateway.specs.Course.{Course, came_frames, here_of, room_in, TakesFrames, HasTakenAll, ended_course, opened_course, IsLeft, with_works, Comes, Runs}
-use Rattle.gateway.specs.Phases.{Idle, Taking, resting, IsPlaced, after_line}
+use Rattle.gateway.specs.Phases.{Idle, Taking, resting, IsPlaced, IsLeftIn, after_line}
 use Rattle.gateway.specs.LineLaws.{LineLaws}
 use Rattle.gateway.specs.CommandLaws.{CommandLaws}
 use Rattle.gateway.specs.Steps as steps
@@ -466,6 +465,11 @@ other_stands : (p : Setup) (t : State) (new : Log) (d : Course) (kept : Bool) �
 other_stands p t new d true does due placed = record { does = does; asks = due; phase_is = tt; placed = placed refl }
 other_stands p t new d false does due placed = record { does = does; asks = due; phase_is = tt; placed = tt }
 
+-- the line leaves nothing of the connection's octets
+line_left : (kept : Bool) (log : Log) (so_far : List ℕ) → IsLeftIn (after_line kept) log so_far []
+line_left true log so_far = refl
+line_left false log so_far = tt
+
 -- the connection is open where own answers count
 abbrev pub Counts : Bool → Bool → Log → Type 0
 Counts kept fits log = kept ≡ true → (present log).is_open ≡ true → fits ≡ true
@@ -492,6 +496,7 @@ come_other p s t log now event fits kept counts aside on rest a h =
       offers = h.offers;
       plain = h.plain;
       here = subst (λ x. Presently t x [] (here_of a.course)) (sym aside.0) (goes_on p s t log now event left fits (present log) [] (here_of a.course) h a.here);
+      left = line_left kept new _;
       carries = carried p s t log now event left fits a.course.earlier a.course.sent h a.carries;
       before = record {
         are = subst (λ cs. AreConnections cs a.course.earlier) (sym aside.1) a.before.are;
@@ -567,6 +572,7 @@ come_cut laws p s t log now fits rest a h =
       offers = offers_cut laws t.line (tasks.closed t.commands);
       plain = tt;
       here = fresh (disconnected t) no_channel (small laws p s t log now CutOff fits rest a h) refl (λ h. refl) refl refl refl refl refl refl refl refl;
+      left = refl;
       carries = over_carries laws p s t log now CutOff fits rest a h;
       before = record {
         are = (over_ended laws p s t log now CutOff fits rest a h).are;
@@ -615,6 +621,7 @@ module _ (laws : LineLaws) (p : Setup) (s t : State) (log : Log) (now : ℕ) (fi
     offers = offers_cut laws t.line (tasks.closed t.commands);
     plain = tt;
     here = opened_here;
+    left = refl;
     carries = over_carries laws p s t log now Opened fits rest a h;
     before = record {
       are = (over_ended laws p s t log now Opened fits rest a h).are;
@@ -628,7 +635,7 @@ module _ (laws : LineLaws) (p : Setup) (s t : State) (log : Log) (now : ℕ) (fi
   pub come_replaced : t.session.connected ≡ true → Agrees p (connected (disconnected t)) (Went t.moment (Closed Replaced) ∷ Came now Opened ∷ log) [] Idle
   come_replaced on =
       let new : Log = Went t.moment (Closed Replaced) ∷ Came now Opened ∷ log in
-      let talk : Talks p (connected (disconnected t)).session new opened = talk_on p (connected (disconnected t)).session (connected (disconnected t)).session (Came now Opened ∷ log) new opened opened opened_talk refl refl (opened, opened_runs, refl) in
+      let talk : Talks p (connected (disconnected t)).session new opened = talk_on p (connected (disconnected t)).session (connected (disconnected t)).session (Came now Opened ∷ log) new opened opened opened_talk refl refl (opened, opened_runs, refl, sym a.here.link ∙ sym (ap (λ x. x.connected) h.session) ∙ on) in
       let was : is_replaced (Came now Opened ∷ log) ≡ true = sym a.here.link ∙ sym (ap (λ x. x.connected) h.session) ∙ on in
       record {
         k = ap (λ x. x.k) h.session ∙ a.k;
@@ -644,6 +651,7 @@ module _ (laws : LineLaws) (p : Setup) (s t : State) (log : Log) (now : ℕ) (fi
         offers = offers_cut laws t.line (tasks.closed t.commands);
         plain = tt;
         here = opened_here;
+        left = refl;
         carries = over_carries laws p s t log now Opened fits rest a h;
         before = record {
           are = (over_ended laws p s t log now Opened fits rest a h).are;
@@ -672,47 +680,46 @@ module _ (laws : LineLaws) (p : Setup) (s t : State) (log : Log) (now : ℕ) (fi
   }
 
 -- octets of no connection count for nothing; else none is judged yet
-pub come_bytes : (p : Setup) (s t : State) (log : Log) (now : ℕ) (octets : List ℕ) (fits : Bool) → fits ≡ true → HasRested p log → (a : Agrees p s log [] (resting log)) → Heard p s t log now (TcpIn octets) (left_of p log a.course) fits → IsConfirmed s.session → Agrees p t (Came now (TcpIn octets) ∷ log) (if t.session.connected then octets else []) Taking × IsConfirmed t.session
-come_bytes p s t log now octets fits settled_fits rest a h ready = (
-  subst (λ b. Agrees p t (Came now (TcpIn octets) ∷ log) (if b then octets else []) Taking) (sym (ap (λ x. x.connected) h.session)) (record {
-    k = ap (λ x. x.k) h.session ∙ a.k;
-    sizes = h.sizes ∙ a.sizes;
-    places = h.places ∙ a.places;
-    clock = h.clock;
-    settled = refl;
-    found = a.found;
-    line = h.line;
-    course = d;
-    talk = talk_now;
-    stands = record { does = h.does; asks = h.due; phase_is = tt; placed = λ o. h.placed settled_fits ∙ placed_before p s log a (sym (opens (present log)) ∙ o) };
-    offers = h.offers;
-    plain = h.plain;
-    here = subst (λ x. Presently t x more (here_of d)) (sym (bytes_at s.session.connected (present log) (sym a.here.link))) (record {
-      link = w.link;
-      none = λ off. (closed s.session.connected (a.here.link ∙ off) (a.here.none off).0, (a.here.none off).1);
-      put = w.put;
-      handed = w.handed;
-      sent = w.sent;
-      so_far = w.so_far;
-      assembler = w.assembler;
-      waits = w.waits;
-      joined = joined_now;
-      fit = w.fit;
-      pass = w.pass;
-      tied = w.tied;
-      numbered = w.numbered;
-    });
-    carries = carried p s t log now (TcpIn octets) left fits a.course.earlier a.course.sent h a.carries;
-    before = record {
-      are = a.before.are;
-      orders = subst (λ objs. AreInOrder objs a.course.earlier) (sym h.taken) (orders_grow (taken_objects p log) h.more a.course.earlier a.before.orders);
-      times = (kept_talk p _ _ _ talk_now, a.before.times);
-      acts = a.before.acts;
-      rests = (rest, a.before.rests);
-    };
-  }),
-  subst IsConfirmed (sym h.session) ready,
-)
+pub come_bytes : (p : Setup) (s t : State) (log : Log) (now : ℕ) (octets : List ℕ) (fits : Bool) → fits ≡ true → HasRested p log → (a : Agrees p s log [] (resting log)) → Heard p s t log now (TcpIn octets) (left_of p log a.course) fits → Agrees p t (Came now (TcpIn octets) ∷ log) (if t.session.connected then octets else []) Taking
+come_bytes p s t log now octets fits settled_fits rest a h =
+    subst (λ b. Agrees p t (Came now (TcpIn octets) ∷ log) (if b then octets else []) Taking) (sym (ap (λ x. x.connected) h.session)) (record {
+      k = ap (λ x. x.k) h.session ∙ a.k;
+      sizes = h.sizes ∙ a.sizes;
+      places = h.places ∙ a.places;
+      clock = h.clock;
+      settled = refl;
+      found = a.found;
+      line = h.line;
+      course = d;
+      talk = talk_now;
+      stands = record { does = h.does; asks = h.due; phase_is = tt; placed = λ o. h.placed settled_fits ∙ placed_before p s log a (sym (opens (present log)) ∙ o) };
+      offers = h.offers;
+      plain = h.plain;
+      here = subst (λ x. Presently t x more (here_of d)) (sym (bytes_at s.session.connected (present log) (sym a.here.link))) (record {
+        link = w.link;
+        none = λ off. (closed s.session.connected (a.here.link ∙ off) (a.here.none off).0, (a.here.none off).1);
+        put = w.put;
+        handed = w.handed;
+        sent = w.sent;
+        so_far = w.so_far;
+        assembler = w.assembler;
+        waits = w.waits;
+        joined = joined_now;
+        fit = w.fit;
+        pass = w.pass;
+        tied = w.tied;
+        numbered = w.numbered;
+      });
+      left = tt;
+      carries = carried p s t log now (TcpIn octets) left fits a.course.earlier a.course.sent h a.carries;
+      before = record {
+        are = a.before.are;
+        orders = subst (λ objs. AreInOrder objs a.course.earlier) (sym h.taken) (orders_grow (taken_objects p log) h.more a.course.earlier a.before.orders);
+        times = (kept_talk p _ _ _ talk_now, a.before.times);
+        acts = a.before.acts;
+        rests = (rest, a.before.rests);
+      };
+    })
   where
     left : Course
     left = left_of p log a.course
@@ -744,10 +751,11 @@ come_bytes p s t log now octets fits settled_fits rest a h ready = (
     joined_now : (present log).received ++ more ≡ spelled (came_frames a.course.talk) ++ (w.so_far ++ more)
     joined_now = ap (λ x. x ++ more) w.joined ∙ append_assoc (spelled (came_frames a.course.talk)) (w.so_far ++ []) more ∙ ap (λ x. spelled (came_frames a.course.talk) ++ (x ++ more)) (append-nil w.so_far)
 
-    brings : TakesFrames p (present (Came now (TcpIn octets) ∷ log)) (latest (Came now (TcpIn octets) ∷ log)) (with_works (begun_works (TcpIn octets) (latest (Came now (TcpIn octets) ∷ log)) left.works) left) d
+    brings : TakesFrames p (Came (latest (Came now (TcpIn octets) ∷ log)) (TcpIn octets) ∷ log) (latest (Came now (TcpIn octets) ∷ log)) (with_works (begun_works (TcpIn octets) (latest (Came now (TcpIn octets) ∷ log)) left.works) left) d
     brings = record {
       frames = [];
       taken = ap (λ z. with_works z left) h.worked;
+      each = tt;
       rest = w.so_far ++ more;
       joined = ap (λ (x : Channel). x.received) (bytes_at s.session.connected (present log) (sym a.here.link)) ∙ joined_now;
     }

@@ -1,5 +1,5 @@
 -- The line's lemmas where a port may tell no log, in the form that answers cite.
-use Rattle.std.proofs.Common.{◌≡◌, ℕ, ◌≤◌, ◌+◌, Bool, true, false, not, List, [], ◌∷◌, length, refl, ap, sym, ◌∙◌, subst, arith, Option, Some, None, length-append}
+use Rattle.std.proofs.Common.{◌≡◌, ℕ, ◌≤◌, ◌+◌, Bool, true, false, not, List, [], ◌∷◌, ◌++◌, length, refl, ap, sym, ◌∙◌, subst, arith, inl, Option, Some, None, length-append}
 use Rattle.std.specs.Prelude.{IfSome, if◌then◌else◌, option_map}
 use Rattle.std.specs.Bool.{OnTrue}
 use Rattle.std.proofs.lemmas.List.{append-nil}
@@ -18,10 +18,10 @@ use Rattle.command.specs.State as tasks
 use Rattle.command.specs.State.{octets_waiting}
 use Rattle.events.specs.Queue.{free_places}
 use Rattle.session.specs.Ends.{IsConfirmed}
-use Rattle.gateway.proofs.Talking.{kept_talk, talk_on}
+use Rattle.gateway.proofs.Talking.{kept_talk, talk_on, all_taken}
 use Rattle.gateway.specs.Log.{Log, LogEntry, events_of, Input, Opened, TcpIn, CutOff, Ticked, LineIn, Came, Went, LineOut, Closed, latest, tell}
 use Rattle.gateway.specs.Frames.{AreInOrder}
-use Rattle.gateway.specs.Connections.{present}
+use Rattle.gateway.specs.Connections.{Channel, receiving, received_before, present}
 use Rattle.gateway.specs.Reports.{Setup, exchanges_of, taken_objects, reports_in, parts_of_all}
 use Rattle.link.specs.Leave.{is_poll_request}
 use Rattle.gateway.specs.Polls.{has_room}
@@ -34,7 +34,7 @@ use Rattle.gateway.specs.Runs.{events_told, MoreEvents}
 use Rattle.gateway.specs.State.{State, at_moment, disconnected, connected, put_on_line, commands_after, after_request as after_next}
 use Rattle.gateway.specs.Steps as steps
 use Rattle.gateway.specs.Steps.{HearsEvent, line_timed, settled, Begins, MayClose}
-use Rattle.gateway.specs.Agrees.{Presently, Talks, Agrees, Does, OffersWait, ArePlain, Tracks, Awaits, Leaves, Follows, HasCome, Rests, Carries}
+use Rattle.gateway.specs.Agrees.{Presently, Talks, Agrees, Does, OffersWait, ArePlain, Tracks, Awaits, Leaves, Follows, HasCome, Rests, Carries, IsClear, IsUndue, IsSpent, pending}
 use Rattle.gateway.proofs.Working.{does_settled, settled_placed, put_state, put_placed}
 use Rattle.gateway.proofs.Offering.{offers_stay, offers_made, offers_asked, offers_unasked}
 use Rattle.gateway.proofs.Agreement.{stands_now, stands_overfull, has_places, same_room, now_idle}
@@ -114,6 +114,7 @@ module _ (laws : LineLaws) (p : Setup) (s : State) (q : Primary) (log : Log) (a 
         a.course,
         a.talk.course_runs,
         record {
+          all = all_taken log a.course a.here.so_far a.here.joined a.here.waits;
           due = a.stands.asks;
           request = x;
           next = same_next (Some x) next;
@@ -147,6 +148,7 @@ module _ (laws : LineLaws) (p : Setup) (s : State) (q : Primary) (log : Log) (a 
         offers = offers_asked laws a.talk.command_laws q s.commands s.moment may x next (omega (arith, fits.station, tells.count)) offers;
         plain = subst ArePlain (sym (put_answers (is_first_command q x))) a.plain;
         here = with_line_out;
+        left = refl;
         carries = subst (λ objs. Carries objs (parts_of_all p.sizes (reports_in p new)) a.course.earlier a.course.sent s.queue.unsent) (sym same)
             (subst (λ n. Carries (taken_objects p log) n a.course.earlier a.course.sent s.queue.unsent) (sym parts) a.carries);
         before = record {
@@ -205,6 +207,7 @@ module _ (laws : LineLaws) (p : Setup) (s : State) (q : Primary) (log : Log) (a 
     offers = offers_unasked laws q s.commands s.moment (has_room s.queue) none offers;
     plain = a.plain;
     here = record { link = a.here.link; none = a.here.none; put = a.here.put; handed = a.here.handed; sent = a.here.sent; so_far = a.here.so_far; assembler = a.here.assembler; waits = a.here.waits; joined = a.here.joined; fit = a.here.fit; pass = a.here.pass; tied = a.here.tied; numbered = a.here.numbered };
+    left = refl;
     carries = a.carries;
     before = a.before;
   }
@@ -268,6 +271,7 @@ now_settled p s log a = subst (λ x. Agrees p x log [] Timed) (sym (settled_part
   offers = offers_stay s.line s.line s.commands (settled s).commands (λ k. refl) (settled_waiting s.silent) a.offers;
   plain = subst ArePlain (sym (settled_answers s.silent)) a.plain;
   here = record { link = a.here.link; none = a.here.none; put = a.here.put; handed = a.here.handed; sent = a.here.sent; so_far = a.here.so_far; assembler = a.here.assembler; waits = a.here.waits; joined = a.here.joined; fit = a.here.fit; pass = a.here.pass; tied = a.here.tied; numbered = a.here.numbered };
+  left = refl;
   carries = a.carries;
   before = a.before;
 })
@@ -335,12 +339,7 @@ told_overfull p (Some log) s t now octets fits laws off on b h =
       agrees = a;
       fault = Some OwnAnswers;
       stands = stands_overfull p t (Came now (LineIn octets) ∷ h.before) [] Crowded a;
-      why = record {
-        open_is = sym a.here.link ∙ on;
-        course = a.course;
-        runs = a.talk.course_runs;
-        full = subst (λ (c : Course). is_overfull (tasks_of p c.works).history ≡ true) (sym (come_course p s t h.before now (LineIn octets) fits false none (refl, refl, refl) (on_line h.before now octets) h.rested h.agrees heard)) (heard.full off);
-      };
+      why = subst (λ (c : Course). is_overfull (tasks_of p c.works).history ≡ true) (sym (come_course p s t h.before now (LineIn octets) fits false none (refl, refl, refl) (on_line h.before now octets) h.rested h.agrees heard)) (heard.full off);
     })
 
 pub told_tick : (p : Setup) (told : Option Log) (s t : State) (now : ℕ) (fits : Bool) → LineLaws → Begins s now Ticked fits t → IfSome told (HasCome p s now Ticked) → Tracks p t told [] Idle
@@ -367,13 +366,25 @@ pub told_unreplaced : (p : Setup) (told : Option Log) (s t : State) (now : ℕ) 
 told_unreplaced p None s t now fits laws b h = tt
 told_unreplaced p (Some log) s t now fits laws b h = subst (IsFaithful p) (sym h.is) (opened_faithful laws p s t h.before now fits h.rested h.agrees (heard_in laws p s t now Opened fits log b h))
 
+-- how many octets have been received once more came
+received_by : (b : Bool) (c : Channel) (octets : List ℕ) → c.is_open ≡ b → length (receiving c octets).received ≡ length c.received + length (if b then octets else [])
+received_by true c octets e = ap (λ (x : Bool). length (if x then record { is_open = true; sent = c.sent; received = c.received ++ octets; overfull = c.overfull } else c).received) e ∙ length-append c.received octets
+received_by false c octets e = ap (λ (x : Bool). length (if x then record { is_open = true; sent = c.sent; received = c.received ++ octets; overfull = c.overfull } else c).received) e ∙ omega arith
+
 pub told_bytes : (b : Bool) (p : Setup) (told : Option Log) (s t : State) (now : ℕ) (octets : List ℕ) (fits : Bool) → LineLaws → Begins s now (TcpIn octets) fits t → t.session.connected ≡ b → IfSome told (HasCome p s now (TcpIn octets)) → Awaits p t told (if b then octets else [])
 told_bytes b p None s t now octets fits laws begun is h = tt
 told_bytes b p (Some log) s t now octets fits laws begun is h =
-    let both = come_bytes p s t h.before now octets fits begun.hears.1 h.rested h.agrees (heard_in laws p s t now (TcpIn octets) fits log begun h) h.confirmed in
-    (subst (λ b. Agrees p t log (if b then octets else []) Taking) is (as_log p t now (TcpIn octets) log h.before (if t.session.connected then octets else []) Taking h.is both.0), both.1)
+    let agrees = come_bytes p s t h.before now octets fits begun.hears.1 h.rested h.agrees (heard_in laws p s t now (TcpIn octets) fits log begun h) in
+    let same : t ≡ line_timed (at_moment s now) = begun.times ∙ ap line_timed begun.hears.0 in
+    let more : List ℕ = if b then octets else [] in
+    let open_is : (present h.before).is_open ≡ b = sym h.agrees.here.link ∙ sym (ap (λ (x : State). x.session.connected) same) ∙ is in
+    let total : length (present (Came now (TcpIn octets) ∷ h.before)).received ≡ length (present h.before).received + length more = received_by b (present h.before) octets open_is in (
+      subst (λ b. Agrees p t log (if b then octets else []) Taking) is (as_log p t now (TcpIn octets) log h.before (if t.session.connected then octets else []) Taking h.is agrees),
+      subst IsClear (sym same) (record { confirmed = h.clear.confirmed; spent = h.clear.spent }),
+      subst (λ l. IsUndue t l more) (sym h.is) (inl (omega (arith, total, length-append (pending t.so_far) more))),
+      subst (λ l. length (received_before l) + length more ≤ length (present l).received) (sym h.is) (omega (arith, total)),
+    )
 
--- the octets are taken
 pub told_idle : (p : Setup) (told : Option Log) (s : State) → Awaits p s told [] → Tracks p s told [] Idle
 told_idle p None s h = tt
 told_idle p (Some log) s h = now_idle p s log h.0
@@ -387,19 +398,19 @@ started p s a =
     let none : a.course.works.is_due ≡ false = ap (λ (c : Course). c.works.is_due) first in
     absurd (subst (λ (c : Course). IsOut c.works.line.outstanding) first (a.stands.asks.1 none))
 
-pub follows : (laws : LineLaws) (p : Setup) (told : Option Log) (s : State) → IsConfirmed s.session → Tracks p s told [] Asked → Follows p s told
+pub follows : (laws : LineLaws) (p : Setup) (told : Option Log) (s : State) → IsClear s → Tracks p s told [] Asked → Follows p s told
 follows laws p None s last h = tt
 follows laws p (Some []) s last a = (started p s a, last)
 follows laws p (Some (entry ∷ log)) s last a = (a, last)
 
-pub step_follows : (laws : LineLaws) (p : Setup) (result : Bool) (told : Option Log) (s : State) → OnTrue result (IsConfirmed s.session) → Leaves result p s told [] Asked → OnTrue result (Follows p s told)
-step_follows laws p true told s last h = follows laws p told s last h
-step_follows laws p false told s last h = tt
+pub step_follows : (laws : LineLaws) (p : Setup) (result : Bool) (told : Option Log) (s : State) → OnTrue result (IsConfirmed s.session) → OnTrue result (IsSpent s) → Leaves result p s told [] Asked → OnTrue result (Follows p s told)
+step_follows laws p true told s last spent h = follows laws p told s (record { confirmed = last; spent = spent }) h
+step_follows laws p false told s last spent h = tt
 
 -- an event that a port told has come
 pub come : (p : Setup) (told after : Option Log) (s : State) (now : ℕ) (event : Input) (news : List LogEntry) → after ≡ tell told news → news ≡ Came now event ∷ [] → Follows p s told → Rests p told → IfSome after (HasCome p s now event)
 come p None after s now event news e is h rest = subst (λ l. IfSome l (HasCome p s now event)) (sym e) tt
-come p (Some log) after s now event news e is h rest = subst (λ l. IfSome l (HasCome p s now event)) (sym (e ∙ ap (λ n. tell (Some log) n) is)) (record { before = log; is = refl; agrees = h.0; confirmed = h.1; rested = rest })
+come p (Some log) after s now event news e is h rest = subst (λ l. IfSome l (HasCome p s now event)) (sym (e ∙ ap (λ n. tell (Some log) n) is)) (record { before = log; is = refl; agrees = h.0; clear = h.1; rested = rest })
 
 -- and is one event more
 pub more_events : (n now : ℕ) (event : Input) (news : List LogEntry) (first told after last : Option Log) → MoreEvents n first told → after ≡ tell told news → news ≡ Came now event ∷ [] → events_told last ≡ events_told after → MoreEvents (n + 1) first last

@@ -1,7 +1,7 @@
 -- What a frame that was judged leaves to be done.
-use Rattle.std.proofs.Common.{Bool, ◌≡◌, ℕ, zero, suc, ◌+◌, ◌<◌, true, false, List, [], ◌++◌, length, take, drop, arith, refl, ap, sym, ◌∙◌, subst, inl, inr, Option, Some, None}
+use Rattle.std.proofs.Common.{Bool, ◌≡◌, ℕ, zero, suc, ◌+◌, ◌<◌, ◌≤◌, true, false, List, [], ◌++◌, length, take, drop, arith, refl, ap, sym, ◌∙◌, subst, inl, inr, Option, Some, None}
 use Rattle.std.specs.Prelude.{IfSome, is_some}
-use Rattle.std.proofs.lemmas.List.{drop_at, drop-drop, take-append-drop}
+use Rattle.std.proofs.lemmas.List.{drop_at, drop-drop, take-append-drop, length-drop}
 use Rattle.std.proofs.lemmas.Bool.{cond-true}
 use Rattle.apci.specs.declared.assembling.Heard.TheVariants as hears
 use Rattle.apci.specs.Assembly.{Hears}
@@ -22,18 +22,18 @@ use Rattle.gateway.specs.Streams.{spelled, IsRefused}
 use Rattle.gateway.specs.Reports.{Setup}
 use Rattle.gateway.specs.State.{State, disconnected, received, has_place, framed}
 use Rattle.gateway.specs.Works.{tasks_of, is_overfull}
-use Rattle.gateway.specs.Course.{Course, here_of, came_frames, with_frame}
-use Rattle.gateway.specs.Phases.{Taking, Idle, Crowded, after_frame}
-use Rattle.session.specs.Ends.{IsConfirmed}
-use Rattle.gateway.specs.Frames.{Connection, fault_of}
+use Rattle.gateway.specs.Course.{Course, here_of, came_frames, with_frame, StandsNext, IsCause}
+use Rattle.gateway.specs.Phases as phases
+use Rattle.gateway.specs.Phases.{Taking, Idle, Crowded, after_frame, IsPast}
+use Rattle.gateway.specs.Frames.{fault_of}
 use Rattle.gateway.specs.Connections.{present, IsConnection}
-use Rattle.gateway.specs.Traffic.{HasCause}
-use Rattle.gateway.specs.Agrees.{Agrees, Tracks, Awaits}
+use Rattle.gateway.specs.Agrees.{Agrees, Tracks, Awaits, Meets, IsClear, IsUndue, pending}
 use Rattle.gateway.specs.Steps.{Judged, IsFaulty, IsTaken, MayClose}
 use Rattle.gateway.proofs.Frames.{taken_stays, nothing_waits}
 use Rattle.gateway.proofs.Tied.{no_close, fault_closes, fault_cases}
 use Rattle.gateway.proofs.Working.{heard_overfull}
-use Rattle.gateway.proofs.Agreement.{after_heard, heard_course, after_more, with_so_far, now_idle, stands_garbled, stands_faulty, stands_overfull, fault_ends, fault_closes_so}
+use Rattle.gateway.proofs.Talking.{confirmed_by}
+use Rattle.gateway.proofs.Agreement.{flushed_by, after_heard, heard_course, after_more, with_so_far, now_idle, stands_garbled, stands_faulty, stands_overfull, fault_ends, fault_closes_so}
 
 unfolded : (s : State) (so_far other : List ℕ) → s.so_far ≡ Some so_far → s.so_far ≡ Some other → so_far ≡ other
 unfolded s so_far other e f = ap val (sym e ∙ f)
@@ -46,7 +46,7 @@ nothing_so_far : (p : Setup) (s : State) (log : Log) (unjudged : List ℕ) (a : 
 nothing_so_far p s log unjudged a e = unfolded s a.here.so_far [] a.here.assembler e
 
 -- The frame is taken.
-module _ (p : Setup) (s : State) (log : Log) (rest : List ℕ) (f : Apdu) (a : Agrees p s log (spelling f ++ rest) Taking) (on : s.session.connected ≡ true) (ready : IsConfirmed s.session) (fits : Fits f) (so : s.so_far ≡ Some []) (goes : is_close (outcome_of s.session f) ≡ false) (kept : Bool) (place : has_place f s.moment s.commands ≡ kept) where
+module _ (p : Setup) (s : State) (log : Log) (rest : List ℕ) (f : Apdu) (a : Agrees p s log (spelling f ++ rest) Taking) (on : s.session.connected ≡ true) (ready : IsClear s) (undue : IsUndue s log (spelling f ++ rest)) (past : IsPast log (length rest)) (fits : Fits f) (so : s.so_far ≡ Some []) (goes : is_close (outcome_of s.session f) ≡ false) (kept : Bool) (place : has_place f s.moment s.commands ≡ kept) where
   both : (refuses s.session f ≡ false) × (fault_of (length a.course.sent) (came_frames a.course.talk) f ≡ None)
   both = no_close f (here_of a.course) s.session s.queue.sent (outcome_of s.session f) goes a.here.tied refl
 
@@ -54,14 +54,14 @@ module _ (p : Setup) (s : State) (log : Log) (rest : List ℕ) (f : Apdu) (a : A
   whole = ap (λ x. x ++ (spelling f ++ rest)) (nothing_so_far p s log _ a so)
 
   abbrev frame_taken : Agrees p (framed f s) log rest (after_frame kept)
-  frame_taken = after_heard p s log (spelling f ++ rest) rest f a on ready so fits whole both.0 both.1 kept place
+  frame_taken = after_heard p s log (spelling f ++ rest) rest f a on ready undue past so fits whole both.0 both.1 kept place
 
   taken_course : frame_taken.course ≡ with_frame p f s.moment a.course
-  taken_course = heard_course p s log (spelling f ++ rest) rest f a on ready so fits whole both.0 both.1 kept place
+  taken_course = heard_course p s log (spelling f ++ rest) rest f a on ready undue past so fits whole both.0 both.1 kept place
 
-pub judged_on : (p : Setup) (told : Option Log) (s t : State) (f : Apdu) (rest : List ℕ) → s.session.connected ≡ true → Fits f → s.so_far ≡ Some [] → Judged s f None t → Awaits p s told (spelling f ++ rest) → Tracks p t told rest Taking
+pub judged_on : (p : Setup) (told : Option Log) (s t : State) (f : Apdu) (rest : List ℕ) → s.session.connected ≡ true → Fits f → s.so_far ≡ Some [] → Judged s f None t → Meets p s told (spelling f ++ rest) rest → Tracks p t told rest phases.Judged
 judged_on p None s t f rest on fits so j a = tt
-judged_on p (Some log) s t f rest on fits so j a = subst (λ x. Agrees p x log rest Taking) (sym j.after) (frame_taken p s log rest f a.0 on a.1 fits so j.passes true j.place)
+judged_on p (Some log) s t f rest on fits so j a = subst (λ x. Agrees p x log rest phases.Judged) (sym j.after) (frame_taken p s log rest f a.0 on a.1 a.2 a.3 fits so j.passes true j.place)
 
 pub judged_open : (s t : State) (f : Apdu) → s.session.connected ≡ true → Judged s f None t → t.session.connected ≡ true
 judged_open s t f on j = ap (λ (x : State). x.session.connected) j.after ∙ (taken_stays f s.moment s.session).connected ∙ on
@@ -74,12 +74,21 @@ fault_dropped s f cause e =
     ap (λ (x : Session). disconnected (let made : State = record s { queue = queue.acknowledged x.acked_queue s.queue; session = x } in made)) is
 
 -- a frame's fault is the cause
-frame_cause : (p : Setup) (log : Log) (c : Connection) (sent : ℕ) (older : List Apdu) (f : Apdu) (cause : Close) → fault_of sent older f ≡ Some cause → (present log).is_open ≡ true → IsConnection (present log) c (Some cause) → HasCause p cause log
-frame_cause p log c sent older f cause fault on stands =
-    fault_cases (λ cause. IsConnection (present log) c (Some cause) → HasCause p cause log) (λ st h. (on, (c, st))) (λ st h. (on, (c, st))) (λ st h. (on, (c, st))) sent older f cause fault stands
+frame_cause : (p : Setup) (log : Log) (c : Course) (sent : ℕ) (older : List Apdu) (f : Apdu) (cause : Close) → fault_of sent older f ≡ Some cause → StandsNext p log cause c → IsCause p log cause c
+frame_cause p log c sent older f cause fault stands =
+    fault_cases (λ cause. StandsNext p log cause c → IsCause p log cause c) (λ st. st) (λ st. st) (λ st. st) sent older f cause fault stands
 
-faulty_closes : (p : Setup) (log : Log) (s t : State) (f : Apdu) (cause : Close) (rest : List ℕ) → s.session.connected ≡ true → Fits f → s.so_far ≡ Some [] → IsFaulty s f cause t → Agrees p s log (spelling f ++ rest) Taking → MayClose p t cause Idle log
-faulty_closes p log s t f cause rest on fits so j a =
+-- what is next closes the connection
+next_closes : (p : Setup) (s : State) (log : Log) (unjudged : List ℕ) (cause : Close) → s.session.connected ≡ true → IsClear s → (a : Agrees p s log unjudged Taking) → IsConnection (present log) (here_of a.course) (Some cause) → StandsNext p log cause a.course
+next_closes p s log unjudged cause on ready a stands = record {
+  next = stands;
+  confirmed = sym (confirmed_by p s.session log a.course a.talk) ∙ ready.confirmed;
+  flushed = flushed_by p s log unjudged Taking a ready.spent;
+  placed = a.stands.placed (sym a.here.link ∙ on);
+}
+
+faulty_closes : (p : Setup) (log : Log) (s t : State) (f : Apdu) (cause : Close) (rest : List ℕ) → s.session.connected ≡ true → Fits f → s.so_far ≡ Some [] → IsFaulty s f cause t → IsClear s → Agrees p s log (spelling f ++ rest) Taking → MayClose p t cause Idle log
+faulty_closes p log s t f cause rest on fits so j ready a =
     let fault = fault_closes f (here_of a.course) s.session s.queue.sent cause a.here.tied j.fault in
     let closes = fault_closes_so (length a.course.sent) (came_frames a.course.talk) f cause (present log) fault in
     let stands = stands_faulty p s log (spelling f ++ rest) rest f cause Taking a fits (ap (λ x. x ++ (spelling f ++ rest)) (nothing_so_far p s log _ a so)) fault in
@@ -95,13 +104,13 @@ faulty_closes p log s t f cause rest on fits so j a =
       agrees = a;
       fault = Some cause;
       stands = subst (λ o. IsConnection o (here_of a.course) (Some cause)) (sym closes.0) stands;
-      why = frame_cause p log (here_of a.course) (length a.course.sent) (came_frames a.course.talk) f cause fault (sym a.here.link ∙ on) stands;
+      why = frame_cause p log a.course (length a.course.sent) (came_frames a.course.talk) f cause fault (next_closes p s log (spelling f ++ rest) cause on ready a stands);
     }
 
 -- its own answer found no place
-overfull_closes : (p : Setup) (log : Log) (s t : State) (f : Apdu) (rest : List ℕ) → s.session.connected ≡ true → Fits f → s.so_far ≡ Some [] → IsTaken s f false t → IsConfirmed s.session → Agrees p s log (spelling f ++ rest) Taking → MayClose p t OwnAnswers Idle log
-overfull_closes p log s t f rest on fits so j ready a =
-    let b = frame_taken p s log rest f a on ready fits so j.passes false j.place in
+overfull_closes : (p : Setup) (log : Log) (s t : State) (f : Apdu) (rest : List ℕ) → s.session.connected ≡ true → Fits f → s.so_far ≡ Some [] → IsTaken s f false t → IsClear s → IsUndue s log (spelling f ++ rest) → IsPast log (length rest) → Agrees p s log (spelling f ++ rest) Taking → MayClose p t OwnAnswers Idle log
+overfull_closes p log s t f rest on fits so j ready undue past a =
+    let b = frame_taken p s log rest f a on ready undue past fits so j.passes false j.place in
     let still : (framed f s).session.connected ≡ true = (taken_stays f s.moment s.session).connected ∙ on in
     record {
       last = refl;
@@ -115,36 +124,38 @@ overfull_closes p log s t f rest on fits so j ready a =
       agrees = b;
       fault = Some OwnAnswers;
       stands = stands_overfull p (framed f s) log rest Crowded b;
-      why = record {
-        open_is = sym a.here.link ∙ on;
-        course = b.course;
-        runs = b.talk.course_runs;
-        full = subst (λ (c : Course). is_overfull (tasks_of p c.works).history ≡ true) (sym (taken_course p s log rest f a on ready fits so j.passes false j.place))
-            (heard_overfull p f s.moment a.course.works (ap (has_place f s.moment) (sym a.stands.does.commands) ∙ j.place));
-      };
+      why = subst (λ (c : Course). is_overfull (tasks_of p c.works).history ≡ true) (sym (taken_course p s log rest f a on ready undue past fits so j.passes false j.place))
+          (heard_overfull p f s.moment a.course.works (ap (has_place f s.moment) (sym a.stands.does.commands) ∙ j.place));
     }
 
-pub judged_closes : (p : Setup) (told : Option Log) (s t : State) (f : Apdu) (cause : Close) (rest : List ℕ) → s.session.connected ≡ true → Fits f → s.so_far ≡ Some [] → Judged s f (Some cause) t → Awaits p s told (spelling f ++ rest) → IfSome told (MayClose p t cause Idle)
+pub judged_closes : (p : Setup) (told : Option Log) (s t : State) (f : Apdu) (cause : Close) (rest : List ℕ) → s.session.connected ≡ true → Fits f → s.so_far ≡ Some [] → Judged s f (Some cause) t → Meets p s told (spelling f ++ rest) rest → IfSome told (MayClose p t cause Idle)
 judged_closes p None s t f cause rest on fits so j a = tt
-judged_closes p (Some log) s t f cause rest on fits so (inl j) a = faulty_closes p log s t f cause rest on fits so j a.0
-judged_closes p (Some log) s t f cause rest on fits so (inr j) a = subst (λ x. MayClose p t x Idle log) (sym j.0) (overfull_closes p log s t f rest on fits so j.1 a.1 a.0)
+judged_closes p (Some log) s t f cause rest on fits so (inl j) a = faulty_closes p log s t f cause rest on fits so j a.1 a.0
+judged_closes p (Some log) s t f cause rest on fits so (inr j) a = subst (λ x. MayClose p t x Idle log) (sym j.0) (overfull_closes p log s t f rest on fits so j.1 a.1 a.2 a.3 a.0)
 
 -- the octets of the frame so far count as not judged
 fed : (p : Setup) (s : State) (log : Log) (piece unjudged so_far : List ℕ) → s.so_far ≡ Some so_far → so_far ++ piece ≡ unjudged → Agrees p s log piece Taking → Agrees p (record s { so_far = Some [] }) log unjudged Taking
 fed p s log piece unjudged so_far so e a =
     with_so_far p s log piece unjudged [] Taking a nothing_waits
-    (a.here.joined ∙ ap (λ x. spelled (came_frames a.course.talk) ++ x) (ap (λ x. x ++ piece) (unfolded s a.here.so_far so_far a.here.assembler so) ∙ e))
+    (a.here.joined ∙ ap (λ x. spelled (came_frames a.course.talk) ++ x) (ap (λ x. x ++ piece) (unfolded s a.here.so_far so_far a.here.assembler so) ∙ e)) tt
 
-pub told_fed : (p : Setup) (told : Option Log) (s t : State) (piece unjudged so_far : List ℕ) → s.so_far ≡ Some so_far → so_far ++ piece ≡ unjudged → t ≡ record s { so_far = Some [] } → Awaits p s told piece → Awaits p t told unjudged
-told_fed p None s t piece unjudged so_far so e is h = tt
-told_fed p (Some log) s t piece unjudged so_far so e is a = subst (λ x. Agrees p x log unjudged Taking × IsConfirmed x.session) (sym is) (fed p s log piece unjudged so_far so e a.0, a.1)
+-- where it is fed, what was due stays so
+fed_undue : (s : State) (log : Log) (piece unjudged so_far : List ℕ) → s.so_far ≡ Some so_far → so_far ++ piece ≡ unjudged → IsUndue s log piece → IsUndue (record s { so_far = Some [] }) log unjudged
+fed_undue s log piece unjudged so_far so e (inl h) = inl (omega (arith, h, ap (λ x. length (pending x ++ piece)) so, ap length e))
+fed_undue s log piece unjudged so_far so e (inr h) = inr h
+
+pub told_fed : (p : Setup) (told : Option Log) (s t : State) (piece unjudged so_far : List ℕ) (n : ℕ) → s.so_far ≡ Some so_far → so_far ++ piece ≡ unjudged → 0 < n → n ≤ length piece → t ≡ record s { so_far = Some [] } → Awaits p s told piece → Meets p t told unjudged (drop n piece)
+told_fed p None s t piece unjudged so_far n so e some within is h = tt
+told_fed p (Some log) s t piece unjudged so_far n so e some within is a =
+    subst (λ x. Agrees p x log unjudged Taking × IsClear x × IsUndue x log unjudged × IsPast log (length (drop n piece))) (sym is)
+    (fed p s log piece unjudged so_far so e a.0, record { confirmed = a.1.confirmed; spent = a.1.spent }, fed_undue s log piece unjudged so_far so e a.2, omega (arith, a.3, some, within, length-drop n piece))
 
 pub told_more : (p : Setup) (told : Option Log) (s t : State) (piece so_far : List ℕ) → s.so_far ≡ Some so_far → IsMore (so_far ++ piece) → t ≡ record s { so_far = Some (so_far ++ piece) } → Awaits p s told piece → Tracks p t told [] Idle
 told_more p None s t piece so_far so more is h = tt
 told_more p (Some log) s t piece so_far so more is both =
     let a = both.0 in
     let same : a.here.so_far ≡ so_far = unfolded s a.here.so_far so_far a.here.assembler so in
-    now_idle p t log (after_more p s t log piece Taking a (subst (λ x. IsMore (x ++ piece)) (sym same) more) (is ∙ ap (λ x. let made : State = record s { so_far = Some (x ++ piece) } in made) (sym same)))
+    now_idle p t log (after_more p s t log piece a (subst (λ x. IsMore (x ++ piece)) (sym same) more) (is ∙ ap (λ x. let made : State = record s { so_far = Some (x ++ piece) } in made) (sym same)))
 
 pub garbled_closes : (p : Setup) (told : Option Log) (s t : State) (piece so_far : List ℕ) → s.session.connected ≡ true → s.so_far ≡ Some so_far → IsRefused (so_far ++ piece) → t ≡ record s { so_far = Some [] } → Awaits p s told piece → IfSome told (MayClose p t Grammar Idle)
 garbled_closes p None s t piece so_far on so refused is h = tt
@@ -164,7 +175,7 @@ garbled_closes p (Some log) s t piece so_far on so refused is both =
       agrees = a;
       fault = Some Grammar;
       stands = stands;
-      why = λ h. (sym a.here.link ∙ on, (here_of a.course, stands));
+      why = next_closes p s log piece Grammar on both.1 a stands;
     }
 
 pub found_apdu : (o : Option (List ℕ)) (piece : List ℕ) (n : ℕ) (f : Apdu) (after : Option (List ℕ)) → is_some o ≡ true → IfSome o (λ x. Hears x piece n (hears.Apdu f) after) →

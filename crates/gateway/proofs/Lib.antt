@@ -19,6 +19,9 @@ pub mod Sound
 pub mod Kept
 pub mod Stored
 pub mod Unique
+pub mod OnePassing
+pub mod OneCourse
+pub mod OneCause
 pub mod Checks
 pub mod Accounting
 pub mod Order

@@ -83,6 +83,17 @@ carries_piece objs parts earlier sent unsent rest f e has h = record {
       omega (arith, h.count, before, after, reports_among-append sent (f ∷ []), one_report f has);
 }
 
+-- its objects are the next of those taken
+pub next_objects : (objs : List InformationObject) (parts : ℕ) (earlier : List Connection) (sent : List Sent) (unsent rest : List (List ℕ)) (asdu : List ℕ) → unsent ≡ asdu ∷ rest → Carries objs parts earlier sent unsent →
+    objects asdu ≡ take (length (objects asdu)) (drop (first_unacknowledged earlier + length (objects_of_frames sent)) objs)
+next_objects objs parts earlier sent unsent rest asdu e h =
+    let said : List InformationObject = objects_of_frames sent in
+    let n : ℕ = first_unacknowledged earlier + length said in
+    let is : objs ≡ (h.gone ++ said) ++ (objects asdu ++ flat_map objects rest) = h.joined ∙ ap (λ u. h.gone ++ (said ++ flat_map objects u)) e ∙ sym (append_assoc h.gone said (objects asdu ++ flat_map objects rest)) in
+    sym (ap (λ xs. take (length (objects asdu)) (drop n xs)) is
+    ∙ ap (take (length (objects asdu))) (drop_at (h.gone ++ said) (objects asdu ++ flat_map objects rest) n (omega (arith, length-append h.gone said, h.front)))
+    ∙ take_at (objects asdu) (flat_map objects rest) (length (objects asdu)) refl)
+
 -- the frame of an own answer
 no_objects : (asdu : List ℕ) → has_objects asdu ≡ false → objects asdu ≡ []
 no_objects asdu h = nil_from_length (objects asdu) (zero_length (length (objects asdu)) h)

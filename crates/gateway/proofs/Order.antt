@@ -19,12 +19,12 @@ use Rattle.gateway.specs.Objects.{has_objects}
 use Rattle.gateway.specs.Log.{Log, LineIn, Opened, TcpIn, CutOff, Ticked, Output, LineOut, TcpOut, Closed, Came, Went, latest}
 use Rattle.gateway.specs.Streams.{spelled, IsRefused}
 use Rattle.gateway.specs.Frames.{Connection}
-use Rattle.gateway.specs.Connections.{Channel, new_channel, present, BeginsWithFault, IsConnection}
+use Rattle.gateway.specs.Connections.{is_replaced, Channel, new_channel, present, BeginsWithFault, IsConnection}
 use Rattle.gateway.specs.Reports.{Setup}
 use Rattle.gateway.specs.Works.{Works, tasks_of, is_overfull, with_call, sent_works, ready_works, is_first_command}
 use Rattle.gateway.specs.Course.{Course, came_frames, with_frames, told_sent, closed_course, Runs}
 use Rattle.gateway.specs.Conversation.{KeepsTalk, KeepsTimes}
-use Rattle.gateway.specs.Traffic.{is_replaced, HasCause, replaces, GoesOut, ActsRightly}
+use Rattle.gateway.specs.Traffic.{HasCause, replaces, GoesOut, ActsRightly}
 use Rattle.gateway.specs.Order.{step_actions, is_request, is_close, MayFollow, KeepsOrder}
 use Rattle.gateway.proofs.Working.{heard_due, settled_due, settled_placed, put_placed}
 
@@ -106,7 +106,7 @@ no_rest : (xs ys : List ℕ) → [] ≡ xs ++ ys → ys ≡ []
 no_rest [] ys e = sym e
 no_rest (x ∷ xs) ys e = cc
 
-no_frames : (frames : List Apdu) (rest : List ℕ) → [] ≡ spelled frames ++ rest → frames ≡ []
+pub no_frames : (frames : List Apdu) (rest : List ℕ) → [] ≡ spelled frames ++ rest → frames ≡ []
 no_frames [] rest e = refl
 no_frames (f ∷ fs) rest e =
     let none : spelled fs ++ spelling f ≡ [] = no_front (spelled fs ++ spelling f) rest e in
@@ -164,22 +164,24 @@ nothing_behind p log c fault h k = no_rest (spelled c.received_frames) k.rest (a
 
 unclosed : (p : Setup) (log : Log) (cause : Close) → OnlyOpened p log → replaces (Closed cause) ≡ is_replaced log → HasCause p cause log → ⊥
 unclosed p log Grammar h replaced why =
-    let k = (why refl).1 in
-    unrefused k.1.rest (nothing_behind p log k.0 (Some Grammar) h k.1) k.1.behind
+    let k = (why refl).1.2.next in
+    unrefused k.rest (nothing_behind p log _ (Some Grammar) h k) k.behind
 unclosed p log SendNumber h replaced why =
-    let k = (why refl).1 in
-    faultless _ _ SendNumber k.1.rest (nothing_behind p log k.0 (Some SendNumber) h k.1) k.1.behind
+    let k = (why refl).1.2.next in
+    faultless _ _ SendNumber k.rest (nothing_behind p log _ (Some SendNumber) h k) k.behind
 unclosed p log ReceiveNumber h replaced why =
-    let k = (why refl).1 in
-    faultless _ _ ReceiveNumber k.1.rest (nothing_behind p log k.0 (Some ReceiveNumber) h k.1) k.1.behind
+    let k = (why refl).1.2.next in
+    faultless _ _ ReceiveNumber k.rest (nothing_behind p log _ (Some ReceiveNumber) h k) k.behind
 unclosed p log Stopped h replaced why =
-    let k = (why refl).1 in
-    faultless _ _ Stopped k.1.rest (nothing_behind p log k.0 (Some Stopped) h k.1) k.1.behind
+    let k = (why refl).1.2.next in
+    faultless _ _ Stopped k.rest (nothing_behind p log _ (Some Stopped) h k) k.behind
 unclosed p log Timeout h replaced why =
-    let no : false ≡ true = ap (has_timed_out p.session.t1 (latest log)) (sym (h.said why.course why.runs)) ∙ why.late in
+    let k = (why refl).1 in
+    let no : false ≡ true = ap (has_timed_out p.session.t1 (latest log)) (sym (h.said k.0 k.1)) ∙ k.2.late in
     cc
 unclosed p log OwnAnswers h replaced why =
-    let no : false ≡ true = sym (h.placed why.course why.runs) ∙ why.full in
+    let k = (why refl).1 in
+    let no : false ≡ true = sym (h.placed k.0 k.1) ∙ k.2 in
     cc
 unclosed p log Replaced h replaced why =
     let no : true ≡ false = replaced ∙ h.settled in
@@ -226,8 +228,8 @@ shut p log Grammar off settled replaced why = let no : false ≡ true = sym off 
 shut p log SendNumber off settled replaced why = let no : false ≡ true = sym off ∙ (why refl).0 in cc
 shut p log ReceiveNumber off settled replaced why = let no : false ≡ true = sym off ∙ (why refl).0 in cc
 shut p log Stopped off settled replaced why = let no : false ≡ true = sym off ∙ (why refl).0 in cc
-shut p log Timeout off settled replaced why = let no : false ≡ true = sym off ∙ why.open_is in cc
-shut p log OwnAnswers off settled replaced why = let no : false ≡ true = sym off ∙ why.open_is in cc
+shut p log Timeout off settled replaced why = let no : false ≡ true = sym off ∙ (why refl).0 in cc
+shut p log OwnAnswers off settled replaced why = let no : false ≡ true = sym off ∙ (why refl).0 in cc
 shut p log Replaced off settled replaced why = let no : true ≡ false = replaced ∙ settled in cc
 
 no_close : (p : Setup) (log : Log) (now : ℕ) (cause : Close) → is_replaced log ≡ false → IsUnsaid p log → GoesOut p log now (Closed cause) → ⊥

@@ -1,6 +1,6 @@
 -- The lemmas of Agreement where a port may tell no log, in the form that answers cite.
-use Rattle.std.proofs.Common.{◌≡◌, ℕ, ◌<◌, ◌&&◌, ◌||◌, Bool, true, false, not, cond, List, [], ◌∷◌, length, refl, ap, sym, ◌∙◌, subst, Option, Some, None, inl, inr}
-use Rattle.std.specs.Prelude.{IfSome, IfNone, nat_lt, if◌then◌else◌, ◌==◌}
+use Rattle.std.proofs.Common.{◌≡◌, ℕ, ◌<◌, ◌&&◌, ◌||◌, Bool, true, false, not, cond, List, [], ◌∷◌, length, arith, length-append, refl, ap, sym, ◌∙◌, subst, Option, Some, None, inl, inr}
+use Rattle.std.specs.Prelude.{IfSome, IfNone, nat_lt, if◌then◌else◌, ◌==◌, ◌⊎◌}
 use Rattle.std.specs.Bool.{OnTrue}
 use Rattle.std.proofs.lemmas.Bool.{and_parts, not-false}
 use Rattle.apci.specs.declared.apdu.Apdu.{Apdu}
@@ -17,16 +17,17 @@ use Rattle.gateway.specs.LineLaws.{LineLaws}
 use Rattle.session.specs.declared.kinds.Kind.{Kind}
 use Rattle.session.specs.declared.kinds.Kind.TheVariants.{Queue as FromQueue, Own}
 use Rattle.gateway.specs.State.{State, disconnected}
-use Rattle.gateway.specs.Phases.{Phase, Timed, Asked, Taking}
+use Rattle.gateway.specs.Phases.{Phase, Timed, Asked, Judged, IsFlushing}
 use Rattle.session.specs.declared.kinds.Close.TheVariants.{Timeout}
-use Rattle.session.specs.History.{has_timed_out}
+use Rattle.session.specs.History.{confirmation_of, has_timed_out}
 use Rattle.session.specs.Runs.{Confirm, Pull}
 use Rattle.session.specs.Ends.{after_confirm, after_pull, IsConfirmed, IsInTime}
-use Rattle.gateway.specs.Agrees.{Agrees, Tracks, Awaits, Leaves, Rests, IsSpent, IsQuiet, StaysInTime}
+use Rattle.gateway.specs.Agrees.{Agrees, Tracks, Awaits, Leaves, Rests, IsSpent, IsQuiet, StaysInTime, pending}
 use Rattle.gateway.specs.Steps.{SendsPiece, SendsOwn, SendsData, MayClose}
 use Rattle.gateway.proofs.Tied.{SameWindow}
-use Rattle.gateway.proofs.Talking.{HasNoData, confirms, pulls, patient, all_taken, late_by, confirm_t1, pull_t1}
-use Rattle.gateway.proofs.Agreement.{GoesOut, faithful, stands_now, after_piece, after_own, after_due, after_close, rested}
+use Rattle.gateway.proofs.Talking.{HasNoData, confirms, pulls, patient, all_taken, confirmed_by, late_by, confirm_t1, pull_t1}
+use Rattle.gateway.specs.Course.{IsFlushed, HasBegun}
+use Rattle.gateway.proofs.Agreement.{flushed_by, begun_by, now_taking, GoesOut, faithful, stands_now, after_piece, after_own, after_due, after_close, rested}
 
 -- The events of a log stay as actions go out.
 pub events_went : (told : Option Log) (now : ℕ) (action : Output) → events_told (tell told (Went now action ∷ [])) ≡ events_told told
@@ -49,12 +50,16 @@ told_leaves p false told s phase h = h
 abbrev pub Sends : State → Apdu → State → Type 0
 Sends s f t = (p : Setup) (log : Log) (unjudged : List ℕ) (phase : Phase) → Agrees p s log unjudged phase → Agrees p t (Went s.moment (TcpOut (spelling f)) ∷ log) unjudged phase
 
-pub told_sent : (p : Setup) (told after : Option Log) (s t : State) (f : Apdu) (now : ℕ) (unjudged : List ℕ) (phase : Phase) → after ≡ tell told (Went now (TcpOut (spelling f)) ∷ []) → now ≡ s.moment → Sends s f t → Tracks p s told unjudged phase → Tracks p t after unjudged phase
+-- the same in one phase
+abbrev pub SendsIn : Setup → List ℕ → Phase → State → Apdu → State → Type 0
+SendsIn p unjudged phase s f t = (log : Log) → Agrees p s log unjudged phase → Agrees p t (Went s.moment (TcpOut (spelling f)) ∷ log) unjudged phase
+
+pub told_sent : (p : Setup) (told after : Option Log) (s t : State) (f : Apdu) (now : ℕ) (unjudged : List ℕ) (phase : Phase) → after ≡ tell told (Went now (TcpOut (spelling f)) ∷ []) → now ≡ s.moment → SendsIn p unjudged phase s f t → Tracks p s told unjudged phase → Tracks p t after unjudged phase
 told_sent p told after s t f now unjudged phase e same sends h = rw (e, same) (by_log told h)
   where
     by_log : (told : Option Log) → Tracks p s told unjudged phase → Tracks p t (tell told (Went s.moment (TcpOut (spelling f)) ∷ [])) unjudged phase
     by_log None h = tt
-    by_log (Some log) a = sends p log unjudged phase a
+    by_log (Some log) a = sends log a
 
 pub open_of : (s : Session) → may_send s ≡ true → s.connected ≡ true
 open_of s may =
@@ -62,15 +67,15 @@ open_of s may =
     let two = (and_parts (s.connected && s.started) (not s.stopping) running).0 in
     (and_parts s.connected s.started two).0
 
-pub sends_piece : (s : State) (f : Apdu) (t : State) → SendsPiece s f t → Sends s f t
-sends_piece s f t h p log unjudged phase a = rw (h.after, h.frame) (after_piece p s log unjudged h.asdu h.rest phase a h.may (open_of s.session h.may) h.first (subst Fits h.frame h.fits))
+pub sends_piece : (s : State) (f : Apdu) (t : State) → s.commands.answers ≡ [] → SendsPiece s f t → Sends s f t
+sends_piece s f t none h p log unjudged phase a = rw (h.after, h.frame) (after_piece p s log unjudged h.asdu h.rest phase a h.may (open_of s.session h.may) none h.first (subst Fits h.frame h.fits))
 
 pub sends_own : (s : State) (f : Apdu) (t : State) → SendsOwn s f t → Sends s f t
 sends_own s f t h p log unjudged phase a = rw (h.after, h.frame) (after_own p s log unjudged h.asdu phase a h.may (open_of s.session h.may) h.first (subst Fits h.frame h.fits))
 
 pub sends_data : (s : State) (f : Apdu) (t : State) → SendsData s f t → Sends s f t
 sends_data s f t (inl h) = sends_own s f t h
-sends_data s f t (inr h) = sends_piece s f t h.1
+sends_data s f t (inr h) = sends_piece s f t h.0 h.1
 
 -- what every I frame leaves of the state
 pub record IsData (s t : State) (kind : Kind) : Type 0 where
@@ -130,14 +135,18 @@ pulled_leaves now s =
     (λ k. record { same = record { same_connected = refl; same_running = refl; same_received = refl; same_next = refl; same_k = refl; same_frames = refl }; sends = (not-false _ h, λ put. refl); none = tt })
     (λ k. nothing_leaves s)))
 
-sends_due : (s : State) (f : Apdu) (t : Session) → Fits f → GoesOut s.session t s.moment f → LeavesWindow s.session (Some f, t) → Sends s f (record s { session = t })
-sends_due s f t fits goes h p log unjudged phase a = after_due p s t log unjudged f phase a h.sends.0 fits h.sends.1 goes h.same
+-- a confirmation, or nothing else can be sent
+abbrev IsNextDue : Setup → List ℕ → Phase → State → Apdu → Type 0
+IsNextDue p unjudged phase s f = (log : Log) (a : Agrees p s log unjudged phase) → (confirmation_of a.course.talk ≡ Some f) ⊎ (IsFlushed p log a.course × HasBegun log a.course)
 
-pub sends_confirmation : (s t : State) (f : Apdu) → Fits f → ◌≡◌ {A = Option Apdu × Session} (Some f, t.session) (session.confirmed s.session) → t ≡ record s { session = t.session } → Sends s f t
-sends_confirmation s t f fits e rest p log unjudged phase a = rw rest (sends_due s f t.session fits (record { call = Confirm s.moment; made = λ h. confirms s.session t.session h f s.moment (subst (LeavesWindow s.session) (sym e) (confirmed_leaves s.session)).sends.1 e }) (subst (LeavesWindow s.session) (sym e) (confirmed_leaves s.session)) p log unjudged phase a)
+sends_due : (p : Setup) (unjudged : List ℕ) (phase : Phase) (s : State) (f : Apdu) (t : Session) → Fits f → IsNextDue p unjudged phase s f → GoesOut s.session t s.moment f → LeavesWindow s.session (Some f, t) → SendsIn p unjudged phase s f (record s { session = t })
+sends_due p unjudged phase s f t fits next goes h log a = after_due p s t log unjudged f phase a (next log a) h.sends.0 fits h.sends.1 goes h.same
 
-pub sends_pulled : (s t : State) (f : Apdu) → Fits f → ◌≡◌ {A = Option Apdu × Session} (Some f, t.session) (session.pulled s.moment s.session) → t ≡ record s { session = t.session } → Sends s f t
-sends_pulled s t f fits e rest p log unjudged phase a = rw rest (sends_due s f t.session fits (record { call = Pull s.moment; made = λ h. pulls s.session t.session h f s.moment (subst (LeavesWindow s.session) (sym e) (pulled_leaves s.moment s.session)).sends.1 e }) (subst (LeavesWindow s.session) (sym e) (pulled_leaves s.moment s.session)) p log unjudged phase a)
+pub sends_confirmation : (s t : State) (f : Apdu) → Fits f → ◌≡◌ {A = Option Apdu × Session} (Some f, t.session) (session.confirmed s.session) → t ≡ record s { session = t.session } → (p : Setup) (unjudged : List ℕ) (phase : Phase) → SendsIn p unjudged phase s f t
+sends_confirmation s t f fits e rest p unjudged phase log a = rw rest (sends_due p unjudged phase s f t.session fits (λ log a. inl (sym (confirmed_by p s.session log a.course a.talk) ∙ sym (ap (λ (d : Option Apdu × Session). d.0) e))) (record { call = Confirm s.moment; made = λ h. confirms s.session t.session h f s.moment (subst (LeavesWindow s.session) (sym e) (confirmed_leaves s.session)).sends.1 e }) (subst (LeavesWindow s.session) (sym e) (confirmed_leaves s.session)) log a)
+
+pub sends_pulled : (s t : State) (f : Apdu) → IsSpent s → Fits f → ◌≡◌ {A = Option Apdu × Session} (Some f, t.session) (session.pulled s.moment s.session) → t ≡ record s { session = t.session } → (p : Setup) (unjudged : List ℕ) (phase : Phase) → IsFlushing phase → SendsIn p unjudged phase s f t
+sends_pulled s t f spent fits e rest p unjudged phase flushing log a = rw rest (sends_due p unjudged phase s f t.session fits (λ log a. inr (flushed_by p s log unjudged phase a spent, begun_by p s log unjudged phase a flushing)) (record { call = Pull s.moment; made = λ h. pulls s.session t.session h f s.moment (subst (LeavesWindow s.session) (sym e) (pulled_leaves s.moment s.session)).sends.1 e }) (subst (LeavesWindow s.session) (sym e) (pulled_leaves s.moment s.session)) log a)
 
 -- where nothing is due, nothing changes
 pub no_confirmation : (s t : State) → ◌≡◌ {A = Option Apdu × Session} (None, t.session) (session.confirmed s.session) → t ≡ record s { session = t.session } → t ≡ s
@@ -221,10 +230,8 @@ late_closes p s log late a =
       fault = None;
       stands = stands_now p s log Timed a;
       why = record {
-        open_is = sym a.here.link ∙ on;
-        course = a.course;
-        runs = a.talk.course_runs;
         all = all_taken log a.course a.here.so_far a.here.joined a.here.waits;
+        placed = a.stands.placed (sym a.here.link ∙ on);
         late = subst (λ m. has_timed_out p.session.t1 m a.course.talk ≡ true) a.clock (sym (late_by p s.session log a.course a.talk s.moment) ∙ late);
       };
     }
@@ -237,9 +244,10 @@ told_late p (Some log) s cause e a =
 
 -- Confirmations
 
-pub awaits : (p : Setup) (told : Option Log) (s : State) (unjudged : List ℕ) → IsConfirmed s.session → Tracks p s told unjudged Taking → Awaits p s told unjudged
-awaits p None s unjudged ready h = tt
-awaits p (Some log) s unjudged ready a = (a, ready)
+pub awaits : (p : Setup) (told : Option Log) (s : State) (unjudged : List ℕ) → IsConfirmed s.session → IsSpent s → (session.pulled s.moment s.session).0 ≡ None → Tracks p s told unjudged Judged → Awaits p s told unjudged
+awaits p None s unjudged ready spent pulled h = tt
+awaits p (Some log) s unjudged ready spent pulled a =
+    (now_taking p s log unjudged a, record { confirmed = ready; spent = spent }, inr pulled, omega (arith, a.left, length-append (pending s.so_far) unjudged))
 
 -- no time runs out meanwhile
 
@@ -253,7 +261,7 @@ pub stays_by : (s : State) (t : Session) (u : State) → u ≡ record s { sessio
 stays_by s t u is early same some h = subst (λ (x : State). IsInTime x.moment x.session × (0 < x.session.t1)) (sym is) (early some h, subst (λ n. 0 < n) (sym same) some)
 
 -- where the frame goes out, and where the device fails
-pub told_put : (result : Bool) (p : Setup) (told after : Option Log) (s t : State) (f : Apdu) (now : ℕ) (unjudged : List ℕ) (phase : Phase) → after ≡ (if result then tell told (Went now (TcpOut (spelling f)) ∷ []) else told) → now ≡ s.moment → Sends s f t → Tracks p s told unjudged phase →
+pub told_put : (result : Bool) (p : Setup) (told after : Option Log) (s t : State) (f : Apdu) (now : ℕ) (unjudged : List ℕ) (phase : Phase) → after ≡ (if result then tell told (Went now (TcpOut (spelling f)) ∷ []) else told) → now ≡ s.moment → SendsIn p unjudged phase s f t → Tracks p s told unjudged phase →
     Leaves result p t after unjudged phase
 told_put true p told after s t f now unjudged phase e same sends h = told_sent p told after s t f now unjudged phase e same sends h
 told_put false p told after s t f now unjudged phase e same sends h = subst (λ l. IfSome l (IsFaithful p)) (sym e) (told_faithful p told s unjudged phase h)

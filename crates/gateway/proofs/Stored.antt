@@ -24,9 +24,9 @@ use Rattle.gateway.specs.Entries.{event_of, told_of, stored_log, log_of, FitsPor
 use Rattle.gateway.specs.Recorded.{is_none_left, coming}
 use Rattle.gateway.specs.Connections.{no_channel}
 use Rattle.gateway.specs.Reports.{Setup, address_at, index_of, AreFound}
-use Rattle.session.specs.Ends.{IsConfirmed}
 use Rattle.gateway.specs.SessionLaws.{SessionLaws}
 use Rattle.gateway.specs.CommandLaws.{CommandLaws}
+use Rattle.gateway.specs.LineLaws.{LineLaws}
 use Rattle.gateway.specs.Course.{first_course}
 use Rattle.gateway.specs.Phases.{Fresh}
 use Rattle.link.specs.Turns.{station_at}
@@ -34,7 +34,7 @@ use Rattle.link.specs.Primary.{station_down}
 use Rattle.link.specs.Offers.{offered_at}
 use Rattle.gateway.specs.Setups.{link_of, session_of, setup_of}
 use Rattle.gateway.specs.State.{State, first_state}
-use Rattle.gateway.specs.Agrees.{IsTimely, Agrees, Follows, Rests}
+use Rattle.gateway.specs.Agrees.{IsTimely, Agrees, IsClear, Follows, Rests}
 use Rattle.gateway.proofs.Talking.{talk_first}
 use Rattle.gateway.proofs.Agreement.{fresh}
 
@@ -73,8 +73,8 @@ abbrev pub StartTells : Type 0
 StartTells = (settings : LinkSettings) (addresses : List ℕ) → 0 < length addresses → All (FitsAddress settings.size) addresses → Tells settings addresses (start settings addresses) no_exchanges
 
 -- nothing has been told yet
-pub at_first : (c : Settings) → StartTells → SessionLaws → CommandLaws → AreStations c.line.link c.line.sizes.ca c.stations → IsTimely (session_of c.tcp) → Agrees (setup_of c) (first_state c) [] [] Fresh
-at_first c starts laws commands rules timely = record {
+pub at_first : (c : Settings) → StartTells → SessionLaws → CommandLaws → LineLaws → AreStations c.line.link c.line.sizes.ca c.stations → IsTimely (session_of c.tcp) → Agrees (setup_of c) (first_state c) [] [] Fresh
+at_first c starts laws commands line_laws rules timely = record {
   k = refl;
   sizes = refl;
   places = refl;
@@ -83,11 +83,12 @@ at_first c starts laws commands rules timely = record {
   found = first_found c.stations rules.distinct;
   line = starts (link_of c.line) (map (λ (s : Station). s.address) c.stations) (omega (arith, rules.some, length-map c.stations (λ (s : Station). s.address))) (first_fits c.line.link c.line.sizes.ca c.stations rules.each);
   course = first_course (setup_of c);
-  talk = talk_first (setup_of c) timely laws commands;
+  talk = talk_first (setup_of c) timely laws commands line_laws;
   stands = record { does = record { line = refl; commands = refl; counts = refl; silent = refl }; asks = refl; phase_is = refl; placed = λ o. refl };
   offers = λ k octets e. absurd (no_offer k octets e);
   plain = tt;
   here = fresh (first_state c) no_channel timely.range.k_small refl (λ h. refl) refl refl refl refl refl refl refl refl;
+  left = refl;
   carries = record { whole = refl; gone = []; front = refl; joined = refl; count = refl };
   before = record { are = tt; orders = tt; times = tt; acts = tt; rests = tt };
 }
@@ -152,8 +153,10 @@ timely t = record { range = record { k_small = omega (arith, t.k_in_range.1); w_
 
 -- at the start, of a port that tells an empty log
 
-pub first_follows : (c : Settings) (s : State) (told : Option Log) → StartTells → SessionLaws → CommandLaws → AreStations c.line.link c.line.sizes.ca c.stations → IsTimely (session_of c.tcp) → s ≡ first_state c → told ≡ Some [] → Follows (setup_of c) s told
-first_follows c s told starts laws commands rules timely is e = subst (λ o. Follows (setup_of c) s o) (sym e) (subst (λ x. Agrees (setup_of c) x [] [] Fresh × IsConfirmed x.session) (sym is) (at_first c starts laws commands rules timely, refl))
+pub first_follows : (c : Settings) (s : State) (told : Option Log) → StartTells → SessionLaws → CommandLaws → LineLaws → AreStations c.line.link c.line.sizes.ca c.stations → IsTimely (session_of c.tcp) → s ≡ first_state c → told ≡ Some [] → Follows (setup_of c) s told
+first_follows c s told starts laws commands line_laws rules timely is e =
+    subst (λ o. Follows (setup_of c) s o) (sym e)
+    (subst (λ x. Agrees (setup_of c) x [] [] Fresh × IsClear x) (sym is) (at_first c starts laws commands line_laws rules timely, record { confirmed = refl; spent = λ may. (refl, refl) }))
 
 pub told_follows : (p : Setup) (s : State) (told : Option Log) → Follows p s (Some []) → told ≡ Some [] → Follows p s told
 told_follows p s told h e = subst (λ o. Follows p s o) (sym e) h

@@ -1,6 +1,7 @@
 -- The history of the open connection, as the log goes on and the session is called.
 use Rattle.std.proofs.Common.{◌≡◌, ℕ, ◌<◌, ◌&&◌, Bool, true, false, List, [], ◌∷◌, ◌++◌, length, refl, ap, sym, ◌∙◌, subst, Option, Some, None, cond}
-use Rattle.std.specs.Prelude.{is_none, not, nat_lt, ◌==◌}
+use Rattle.std.specs.Prelude.{is_none, not, nat_lt, ◌==◌, ◌⊎◌}
+use Rattle.std.specs.List.{flat_map}
 use Rattle.std.proofs.lemmas.List.{append-nil}
 use Rattle.std.proofs.lemmas.Bool.{cond-true, and_from}
 use Rattle.apci.specs.declared.apdu.Apdu.{Apdu}
@@ -23,9 +24,11 @@ use Rattle.gateway.specs.Log.{Log, LineIn, Opened, TcpIn, CutOff, Ticked, Came, 
 use Rattle.gateway.specs.Streams.{spelled}
 use Rattle.gateway.specs.Frames.{data_frames}
 use Rattle.gateway.specs.Connections.{Channel, present}
-use Rattle.gateway.specs.Reports.{Setup}
-use Rattle.gateway.specs.Works.{Works, IsOwnDue}
-use Rattle.gateway.specs.Course.{Course, first_course, came_frames, kind_of, told_sent, with_frame, with_sent, TakesFrames, HasTakenAll, Runs}
+use Rattle.gateway.specs.Objects.{monitor_objects}
+use Rattle.gateway.specs.LineLaws.{LineLaws}
+use Rattle.gateway.specs.Reports.{Setup, address_at, exchanges_of, taken_objects}
+use Rattle.gateway.specs.Works.{tasks_of, is_overfull}
+use Rattle.gateway.specs.Course.{Course, first_course, came_frames, kind_of, told_sent, with_frame, with_sent, IsFlushed, IsUntouched, HasBegun, MayTake, TakesFrames, HasTakenAll, IsNext, Runs}
 use Rattle.gateway.specs.Conversation.{KeepsTalk}
 use Rattle.gateway.specs.Phases.{IsTaking}
 use Rattle.gateway.specs.CommandLaws.{CommandLaws}
@@ -34,21 +37,40 @@ use Rattle.gateway.specs.Agrees.{Talks, IsTimely}
 
 -- A frame more is taken
 
-taken_more : (p : Setup) (octets : Channel) (now : ℕ) (before c : Course) (f : Apdu) (rest : List ℕ) → octets.received ≡ spelled (f ∷ came_frames c.talk) ++ rest → TakesFrames p octets now before c → TakesFrames p octets now before (with_frame p f now c)
-taken_more p octets now before c f rest joined k = record { frames = f ∷ k.frames; taken = ap (with_frame p f now) k.taken; rest = rest; joined = joined }
+taken_more : (p : Setup) (log : Log) (now : ℕ) (before c : Course) (f : Apdu) → MayTake p log now f c → TakesFrames p log now before c → TakesFrames p log now before (with_frame p f now c)
+taken_more p log now before c f may k = record { frames = f ∷ k.frames; taken = ap (with_frame p f now) k.taken; each = (subst (MayTake p log now f) k.taken may, k.each); rest = may.rest; joined = may.joined }
+
+-- when octets of the connection come nothing is taken of the line, whatever the moment
+bytes_taken : LineLaws → (p : Setup) (log : Log) (now : ℕ) (octets : List ℕ) → taken_objects p (Came now (TcpIn octets) ∷ log) ≡ taken_objects p log
+bytes_taken laws p log now octets =
+    ap (λ (reports : List (ℕ × List ℕ)). flat_map (λ report. monitor_objects p.sizes report.1) reports)
+    (laws.due_reports p.link.size (address_at p.addresses) p.link.answer_ms (latest (Came now (TcpIn octets) ∷ log)) (exchanges_of p log))
+
+pub may_at : LineLaws → (p : Setup) (log : Log) (now other moment : ℕ) (octets : List ℕ) (f : Apdu) (c : Course) → MayTake p (Came now (TcpIn octets) ∷ log) moment f c → MayTake p (Came other (TcpIn octets) ∷ log) moment f c
+may_at laws p log now other moment octets f c may = record {
+  fits = may.fits;
+  rest = may.rest;
+  joined = may.joined;
+  rules = may.rules;
+  placed = may.placed;
+  flushed = λ running room.
+      let all = may.flushed running room in
+      record { objects = all.objects ∙ ap length (bytes_taken laws p log now octets ∙ sym (bytes_taken laws p log other octets)); answers = all.answers };
+  undue = may.undue;
+}
 
 -- frames are taken only of octets
-runs_more : (p : Setup) (log : Log) (c : Course) (f : Apdu) (rest : List ℕ) → IsTaking log → (present log).received ≡ spelled (f ∷ came_frames c.talk) ++ rest → Runs p log c → Runs p log (with_frame p f (latest log) c)
-runs_more p [] c f rest takes joined k = absurd takes
-runs_more p (Came now (LineIn octets) ∷ log) c f rest takes joined k = absurd takes
-runs_more p (Came now Opened ∷ log) c f rest takes joined k = absurd takes
-runs_more p (Came now (TcpIn octets) ∷ log) c f rest takes joined k =
-    (k.0, k.1, k.2, k.3, k.4, taken_more p (present (Came now (TcpIn octets) ∷ log)) _ _ c f rest joined k.5)
-runs_more p (Came now CutOff ∷ log) c f rest takes joined k = absurd takes
-runs_more p (Came now Ticked ∷ log) c f rest takes joined k = absurd takes
-runs_more p (Went now (LineOut octets) ∷ log) c f rest takes joined k = absurd takes
-runs_more p (Went now (TcpOut octets) ∷ log) c f rest takes joined k = (k.0, k.1, k.2, k.3, taken_more p (present (Went now (TcpOut octets) ∷ log)) _ k.1 c f rest joined k.4)
-runs_more p (Went now (Closed cause) ∷ log) c f rest takes joined k = absurd takes
+runs_more : LineLaws → (p : Setup) (log : Log) (c : Course) (f : Apdu) → IsTaking log → MayTake p log (latest log) f c → Runs p log c → Runs p log (with_frame p f (latest log) c)
+runs_more laws p [] c f takes may k = absurd takes
+runs_more laws p (Came now (LineIn octets) ∷ log) c f takes may k = absurd takes
+runs_more laws p (Came now Opened ∷ log) c f takes may k = absurd takes
+runs_more laws p (Came now (TcpIn octets) ∷ log) c f takes may k =
+    (k.0, k.1, k.2, k.3, k.4, taken_more p _ _ _ c f (may_at laws p log now (latest (Came now (TcpIn octets) ∷ log)) (latest (Came now (TcpIn octets) ∷ log)) octets f c may) k.5)
+runs_more laws p (Came now CutOff ∷ log) c f takes may k = absurd takes
+runs_more laws p (Came now Ticked ∷ log) c f takes may k = absurd takes
+runs_more laws p (Went now (LineOut octets) ∷ log) c f takes may k = absurd takes
+runs_more laws p (Went now (TcpOut octets) ∷ log) c f takes may k = (k.0, k.1, k.2, k.3, taken_more p (Went now (TcpOut octets) ∷ log) _ k.1 c f may k.4)
+runs_more laws p (Went now (Closed cause) ∷ log) c f takes may k = absurd takes
 
 -- The calls
 
@@ -80,11 +102,11 @@ plain (I ns nr asdu) now h none = let no : data_frames (I ns nr asdu ∷ []) ≡
 plain (S nr) now h none = refl
 plain (U u) now h none = refl
 
--- and it is no own answer
-pub no_own : (p : Setup) (w : Works) (f : Apdu) → HasNoData f → IsOwnDue p w f
-no_own p w (I ns nr asdu) none = let no : data_frames (I ns nr asdu ∷ []) ≡ [] = none [] in cc
-no_own p w (S nr) none = tt
-no_own p w (U u) none = tt
+-- and it is next where it is a confirmation, or all has gone out
+pub next_plain : (p : Setup) (log : Log) (c : Course) (f : Apdu) → HasNoData f → (confirmation_of c.talk ≡ Some f) ⊎ (IsFlushed p log c × HasBegun log c) → IsNext p log f c
+next_plain p log c (I ns nr asdu) none h = let no : data_frames (I ns nr asdu ∷ []) ≡ [] = none [] in cc
+next_plain p log c (S nr) none h = h
+next_plain p log c (U u) none h = h
 
 pub confirms : (s t : Session) (h : History) (f : Apdu) (now : ℕ) → HasNoData f → ◌≡◌ {A = Due} (Some f, t) (confirmed s) → after_call (Confirm now) (at s h) ≡ at t (told_sent f now h)
 confirms s t h f now none e = ap (λ (d : Due). gone d now (at s h)) (sym e) ∙ ap (at t) (sym (plain f now h none))
@@ -117,34 +139,50 @@ kept_talk p s log c k = record {
 abbrev pub Begins : Channel → Course → Type 0
 Begins octets c = (rest : List ℕ) × (octets.received ≡ spelled (came_frames c.talk) ++ rest)
 
+-- what is said once one call more is made keeps the rules
+ruled : (p : Setup) (s t : Session) (log : Log) (c : Course) (call : Call) (now moment : ℕ) (said : ℕ → History) (k : Talks p s log c) → moment ≡ now → after_call call (at s c.talk) ≡ at t (said moment) → KeepsRules p.session (said now)
+ruled p s t log c call now moment said k clock made =
+    subst (λ m. KeepsRules p.session (said m)) clock
+    (subst (λ (r : Run). KeepsRules p.session r.history) (ap (after_call call) k.called ∙ made) (k.laws.rules p.session (call ∷ k.calls) k.timely.range))
+
 -- a frame goes out
-pub talk_out : (p : Setup) (s t : Session) (log : Log) (c : Course) (now moment : ℕ) (f : Apdu) (call : Call) (k : Talks p s log c) → Fits f → moment ≡ latest log → IsOwnDue p c.works f → after_call call (at s c.talk) ≡ at t (told_sent f moment c.talk) → Begins (present log) c →
+pub talk_out : (p : Setup) (s t : Session) (log : Log) (c : Course) (now moment : ℕ) (f : Apdu) (call : Call) (k : Talks p s log c) → Fits f → moment ≡ latest log → IsNext p log f c → after_call call (at s c.talk) ≡ at t (told_sent f moment c.talk) → Begins (present log) c →
     Talks p t (Went now (TcpOut (spelling f)) ∷ log) (with_sent f moment c)
-talk_out p s t log c now moment f call k fits clock own made b = record {
+talk_out p s t log c now moment f call k fits clock next made b = record {
   timely = k.timely;
   laws = k.laws;
   command_laws = k.command_laws;
+  line_laws = k.line_laws;
   calls = call ∷ k.calls;
   called = ap (after_call call) k.called ∙ made;
   course_runs = (
     c,
     with_sent f moment c,
     k.course_runs,
-    record { frame = f; fits = fits; spelled_so = refl; own = own; put = ap (λ m. with_sent f m c) clock },
-    record { frames = []; taken = refl; rest = b.0; joined = b.1 ∙ ap (λ xs. spelled xs ++ b.0) (sym (same_came f moment c.talk)) },
+    record { frame = f; fits = fits; spelled_so = refl; rules = ruled p s t log c call (latest log) moment (λ m. told_sent f m c.talk) k clock made; next = next; put = ap (λ m. with_sent f m c) clock },
+    record { frames = []; taken = refl; each = tt; rest = b.0; joined = b.1 ∙ ap (λ xs. spelled xs ++ b.0) (sym (same_came f moment c.talk)) },
   );
 }
 
 -- a frame is taken
-pub talk_heard : (p : Setup) (s : Session) (log : Log) (c : Course) (moment : ℕ) (f : Apdu) (rest : List ℕ) (k : Talks p s log c) → IsTaking log → moment ≡ latest log → s.connected ≡ true → IsConfirmed s → refuses s f ≡ false → (present log).received ≡ spelled (f ∷ came_frames c.talk) ++ rest →
+pub talk_heard : (p : Setup) (s : Session) (log : Log) (c : Course) (moment : ℕ) (f : Apdu) (rest : List ℕ) (k : Talks p s log c) → IsTaking log → moment ≡ latest log → s.connected ≡ true → IsConfirmed s → Fits f → refuses s f ≡ false → is_overfull (tasks_of p c.works).history ≡ false → IsFlushed p log c → IsUntouched log c ⊎ (frame_due p.session.w p.session.t2 p.session.t3 (latest log) c.talk ≡ None) → (present log).received ≡ spelled (f ∷ came_frames c.talk) ++ rest →
     Talks p (session.taken f moment s) log (with_frame p f moment c)
-talk_heard p s log c moment f rest k taking clock on ready goes joined = record {
+talk_heard p s log c moment f rest k taking clock on ready fits goes placed flushed undue joined = record {
   timely = k.timely;
   laws = k.laws;
   command_laws = k.command_laws;
+  line_laws = k.line_laws;
   calls = Take f moment ∷ k.calls;
   called = ap (after_call (Take f moment)) k.called ∙ takes s c.talk f moment on ready goes;
-  course_runs = subst (λ m. Runs p log (with_frame p f m c)) (sym clock) (runs_more p log c f rest taking joined k.course_runs);
+  course_runs = subst (λ m. Runs p log (with_frame p f m c)) (sym clock) (runs_more k.line_laws p log c f taking (record {
+    fits = fits;
+    rest = rest;
+    joined = joined;
+    rules = ruled p s (session.taken f moment s) log c (Take f moment) (latest log) moment (λ m. talk.Came f m ∷ c.talk) k clock (takes s c.talk f moment on ready goes);
+    placed = placed;
+    flushed = flushed;
+    undue = undue;
+  }) k.course_runs);
 }
 
 -- the same of another log, where nothing was said
@@ -153,6 +191,7 @@ talk_on p s t old new c d k same said is = record {
   timely = k.timely;
   laws = k.laws;
   command_laws = k.command_laws;
+  line_laws = k.line_laws;
   calls = k.calls;
   called = k.called ∙ ap (λ x. at x c.talk) (sym same) ∙ ap (λ h. at t h) (sym said);
   course_runs = is;
@@ -168,6 +207,7 @@ talk_cut p s t old new c d k same said is = record {
   timely = k.timely;
   laws = k.laws;
   command_laws = k.command_laws;
+  line_laws = k.line_laws;
   calls = Cut ∷ k.calls;
   called = ap (after_call Cut) k.called ∙ ap (λ x. at (session.closed x) []) (sym same) ∙ ap (λ h. at (session.closed t) h) (sym said);
   course_runs = is;
@@ -179,6 +219,7 @@ talk_open p s t old new c d moment k same said is = record {
   timely = k.timely;
   laws = k.laws;
   command_laws = k.command_laws;
+  line_laws = k.line_laws;
   calls = Open moment ∷ Cut ∷ k.calls;
   called = ap (λ r. after_call (Open moment) (after_call Cut r)) k.called ∙ ap (λ x. at (session.opened moment (session.closed x)) (talk.Opened moment ∷ [])) (sym same)
       ∙ ap (λ h. at (session.opened moment (session.closed t)) h) (sym said);
@@ -186,8 +227,8 @@ talk_open p s t old new c d moment k same said is = record {
 }
 
 -- at the start
-pub talk_first : (p : Setup) → IsTimely p.session → SessionLaws → CommandLaws → Talks p (session.new_session p.session.k p.session.w p.session.t1 p.session.t2 p.session.t3) [] (first_course p)
-talk_first p timely laws command_laws = record { timely = timely; laws = laws; command_laws = command_laws; calls = []; called = refl; course_runs = refl }
+pub talk_first : (p : Setup) → IsTimely p.session → SessionLaws → CommandLaws → LineLaws → Talks p (session.new_session p.session.k p.session.w p.session.t1 p.session.t2 p.session.t3) [] (first_course p)
+talk_first p timely laws command_laws line_laws = record { timely = timely; laws = laws; command_laws = command_laws; line_laws = line_laws; calls = []; called = refl; course_runs = refl }
 
 -- What the session answers is what the history makes due.
 
@@ -196,6 +237,9 @@ confirmed_by p s log c k = subst (λ (r : Run). (confirmed r.session).0 ≡ conf
 
 pub due_by : (p : Setup) (s : Session) (log : Log) (c : Course) (k : Talks p s log c) (now : ℕ) → (pulled now s).0 ≡ frame_due p.session.w p.session.t2 p.session.t3 now c.talk
 due_by p s log c k now = subst (λ (r : Run). (pulled now r.session).0 ≡ frame_due p.session.w p.session.t2 p.session.t3 now r.history) k.called (k.laws.dues p.session k.calls k.timely.range now)
+
+pub may_by : (p : Setup) (s : Session) (log : Log) (c : Course) (k : Talks p s log c) → may_send s ≡ (talk.is_started c.talk && nat_lt (length (talk.still_unacknowledged c.talk)) p.session.k)
+may_by p s log c k = subst (λ (r : Run). may_send r.session ≡ (talk.is_started r.history && nat_lt (length (talk.still_unacknowledged r.history)) p.session.k)) k.called (k.laws.may_send p.session k.calls k.timely.range)
 
 pub late_by : (p : Setup) (s : Session) (log : Log) (c : Course) (k : Talks p s log c) (now : ℕ) → timed_out now s ≡ has_timed_out p.session.t1 now c.talk
 late_by p s log c k now = subst (λ (r : Run). timed_out now r.session ≡ has_timed_out p.session.t1 now r.history) k.called (k.laws.t1 p.session k.calls k.timely.range now)

@@ -45,18 +45,18 @@ one_test false = refl
 valid_in : (nr : ℕ) (c : Connection) (s : Session) (ps : List (List ℕ)) → Tied c s ps → not (is_valid nr s) ≡ nat_lt (length c.sent_frames) (reached (acknowledged_count c.received_frames) nr)
 valid_in nr c s ps h = valid_agrees (acknowledged_count c.received_frames) (length s.unacknowledged) nr s.next_sent (length c.sent_frames) (omega (arith, h.small, h.bound)) h.unconfirmed.count h.next
 
-abbrev fault_in : Taken → Option Close
+abbrev pub fault_in : Taken → Option Close
 fault_in (Closes cause) = Some cause
 fault_in Asdu = None
 fault_in Nothing = None
 
-three_faults : (a b c : Bool) → fault_in (cond a (Closes Stopped) (cond b (Closes SendNumber) (cond c (Closes ReceiveNumber) Asdu))) ≡ cond a (Some Stopped) (cond b (Some SendNumber) (cond c (Some ReceiveNumber) None))
+pub three_faults : (a b c : Bool) → fault_in (cond a (Closes Stopped) (cond b (Closes SendNumber) (cond c (Closes ReceiveNumber) Asdu))) ≡ cond a (Some Stopped) (cond b (Some SendNumber) (cond c (Some ReceiveNumber) None))
 three_faults true b c = refl
 three_faults false true c = refl
 three_faults false false true = refl
 three_faults false false false = refl
 
-one_fault : (a : Bool) → fault_in (cond a (Closes ReceiveNumber) Nothing) ≡ cond a (Some ReceiveNumber) None
+pub one_fault : (a : Bool) → fault_in (cond a (Closes ReceiveNumber) Nothing) ≡ cond a (Some ReceiveNumber) None
 one_fault true = refl
 one_fault false = refl
 

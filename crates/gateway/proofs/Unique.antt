@@ -64,13 +64,13 @@ stands n received (Some Timeout) r h = inr (inr (Timeout, refl, h))
 stands n received (Some OwnAnswers) r h = cc
 stands n received (Some Replaced) r h = inr (inr (Replaced, refl, h))
 
-whole_front : (f : Apdu) (more r : List ℕ) → Fits f → r ≡ spelling f ++ more → IsFront r (Whole f (length (spelling f)))
+pub whole_front : (f : Apdu) (more r : List ℕ) → Fits f → r ≡ spelling f ++ more → IsFront r (Whole f (length (spelling f)))
 whole_front f more r fits e = (record { fits = fits; spelled = ap (take (length (spelling f))) e ∙ take_at (spelling f) more (length (spelling f)) refl }, omega (arith, ap length e, length-append (spelling f) more))
 
-never_more : AreUnique → (r : List ℕ) (f : Apdu) (n : ℕ) → IsFront r (Whole f n) → IsFront r More → ⊥
+pub never_more : AreUnique → (r : List ℕ) (f : Apdu) (n : ℕ) → IsFront r (Whole f n) → IsFront r More → ⊥
 never_more u r f n h k = let e : More ≡ Whole f n = u.front r More (Whole f n) k h in cc
 
-never_refused : AreUnique → (r : List ℕ) (f : Apdu) (n : ℕ) → IsFront r (Whole f n) → IsRefused r → ⊥
+pub never_refused : AreUnique → (r : List ℕ) (f : Apdu) (n : ℕ) → IsFront r (Whole f n) → IsRefused r → ⊥
 never_refused u r f n h k = let e : Never k.0 k.1 ≡ Whole f n = u.front r (Never k.0 k.1) (Whole f n) k.2 h in cc
 
 not_both : AreUnique → (r : List ℕ) → IsFront r More → IsRefused r → ⊥

@@ -20,7 +20,7 @@ use Rattle.gateway.specs.Works.{Works, tasks_of, kept_until, keep_calls, all_kep
 use Rattle.gateway.specs.State.{State, heard_commands, has_place, disconnected, put_on_line}
 use Rattle.gateway.specs.Steps as steps
 use Rattle.gateway.specs.Steps.{settled, given_up}
-use Rattle.gateway.specs.Phases.{Phase, Fresh, Taking, Idle, Crowded, Timed, Asked, works_in, IsAsked}
+use Rattle.gateway.specs.Phases.{Phase, Fresh, Taking, Judged, Idle, Crowded, Timed, Asked, works_in, IsAsked}
 use Rattle.gateway.specs.Agrees.{Does, ArePlain}
 
 -- Own answers are kept
@@ -229,6 +229,7 @@ module _ (p : Setup) (w : Works) (x : List ℕ) (first : first_answer (tasks_of 
   does_own Fresh s at room d = record { line = d.line; commands = ap tasks.answered d.commands ∙ sym own_state; counts = d.counts; silent = d.silent }
   does_own Taking s at room d = record { line = d.line; commands = ap tasks.answered d.commands ∙ sym own_state; counts = d.counts; silent = d.silent }
   does_own Idle s at room d = record { line = d.line; commands = ap tasks.answered d.commands ∙ sym own_state; counts = d.counts; silent = d.silent }
+  does_own Judged s at room d = record { line = d.line; commands = ap tasks.answered d.commands ∙ sym own_state; counts = d.counts; silent = d.silent }
   does_own Crowded s at room d = record { line = d.line; commands = ap tasks.answered d.commands ∙ sym own_state; counts = d.counts; silent = d.silent }
   does_own Timed s at room d = does_settled_own s at d
   does_own Asked s at room d = does_done_own s at room w.is_due refl d
@@ -237,6 +238,7 @@ module _ (p : Setup) (w : Works) (x : List ℕ) (first : first_answer (tasks_of 
   asked_own Fresh at room h = h
   asked_own Taking at room h = h
   asked_own Idle at room h = h
+  asked_own Judged at room h = h
   asked_own Crowded at room h = h
   asked_own Timed at room h = h
   asked_own Asked at room h = (λ due. ap (λ (q : Primary). sending q room) (own_ready at) ∙ h.0 due, h.1)
@@ -246,6 +248,7 @@ pub answers_in : (p : Setup) (phase : Phase) (at : ℕ) (room : Bool) (w : Works
 answers_in p Fresh at room w = refl
 answers_in p Taking at room w = refl
 answers_in p Idle at room w = refl
+answers_in p Judged at room w = refl
 answers_in p Crowded at room w = refl
 answers_in p Timed at room w = by_silent w.silent
   where

@@ -1,5 +1,5 @@
 -- What a gateway's state says of the log so far.
-use Rattle.std.specs.Prelude.{◌≡◌, ℕ, ◌+◌, ◌%◌, ◌<◌, ◌≤◌, Bool, true, false, cond, List, [], ◌∷◌, ◌++◌, length, drop, map, Option, Some, None, IfSome}
+use Rattle.std.specs.Prelude.{◌≡◌, ℕ, ◌+◌, ◌%◌, ◌<◌, ◌≤◌, ◌⊎◌, Bool, true, false, cond, List, [], ◌∷◌, ◌++◌, length, drop, map, Option, Some, None, IfSome}
 use Rattle.std.specs.List.{flat_map, list_all, AllByRecursion}
 use Rattle.asdu.specs.InformationObjects.{InformationObject}
 use Rattle.apci.specs.declared.apdu.Apdu.{Apdu}
@@ -17,14 +17,15 @@ use Rattle.gateway.specs.Objects.{objects, has_objects}
 use Rattle.gateway.specs.Log.{Log, Input, Came, latest}
 use Rattle.gateway.specs.Streams.{spelled, AllFit, AreFrames}
 use Rattle.gateway.specs.Frames.{Sent, Connection, new_connection, data_frames, runs, i_frames, acknowledged_count, objects_of_frames, first_unacknowledged, reports_among, acknowledged_reports, IsNumberedFrom, AreInOrder}
-use Rattle.gateway.specs.Connections.{Channel, no_channel, present, past, Passes, AreConnections}
+use Rattle.gateway.specs.Connections.{Channel, no_channel, present, past, received_before, is_replaced, Passes, AreConnections}
 use Rattle.gateway.specs.Reports.{Setup, AreFound, exchanges_of, taken_objects, reports_in, parts_of_all}
-use Rattle.gateway.specs.Traffic.{is_replaced, ActsRightly, RestsBetweenSteps, HasRested, IsFaithful}
+use Rattle.gateway.specs.Traffic.{ActsRightly, RestsBetweenSteps, HasRested, IsFaithful}
 use Rattle.gateway.specs.Works.{Works, tasks_of}
 use Rattle.gateway.specs.Course.{Course, here_of, room_in, Runs}
 use Rattle.gateway.specs.Conversation.{KeepsTimes}
-use Rattle.gateway.specs.Phases.{Phase, Taking, resting, IsPhase, works_in, IsAsked, IsPlaced}
+use Rattle.gateway.specs.Phases.{Phase, Taking, resting, IsPhase, works_in, IsAsked, IsPlaced, IsPast, IsLeftIn}
 use Rattle.gateway.specs.CommandLaws.{CommandLaws}
+use Rattle.gateway.specs.LineLaws.{LineLaws}
 use Rattle.gateway.specs.SessionLaws.{SessionLaws}
 use Rattle.gateway.specs.State.{State}
 
@@ -124,9 +125,15 @@ pub record Talks (p : Setup) (s : Session) (log : Log) (c : Course) : Type 0 whe
   pub timely : IsTimely p.session
   pub laws : SessionLaws
   pub command_laws : CommandLaws
+  pub line_laws : LineLaws
   pub calls : List Call
   pub called : run p.session calls ≡ record { session = s; history = c.talk }
   pub course_runs : Runs p log c
+
+-- the octets of a frame that isn't whole
+abbrev pub pending : Option (List ℕ) → List ℕ
+pending None = []
+pending (Some octets) = octets
 
 -- The state agrees with the log, as if these octets of the open connection had not come yet, so far in a step.
 pub record Agrees (p : Setup) (s : State) (log : Log) (unjudged : List ℕ) (phase : Phase) : Type 0 where
@@ -139,6 +146,7 @@ pub record Agrees (p : Setup) (s : State) (log : Log) (unjudged : List ℕ) (pha
   pub line : Tells p.link p.addresses s.line (exchanges_of p log)
   pub course : Course
   pub here : Presently s (present log) unjudged (here_of course)
+  pub left : IsLeftIn phase log (pending s.so_far) unjudged
   pub talk : Talks p s.session log course
   pub stands : IsAt p log phase s course
   pub offers : OffersWait s.line s.commands
@@ -150,9 +158,27 @@ pub record Agrees (p : Setup) (s : State) (log : Log) (unjudged : List ℕ) (pha
 abbrev pub Tracks : Setup → State → Option Log → List ℕ → Phase → Type 0
 Tracks p s told unjudged phase = IfSome told (λ log. Agrees p s log unjudged phase)
 
--- the same with no confirmation left to be sent
+-- nothing can be sent any more
+abbrev pub IsSpent : State → Type 0
+IsSpent s = may_send s.session ≡ true → (s.queue.unsent ≡ []) × (s.commands.answers ≡ [])
+
+-- no confirmation is due, and nothing can be sent any more
+pub record IsClear (s : State) : Type 0 where
+  pub confirmed : IsConfirmed s.session
+  pub spent : IsSpent s
+
+-- no frame of the event is taken yet, or no S frame and no test is due
+abbrev pub IsUndue : State → Log → List ℕ → Type 0
+IsUndue s log unjudged =
+    (length (present log).received ≤ length (received_before log) + length (pending s.so_far ++ unjudged)) ⊎ ((pulled s.moment s.session).0 ≡ None)
+
+-- the same where all that may go out has gone out, and these octets of the event are to be judged
 abbrev pub Awaits : Setup → State → Option Log → List ℕ → Type 0
-Awaits p s told unjudged = IfSome told (λ log. Agrees p s log unjudged Taking × IsConfirmed s.session)
+Awaits p s told unjudged = IfSome told (λ log. Agrees p s log unjudged Taking × IsClear s × IsUndue s log unjudged × (length (received_before log) + length unjudged ≤ length (present log).received))
+
+-- the same where a frame stands before this rest of them
+abbrev pub Meets : Setup → State → Option Log → (unjudged rest : List ℕ) → Type 0
+Meets p s told unjudged rest = IfSome told (λ log. Agrees p s log unjudged Taking × IsClear s × IsUndue s log unjudged × IsPast log (length rest))
 
 -- what is left of the log by a call that puts actions out: all of it went out, or the log is faithful so far
 abbrev pub Leaves : Bool → Setup → State → Option Log → List ℕ → Phase → Type 0
@@ -161,14 +187,14 @@ Leaves false p s told unjudged phase = IfSome told (IsFaithful p)
 
 -- between steps
 abbrev pub Follows : Setup → State → Option Log → Type 0
-Follows p s told = IfSome told (λ log. Agrees p s log [] (resting log) × IsConfirmed s.session)
+Follows p s told = IfSome told (λ log. Agrees p s log [] (resting log) × IsClear s)
 
 -- the log ends with this event, and before it the state agreed with the log and had done all that it could
 pub record HasCome (p : Setup) (s : State) (now : ℕ) (event : Input) (log : Log) : Type 0 where
   pub before : Log
   pub is : log ≡ Came now event ∷ before
   pub agrees : Agrees p s before [] (resting before)
-  pub confirmed : IsConfirmed s.session
+  pub clear : IsClear s
   pub rested : HasRested p before
 
 -- a step has done all that it could
@@ -184,7 +210,3 @@ pub record IsQuiet (s : State) : Type 0 where
 -- where no answer was late, none is late
 abbrev pub StaysInTime : (before after : State) → Type 0
 StaysInTime s t = 0 < s.session.t1 → IsInTime s.moment s.session → IsInTime t.moment t.session × (0 < t.session.t1)
-
--- nothing can be sent any more
-abbrev pub IsSpent : State → Type 0
-IsSpent s = may_send s.session ≡ true → (s.queue.unsent ≡ []) × (s.commands.answers ≡ [])

@@ -46,6 +46,17 @@ present (Went now (TcpOut octets) ∷ log) = sending (present log) octets
 present (Went now (Closed cause) ∷ log) = if ends cause then no_channel else present log
 present (entry ∷ log) = present log
 
+-- the octets that the open connection had received before the latest event
+abbrev pub received_before : Log → List ℕ
+received_before [] = []
+received_before (Came now event ∷ log) = (present log).received
+received_before (Went now action ∷ log) = received_before log
+
+-- an `Open` has ended the connection that was open, and its close is due
+abbrev pub is_replaced : Log → Bool
+is_replaced (Came now Opened ∷ log) = (present log).is_open
+is_replaced log = false
+
 -- a connection joins those that are over
 abbrev pub over : Channel → List Channel → List Channel
 over c past = if c.is_open then c ∷ past else past

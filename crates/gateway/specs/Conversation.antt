@@ -1,5 +1,5 @@
 -- What holds at each point of a run's course (IEC 60870-5-104, 5; IEC 60870-5-101, 7.2.3 and 7.2.6).
-use Rattle.std.specs.Prelude.{◌≡◌, true, false, [], ◌∷◌, ◌++◌, None}
+use Rattle.std.specs.Prelude.{◌≡◌, false, [], ◌∷◌, ◌++◌, None}
 use Rattle.session.specs.History.{confirmation_of, frame_due, has_timed_out}
 use Rattle.session.specs.Rules.{KeepsRules}
 use Rattle.command.specs.History.{ForwardsCommands, ExecutesAreSelected, GivesOwnAnswers, KeepsOwnAnswers, own_kept, own_sent}
@@ -7,7 +7,7 @@ use Rattle.command.specs.Calls.{Run}
 use Rattle.gateway.specs.Log.{Log, latest}
 use Rattle.gateway.specs.Connections.{present}
 use Rattle.gateway.specs.Reports.{Setup}
-use Rattle.gateway.specs.Works.{tasks_of, is_overfull}
+use Rattle.gateway.specs.Works.{tasks_of}
 use Rattle.gateway.specs.Course.{Course, HasTakenAll, Runs}
 
 -- What was done with commands so far: each first sending is the oldest command forwarded to its station on the open connection that
@@ -32,21 +32,6 @@ pub record KeepsTalk (p : Setup) (log : Log) : Type 0 where
 abbrev pub KeepsTimes : Setup → Log → Type 0
 KeepsTimes p [] = Unit {0}
 KeepsTimes p (entry ∷ log) = KeepsTalk p (entry ∷ log) × KeepsTimes p log
-
--- An I frame or a test has been without an answer for t1 (5.2).
-pub record IsLate (p : Setup) (log : Log) : Type 0 where
-  pub open_is : (present log).is_open ≡ true
-  pub course : Course
-  pub runs : Runs p log course
-  pub all : HasTakenAll (present log) course.talk
-  pub late : has_timed_out p.session.t1 (latest log) course.talk ≡ true
-
--- An own answer found no place.
-pub record IsOverfull (p : Setup) (log : Log) : Type 0 where
-  pub open_is : (present log).is_open ≡ true
-  pub course : Course
-  pub runs : Runs p log course
-  pub full : is_overfull (tasks_of p course.works).history ≡ true
 
 -- No confirmation, no S frame and no test is due, and no answer is late.
 pub record IsTalkAtRest (p : Setup) (log : Log) (c : Course) : Type 0 where

@@ -1,7 +1,7 @@
 -- The course of a run, as its log shows it: what was said on the open connection, what the connections before it were, the line's
 -- primary station and what became of commands (IEC 60870-5-104, 5; IEC 60870-5-2, unbalanced transmission procedures; when a step
 -- takes a frame and whose turn it is, is this gateway's own profile).
-use Rattle.std.specs.Prelude.{◌≡◌, ℕ, ◌+◌, Bool, true, not, nat_lt, if◌then◌else◌, List, [], ◌∷◌, ◌++◌, Some, None}
+use Rattle.std.specs.Prelude.{◌≡◌, ℕ, ◌+◌, ◌<◌, ◌≤◌, ◌⊎◌, Bool, true, false, not, nat_lt, if◌then◌else◌, List, [], ◌∷◌, ◌++◌, length, take, drop, Some, None}
 use Rattle.ft12.specs.Spelling as line
 use Rattle.apci.specs.declared.apdu.Apdu.{Apdu}
 use Rattle.apci.specs.declared.apdu.Apdu.TheVariants.{I}
@@ -14,19 +14,20 @@ use Rattle.link.specs.Exchanges.{Sending}
 use Rattle.link.specs.Requests.{request_frame}
 use Rattle.link.specs.Primary.{sending, received_outcome}
 use Rattle.session.specs.declared.kinds.Close.{Close}
-use Rattle.session.specs.declared.kinds.Close.TheVariants.{Timeout, Replaced}
+use Rattle.session.specs.declared.kinds.Close.TheVariants.{Timeout, OwnAnswers, Replaced}
 use Rattle.session.specs.declared.kinds.Kind.{Kind}
 use Rattle.session.specs.declared.kinds.Kind.TheVariants.{Queue, Own}
 use Rattle.session.specs.History as talk
-use Rattle.session.specs.History.{History}
-use Rattle.command.specs.State.{octets_waiting}
-use Rattle.gateway.specs.Objects.{has_objects}
+use Rattle.session.specs.History.{History, is_started, still_unacknowledged, confirmation_of, frame_due, has_timed_out}
+use Rattle.session.specs.Rules.{KeepsRules}
+use Rattle.command.specs.State.{octets_waiting, first_answer}
+use Rattle.gateway.specs.Objects.{objects, has_objects}
 use Rattle.gateway.specs.Log.{Log, Input, LineIn, Opened, TcpIn, CutOff, Ticked, Came, Went, LineOut, TcpOut, Closed, latest}
 use Rattle.gateway.specs.Streams.{spelled}
-use Rattle.gateway.specs.Frames.{Sent, Connection, runs, acknowledged_reports}
-use Rattle.gateway.specs.Connections.{Channel, present}
-use Rattle.gateway.specs.Reports.{Setup, address_at, reports_in, parts_of_all}
-use Rattle.gateway.specs.Works.{Works, first_works, tasks_of, LearnsOf, heard_works, sent_works, IsOwnDue, cut_works, begun_works, settled_works, ready_works, is_first_command, asked_works, done_works}
+use Rattle.gateway.specs.Frames.{Sent, Connection, runs, first_unacknowledged, monitor_objects_sent, acknowledged_reports}
+use Rattle.gateway.specs.Connections.{Channel, present, received_before, is_replaced, IsConnection}
+use Rattle.gateway.specs.Reports.{Setup, address_at, reports_in, parts_of_all, taken_objects}
+use Rattle.gateway.specs.Works.{Works, first_works, tasks_of, is_overfull, LearnsOf, heard_works, sent_works, cut_works, begun_works, settled_works, ready_works, is_first_command, asked_works, done_works}
 
 pub record Course : Type 0 where
   -- what was said on the open connection: frames that came and frames that went out, each with its moment, the latest first
@@ -57,7 +58,36 @@ room_by p parts here earlier = not (nat_lt (p.places + acknowledged_reports (her
 abbrev pub room_in : Setup → Log → Course → Bool
 room_in p log c = room_by p (parts_of_all p.sizes (reports_in p log)) (here_of c) c.earlier
 
+-- What is left to be sent
+
+-- how many of the objects taken have gone out: those acknowledged on earlier connections, and those sent on the open one
+abbrev pub sent_objects : Course → ℕ
+sent_objects c = first_unacknowledged c.earlier + length (monitor_objects_sent (here_of c))
+
+-- All objects taken and all own answers have gone out.
+pub record HasSentAll (p : Setup) (log : Log) (c : Course) : Type 0 where
+  pub objects : sent_objects c ≡ length (taken_objects p log)
+  pub answers : (tasks_of p c.works).state.answers ≡ []
+
+-- where data transfer runs and fewer than k I frames are unacknowledged, all has gone out (5.3, 5.5)
+abbrev pub IsFlushed : Setup → Log → Course → Type 0
+IsFlushed p log c = is_started c.talk ≡ true → length (still_unacknowledged c.talk) < p.session.k → HasSentAll p log c
+
 -- Frames that come
+
+-- none of the frames that end in the latest event's octets is taken yet
+abbrev pub IsUntouched : Log → Course → Type 0
+IsUntouched log c = length (spelled (came_frames c.talk)) ≤ length (received_before log)
+
+-- all whole frames of the octets received are taken
+pub record HasTakenAll (octets : Channel) (h : History) : Type 0 where
+  pub rest : List ℕ
+  pub joined : octets.received ≡ spelled (came_frames h) ++ rest
+  pub more : IsMore rest
+
+-- one of them is taken, or there are none
+abbrev pub HasBegun : Log → Course → Type 0
+HasBegun log c = (length (received_before log) < length (spelled (came_frames c.talk))) ⊎ HasTakenAll (present log) c.talk
 
 abbrev pub with_frame : Setup → Apdu → (now : ℕ) → Course → Course
 with_frame p frame now c = record { talk = talk.Came frame now ∷ c.talk; sent = c.sent; earlier = c.earlier; works = heard_works p frame now c.works }
@@ -67,18 +97,30 @@ abbrev pub with_frames : Setup → List Apdu → (now : ℕ) → Course → Cour
 with_frames p [] now c = c
 with_frames p (frame ∷ frames) now c = with_frame p frame now (with_frames p frames now c)
 
+-- A frame is taken where it is the next of the octets received, and comes without fault once all confirmations are out (5.1, 5.3); and
+-- only where each own answer found a place, and all that may go out has gone out: what the moment of the event makes due goes out
+-- behind its first frame (profile).
+pub record MayTake (p : Setup) (log : Log) (now : ℕ) (frame : Apdu) (c : Course) : Type 0 where
+  pub fits : Fits frame
+  pub rest : List ℕ
+  pub joined : (present log).received ≡ spelled (frame ∷ came_frames c.talk) ++ rest
+  pub rules : KeepsRules p.session (talk.Came frame now ∷ c.talk)
+  pub placed : is_overfull (tasks_of p c.works).history ≡ false
+  pub flushed : IsFlushed p log c
+  pub undue : IsUntouched log c ⊎ (frame_due p.session.w p.session.t2 p.session.t3 now c.talk ≡ None)
+
+-- each of these frames, the latest first
+abbrev pub AreTaken : Setup → Log → (now : ℕ) → List Apdu → Course → Type 0
+AreTaken p log now [] c = Unit {0}
+AreTaken p log now (frame ∷ older) c = MayTake p log now frame (with_frames p older now c) × AreTaken p log now older c
+
 -- Frames are taken, one after another, of the octets received.
-pub record TakesFrames (p : Setup) (octets : Channel) (now : ℕ) (before after : Course) : Type 0 where
+pub record TakesFrames (p : Setup) (log : Log) (now : ℕ) (before after : Course) : Type 0 where
   pub frames : List Apdu
   pub taken : after ≡ with_frames p frames now before
+  pub each : AreTaken p log now frames before
   pub rest : List ℕ
-  pub joined : octets.received ≡ spelled (came_frames after.talk) ++ rest
-
--- all whole frames of the octets received are taken
-pub record HasTakenAll (octets : Channel) (h : History) : Type 0 where
-  pub rest : List ℕ
-  pub joined : octets.received ≡ spelled (came_frames h) ++ rest
-  pub more : IsMore rest
+  pub joined : (present log).received ≡ spelled (came_frames after.talk) ++ rest
 
 -- Frames that go out
 
@@ -98,15 +140,51 @@ more_sent frame sent = sent
 abbrev pub with_sent : Apdu → (now : ℕ) → Course → Course
 with_sent frame now c = record { talk = told_sent frame now c.talk; sent = more_sent frame c.sent; earlier = c.earlier; works = sent_works frame c.works }
 
--- these octets go out: one frame; an I frame without monitor objects is the oldest own answer
-pub record HandsOver (p : Setup) (octets : List ℕ) (now : ℕ) (before after : Course) : Type 0 where
+-- An I frame bears the next of the objects taken, once no own answer waits; or it is the oldest own answer (profile).
+pub record IsNextData (p : Setup) (log : Log) (asdu : List ℕ) (c : Course) : Type 0 where
+  pub own : has_objects asdu ≡ false → first_answer (tasks_of p c.works).state.answers ≡ Some asdu
+  pub none : has_objects asdu ≡ true → (tasks_of p c.works).state.answers ≡ []
+  pub report : has_objects asdu ≡ true → objects asdu ≡ take (length (objects asdu)) (drop (sent_objects c) (taken_objects p log))
+
+-- An S frame or a test goes out once all other frames that may have gone out, since an I frame bears N(R) too, and behind the first frame
+-- of the event; but for a confirmation (5.1, 5.3; profile).
+abbrev pub IsNext : Setup → Log → Apdu → Course → Type 0
+IsNext p log (I ns nr asdu) c = IsNextData p log asdu.items c
+IsNext p log frame c = (confirmation_of c.talk ≡ Some frame) ⊎ (IsFlushed p log c × HasBegun log c)
+
+-- These octets go out: one frame, the next one, by the rules of 5.1 to 5.5.
+pub record HandsOver (p : Setup) (log : Log) (octets : List ℕ) (now : ℕ) (before after : Course) : Type 0 where
   pub frame : Apdu
   pub fits : Fits frame
   pub spelled_so : octets ≡ spelling frame
-  pub own : IsOwnDue p before.works frame
+  pub rules : KeepsRules p.session (told_sent frame now before.talk)
+  pub next : IsNext p log frame before
   pub put : after ≡ with_sent frame now before
 
 -- The ends of connections
+
+-- What is next in the octets received closes the connection with this cause: all before it was taken and confirmed (5.1, 5.3), what may
+-- go out has gone out, and each own answer found a place.
+pub record StandsNext (p : Setup) (log : Log) (cause : Close) (c : Course) : Type 0 where
+  pub next : IsConnection (present log) (here_of c) (Some cause)
+  pub confirmed : confirmation_of c.talk ≡ None
+  pub flushed : IsFlushed p log c
+  pub placed : is_overfull (tasks_of p c.works).history ≡ false
+
+-- An I frame or a test has been without an answer for t1 (5.2), and no cause stands before it: all that came was taken without fault, and
+-- each own answer found a place.
+pub record IsLate (p : Setup) (log : Log) (c : Course) : Type 0 where
+  pub all : HasTakenAll (present log) c.talk
+  pub placed : is_overfull (tasks_of p c.works).history ≡ false
+  pub late : has_timed_out p.session.t1 (latest log) c.talk ≡ true
+
+-- Why a connection is closed, where the course is so far: an answer is late; the own answer of the frame taken last, or of the line's
+-- octets, found no place; or what is next in the octets. The connection before an `Open` has ended with it.
+abbrev pub IsCause : Setup → Log → Close → Course → Type 0
+IsCause p log Replaced c = is_replaced log ≡ true
+IsCause p log Timeout c = IsLate p log c
+IsCause p log OwnAnswers c = is_overfull (tasks_of p c.works).history ≡ true
+IsCause p log cause c = StandsNext p log cause c
 
 -- the connection that was open, if any, is over
 abbrev pub ended_course : (is_open : Bool) → Works → Course → Course
@@ -139,14 +217,15 @@ with_works w c = record { talk = c.talk; sent = c.sent; earlier = c.earlier; wor
 abbrev pub Comes : Setup → Log → (at : ℕ) → Input → (before after : Course) → Type 0
 Comes p log at (LineIn octets) c d =
     (z : Works) × LearnsOf p at (runs (came_frames c.talk)) (received_outcome (front_of c.works.line.settings.size) c.works.line octets) (begun_works (LineIn octets) at c.works) z × (d ≡ with_works z c)
-Comes p log at (TcpIn octets) c d = TakesFrames p (present (Came at (TcpIn octets) ∷ log)) at (with_works (begun_works (TcpIn octets) at c.works) c) d
+Comes p log at (TcpIn octets) c d = TakesFrames p (Came at (TcpIn octets) ∷ log) at (with_works (begun_works (TcpIn octets) at c.works) c) d
 Comes p log at Ticked c d = d ≡ with_works (begun_works Ticked at c.works) c
 Comes p log at Opened c d = d ≡ opened_course at (ended_course (present log).is_open (begun_works Opened at c.works) c)
 Comes p log at CutOff c d = d ≡ ended_course (present log).is_open (begun_works CutOff at c.works) c
 
--- The octets are the request that is next, where the queue has the room that the log shows; and a command that goes out for the first
--- time is the oldest that waits for its station.
+-- The octets are the request that is next, where the queue has the room that the log shows, once all that came is taken; and a command
+-- that goes out for the first time is the oldest that waits for its station.
 pub record SendsNext (p : Setup) (log : Log) (octets : List ℕ) (before after : Course) : Type 0 where
+  pub all : HasTakenAll (present log) before.talk
   pub due : before.works.is_due ≡ true
   pub request : Sending
   pub next : sending (ready_works p (latest log) before.works).line (room_in p log before) ≡ Some request
@@ -156,12 +235,14 @@ pub record SendsNext (p : Setup) (log : Log) (octets : List ℕ) (before after :
   pub is : after ≡ with_works (asked_works (latest log) (room_in p log before) request (ready_works p (latest log) before.works)) before
 
 -- The course that the log shows. When an event comes all whole frames received before are taken, and the step before has done what
--- was due. Frames are taken of an event's octets, before and between the frames that go out in its step.
+-- was due. Frames are taken of an event's octets, before and between the frames that go out in its step. A connection is closed where the
+-- cause stands.
 abbrev pub Runs : Setup → Log → Course → Type 0
 Runs p [] c = c ≡ first_course p
 Runs p (Came now event ∷ log) c =
     (before : Course) × (left : Course) × Runs p log before × HasTakenAll (present log) before.talk × IsLeft p log before left × Comes p log (latest (Came now event ∷ log)) event left c
 Runs p (Went now (TcpOut octets) ∷ log) c =
-    (before : Course) × (after : Course) × Runs p log before × HandsOver p octets (latest log) before after × TakesFrames p (present (Went now (TcpOut octets) ∷ log)) (latest log) after c
+    (before : Course) × (after : Course) × Runs p log before × HandsOver p log octets (latest log) before after × TakesFrames p (Went now (TcpOut octets) ∷ log) (latest log) after c
 Runs p (Went now (LineOut octets) ∷ log) c = (before : Course) × Runs p log before × SendsNext p log octets before c
-Runs p (Went now (Closed cause) ∷ log) c = (before : Course) × Runs p log before × (c ≡ closed_course p cause (present log).is_open (latest log) before)
+Runs p (Went now (Closed cause) ∷ log) c =
+    (before : Course) × Runs p log before × (c ≡ closed_course p cause (present log).is_open (latest log) before) × IsCause p log cause before

@@ -13,6 +13,7 @@ pub mod Frames
 pub mod Connections
 pub mod Works
 pub mod Course
+pub mod One
 pub mod Conversation
 pub mod SessionLaws
 pub mod CommandLaws

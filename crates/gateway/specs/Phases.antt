@@ -1,16 +1,17 @@
 -- How far a step is.
-use Rattle.std.specs.Prelude.{◌≡◌, ℕ, Bool, true, false, [], ◌∷◌, Option, Some, None}
+use Rattle.std.specs.Prelude.{◌≡◌, ℕ, ◌+◌, ◌<◌, Bool, true, false, List, [], ◌∷◌, ◌++◌, length, Option, Some, None}
 use Rattle.link.specs.Primary.{Outstanding, sending}
 use Rattle.gateway.specs.Log.{Log, TcpIn, Came, Went, TcpOut}
 use Rattle.gateway.specs.Reports.{Setup}
 use Rattle.command.specs.History.{History}
-use Rattle.gateway.specs.Connections.{present}
+use Rattle.gateway.specs.Connections.{present, received_before}
 use Rattle.gateway.specs.Works.{Works, is_overfull, settled_works, ready_works, done_works}
 
--- nothing has come yet; octets of the connection are being taken; the event is taken; an own answer of it found no place; the timers are done; the request is asked for
+-- nothing has come yet; octets of the connection are being taken; a frame of them was taken, and what follows goes out; the event is taken; an own answer of it found no place; the timers are done; the request is asked for
 pub data Phase : Type 0 where
   Fresh : Phase
   Taking : Phase
+  Judged : Phase
   Idle : Phase
   Crowded : Phase
   Timed : Phase
@@ -25,12 +26,14 @@ IsTaking log = ⊥
 abbrev pub IsPhase : Phase → Log → Type 0
 IsPhase Fresh log = log ≡ []
 IsPhase Taking log = IsTaking log
+IsPhase Judged log = IsTaking log
 IsPhase phase log = Unit {0}
 
 -- The log shows the works before the step's timers and request; so far they have become these.
 abbrev pub works_in : Phase → Setup → (at : ℕ) → (room : Bool) → Works → Works
 works_in Fresh p at room w = w
 works_in Taking p at room w = w
+works_in Judged p at room w = w
 works_in Idle p at room w = w
 works_in Crowded p at room w = w
 works_in Timed p at room w = settled_works p at w
@@ -63,5 +66,23 @@ after_line true = Idle
 after_line false = Crowded
 
 abbrev pub after_frame : Bool → Phase
-after_frame true = Taking
+after_frame true = Judged
 after_frame false = Crowded
+
+-- fewer octets than the latest event brought are left
+abbrev pub IsPast : Log → (left : ℕ) → Type 0
+IsPast log left = length (received_before log) + left < length (present log).received
+
+-- What is left of the octets received: where a frame was taken fewer than came, and where the event is taken none. What a close drops
+-- may be anything.
+abbrev pub IsLeftIn : Phase → Log → (so_far unjudged : List ℕ) → Type 0
+IsLeftIn Taking log so_far unjudged = Unit {0}
+IsLeftIn Crowded log so_far unjudged = Unit {0}
+IsLeftIn Judged log so_far unjudged = IsPast log (length (so_far ++ unjudged))
+IsLeftIn phase log so_far unjudged = unjudged ≡ []
+
+-- S frames and tests may go out
+abbrev pub IsFlushing : Phase → Type 0
+IsFlushing Taking = ⊥
+IsFlushing Crowded = ⊥
+IsFlushing phase = Unit {0}

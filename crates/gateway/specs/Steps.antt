@@ -18,11 +18,10 @@ use Rattle.events.specs.Queue as queue
 use Rattle.gateway.specs.Objects.{objects, has_objects, monitor_objects, parts_of}
 use Rattle.gateway.specs.Log.{Log, Input, LineIn}
 use Rattle.gateway.specs.Connections.{ends, present, closed_by, IsConnection}
-use Rattle.gateway.specs.Course.{here_of}
+use Rattle.gateway.specs.Course.{here_of, IsCause}
 use Rattle.gateway.specs.Reports.{Setup}
 use Rattle.gateway.specs.Counting.{counted, one_mirrored, one_lost}
 use Rattle.gateway.specs.Works.{kept_until, all_kept, listed, is_command_report, IsPassedOn, silent_by}
-use Rattle.gateway.specs.Traffic.{HasCause}
 use Rattle.gateway.specs.State.{State, at_moment, received as frame_received, has_place, framed, disconnected, next_frame, piece_sent, own_sent}
 use Rattle.gateway.specs.Agrees.{Agrees}
 use Rattle.gateway.specs.Phases.{Phase, Taking, Idle, Crowded, Timed}
@@ -182,4 +181,4 @@ pub record MayClose (p : Setup) (s : State) (cause : Close) (later : Phase) (log
   pub agrees : Agrees p state log unjudged phase
   pub fault : Option Close
   pub stands : IsConnection (closed_by cause (present log)) (here_of agrees.course) fault
-  pub why : HasCause p cause log
+  pub why : IsCause p log cause agrees.course

@@ -1,20 +1,20 @@
 -- What holds of every log of a gateway.
-use Rattle.std.specs.Prelude.{◌≡◌, ℕ, ◌+◌, ◌<◌, Bool, true, false, List, [], ◌∷◌, length, Some}
+use Rattle.std.specs.Prelude.{◌≡◌, ℕ, ◌+◌, ◌<◌, Bool, true, false, List, [], ◌∷◌, length}
 use Rattle.ft12.specs.Spelling.{spelling}
 use Rattle.link.specs.declared.service.Asked.{Asked}
 use Rattle.link.specs.Requests.{request_frame}
 use Rattle.session.specs.declared.kinds.Close.{Close}
-use Rattle.session.specs.declared.kinds.Close.TheVariants.{Timeout, OwnAnswers, Replaced}
-use Rattle.gateway.specs.Log.{Log, Opened, Came, Went, Output, LineOut, TcpOut, Closed, latest}
+use Rattle.session.specs.declared.kinds.Close.TheVariants.{Replaced}
+use Rattle.gateway.specs.Log.{Log, Came, Went, Output, LineOut, TcpOut, Closed, latest}
 use Rattle.gateway.specs.Streams.{IsOneFrame}
-use Rattle.gateway.specs.Frames.{Connection, runs, acknowledged_count, first_unacknowledged, monitor_objects_sent, AreInOrder}
-use Rattle.gateway.specs.Connections.{present, past, ends, IsConnection, AreConnections, IsBegun}
+use Rattle.gateway.specs.Frames.{runs, acknowledged_count, AreInOrder}
+use Rattle.gateway.specs.Connections.{present, past, ends, is_replaced, AreConnections, IsBegun}
 use Rattle.gateway.specs.Reports.{Setup, address_at, taken_objects, KeepsLinks}
 use Rattle.link.specs.Leave.{is_poll_request}
 use Rattle.gateway.specs.Room.{AreConnectionsOf, HasRoom}
 use Rattle.gateway.specs.Works.{tasks_of, is_overfull}
-use Rattle.gateway.specs.Course.{Course, here_of, Runs}
-use Rattle.gateway.specs.Conversation.{KeepsTimes, IsLate, IsOverfull, IsTalkAtRest}
+use Rattle.gateway.specs.Course.{Course, here_of, HasSentAll, IsCause, Runs}
+use Rattle.gateway.specs.Conversation.{KeepsTimes, IsTalkAtRest}
 use Rattle.gateway.specs.Line.{IsWaiting, IsLineAtRest}
 
 -- The octets are a request to a station, while no exchange is outstanding; and a poll only where there is room.
@@ -26,16 +26,9 @@ pub record IsRequest (p : Setup) (log : Log) (octets : List ℕ) : Type 0 where
   pub alone : IsWaiting p log → ⊥
   pub room : is_poll_request request ≡ true → HasRoom p log
 
--- an `Open` has ended the connection that was open, and its close is due
-abbrev pub is_replaced : Log → Bool
-is_replaced (Came now Opened ∷ log) = (present log).is_open
-is_replaced log = false
-
--- The connection is open, and its octets give the cause; or an answer is late; or an own answer found no place.
+-- The connection is open, and its course gives the cause, the first that stands.
 abbrev pub HasCause : Setup → Close → Log → Type 0
-HasCause p Timeout log = IsLate p log
-HasCause p OwnAnswers log = IsOverfull p log
-HasCause p cause log = ends cause ≡ true → ((present log).is_open ≡ true) × ((c : Connection) × IsConnection (present log) c (Some cause))
+HasCause p cause log = ends cause ≡ true → ((present log).is_open ≡ true) × ((c : Course) × Runs p log c × IsCause p log cause c)
 
 -- to the line whole requests, to TCP one APDU at a time while a connection is open, and a close with its cause
 abbrev pub MayGo : Setup → Log → Output → Type 0
@@ -59,11 +52,6 @@ abbrev pub ActsRightly : Setup → Log → Type 0
 ActsRightly p [] = Unit {0}
 ActsRightly p (Went now action ∷ log) = GoesOut p log now action × ActsRightly p log
 ActsRightly p (entry ∷ log) = ActsRightly p log
-
--- All objects taken and all own answers have gone out.
-pub record HasSentAll (p : Setup) (log : Log) (c : Course) : Type 0 where
-  pub objects : first_unacknowledged c.earlier + length (monitor_objects_sent (here_of c)) ≡ length (taken_objects p log)
-  pub answers : (tasks_of p c.works).state.answers ≡ []
 
 -- After a step nothing stands on the connection that closes it, and all that may be sent is sent: on the connection, where
 -- data transfer is started and the window isn't full, all objects and own answers, and each confirmation, S frame and test that is

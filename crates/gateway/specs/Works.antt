@@ -4,12 +4,11 @@
 use Rattle.std.specs.Prelude.{◌≡◌, ℕ, zero, suc, Bool, true, false, not, ◌&&◌, if◌then◌else◌, List, [], ◌∷◌, length, Option, Some, None}
 use Rattle.std.specs.List.{flat_map, AllByRecursion}
 use Rattle.ft12.specs.Fronts.{front_of}
-use Rattle.elements.specs.Types.{row}
 use Rattle.asdu.specs.declared.sizes.Sizes.{Sizes}
 use Rattle.asdu.specs.Sizes.{tcp}
 use Rattle.asdu.specs.Asdu.{AsduValue, IsAsdu}
 use Rattle.asdu.specs.InformationObjects.{InformationObject, objects_of}
-use Rattle.asdu.specs.Translation.{parts, IsPiece}
+use Rattle.asdu.specs.Translation.{parts, IsPiece, IsFull, AllButLast}
 use Rattle.apci.specs.declared.apdu.Apdu.{Apdu}
 use Rattle.apci.specs.declared.apdu.Apdu.TheVariants.{I}
 use Rattle.link.specs.Procedure.{is_held}
@@ -27,7 +26,7 @@ use Rattle.command.specs.Calls.{Call, Judge, PutOnLine, Accept, Busy, Lose, Mirr
 use Rattle.gateway.specs.declared.counts.Tally.{Tally}
 use Rattle.gateway.specs.Log.{Input, LineIn}
 use Rattle.gateway.specs.Objects.{has_objects}
-use Rattle.gateway.specs.Counting.{nothing_counted, counted, one_mirrored, one_lost}
+use Rattle.gateway.specs.Counting.{is_answer_type, nothing_counted, counted, one_mirrored, one_lost}
 use Rattle.gateway.specs.Reports.{Setup}
 
 pub record Works : Type 0 where
@@ -77,19 +76,20 @@ listed (Some x) = x ∷ []
 
 -- What came of an exchange
 
--- by its first object: it is of a command type
+-- by its first object: it is an answer to a command
 abbrev pub is_command_by : List InformationObject → Bool
 is_command_by [] = false
-is_command_by (o ∷ objects) = not (row o.kind).monitor
+is_command_by (o ∷ objects) = is_answer_type o.kind
 
 abbrev pub is_command_report : Sizes → List ℕ → Bool
 is_command_report sizes report = is_command_by (objects_of sizes report)
 
--- The pieces carry the report's objects to the connection.
+-- The pieces carry the report's objects to the connection, as many in each but the last as it takes.
 pub record IsPassedOn (sizes : Sizes) (v : AsduValue) (report : List ℕ) (pieces : List (List ℕ)) : Type 0 where
   pub value : IsAsdu sizes v report
   pub joined : flat_map (λ piece. objects_of tcp piece) pieces ≡ objects_of sizes report
   pub each : AllByRecursion (λ piece. IsPiece v piece) pieces
+  pub full : AllButLast (λ piece. IsFull v piece) pieces
   pub number : length pieces ≡ parts sizes report
 
 abbrev pub with_call : Call → Works → Works
@@ -141,11 +141,6 @@ heard_works p frame now w = w
 abbrev pub sent_works : Apdu → Works → Works
 sent_works (I ns nr asdu) w = if has_objects asdu.items then w else with_call SendOwn w
 sent_works frame w = w
-
--- an I frame without monitor objects is the oldest own answer
-abbrev pub IsOwnDue : Setup → Works → Apdu → Type 0
-IsOwnDue p w (I ns nr asdu) = has_objects asdu.items ≡ false → tasks.first_answer (tasks_of p w).state.answers ≡ Some asdu.items
-IsOwnDue p w frame = Unit {0}
 
 -- The end of a connection
 

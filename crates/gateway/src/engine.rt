@@ -18,7 +18,7 @@ ghost use Rattle.asdu.specs.InformationObjects.{monitor_objects_of};
 ghost use Rattle.asdu.specs.Reading.{value_of};
 ghost use Rattle.gateway.specs.Agrees.{IsSpent, Follows};
 ghost use Rattle.gateway.specs.Polls.{has_room};
-ghost use Rattle.gateway.specs.Counting.{one_skipped, one_mirrored, one_lost};
+ghost use Rattle.gateway.specs.Counting.{is_answer_type, one_skipped, one_mirrored, one_lost};
 ghost use Rattle.gateway.specs.Works.{kept_until, all_kept, listed, is_command_report, offered_by, offered_upto};
 ghost use Rattle.gateway.specs.Setups.{link_of, info_of, setup_of};
 ghost use Rattle.gateway.specs.declared.settings.Station.{Station};
@@ -28,12 +28,13 @@ ghost use Rattle.gateway.specs.Finding.{Finds};
 
 use crate::config::Config;
 use crate::counts::{Counts, Tally};
-use crate::laws::{command_is_told, session_is_told};
+use crate::laws::{command_is_told, line_is_told, session_is_told};
 use crate::settings::{LineSettings, Silence};
 use apci::{Apdu, ApduRef, Assembler, FrontRef, Heard, front_ref};
 use arrayvec::ArrayVec;
 use asdu::{Asdu, Piece, Sizes, read, translate};
 use command::{Act, Commands, StationInfo};
+use elements::TypeId;
 use events::{Events, Kept};
 use link::{
     LinkSettings, Master, Outcome, Request, RequestKind, master_tells_the_log,
@@ -193,6 +194,13 @@ fn offer_to(line: &mut Master, station: usize, octets: &[u8])
     let _is_new = line.offer(station, octets);
 }
 
+/// Whether a station answers a command by this type: a command type without a time tag.
+fn is_answer(kind: TypeId) -> bool
+    ensures { result ≡ is_answer_type kind }
+{
+    !kind.monitor() && !kind.tagged()
+}
+
 /// Keeps own answers, up to the first that finds no place.
 fn keep_all(commands: &mut Commands, pieces: &[Piece]) -> bool
     requires long { AllByRecursion (λ p. (9 ≤ length p.items) × (length p.items ≤ 249)) pieces.now }
@@ -230,6 +238,7 @@ impl Gateway {
         ensures begins { IfOk result (λ s. Follows (setup_of config.now) s (Some [])) }
     {
         master_tells_the_log();
+        line_is_told();
         session_is_told();
         command_is_told();
         let _stations = config.stations();
@@ -344,7 +353,7 @@ impl Gateway {
             self.events.push(translate(&asdu));
             return true;
         }
-        if asdu.kind.monitor() {
+        if !is_answer(asdu.kind) {
             self.counts.skip();
             return true;
         }

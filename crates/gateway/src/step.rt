@@ -10,9 +10,9 @@ ghost use Rattle.gateway.specs.Ports.{input_of};
 ghost use Rattle.gateway.specs.Reports.{Setup};
 ghost use Rattle.gateway.specs.Traffic.{IsFaithful};
 ghost use Rattle.gateway.specs.State.{State, disconnected, connected};
-ghost use Rattle.gateway.specs.Agrees.{Tracks, Awaits, Leaves, Follows, HasCome, Rests, IsSpent, StaysInTime};
+ghost use Rattle.gateway.specs.Agrees.{Tracks, Awaits, Meets, Leaves, Follows, HasCome, Rests, IsSpent, StaysInTime};
 ghost use Rattle.gateway.specs.Steps.{MayClose, HearsEvent, Begins};
-ghost use Rattle.gateway.specs.Phases.{Phase, Idle, Timed, Asked};
+ghost use Rattle.gateway.specs.Phases.{Phase, Idle, Timed, Asked, IsFlushing};
 ghost use Rattle.gateway.specs.Judging.{Goes, IsOnward, faults_in};
 ghost use Rattle.gateway.specs.Runs.{events_told};
 
@@ -107,7 +107,7 @@ impl Gateway {
     /// Sends the S frame, or else the TESTFR act, if one is due.
     fn send_due<P: Port>(&mut self, port: &mut P) -> bool
         requires { P.failed port.old < u64.MAX }
-        ensures kept { (p : Setup) (unjudged : List ℕ) (phase : Phase) → Tracks p self.old (P.log port.old) unjudged phase → Leaves result p self.new (P.log port.new) unjudged phase }
+        ensures kept { (p : Setup) (unjudged : List ℕ) (phase : Phase) → IsFlushing phase → IsSpent self.old → Tracks p self.old (P.log port.old) unjudged phase → Leaves result p self.new (P.log port.new) unjudged phase }
         ensures open { self.new.session.connected ≡ self.old.session.connected }
         ensures next { OnTrue result (self.new ≡ record self.old { session = after_pull self.old.moment self.old.session }) }
         ensures events { events_told (P.log port.new) ≡ events_told (P.log port.old) }
@@ -123,7 +123,7 @@ impl Gateway {
     /// Sends the S frame and the TESTFR act that are due.
     fn send_dues<P: Port>(&mut self, port: &mut P) -> bool
         requires { P.failed port.old < u64.MAX }
-        ensures kept { (p : Setup) (unjudged : List ℕ) (phase : Phase) → Tracks p self.old (P.log port.old) unjudged phase → Leaves result p self.new (P.log port.new) unjudged phase }
+        ensures kept { (p : Setup) (unjudged : List ℕ) (phase : Phase) → IsFlushing phase → IsSpent self.old → Tracks p self.old (P.log port.old) unjudged phase → Leaves result p self.new (P.log port.new) unjudged phase }
         ensures open { self.new.session.connected ≡ self.old.session.connected }
         ensures spent { OnTrue result (IsSpent self.old → IsSpent self.new) }
         ensures confirmed { OnTrue result (IsConfirmed self.old.session → IsConfirmed self.new.session) }
@@ -143,7 +143,7 @@ impl Gateway {
     /// Sends what may be sent: confirmations, then reports, then what else is due.
     fn flush<P: Port>(&mut self, port: &mut P) -> bool
         requires { P.failed port.old < u64.MAX }
-        ensures kept { (p : Setup) (unjudged : List ℕ) (phase : Phase) → Tracks p self.old (P.log port.old) unjudged phase → Leaves result p self.new (P.log port.new) unjudged phase }
+        ensures kept { (p : Setup) (unjudged : List ℕ) (phase : Phase) → IsFlushing phase → Tracks p self.old (P.log port.old) unjudged phase → Leaves result p self.new (P.log port.new) unjudged phase }
         ensures open { self.new.session.connected ≡ self.old.session.connected }
         ensures spent { OnTrue result (IsSpent self.new) }
         ensures confirmed { OnTrue result (IsConfirmed self.new.session) }
@@ -185,7 +185,7 @@ impl Gateway {
         requires fits { Fits (owned apdu) }
         requires open { self.old.session.connected ≡ true }
         requires whole { self.old.so_far ≡ Some [] }
-        ensures kept { (p : Setup) (rest : List ℕ) → Awaits p self.old (P.log port.old) (spelling (owned apdu.entry) ++ rest) → Goes result p self.new (P.log port.new) rest }
+        ensures kept { (p : Setup) (rest : List ℕ) → Meets p self.old (P.log port.old) (spelling (owned apdu.entry) ++ rest) rest → Goes result p self.new (P.log port.new) rest }
         ensures open { IsOnward result (self.new.session.connected ≡ true) }
         ensures events { events_told (P.log port.new) ≡ events_told (P.log port.old) }
         ensures script { P.script port.new ≡ P.script port.old }

@@ -1,3 +1,4 @@
 pub mod Wires
+pub mod Timing
 pub mod Ends
 pub mod Looks

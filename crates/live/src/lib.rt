@@ -19,6 +19,7 @@ mod memory;
 mod port;
 mod sockets;
 mod source;
+mod timing;
 mod wires;
 
 pub use port::Live;

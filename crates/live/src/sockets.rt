@@ -190,6 +190,8 @@ impl<'a, R: std::rt::Clock> SystemClock<'a, R> {
 }
 
 impl<R: std::rt::Clock> Clock for SystemClock<'_, R> {
+    ghost moments = { λ _. None };
+
     fn now_ms(&mut self) -> u64 {
         if let Ok(passed) = self.start.elapsed(self.rt) {
             self.now = u64::try_from(passed.as_millis()).unwrap_or(u64::MAX);

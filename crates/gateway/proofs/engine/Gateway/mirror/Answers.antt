@@ -18,7 +18,7 @@ returns-then-runs c =
     let v : AsduValue = value_of asdu in
     let ps = c.translate-pieces.result.items in
     rw (← c.self.view_is) (mirrors s _ asdu.sizes v asdu.octets.now ps c.keep_all.result (c.requires.sizes ∙ sym (ap (λ (x : State). x.sizes) c.self.view_is))
-    (passed_on asdu.sizes s.sizes v asdu.octets.now ps (c.requires.sizes ∙ sym (ap (λ (x : State). x.sizes) c.self.view_is)) c.requires.found c.translate-pieces.ensures.joined c.translate-pieces.ensures.pieces c.translate-pieces.ensures.number)
+    (passed_on asdu.sizes s.sizes v asdu.octets.now ps (c.requires.sizes ∙ sym (ap (λ (x : State). x.sizes) c.self.view_is)) c.requires.found c.translate-pieces.ensures.joined c.translate-pieces.ensures.pieces c.translate-pieces.ensures.full c.translate-pieces.ensures.number)
     c.translate-pieces.ensures.monitored c.requires.plain
     (ap (λ (k : tasks.State). let made : State = record s { commands = k } in made) (c.keep_all.ensures.state ∙ ap (λ xs. kept_until (octets_of xs) c.mirror.new.self) c.deref.ensures.0 ∙ ap (λ k. kept_until (octets_of ps) k) c.mirror.ensures)
     ∙ ap (λ b. mirrored_state b v (octets_of ps) s) c.if-runs.ensures)
@@ -33,7 +33,7 @@ returns c =
     let v : AsduValue = value_of asdu in
     let ps = c.translate-pieces.result.items in
     rw (← c.self.view_is) (mirrors s _ asdu.sizes v asdu.octets.now ps _ (c.requires.sizes ∙ sym (ap (λ (x : State). x.sizes) c.self.view_is))
-    (passed_on asdu.sizes s.sizes v asdu.octets.now ps (c.requires.sizes ∙ sym (ap (λ (x : State). x.sizes) c.self.view_is)) c.requires.found c.translate-pieces.ensures.joined c.translate-pieces.ensures.pieces c.translate-pieces.ensures.number)
+    (passed_on asdu.sizes s.sizes v asdu.octets.now ps (c.requires.sizes ∙ sym (ap (λ (x : State). x.sizes) c.self.view_is)) c.requires.found c.translate-pieces.ensures.joined c.translate-pieces.ensures.pieces c.translate-pieces.ensures.full c.translate-pieces.ensures.number)
     c.translate-pieces.ensures.monitored c.requires.plain
     (ap (λ (k : tasks.State). let made : State = record s { commands = k; counts = c.mirror-2.new.self } in made) c.mirror.ensures
     ∙ ap (λ (n : Tally). let made : State = record (mirrored_state false v (octets_of ps) s) { counts = n } in made) c.mirror-2.ensures

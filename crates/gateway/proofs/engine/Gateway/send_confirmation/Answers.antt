@@ -17,7 +17,7 @@ returns-in-None-clause-next g c = confirmed_next c.args.self.now c.confirm.new.s
 pub returns-in-Some-clause-kept : goal.returns-in-Some-clause-kept
 returns-in-Some-clause-kept g c = λ p unjudged phase h.
     told_put c.hand.result p _ _ c.args.self.now c.confirm.new.self c.in-Some.apdu _ unjudged phase c.hand.ensures.told (ap (λ (x : State). x.moment) c.confirm.ensures.rest)
-    (sends_confirmation c.args.self.now c.confirm.new.self c.in-Some.apdu c.in-Some.ensures.fits c.in-Some.ensures.due c.confirm.ensures.rest) h
+    (sends_confirmation c.args.self.now c.confirm.new.self c.in-Some.apdu c.in-Some.ensures.fits c.in-Some.ensures.due c.confirm.ensures.rest p unjudged phase) h
 
 pub returns-in-Some-clause-open : goal.returns-in-Some-clause-open
 returns-in-Some-clause-open g c = confirmed_open _ _ _ c.confirm.ensures.due

@@ -1,5 +1,5 @@
 use Rattle.apci.specs.Borrowed.{owned}
-use Rattle.gateway.specs.Phases.{Taking}
+use Rattle.gateway.specs.Phases.{Judged}
 use Rattle.gateway.proofs.Put.{awaits}
 use Rattle.gateway.proofs.Judgements.{judged_on, judged_closes}
 use Rattle.gateway.proofs.engine.Gateway.take_apdu.Goals as goal
@@ -10,8 +10,8 @@ returns-in-Some-clause-kept g c = λ p rest h.
 
 pub returns-then-not-flush-clause-kept : goal.returns-then-not-flush-clause-kept
 returns-then-not-flush-clause-kept g c = λ p rest h.
-    c.if-not-flush.ensures.kept p rest Taking (judged_on p _ c.args.self.now c.judge.new.self (owned c.args.apdu) rest c.requires.open c.requires.fits c.requires.whole c.in-None.ensures h)
+    c.if-not-flush.ensures.kept p rest Judged tt (judged_on p _ c.args.self.now c.judge.new.self (owned c.args.apdu) rest c.requires.open c.requires.fits c.requires.whole c.in-None.ensures h)
 
 pub returns-clause-kept : goal.returns-clause-kept
 returns-clause-kept g c = λ p rest h.
-    awaits p _ c.flush.new.self rest c.if-not-flush.ensures.confirmed (c.if-not-flush.ensures.kept p rest Taking (judged_on p _ c.args.self.now c.judge.new.self (owned c.args.apdu) rest c.requires.open c.requires.fits c.requires.whole c.in-None.ensures h))
+    awaits p _ c.flush.new.self rest c.if-not-flush.ensures.confirmed c.if-not-flush.ensures.spent c.if-not-flush.ensures.pulled (c.if-not-flush.ensures.kept p rest Judged tt (judged_on p _ c.args.self.now c.judge.new.self (owned c.args.apdu) rest c.requires.open c.requires.fits c.requires.whole c.in-None.ensures h))

@@ -8,13 +8,13 @@ pub returns-in-Some-clause-kept : goal.returns-in-Some-clause-kept
 returns-in-Some-clause-kept g c = λ p h.
     let f = c.in-Some.ensures in
     let rest = drop c.in-Some.count c.args.octets.now in
-    c.take_apdu.ensures.kept p rest (told_fed p _ c.args.self.now c.args.self.now c.args.octets.now (spelling (owned c.in-Some.apdu) ++ rest) f.0 f.1 f.2.1 f.2.4 h)
+    c.take_apdu.ensures.kept p rest (told_fed p _ c.args.self.now c.args.self.now c.args.octets.now (spelling (owned c.in-Some.apdu) ++ rest) f.0 c.in-Some.count f.1 f.2.1 f.2.2 f.2.3 f.2.4 h)
 
 pub returns-in-Apdu-clause-kept : goal.returns-in-Apdu-clause-kept
 returns-in-Apdu-clause-kept g c = λ p h.
     let f = c.in-Apdu.ensures in
     let rest = drop c.in-Apdu.count c.args.octets.now in
-    c.take_apdu-in-Apdu.ensures.kept p rest (told_fed p _ c.args.self.now c.feed.new.self c.args.octets.now (spelling (owned c.as_ref.result) ++ rest) f.0 f.1 (f.2.1 ∙ ap (λ f. spelling f ++ rest) (sym c.as_ref.ensures)) f.2.4 h)
+    c.take_apdu-in-Apdu.ensures.kept p rest (told_fed p _ c.args.self.now c.feed.new.self c.args.octets.now (spelling (owned c.as_ref.result) ++ rest) f.0 c.in-Apdu.count f.1 (f.2.1 ∙ ap (λ f. spelling f ++ rest) (sym c.as_ref.ensures)) f.2.2 f.2.3 f.2.4 h)
 
 pub returns-in-Refused-clause-kept : goal.returns-in-Refused-clause-kept
 returns-in-Refused-clause-kept g c = λ p h.
