@@ -1,8 +1,7 @@
 -- What an outstation accepted are some of the commands that were sent to it for the first time.
-use Rattle.std.proofs.Common.{◌≡◌, ℕ, Bool, true, false, List, [], ◌∷◌, ◌++◌, ◌⊎◌, inl, inr, Option, Some, None, refl, ap, sym, subst, ◌∙◌, append_assoc, if◌then◌else◌}
+use Rattle.std.proofs.Common.{◌≡◌, ℕ, Bool, true, false, List, [], ◌∷◌, ◌++◌, inl, inr, Option, Some, None, refl, ap, sym, subst, ◌∙◌, append_assoc, if◌then◌else◌}
 use Rattle.std.specs.List.{flat_map, AllByRecursion}
 use Rattle.link.specs.declared.service.Service.{Service}
-use Rattle.link.specs.declared.service.Service.TheVariants.{Class1, Class2, Command}
 use Rattle.link.specs.declared.service.Asked.{Asked}
 use Rattle.link.specs.declared.service.Asked.TheVariants.{Status, Reset, Counted}
 use Rattle.link.specs.declared.answer.Answer.{Answer}
@@ -57,10 +56,10 @@ in_sessions a pending (x ∷ xs) (turn ∷ turns) =
     go true is now later =
         let f : IsFresh x.request (answer_to a x) = fresh x.request (answer_to a x) is in
         let session : first_sendings a None (x ∷ (before_reset a xs turns).exchanges) ≡ first_sendings a None (before_reset a xs turns).exchanges =
-            ap (λ (l : List (List ℕ)). l ++ first_sendings a (pending_by x.request (answer_to a x) None) (before_reset a xs turns).exchanges) (f.sends None)
-            ∙ ap (λ (o : Option Service). first_sendings a o (before_reset a xs turns).exchanges) (f.leaves None) in
+        ap (λ (l : List (List ℕ)). l ++ first_sendings a (pending_by x.request (answer_to a x) None) (before_reset a xs turns).exchanges) (f.sends None)
+        ∙ ap (λ (o : Option Service). first_sendings a o (before_reset a xs turns).exchanges) (f.leaves None) in
         let all : first_sendings a pending (x ∷ xs) ≡ first_sendings a None xs =
-            ap (λ (l : List (List ℕ)). l ++ first_sendings a (pending_by x.request (answer_to a x) pending) xs) (f.sends pending) ∙ ap (λ (o : Option Service). first_sendings a o xs) (f.leaves pending) in
+        ap (λ (l : List (List ℕ)). l ++ first_sendings a (pending_by x.request (answer_to a x) pending) xs) (f.sends pending) ∙ ap (λ (o : Option Service). first_sendings a o xs) (f.leaves pending) in
         subst (IsSublist (first_sendings a None (x ∷ (before_reset a xs turns).exchanges) ++ flat_map (in_session a) (sessions a xs turns))) (sym all)
         (subst (λ (l : List (List ℕ)). IsSublist (l ++ flat_map (in_session a) (sessions a xs turns)) (first_sendings a None xs)) (sym session) now)
     go false is now later =
@@ -97,7 +96,7 @@ accepted_all : (a : ℕ) (ss : List Session) → AllByRecursion (λ s. AcceptsSe
 accepted_all a [] h = tt
 accepted_all a (s ∷ ss) h = sub_append (commands (all_done s.turns)) (in_session a s) (flat_map (λ (s : Session). commands (all_done s.turns)) ss) (flat_map (in_session a) ss) (accepted_some a s h.0) (accepted_all a ss h.1)
 
-commands-append : (es fs : List Effect) → commands (es ++ fs) ≡ commands es ++ commands fs
+pub commands-append : (es fs : List Effect) → commands (es ++ fs) ≡ commands es ++ commands fs
 commands-append [] fs = refl
 commands-append (e ∷ es) fs = ap (λ (l : List (List ℕ)). accepted_by e ++ l) (commands-append es fs) ∙ sym (append_assoc (accepted_by e) (commands es) (commands fs))
 

@@ -1,6 +1,6 @@
 -- What an event or a request makes of the steps of commands, as the exchanges show them and as the course tells them.
-use Rattle.std.specs.Prelude.{◌==◌, ◌&&◌, not, option_and_then, option_map}
-use Rattle.std.proofs.Common.{◌≡◌, ℕ, Bool, true, false, List, [], ◌∷◌, ◌++◌, ◌⊎◌, inl, inr, map, Option, Some, None, refl, ap, sym, subst, ◌∙◌, append_assoc, eq-eqb, if◌then◌else◌}
+use Rattle.std.specs.Prelude.{◌==◌, ◌&&◌, not}
+use Rattle.std.proofs.Common.{◌≡◌, ℕ, Bool, true, false, List, [], ◌∷◌, ◌++◌, map, Option, Some, None, refl, ap, sym, ◌∙◌, append_assoc, eq-eqb, if◌then◌else◌}
 use Rattle.std.proofs.lemmas.List.{append-nil}
 use Rattle.std.proofs.lemmas.Bool.{eqb-true}
 use Rattle.ft12.specs.declared.frame.Frame.{Frame}
@@ -15,13 +15,12 @@ use Rattle.link.specs.declared.outcome.Outcome.{Outcome}
 use Rattle.link.specs.declared.outcome.Outcome.TheVariants as outcome
 use Rattle.link.specs.declared.procedure.Link.{Link}
 use Rattle.link.specs.declared.procedure.Link.TheVariants.{Down, Available, Next, Held}
-use Rattle.link.specs.Answers.{answer_of}
-use Rattle.link.specs.Exchanges.{Exchange, LineExchange, OpenExchange, Exchanges, Sending, as_list, all_of, answer_to, begun_by, heard_octets, timed, view, views, whole_of, with_station}
+use Rattle.link.specs.Exchanges.{Exchange, LineExchange, OpenExchange, Exchanges, all_of, answer_to, view, views, with_station}
 use Rattle.link.specs.Procedure.{MaySend, is_held}
 use Rattle.link.specs.Primary.{is_command, outcome_of}
 use Rattle.link.specs.Delivery.{pending_by, pending_after, first_sending}
 use Rattle.command.specs.History.{History, Sent, Accepted, Refused}
-use Rattle.delivery.specs.Commands.{LineStep, Begun, Confirmed, Busy, said_of, steps_at, steps_in, first_sendings, last_sent, steps_told, sent_to}
+use Rattle.delivery.specs.Commands.{LineStep, Begun, Confirmed, Busy, said_of, steps_in, first_sendings, last_sent, steps_told, sent_to}
 use Rattle.delivery.proofs.Steps.{pending_more, steps_more, sendings_more, Pends, AreProper, none_said, no_first}
 use Rattle.delivery.proofs.History.{LineTold, line_told}
 
@@ -119,7 +118,7 @@ module _ (a k : ℕ) (xs : List Exchange) (request : Asked) (front later : Optio
       let first : List LineStep = map (λ (asdu : List ℕ). Begun asdu) (first_sending pending request) in
       let old : List LineStep = steps_in a None xs in
       let was : steps_in a None (xs ++ before_it ∷ []) ≡ old ++ first =
-          steps_more a None xs before_it ∙ ap (λ (o : Option Answer). old ++ (first ++ said_of request o)) none ∙ ap (λ (l : List LineStep). old ++ (first ++ l)) (none_said request) ∙ ap (λ (l : List LineStep). old ++ l) (append-nil first) in
+      steps_more a None xs before_it ∙ ap (λ (o : Option Answer). old ++ (first ++ said_of request o)) none ∙ ap (λ (l : List LineStep). old ++ (first ++ l)) (none_said request) ∙ ap (λ (l : List LineStep). old ++ l) (append-nil first) in
       steps_more a None xs after_it ∙ ap (λ (o : Option Answer). old ++ (first ++ said_of request o)) is
       ∙ sym (append_assoc old first (said_of request m)) ∙ ap (λ (l : List LineStep). l ++ said_of request m) (sym was)
 
@@ -305,9 +304,9 @@ module _ (a k : ℕ) (xs : List Exchange) (request : Asked) (front : Option Fram
         steps = ap (λ (l : LineTold). l.steps) same ∙ ap (λ (b : Bool). if b then steps_told k h ++ Begun asdu ∷ [] else steps_told k h) (here_is k)
             ∙ ap (λ (l : List LineStep). l ++ Begun asdu ∷ []) t.steps ∙ sym (asked_steps (asdu ∷ []) none first);
         last = λ other e.
-        let held : Some (Command asdu) ≡ Some (Command other) = sym (ap (λ (r : Asked). pending_by r None (pending_after a None xs)) is) ∙ sym (asked_pending none) ∙ e in
-        let same_one : asdu ≡ other = cc in
-        ap (λ (l : LineTold). l.last) same ∙ ap (λ (b : Bool). if b then asdu else last_sent k h) (here_is k) ∙ same_one;
+            let held : Some (Command asdu) ≡ Some (Command other) = sym (ap (λ (r : Asked). pending_by r None (pending_after a None xs)) is) ∙ sym (asked_pending none) ∙ e in
+            let same_one : asdu ≡ other = cc in
+            ap (λ (l : LineTold). l.last) same ∙ ap (λ (b : Bool). if b then asdu else last_sent k h) (here_is k) ∙ same_one;
         sent = ap (λ (l : LineTold). l.sent) same ∙ ap (λ (b : Bool). if b then sent_to k h ++ asdu ∷ [] else sent_to k h) (here_is k)
             ∙ ap (λ (l : List (List ℕ)). l ++ asdu ∷ []) t.sent ∙ sym (asked_sendings (asdu ∷ []) first);
       }

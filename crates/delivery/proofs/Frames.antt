@@ -1,20 +1,16 @@
 -- The frames of a course: they fit, and where no connection is open there are none.
-use Rattle.std.proofs.Common.{◌≡◌, ℕ, ◌+◌, Bool, true, false, List, [], ◌∷◌, ◌++◌, length, Option, Some, None, refl, ap, sym, subst, ◌∙◌, append_assoc, length-append, arith, if◌then◌else◌}
-use Rattle.std.specs.List.{AllByRecursion}
-use Rattle.std.proofs.lemmas.List.{append-nil}
+use Rattle.std.proofs.Common.{◌≡◌, ℕ, Bool, true, false, List, [], ◌∷◌, ◌++◌, length, refl, ap, sym, subst, ◌∙◌, length-append, arith, if◌then◌else◌}
 use Rattle.apci.specs.declared.apdu.Apdu.{Apdu}
 use Rattle.apci.specs.declared.apdu.Apdu.TheVariants.{I, S, U}
 use Rattle.apci.specs.Spelling.{spelling}
-use Rattle.session.specs.declared.kinds.Close.{Close}
+
 use Rattle.session.specs.declared.kinds.Close.TheVariants.{Grammar, SendNumber, ReceiveNumber, Stopped, Timeout, OwnAnswers, Replaced}
 use Rattle.session.specs.History.{History}
-use Rattle.gateway.specs.Log.{Log, LogEntry, Came, Went, Opened, LineIn, TcpIn, CutOff, Ticked, LineOut, TcpOut, Closed, latest}
+use Rattle.gateway.specs.Log.{Log, Came, Went, Opened, LineIn, TcpIn, CutOff, Ticked, LineOut, TcpOut, Closed, latest}
 use Rattle.gateway.specs.Streams.{spelled, AllFit}
-use Rattle.gateway.specs.Frames.{Connection}
-use Rattle.gateway.specs.Connections.{Channel, present, past, AreConnections}
+use Rattle.gateway.specs.Connections.{Channel, present}
 use Rattle.gateway.specs.Reports.{Setup}
-use Rattle.gateway.specs.Works.{Works}
-use Rattle.gateway.specs.Course.{Course, came_frames, here_of, with_frame, with_frames, told_sent, with_sent, ended_course, opened_course, works_at, closed_course, with_works, IsLeft, Runs}
+use Rattle.gateway.specs.Course.{Course, came_frames, with_frames, AreTaken, told_sent, Runs}
 
 -- No frame has no octets.
 
@@ -49,15 +45,7 @@ none_received (Went now (Closed Timeout) ∷ log) h = refl
 none_received (Went now (Closed OwnAnswers) ∷ log) h = refl
 none_received (Went now (Closed Replaced) ∷ log) h = none_received log h
 
--- Frames that come join those that came.
-
-pub came_more : (p : Setup) (frames : List Apdu) (now : ℕ) (c : Course) → came_frames (with_frames p frames now c).talk ≡ frames ++ came_frames c.talk
-came_more p [] now c = refl
-came_more p (frame ∷ frames) now c = ap (λ (l : List Apdu). frame ∷ l) (came_more p frames now c)
-
-pub sent_more : (p : Setup) (frames : List Apdu) (now : ℕ) (c : Course) → (with_frames p frames now c).earlier ≡ c.earlier
-sent_more p [] now c = refl
-sent_more p (frame ∷ frames) now c = sent_more p frames now c
+-- A frame that goes out is none that came.
 
 pub told_came : (frame : Apdu) (now : ℕ) (h : History) → came_frames (told_sent frame now h) ≡ came_frames h
 told_came (I ns nr asdu) now h = refl
@@ -87,47 +75,7 @@ none_came p (Went now (Closed Timeout) ∷ log) c r closed = ap (λ (x : Course)
 none_came p (Went now (Closed OwnAnswers) ∷ log) c r closed = ap (λ (x : Course). came_frames x.talk) r.2
 none_came p (Went now (Closed Replaced) ∷ log) c r closed = ap (λ (x : Course). came_frames x.talk) r.2 ∙ none_came p log r.0 r.1 closed
 
--- The frames fit.
-
-abbrev pub AllFitted : List Connection → Type 0
-AllFitted cs = AllByRecursion (λ (x : Connection). AllFit x.received_frames) cs
-
-pub record IsFit (c : Course) : Type 0 where
-  pub here : AllFit (came_frames c.talk)
-  pub earlier : AllFitted c.earlier
-
-fit_parts : (xs ys : List Apdu) → AllFit (xs ++ ys) → AllFit xs × AllFit ys
-fit_parts [] ys h = (tt, h)
-fit_parts (x ∷ xs) ys h = let rest = fit_parts xs ys h.1 in ((h.0, rest.0), rest.1)
-
-pub fit_frames : (p : Setup) (frames : List Apdu) (now : ℕ) (before after : Course) → after ≡ with_frames p frames now before → IsFit after → AllFit frames × IsFit before
-fit_frames p frames now before after is f =
-    let parts = fit_parts frames (came_frames before.talk) (subst AllFit (ap (λ (x : Course). came_frames x.talk) is ∙ came_more p frames now before) f.here) in
-    (parts.0, record {
-      here = parts.1;
-      earlier = subst AllFitted (ap (λ (x : Course). x.earlier) is ∙ sent_more p frames now before) f.earlier;
-    })
-
--- the course before had the same frames
-pub fit_same : (before after : Course) → came_frames after.talk ≡ came_frames before.talk → after.earlier ≡ before.earlier → IsFit after → IsFit before
-fit_same before after talk earlier f = record { here = subst AllFit talk f.here; earlier = subst AllFitted earlier f.earlier }
-
-pub fit_ended : (is_open : Bool) (w : Works) (c : Course) → (is_open ≡ false → came_frames c.talk ≡ []) → AllFitted (ended_course is_open w c).earlier → IsFit c
-fit_ended true w c none f = record { here = f.0; earlier = f.1 }
-fit_ended false w c none f = record { here = subst AllFit (sym (none refl)) tt; earlier = f }
-
-pub fit_closed : (p : Setup) (cause : Close) (is_open : Bool) (at : ℕ) (c : Course) → (is_open ≡ false → came_frames c.talk ≡ []) → IsFit (closed_course p cause is_open at c) → IsFit c
-fit_closed p Grammar is_open at c none f = fit_ended is_open c.works c none f.earlier
-fit_closed p SendNumber is_open at c none f = fit_ended is_open c.works c none f.earlier
-fit_closed p ReceiveNumber is_open at c none f = fit_ended is_open c.works c none f.earlier
-fit_closed p Stopped is_open at c none f = fit_ended is_open c.works c none f.earlier
-fit_closed p Timeout is_open at c none f = fit_ended is_open (works_at p Timeout at c.works) c none f.earlier
-fit_closed p OwnAnswers is_open at c none f = fit_ended is_open c.works c none f.earlier
-fit_closed p Replaced is_open at c none f = f
-
--- those of the connections of a log do
-pub connections_fit : (channels : List Channel) (cs : List Connection) → AreConnections channels cs → AllFitted cs
-connections_fit [] [] h = tt
-connections_fit [] (c ∷ cs) h = absurd h
-connections_fit (octets ∷ channels) [] h = absurd h
-connections_fit (octets ∷ channels) (c ∷ cs) h = (h.1.fit, connections_fit channels cs h.2)
+-- The frames that are taken fit.
+pub taken_fit : (p : Setup) (log : Log) (now : ℕ) (frames : List Apdu) (c : Course) → AreTaken p log now frames c → AllFit frames
+taken_fit p log now [] c h = tt
+taken_fit p log now (frame ∷ older) c h = (h.0.fits, taken_fit p log now older c h.1)

@@ -1,12 +1,10 @@
 -- The commands that were sent are some of those that were forwarded, in order, each at most once.
-use Rattle.std.specs.Prelude.{◌==◌, slice_get, option_map}
-use Rattle.std.proofs.Common.{◌≡◌, ℕ, zero, suc, ◌+◌, ◌<◌, ◌≤◌, Bool, true, false, List, [], ◌∷◌, ◌++◌, map, take, drop, length, Option, Some, None, refl, ap, sym, subst, ◌∙◌, append_assoc, length-append, arith, if◌then◌else◌}
-use Rattle.std.specs.Option.{option_map_or}
+use Rattle.std.specs.Prelude.{◌==◌, option_map}
+use Rattle.std.proofs.Common.{◌≡◌, ℕ, zero, suc, ◌<◌, ◌≤◌, Bool, true, false, List, [], ◌∷◌, ◌++◌, map, take, drop, length, Option, Some, None, refl, ap, sym, subst, ◌∙◌, append_assoc, length-append, arith, if◌then◌else◌}
 use Rattle.std.specs.List.{AllByRecursion}
 use Rattle.std.proofs.lemmas.List.{append-nil, map-append, take-append-le}
 use Rattle.std.proofs.lemmas.Bool.{eqb-true}
-use Rattle.command.specs.Judging.{fault}
-use Rattle.command.specs.History.{History, Told, Judged, Sent, Accepted, Refused, GivenUp, Mirrored, Offered, Answered, Ended, first, is_for, forwarded_to, sent_count, next_for, next_octets, ForwardsCommands, GivesOwnAnswers}
+use Rattle.command.specs.History.{History, Judged, Sent, Accepted, Refused, GivenUp, Mirrored, Offered, Answered, Ended, first, is_for, forwarded_to, sent_count, next_for, next_octets, ForwardsCommands, GivesOwnAnswers}
 use Rattle.gateway.specs.Reports.{Setup}
 use Rattle.delivery.specs.Merges.{IsSublist}
 use Rattle.delivery.specs.Commands.{sent_to, asdus_judged, forwarded_in, IsCommandTo, on_line_of}

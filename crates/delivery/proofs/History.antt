@@ -1,11 +1,9 @@
 -- What the calls of the course leave of the history of commands.
-use Rattle.std.proofs.Common.{◌≡◌, ℕ, Bool, true, false, List, [], ◌∷◌, ◌++◌, Option, Some, None, refl, ap, sym, ◌∙◌, if◌then◌else◌}
-use Rattle.ft12.specs.declared.frame.LinkSize.{LinkSize}
-use Rattle.asdu.specs.Asdu.{AsduValue}
+use Rattle.std.proofs.Common.{◌≡◌, ℕ, Bool, true, false, List, [], ◌∷◌, Option, Some, None, refl, ◌∙◌, if◌then◌else◌}
 use Rattle.command.specs.State.{State, has_room, offered, first_answer}
 use Rattle.command.specs.Judging.{judged}
-use Rattle.command.specs.History.{Told, Judged, Sent, Accepted, Refused, GivenUp, Mirrored, Offered, Answered, Ended, History}
-use Rattle.command.specs.Calls.{Call, Judge, PutOnLine, Accept, Busy, Lose, Mirror, Own, SendOwn, Cut, Due, Run, run, after_answer}
+use Rattle.command.specs.History.{Judged, GivenUp, Offered, Answered, Ended, History}
+use Rattle.command.specs.Calls.{Call, Judge, Own, SendOwn, Run, run, after_answer}
 use Rattle.gateway.specs.Reports.{Setup}
 use Rattle.gateway.specs.Works.{keep_calls, listed, judged_calls}
 use Rattle.delivery.specs.Commands.{LineStep, last_sent, steps_told, sent_to, asdus_judged}

@@ -1,44 +1,37 @@
 -- The course of a log and the exchanges of its line are one story: from entry to entry.
-use Rattle.std.specs.Prelude.{◌==◌, ◌&&◌, not, option_and_then, option_map}
-use Rattle.std.proofs.Common.{◌≡◌, ℕ, Bool, true, false, List, [], ◌∷◌, ◌++◌, Option, Some, None, refl, ap, sym, subst, ◌∙◌, append_assoc, if◌then◌else◌}
-use Rattle.std.proofs.lemmas.List.{append-nil}
+use Rattle.std.specs.Prelude.{not, option_and_then, option_map}
+use Rattle.std.proofs.Common.{◌≡◌, ℕ, Bool, true, false, List, [], ◌∷◌, Option, Some, None, refl, ap, sym, subst, ◌∙◌, if◌then◌else◌}
 use Rattle.std.proofs.lemmas.Bool.{and_parts}
 use Rattle.ft12.specs.Fronts.{front_of}
 use Rattle.ft12.specs.Spelling as line
 use Rattle.asdu.specs.Asdu.{AsduValue}
 use Rattle.apci.specs.declared.apdu.Apdu.{Apdu}
-use Rattle.apci.specs.declared.apdu.Apdu.TheVariants.{I, S, U}
 use Rattle.link.specs.declared.service.Service.TheVariants.{Command}
-use Rattle.link.specs.declared.service.Asked.{Asked}
 use Rattle.link.specs.declared.service.Asked.TheVariants.{Counted}
-use Rattle.link.specs.declared.outcome.Outcome.{Outcome}
-use Rattle.link.specs.declared.settings.LinkSettings.{LinkSettings}
 use Rattle.link.specs.Exchanges.{Exchanges, Sending, begun_by, heard_current, timed_current, reports_of_exchanges}
 use Rattle.link.specs.Procedure.{is_held}
 use Rattle.link.specs.Requests.{request_frame, request_in}
 use Rattle.link.specs.Turns.{station_at}
-use Rattle.link.specs.Primary.{Primary, asked, sending, received, received_outcome, timed_out, is_command, withdrawn}
+use Rattle.link.specs.Primary.{Primary, asked, sending, received, received_outcome, timed_out, is_command}
 use Rattle.link.specs.Telling.{Tells}
 use Rattle.session.specs.declared.kinds.Close.{Close}
 use Rattle.session.specs.declared.kinds.Close.TheVariants.{Grammar, SendNumber, ReceiveNumber, Stopped, Timeout, OwnAnswers, Replaced}
 use Rattle.command.specs.State.{octets_waiting}
 use Rattle.command.specs.Calls.{Call, Cut}
-use Rattle.gateway.specs.Log.{Log, Input, Came, Went, Opened, LineIn, TcpIn, CutOff, Ticked, LineOut, TcpOut, Closed, latest}
+use Rattle.gateway.specs.Log.{Log, Came, Went, Opened, LineIn, TcpIn, CutOff, Ticked, LineOut, TcpOut, Closed, latest}
 use Rattle.gateway.specs.Streams.{AllFit}
-use Rattle.gateway.specs.Frames.{Connection}
 use Rattle.gateway.specs.Connections.{present}
 use Rattle.gateway.specs.Reports.{Setup, address_at, sent_to, sending_in, exchanges_of}
 use Rattle.gateway.specs.Traffic.{ActsRightly}
-use Rattle.gateway.specs.Works.{Works, tasks_of, LearnsOf, begun_works, cut_works, ready_works, settled_works, with_offers, unasked_works, done_works, asked_works, is_first_command, put_calls}
-use Rattle.gateway.specs.Course.{Course, came_frames, here_of, with_frames, with_sent, ended_course, opened_course, works_at, closed_course, with_works, IsLeft, Comes, SendsNext, room_in, Runs}
-use Rattle.delivery.specs.Commands.{asdus_in, asdus_received, asdus_judged}
+use Rattle.gateway.specs.Works.{Works, tasks_of, LearnsOf, begun_works, cut_works, ready_works, settled_works, unasked_works, done_works, asked_works, is_first_command, put_calls}
+use Rattle.gateway.specs.Course.{Course, came_frames, with_frames, with_sent, closed_course, with_works, IsLeft, SendsNext, room_in, Runs}
 use Rattle.delivery.specs.Joined.{IsSetUp, mirrored_in, command_reports, AreValues}
 use Rattle.delivery.proofs.Waiting.{AnswersStay}
-use Rattle.delivery.proofs.History.{told_of, run_of, line_told, WaitsFit, one_fits}
-use Rattle.delivery.proofs.Exchanging.{exchanges_at, IsTold, stays_told, told_by}
+use Rattle.delivery.proofs.History.{told_of, line_told, WaitsFit, one_fits}
+use Rattle.delivery.proofs.Exchanging.{exchanges_at, IsTold, stays_told}
 use Rattle.delivery.proofs.Line.{LinkLaws, heard_told, asked_told, timed_told}
-use Rattle.delivery.proofs.Works.{IsLearnt, learnt_of, IsQuiet, heard_quiet, heard_line, heard_judged, judged_by, sent_quiet, sent_line, sent_judged, settled_quiet, settled_line, settled_judged, offers_tell, put_told, put_mirrors, put_judged, put_fits}
-use Rattle.delivery.proofs.Frames.{came_more, sent_more, told_came, none_came, IsFit, AllFitted, fit_frames, fit_same, fit_ended, fit_closed}
+use Rattle.delivery.proofs.Works.{IsLearnt, learnt_of, IsQuiet, heard_quiet, heard_line, sent_quiet, sent_line, settled_quiet, settled_line, offers_tell, put_told, put_mirrors, put_fits}
+use Rattle.delivery.proofs.Frames.{taken_fit}
 
 -- the works are what these exchanges make them
 pub record Joins (p : Setup) (e : Exchanges) (w : Works) : Type 0 where
@@ -165,7 +158,7 @@ module _ (laws : LinkLaws) (stay : AnswersStay) (p : Setup) where
       let ready : Joins p (exchanges_of p log) (ready_works p (latest log) before.works) = ready_joins (latest log) (exchanges_of p log) before.works j in
       let read : sending_in p octets ≡ Some sends.request = ap (λ (xs : List ℕ). sending_in p xs) sends.spelled_so ∙ back (ready_works p (latest log) before.works).line (exchanges_of p log) (room_in p log before) sends.request set ready.tells sends.next in
       let made : Joins p (begun_by (latest log) (Some sends.request) (exchanges_of p log)) (asked_works (latest log) (room_in p log before) sends.request (ready_works p (latest log) before.works)) =
-          asked_joins (latest log) (room_in p log before) sends.request (exchanges_of p log) (ready_works p (latest log) before.works) sends.next sends.waits ready in
+      asked_joins (latest log) (room_in p log before) sends.request (exchanges_of p log) (ready_works p (latest log) before.works) sends.next sends.waits ready in
       subst (λ (c : Course). Joins p (exchanges_of p (Went now (LineOut octets) ∷ log)) c.works) (sym sends.is)
       (subst (λ (e : Exchanges). Joins p e (asked_works (latest log) (room_in p log before) sends.request (ready_works p (latest log) before.works)))
       (sym (ap (λ (o : Option Sending). begun_by now o (exchanges_of p log)) read ∙ ap (λ (n : ℕ). begun_by n (Some sends.request) (exchanges_of p log)) moment)) made)
@@ -184,59 +177,43 @@ module _ (laws : LinkLaws) (stay : AnswersStay) (p : Setup) where
   moment_of : (log : Log) (now : ℕ) (octets : List ℕ) → ActsRightly p (Went now (LineOut octets) ∷ log) → now ≡ latest log
   moment_of log now octets acts = acts.0.moment
 
-  pub joins : (set : IsSetUp p) (log : Log) (c : Course) → Runs p log c → ActsRightly p log → IsFit c → Joins p (exchanges_of p log) c.works
-  joins set [] c r acts f = subst (λ (x : Course). Joins p (exchanges_of p []) x.works) (sym r) (record {
+  pub joins : (set : IsSetUp p) (log : Log) (c : Course) → Runs p log c → ActsRightly p log → Joins p (exchanges_of p log) c.works
+  joins set [] c r acts = subst (λ (x : Course). Joins p (exchanges_of p []) x.works) (sym r) (record {
     tells = laws.begins p.link p.addresses set.some set.fit;
     told = λ k. record { steps = refl; last = λ asdu e. cc; sent = refl };
     mirrors = tt;
     fits = tt;
   })
-  joins set (Came now (LineIn octets) ∷ log) c r acts f =
+  joins set (Came now (LineIn octets) ∷ log) c r acts =
       let at : ℕ = latest (Came now (LineIn octets) ∷ log) in
-      let left_fit : IsFit r.1 = fit_same r.1 c (ap (λ (x : Course). came_frames x.talk) r.5.2) (ap (λ (x : Course). x.earlier) r.5.2) f in
-      let before_fit : IsFit r.0 = fit_same r.0 r.1 (ap (λ (x : Course). came_frames x.talk) r.4.is) (ap (λ (x : Course). x.earlier) r.4.is) left_fit in
-      let before : Joins p (exchanges_of p log) r.0.works = joins set log r.0 r.2 acts before_fit in
-      let left : Joins p (exchanges_of p log) r.1.works = left_joins log r.0 r.1 (exchanges_of p log) r.4 before in
+      let left : Joins p (exchanges_of p log) r.1.works = left_joins log r.0 r.1 (exchanges_of p log) r.4 (joins set log r.0 r.2 acts) in
       subst (λ (x : Course). Joins p (exchanges_of p (Came now (LineIn octets) ∷ log)) x.works) (sym r.5.2) (heard_joins octets at _ (exchanges_of p log) r.1.works r.5.0 r.5.1 left)
-  joins set (Came now (TcpIn octets) ∷ log) c r acts f =
+  joins set (Came now (TcpIn octets) ∷ log) c r acts =
       let at : ℕ = latest (Came now (TcpIn octets) ∷ log) in
-      let parts = fit_frames p r.5.frames at (with_works (begun_works (TcpIn octets) at r.1.works) r.1) c r.5.taken f in
-      let before_fit : IsFit r.0 = fit_same r.0 r.1 (ap (λ (x : Course). came_frames x.talk) r.4.is) (ap (λ (x : Course). x.earlier) r.4.is) (fit_same r.1 (with_works (begun_works (TcpIn octets) at r.1.works) r.1) refl refl parts.1) in
-      let left : Joins p (exchanges_of p log) r.1.works = left_joins log r.0 r.1 (exchanges_of p log) r.4 (joins set log r.0 r.2 acts before_fit) in
+      let left : Joins p (exchanges_of p log) r.1.works = left_joins log r.0 r.1 (exchanges_of p log) r.4 (joins set log r.0 r.2 acts) in
       subst (λ (x : Course). Joins p (exchanges_of p (Came now (TcpIn octets) ∷ log)) x.works) (sym r.5.taken)
-      (frames_join r.5.frames at (exchanges_of p (Came now (TcpIn octets) ∷ log)) (with_works (begun_works (TcpIn octets) at r.1.works) r.1) parts.0
+      (frames_join r.5.frames at (exchanges_of p (Came now (TcpIn octets) ∷ log)) (with_works (begun_works (TcpIn octets) at r.1.works) r.1)
+      (taken_fit p (Came at (TcpIn octets) ∷ log) at r.5.frames (with_works (begun_works (TcpIn octets) at r.1.works) r.1) r.5.each)
       (timed_joins at (begun_works (TcpIn octets) at r.1.works).silent (exchanges_of p log) r.1.works left))
-  joins set (Came now Ticked ∷ log) c r acts f =
+  joins set (Came now Ticked ∷ log) c r acts =
       let at : ℕ = latest (Came now Ticked ∷ log) in
-      let left_fit : IsFit r.1 = fit_same r.1 c (ap (λ (x : Course). came_frames x.talk) r.5) (ap (λ (x : Course). x.earlier) r.5) f in
-      let before_fit : IsFit r.0 = fit_same r.0 r.1 (ap (λ (x : Course). came_frames x.talk) r.4.is) (ap (λ (x : Course). x.earlier) r.4.is) left_fit in
-      let left : Joins p (exchanges_of p log) r.1.works = left_joins log r.0 r.1 (exchanges_of p log) r.4 (joins set log r.0 r.2 acts before_fit) in
+      let left : Joins p (exchanges_of p log) r.1.works = left_joins log r.0 r.1 (exchanges_of p log) r.4 (joins set log r.0 r.2 acts) in
       subst (λ (x : Course). Joins p (exchanges_of p (Came now Ticked ∷ log)) x.works) (sym r.5) (timed_joins at (begun_works Ticked at r.1.works).silent (exchanges_of p log) r.1.works left)
-  joins set (Came now Opened ∷ log) c r acts f =
+  joins set (Came now Opened ∷ log) c r acts =
       let at : ℕ = latest (Came now Opened ∷ log) in
-      let talk : came_frames r.1.talk ≡ came_frames r.0.talk = ap (λ (x : Course). came_frames x.talk) r.4.is in
-      let left_fit : IsFit r.1 = fit_ended (present log).is_open (begun_works Opened at r.1.works) r.1 (λ closed. talk ∙ none_came p log r.0 r.2 closed) (subst (λ (x : Course). AllFitted x.earlier) r.5 f.earlier) in
-      let before_fit : IsFit r.0 = fit_same r.0 r.1 talk (ap (λ (x : Course). x.earlier) r.4.is) left_fit in
-      let left : Joins p (exchanges_of p log) r.1.works = left_joins log r.0 r.1 (exchanges_of p log) r.4 (joins set log r.0 r.2 acts before_fit) in
+      let left : Joins p (exchanges_of p log) r.1.works = left_joins log r.0 r.1 (exchanges_of p log) r.4 (joins set log r.0 r.2 acts) in
       subst (λ (x : Course). Joins p (exchanges_of p (Came now Opened ∷ log)) x.works) (sym r.5)
       (cut_joins (exchanges_of p (Came now Opened ∷ log)) (begun_works Opened at r.1.works) (timed_joins at (begun_works Opened at r.1.works).silent (exchanges_of p log) r.1.works left))
-  joins set (Came now CutOff ∷ log) c r acts f =
+  joins set (Came now CutOff ∷ log) c r acts =
       let at : ℕ = latest (Came now CutOff ∷ log) in
-      let talk : came_frames r.1.talk ≡ came_frames r.0.talk = ap (λ (x : Course). came_frames x.talk) r.4.is in
-      let left_fit : IsFit r.1 = fit_ended (present log).is_open (begun_works CutOff at r.1.works) r.1 (λ closed. talk ∙ none_came p log r.0 r.2 closed) (subst (λ (x : Course). AllFitted x.earlier) r.5 f.earlier) in
-      let before_fit : IsFit r.0 = fit_same r.0 r.1 talk (ap (λ (x : Course). x.earlier) r.4.is) left_fit in
-      let left : Joins p (exchanges_of p log) r.1.works = left_joins log r.0 r.1 (exchanges_of p log) r.4 (joins set log r.0 r.2 acts before_fit) in
+      let left : Joins p (exchanges_of p log) r.1.works = left_joins log r.0 r.1 (exchanges_of p log) r.4 (joins set log r.0 r.2 acts) in
       subst (λ (x : Course). Joins p (exchanges_of p (Came now CutOff ∷ log)) x.works) (sym r.5)
       (cut_joins (exchanges_of p (Came now CutOff ∷ log)) (begun_works CutOff at r.1.works) (timed_joins at (begun_works CutOff at r.1.works).silent (exchanges_of p log) r.1.works left))
-  joins set (Went now (LineOut octets) ∷ log) c r acts f =
-      let before_fit : IsFit r.0 = fit_same r.0 c (ap (λ (x : Course). came_frames x.talk) r.2.is) (ap (λ (x : Course). x.earlier) r.2.is) f in
-      sends_joins set log now octets r.0 c (moment_of log now octets acts) r.2 (joins set log r.0 r.1 acts.1 before_fit)
-  joins set (Went now (TcpOut octets) ∷ log) c r acts f =
-      let parts = fit_frames p r.4.frames (latest log) r.1 c r.4.taken f in
-      let sent_fit : IsFit (with_sent r.3.frame (latest log) r.0) = subst IsFit r.3.put parts.1 in
-      let before_fit : IsFit r.0 = fit_same r.0 (with_sent r.3.frame (latest log) r.0) (told_came r.3.frame (latest log) r.0.talk) refl sent_fit in
-      let sent : Joins p (exchanges_of p log) r.1.works = subst (λ (x : Course). Joins p (exchanges_of p log) x.works) (sym r.3.put) (sent_joins r.3.frame (latest log) (exchanges_of p log) r.0 (joins set log r.0 r.2 acts.1 before_fit)) in
-      subst (λ (x : Course). Joins p (exchanges_of p log) x.works) (sym r.4.taken) (frames_join r.4.frames (latest log) (exchanges_of p log) r.1 parts.0 sent)
-  joins set (Went now (Closed cause) ∷ log) c r acts f =
-      let before_fit : IsFit r.0 = fit_closed p cause (present log).is_open (latest log) r.0 (none_came p log r.0 r.1) (subst IsFit r.2 f) in
-      subst (λ (x : Course). Joins p (exchanges_of p log) x.works) (sym r.2) (closed_joins cause (present log).is_open (latest log) (exchanges_of p log) r.0 (joins set log r.0 r.1 acts.1 before_fit))
+  joins set (Went now (LineOut octets) ∷ log) c r acts =
+      sends_joins set log now octets r.0 c (moment_of log now octets acts) r.2 (joins set log r.0 r.1 acts.1)
+  joins set (Went now (TcpOut octets) ∷ log) c r acts =
+      let sent : Joins p (exchanges_of p log) r.1.works = subst (λ (x : Course). Joins p (exchanges_of p log) x.works) (sym r.3.put) (sent_joins r.3.frame (latest log) (exchanges_of p log) r.0 (joins set log r.0 r.2 acts.1)) in
+      subst (λ (x : Course). Joins p (exchanges_of p log) x.works) (sym r.4.taken)
+      (frames_join r.4.frames (latest log) (exchanges_of p log) r.1 (taken_fit p (Went now (TcpOut octets) ∷ log) (latest log) r.4.frames r.1 r.4.each) sent)
+  joins set (Went now (Closed cause) ∷ log) c r acts =
+      subst (λ (x : Course). Joins p (exchanges_of p log) x.works) (sym r.2) (closed_joins cause (present log).is_open (latest log) (exchanges_of p log) r.0 (joins set log r.0 r.1 acts.1))

@@ -1,5 +1,5 @@
 -- What the course judged are the ASDUs of the I frames that came.
-use Rattle.std.proofs.Common.{◌≡◌, ℕ, Bool, true, false, List, [], ◌∷◌, ◌++◌, Option, Some, None, refl, ap, sym, subst, ◌∙◌, append_assoc, if◌then◌else◌}
+use Rattle.std.proofs.Common.{◌≡◌, ℕ, Bool, true, false, List, [], ◌∷◌, ◌++◌, refl, ap, sym, subst, ◌∙◌, append_assoc, if◌then◌else◌}
 use Rattle.std.proofs.lemmas.List.{append-nil}
 use Rattle.ft12.specs.Fronts.{front_of}
 use Rattle.apci.specs.declared.apdu.Apdu.{Apdu}
@@ -8,11 +8,10 @@ use Rattle.link.specs.Primary.{received_outcome}
 use Rattle.session.specs.declared.kinds.Close.{Close}
 use Rattle.session.specs.declared.kinds.Close.TheVariants.{Grammar, SendNumber, ReceiveNumber, Stopped, Timeout, OwnAnswers, Replaced}
 use Rattle.gateway.specs.Log.{Log, Came, Went, Opened, LineIn, TcpIn, CutOff, Ticked, LineOut, TcpOut, Closed, latest}
-use Rattle.gateway.specs.Frames.{runs}
 use Rattle.gateway.specs.Connections.{present}
 use Rattle.gateway.specs.Reports.{Setup}
-use Rattle.gateway.specs.Works.{Works, begun_works, settled_works, ready_works, unasked_works, done_works, is_first_command}
-use Rattle.gateway.specs.Course.{Course, came_frames, here_of, first_course, with_frames, with_sent, ended_course, closed_course, works_at, with_works, IsLeft, room_in, Runs}
+use Rattle.gateway.specs.Works.{Works, begun_works, ready_works, unasked_works, done_works, is_first_command}
+use Rattle.gateway.specs.Course.{Course, came_frames, here_of, with_frames, with_sent, ended_course, closed_course, works_at, with_works, IsLeft, room_in, Runs}
 use Rattle.delivery.specs.Commands.{asdus_in, asdus_received, asdus_judged}
 use Rattle.delivery.proofs.Waiting.{AnswersStay}
 use Rattle.delivery.proofs.History.{told_of}

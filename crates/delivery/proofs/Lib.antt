@@ -16,3 +16,5 @@ pub mod Given
 pub mod Accepted
 pub mod Centre
 pub mod Settings
+pub mod Confirmed
+mod Examples

@@ -1,6 +1,6 @@
 -- The exchanges of the line, and what the course tells of them, as the line goes on.
 use Rattle.std.specs.Prelude.{◌==◌, ◌&&◌, not, option_and_then, slice_index}
-use Rattle.std.proofs.Common.{◌≡◌, ℕ, ◌<◌, Bool, true, false, All, List, [], ◌∷◌, ◌++◌, ◌⊎◌, inl, inr, length, Option, Some, None, refl, ap, sym, subst, ◌∙◌, if◌then◌else◌}
+use Rattle.std.proofs.Common.{◌≡◌, ℕ, ◌<◌, Bool, true, false, All, List, [], ◌∷◌, ◌++◌, inl, inr, length, Option, Some, None, refl, ap, sym, subst, ◌∙◌, if◌then◌else◌}
 use Rattle.std.proofs.lemmas.List.{append-nil}
 use Rattle.std.proofs.lemmas.Bool.{eqb-true}
 use Rattle.ft12.specs.declared.frame.Frame.{Frame}
@@ -8,23 +8,20 @@ use Rattle.ft12.specs.declared.frame.Front.{Front}
 use Rattle.ft12.specs.declared.frame.LinkSize.{LinkSize}
 use Rattle.ft12.specs.Fronts.{front_of}
 use Rattle.ft12.specs.Spelling.{spelling}
-use Rattle.link.specs.declared.service.Service.{Service}
 use Rattle.link.specs.declared.service.Asked.{Asked}
-use Rattle.link.specs.declared.answer.Answer.{Answer}
 use Rattle.link.specs.declared.settings.LinkSettings.{LinkSettings}
 use Rattle.link.specs.declared.procedure.Link.{Link}
 use Rattle.link.specs.declared.procedure.Link.TheVariants.{Down}
 use Rattle.link.specs.Answers.{answer_of}
-use Rattle.link.specs.Exchanges.{Exchange, LineExchange, OpenExchange, Exchanges, Sending, IsOutstanding, no_exchanges, all_of, answer_to, begun_by, heard_octets, heard_current, timed, timed_current, view, views, whole_of, with_station, reports_of_exchanges}
+use Rattle.link.specs.Exchanges.{Exchange, OpenExchange, Exchanges, Sending, IsOutstanding, no_exchanges, all_of, answer_to, begun_by, heard_octets, heard_current, timed, timed_current, view, views, whole_of, with_station, reports_of_exchanges}
 use Rattle.link.specs.Procedure.{MaySend, KeepsFrameCountBit, is_held, link_after}
 use Rattle.link.specs.Requests.{request_frame, request_in, FitsAddress, FitsAsked, IsUserData}
 use Rattle.link.specs.Turns.{station_at}
 use Rattle.link.specs.Primary.{Outstanding, Primary, start, asked, sending, sending_from, received, received_outcome, outcome_from, outcome_of, timed_out, is_command, offered_to, withdrawn}
-use Rattle.link.specs.Delivery.{pending_after}
-use Rattle.link.specs.Telling.{Tells, IsCurrent, IsAwaited, IsHeard, IsSaid, IsOver, AreLinks, past, report_in, IsFittingSending}
+use Rattle.link.specs.Telling.{Tells, IsCurrent, IsAwaited, IsHeard, IsOver, AreLinks, past, report_in, IsFittingSending}
 use Rattle.command.specs.History.{History}
 use Rattle.gateway.specs.Reports.{Setup, address_at}
-use Rattle.delivery.proofs.Steps.{last_may, Pends, pends, answers_proper}
+use Rattle.delivery.proofs.Steps.{last_may, pends, answers_proper}
 use Rattle.delivery.proofs.History.{line_told}
 use Rattle.delivery.proofs.Exchanging.{exchanges_at, at_append, alone, other_place, IsTold, stays_told, alike_told, told_by, heard_one, heard_far, told_asked, asked_one, asked_far}
 
@@ -126,7 +123,7 @@ module _ (laws : LinkLaws) (p : Setup) (q : Primary) (e : Exchanges) (tells : Te
       awaited o x is w t =
           let none : answer_to (address x.station) (view front x).exchange ≡ None = ap (λ (i : ℕ). answer_to (address i) (view front x).exchange) w.station ∙ nothing_said front (address q.turn) x o.heard w.heard in
           let told : line_told k new ≡ line_told k (told_by (outcome_of x.station x.request (answer_to (address x.station) (view front (heard_octets octets x)).exchange)) h) =
-              said ∙ ap (λ o. line_told k (told_by o h)) (laws.answered p.link p.addresses q e octets x tells is (none, w.waits)) in
+          said ∙ ap (λ o. line_told k (told_by o h)) (laws.answered p.link p.addresses q e octets x tells is (none, w.waits)) in
           subst (λ (l : List Exchange). IsTold (address k) l k new) (sym (split k (heard_octets octets x)))
           (at_last (address k) k (with_station k (views front e.ended)) x.station (view front x).exchange (view front (heard_octets octets x)).exchange h new
           (λ here before. heard_one (address k) k (with_station k (views front e.ended)) x.request (view front x).exchange.front (view front (heard_octets octets x)).exchange.front x.closed x.closed

@@ -2,9 +2,8 @@
 use Rattle.std.proofs.Common.{◌≡◌, ℕ, Bool, true, false, List, [], ◌∷◌, ◌++◌, refl, ap, sym, ◌∙◌, append_assoc, if◌then◌else◌}
 use Rattle.std.specs.List.{flat_map}
 use Rattle.std.proofs.lemmas.List.{append_cancel_right}
-use Rattle.link.specs.declared.service.Asked.{Asked}
 use Rattle.link.specs.Exchanges.{Exchange, answer_to}
-use Rattle.link.specs.Outstation.{Effect, Outstation, Turn, unreset, OutstationStep, OutstationRun, all_done}
+use Rattle.link.specs.Outstation.{Outstation, Turn, unreset, OutstationRun, all_done}
 use Rattle.link.specs.Delivery.{learnt, learnt_by, requests_of, IsHonest, is_reset, Session, with_first, before_reset, sessions}
 
 -- a turn at each exchange

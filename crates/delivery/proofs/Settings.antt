@@ -1,5 +1,5 @@
 -- The stations of settings are found by their link addresses.
-use Rattle.std.proofs.Common.{◌≡◌, ◌≢◌, ℕ, zero, suc, ◌<◌, ◌==◌, Bool, All, List, [], ◌∷◌, length, map, Option, Some, refl, ap, ◌∙◌, arith, eq-eqb}
+use Rattle.std.proofs.Common.{◌≢◌, ℕ, zero, suc, ◌<◌, All, List, [], ◌∷◌, length, map, Some, refl, ap, ◌∙◌, arith, eq-eqb}
 use Rattle.std.specs.Prelude.{if◌then◌else◌, option_map}
 use Rattle.std.specs.List.{AllByRecursion}
 use Rattle.std.proofs.lemmas.List.{length-map}

@@ -1,5 +1,5 @@
 -- How the steps of commands grow with the exchanges of a station.
-use Rattle.std.proofs.Common.{◌≡◌, ℕ, suc, Bool, true, false, List, [], ◌∷◌, ◌++◌, map, Option, Some, None, refl, ap, sym, ◌∙◌, append_assoc, nat_lt, if◌then◌else◌}
+use Rattle.std.proofs.Common.{◌≡◌, ℕ, suc, Bool, true, false, List, [], ◌∷◌, ◌++◌, Option, Some, None, refl, ap, sym, ◌∙◌, append_assoc, nat_lt, if◌then◌else◌}
 use Rattle.std.specs.Prelude.{◌==◌, ◌%◌, ◌||◌, ◌&&◌, option_and_then}
 use Rattle.std.proofs.lemmas.List.{append-nil}
 use Rattle.ft12.specs.declared.frame.Frame.{Frame}
@@ -13,7 +13,7 @@ use Rattle.link.specs.declared.answer.Answer.TheVariants.{Ready, Confirmed, Busy
 use Rattle.link.specs.declared.settings.LinkSettings.{LinkSettings}
 use Rattle.link.specs.declared.procedure.Link.{Link}
 use Rattle.link.specs.declared.procedure.Link.TheVariants.{Down, Available, Next, Held}
-use Rattle.link.specs.Answers.{unable_answer, service_answer, code_answer, single_answer, data_answer, comes_from, answer_of}
+use Rattle.link.specs.Answers.{unable_answer, code_answer, single_answer, data_answer, comes_from, answer_of}
 use Rattle.link.specs.Exchanges.{Exchange, answer_to}
 use Rattle.link.specs.Procedure.{held, after, after_outcome, after_silence, link_after, missed_so_far, MaySend, KeepsFrameCountBit}
 use Rattle.link.specs.Delivery.{pending_by, pending_after, first_sending}

@@ -1,37 +1,36 @@
 -- What the parts of a step make of the works of a course, beside its exchanges.
-use Rattle.std.specs.Prelude.{◌==◌, ◌&&◌, not, option_map}
-use Rattle.std.proofs.Common.{◌≡◌, ℕ, zero, suc, ◌<◌, ◌≤◌, Bool, true, false, All, List, [], ◌∷◌, ◌++◌, length, Option, Some, None, refl, ap, sym, subst, ◌∙◌, arith, if◌then◌else◌}
+use Rattle.std.specs.Prelude.{option_map}
+use Rattle.std.proofs.Common.{◌≡◌, ℕ, zero, suc, ◌≤◌, Bool, true, false, List, [], ◌∷◌, ◌++◌, length, Option, Some, None, refl, ap, sym, subst, ◌∙◌, arith, if◌then◌else◌}
 use Rattle.std.proofs.lemmas.List.{append-nil}
 use Rattle.asdu.specs.declared.sizes.Sizes.{Sizes}
 use Rattle.asdu.specs.Asdu.{AsduValue, IsAsdu}
 use Rattle.apci.specs.declared.apdu.Apdu.{Apdu}
 use Rattle.apci.specs.declared.apdu.Apdu.TheVariants.{I, S, U}
-use Rattle.apci.specs.Spelling.{Fits, IsOctet}
+use Rattle.apci.specs.Spelling.{Fits}
 use Rattle.link.specs.declared.service.Service.TheVariants.{Class1, Class2, Command}
 use Rattle.link.specs.declared.service.Asked.{Asked}
 use Rattle.link.specs.declared.service.Asked.TheVariants.{Status, Reset, Counted}
 use Rattle.arrayvec.specs.ArrayVec.{ArrayVec}
 use Rattle.link.specs.declared.outcome.Outcome.{Outcome}
 use Rattle.link.specs.declared.outcome.Outcome.TheVariants as outcome
-use Rattle.link.specs.Exchanges.{Exchanges, Sending}
+use Rattle.link.specs.Exchanges.{Exchanges}
 use Rattle.link.specs.Requests.{IsUserData}
-use Rattle.link.specs.Primary.{Primary, is_command, offered_to}
+use Rattle.link.specs.Primary.{Primary, is_command}
 use Rattle.link.specs.declared.settings.LinkSettings.{LinkSettings}
 use Rattle.link.specs.Telling.{Tells, report_in}
 use Rattle.command.specs.declared.waiting.Waiting.{Waiting}
-use Rattle.command.specs.State as tasks
 use Rattle.command.specs.State.{State, octets_waiting, oldest, oldest_for, line_of, refusal_of}
 use Rattle.command.specs.Judging.{judged}
-use Rattle.command.specs.History.{History, Told, Judged, Sent}
-use Rattle.command.specs.Calls.{Call, Judge, PutOnLine, Accept, Busy, Lose, Mirror, Own, SendOwn, Cut, Due, Run, run, after_sending}
+use Rattle.command.specs.History.{History, Sent}
+use Rattle.command.specs.Calls.{Call, Judge, PutOnLine, Accept, Busy, Lose, Mirror, SendOwn, Due, after_sending}
 use Rattle.gateway.specs.Objects.{has_objects}
 use Rattle.gateway.specs.Reports.{Setup}
-use Rattle.gateway.specs.Works.{Works, LearnsOf, LearnsReport, IsPassedOn, is_command_report, mirrored_works, refused_works, given_up_works, with_call, judged_calls, keep_calls, listed, heard_works, sent_works, cut_works, unless_silent, settled_works, offered_by, offered_upto, ready_works, put_calls}
+use Rattle.gateway.specs.Works.{Works, LearnsOf, LearnsReport, is_command_report, mirrored_works, refused_works, given_up_works, with_call, listed, heard_works, sent_works, unless_silent, settled_works, offered_by, offered_upto, put_calls}
 use Rattle.gateway.specs.Counting.{counted}
-use Rattle.delivery.specs.Commands.{asdus_judged, asdus_in}
+use Rattle.delivery.specs.Commands.{asdus_judged}
 use Rattle.delivery.specs.Joined.{mirrored_in, command_reports, AreValues}
 use Rattle.delivery.proofs.Waiting.{AnswersStay, AllFitLine, oldest_fits}
-use Rattle.delivery.proofs.History.{told_of, run_of, LineTold, line_told, line_ignores, mirrors_ignore, judged_ignore, keeping, sending_own, judging, WaitsFit, one_fits, kept_fit}
+use Rattle.delivery.proofs.History.{told_of, run_of, line_told, line_ignores, mirrors_ignore, judged_ignore, keeping, sending_own, judging, WaitsFit, one_fits, kept_fit}
 use Rattle.delivery.proofs.Exchanging.{told_by, told_asked}
 use Rattle.delivery.proofs.Line.{LinkLaws}
 

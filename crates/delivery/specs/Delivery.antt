@@ -1,5 +1,5 @@
--- What the control centre is sent, seen from the outstations: the end that the frame count bit (IEC 60870-5-2, unbalanced
--- transmission procedures) and the window (IEC 60870-5-104, 5.1) serve.
+-- What the control centre is sent, seen from the outstations: the end that the frame count bit (IEC
+-- 60870-5-2, unbalanced transmission procedures) and the window (IEC 60870-5-104, 5.1) serve.
 use Rattle.std.specs.Prelude.{◌≡◌, ℕ, ◌<◌, List, [], ◌∷◌, length, None}
 use Rattle.std.specs.List.{flat_map}
 use Rattle.asdu.specs.declared.sizes.Sizes.{Sizes}
@@ -8,20 +8,24 @@ use Rattle.link.specs.Procedure as link
 use Rattle.link.specs.declared.procedure.Link.TheVariants.{Down}
 use Rattle.link.specs.Outstation.{Turn, all_done}
 use Rattle.link.specs.Delivery as outstation
-use Rattle.link.specs.Delivery.{Session, IsAllOrButLast, IsLatestAnswered, learnt, reports, commands, sendings_not_busy, before_reset, sessions}
+use Rattle.link.specs.Delivery.{Session, before_reset, sessions, learnt, reports, commands}
+use Rattle.link.specs.Delivery.{IsAllOrButLast, IsLatestAnswered, sendings_not_busy}
 use Rattle.gateway.specs.Log.{Log}
 use Rattle.gateway.specs.Objects.{monitor_objects}
 use Rattle.gateway.specs.Reports.{Setup, address_at, exchanges_with, reports_in, taken_objects}
 use Rattle.gateway.specs.Frames.{Connection, AreInOrder}
 use Rattle.gateway.specs.Connections.{present, past, AreConnections, IsBegun}
 use Rattle.delivery.specs.Merges.{values_of, IsMerge}
+use Rattle.delivery.specs.Commands.{first_sendings, AreCommandsOf}
+use Rattle.delivery.specs.Joined.{IsSetUp}
 
 -- The premises, of the station at this place in the settings
 
--- An outstation took these turns at the requests to it, each heard or not; and a frame at the front of an exchange is its answer to
--- that request. So no answer was late, and none was altered unseen.
+-- An outstation took these turns at the requests to it, each heard or not; and a frame at the front
+-- of an exchange is its answer to that request. So no answer was late, and none was altered unseen.
 abbrev pub IsHonest : Setup → Log → ℕ → List Turn → Type 0
-IsHonest p log i turns = outstation.IsHonest (address_at p.addresses i) (exchanges_with p i log) turns
+IsHonest p log i turns =
+    outstation.IsHonest (address_at p.addresses i) (exchanges_with p i log) turns
 
 -- From its first answered reset on, the station is always up: no reset of the link was caused.
 abbrev pub IsSteady : Setup → Log → ℕ → Type 0
@@ -45,28 +49,37 @@ taken_from p log i = objects_in p.sizes (reports_from p log i)
 
 -- its exchanges before the first answered reset of the link
 abbrev pub before_sessions : Setup → Log → ℕ → List Turn → Session
-before_sessions p log i turns = before_reset (address_at p.addresses i) (exchanges_with p i log) turns
+before_sessions p log i turns =
+    before_reset (address_at p.addresses i) (exchanges_with p i log) turns
 
 -- those from one answered reset to the next, and with each its turns
 abbrev pub sessions_of : Setup → Log → ℕ → List Turn → List Session
 sessions_of p log i turns = sessions (address_at p.addresses i) (exchanges_with p i log) turns
 
--- Nothing was taken of a report, nor confirmed; and the outstation gave no report and accepted no command.
+-- Nothing was taken of a report, nor confirmed; and the outstation gave no report and accepted no
+-- command.
 pub record IsIdle (station : ℕ) (session : Session) : Type 0 where
   pub taken : learnt station session.exchanges ≡ []
   pub done : all_done session.turns ≡ []
 
--- What was taken from an outstation that took these turns is what it reported, or all but the last report; and all of it where its
--- latest exchange was answered. The commands that it accepted are those put on the line for it (a repeat of an unanswered one not
--- counted) that weren't answered busy, in that order, or all but the last.
+-- What was taken from an outstation that took these turns is what it reported, or all but the last
+-- report; and all of it where its latest exchange was answered. The commands that it accepted are
+-- those put on the line for it (a repeat of an unanswered one not counted) that weren't answered
+-- busy, in that order, or all but the last.
 pub record IsRelayed (p : Setup) (log : Log) (i : ℕ) (turns : List Turn) : Type 0 where
   pub most : IsAllOrButLast (reports (all_done turns)) (reports_from p log i)
-  pub all : IsLatestAnswered (address_at p.addresses i) (exchanges_with p i log) → reports_from p log i ≡ reports (all_done turns)
-  pub downwards : IsAllOrButLast (sendings_not_busy (address_at p.addresses i) None (exchanges_with p i log)) (commands (all_done turns))
+  pub all : IsLatestAnswered (address_at p.addresses i) (exchanges_with p i log) →
+      reports_from p log i ≡ reports (all_done turns)
+  pub downwards : IsAllOrButLast
+      (sendings_not_busy (address_at p.addresses i) None (exchanges_with p i log))
+      (commands (all_done turns))
 
--- Nothing is lost, and nothing told twice: the monitor objects sent on each connection are a contiguous run of the objects taken, from
--- the first that no earlier connection acknowledged; the objects taken are a merge of those taken from the stations; and from an
--- honest outstation whose link stays up, what was taken is what it reported, or all but its last report.
+-- Nothing is lost, and nothing taken twice: the monitor objects sent on each connection are a
+-- contiguous run of the objects taken, from the first that no earlier connection acknowledged; the
+-- objects taken are a merge of those taken from the stations; and from an honest outstation whose
+-- link stays up, what was taken is what it reported, or all but its last report. Each command that
+-- is put on the line for the first time is one of the control centre's, given once; and so is each
+-- that an honest outstation accepted, also where its link was reset on the way.
 pub record Delivers (p : Setup) (log : Log) : Type 0 where
   pub here : Connection
   pub begun : IsBegun (present log) here
@@ -74,4 +87,9 @@ pub record Delivers (p : Setup) (log : Log) : Type 0 where
   pub are : AreConnections (past log) earlier
   pub run : AreInOrder (taken_objects p log) (here ∷ earlier)
   pub merged : IsMerge (length p.addresses) (taken_from p log) (taken_objects p log)
-  pub relayed : (i : ℕ) (turns : List Turn) → i < length p.addresses → IsHonest p log i turns → IsSteady p log i → IsRelayed p log i turns
+  pub relayed : (i : ℕ) (turns : List Turn) → i < length p.addresses →
+      IsHonest p log i turns → IsSteady p log i → IsRelayed p log i turns
+  pub sent : IsSetUp p → (i : ℕ) → AreCommandsOf p i (here ∷ earlier)
+      (first_sendings (address_at p.addresses i) None (exchanges_with p i log))
+  pub accepted : IsSetUp p → (i : ℕ) (turns : List Turn) → i < length p.addresses →
+      IsHonest p log i turns → AreCommandsOf p i (here ∷ earlier) (commands (all_done turns))

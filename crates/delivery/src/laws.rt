@@ -8,46 +8,64 @@ ghost use Rattle.link.specs.Delivery.{learnt, reports, HasReports, AcceptsSendin
 ghost use Rattle.gateway.specs.Log.{Log};
 ghost use Rattle.gateway.specs.Reports.{Setup, address_at, exchanges_with};
 ghost use Rattle.gateway.specs.Traffic.{IsFaithful};
-ghost use Rattle.delivery.specs.Delivery.{IsHonest, IsSteady, reports_from, before_sessions, sessions_of, IsIdle, Delivers};
+ghost use Rattle.delivery.specs.Delivery.{IsHonest, IsSteady, reports_from, Delivers};
+ghost use Rattle.delivery.specs.Delivery.{before_sessions, sessions_of, IsIdle};
 
+use crate::commands::each_command_is_given_once;
 use link::{commands_are_accepted, each_service_acts_once, reports_are_learnt, sessions_are_known};
 
-/// Whatever serial frames are lost or refused by their check, whatever answers time out, however TCP is cut and reopened: where
-/// serial answers are neither late nor altered unseen and no link reset is caused, the monitor objects sent on each connection
-/// are a contiguous run, equal in all parts, of a merge of the outstations' reports, beginning at the first unacknowledged.
+/// Whatever serial frames are lost or refused by their check, whatever answers time out, however TCP
+/// is cut and reopened: where serial answers are neither late nor altered unseen and no link reset is
+/// caused, the monitor objects sent on each connection are a contiguous run, equal in all parts, of
+/// a merge of the outstations' reports, beginning at the first unacknowledged. Each command that is
+/// put on the line for the first time, and each that an honest outstation accepted, is one of the
+/// control centre's, given once.
 pub fn nothing_is_lost()
     ensures { (p : Setup) (log : Log) → IsFaithful p log → Delivers p log }
 {
     each_service_acts_once();
     commands_are_accepted();
+    each_command_is_given_once();
 }
 
-/// Without the premise on resets: in each session of the link, from one confirmed reset to the next, the same holds. What was
-/// taken, and what the outstation gave and accepted, is what the sessions' exchanges bore, joined: of each session all reports,
-/// or all but the last. Before the first session there was nothing.
+/// Without the premise on resets: in each session of the link, from one confirmed reset to the
+/// next, the same holds. What was taken, and what the outstation gave and accepted, is what the
+/// sessions' exchanges bore, joined: of each session all reports, or all but the last. Before the
+/// first session there was nothing.
 pub fn each_session_is_known()
-    ensures reports { (p : Setup) (log : Log) (i : ℕ) (turns : List Turn) → IsFaithful p log → i < length p.addresses → IsHonest p log i turns →
+    ensures reports { (p : Setup) (log : Log) (i : ℕ) (turns : List Turn) → IsFaithful p log →
+        i < length p.addresses → IsHonest p log i turns →
         AllByRecursion (λ s. HasReports (address_at p.addresses i) s) (sessions_of p log i turns) }
-    ensures joined { (p : Setup) (log : Log) (i : ℕ) (turns : List Turn) → IsFaithful p log → i < length p.addresses → IsHonest p log i turns →
-        flat_map (λ s. reports (learnt (address_at p.addresses i) s.exchanges)) (sessions_of p log i turns) ≡ reports_from p log i }
-    ensures commands { (p : Setup) (log : Log) (i : ℕ) (turns : List Turn) → IsFaithful p log → i < length p.addresses → IsHonest p log i turns →
-        AllByRecursion (λ s. AcceptsSendings (address_at p.addresses i) s) (sessions_of p log i turns) }
-    ensures done { (p : Setup) (log : Log) (i : ℕ) (turns : List Turn) → IsFaithful p log → i < length p.addresses → IsHonest p log i turns →
+    ensures joined { (p : Setup) (log : Log) (i : ℕ) (turns : List Turn) → IsFaithful p log →
+        i < length p.addresses → IsHonest p log i turns →
+        flat_map (λ s. reports (learnt (address_at p.addresses i) s.exchanges))
+        (sessions_of p log i turns) ≡ reports_from p log i }
+    ensures commands { (p : Setup) (log : Log) (i : ℕ) (turns : List Turn) → IsFaithful p log →
+        i < length p.addresses → IsHonest p log i turns →
+        AllByRecursion (λ s. AcceptsSendings (address_at p.addresses i) s)
+        (sessions_of p log i turns) }
+    ensures done { (p : Setup) (log : Log) (i : ℕ) (turns : List Turn) → IsFaithful p log →
+        i < length p.addresses → IsHonest p log i turns →
         flat_map (λ s. all_done s.turns) (sessions_of p log i turns) ≡ all_done turns }
-    ensures before { (p : Setup) (log : Log) (i : ℕ) (turns : List Turn) → IsFaithful p log → i < length p.addresses → IsHonest p log i turns →
+    ensures before { (p : Setup) (log : Log) (i : ℕ) (turns : List Turn) → IsFaithful p log →
+        i < length p.addresses → IsHonest p log i turns →
         IsIdle (address_at p.addresses i) (before_sessions p log i turns) }
     ensures whole { (p : Setup) (log : Log) (i : ℕ) (turns : List Turn) → IsHonest p log i turns →
-        (before_sessions p log i turns).exchanges ++ flat_map (λ s. s.exchanges) (sessions_of p log i turns) ≡ exchanges_with p i log }
+        (before_sessions p log i turns).exchanges
+        ++ flat_map (λ s. s.exchanges) (sessions_of p log i turns) ≡ exchanges_with p i log }
 {
     sessions_are_known();
     reports_are_learnt();
     commands_are_accepted();
 }
 
-/// Where unanswered services are held, a link stays up as long as its station never answers that it can't serve (14 or 15).
+/// Where unanswered services are held, a link stays up as long as its station never answers that it
+/// can't serve (14 or 15).
 pub fn silence_is_no_reset()
-    ensures { (p : Setup) (log : Log) (i : ℕ) → IsFaithful p log → i < length p.addresses → p.link.hold ≡ true →
-        AllByRecursion (λ x. answer_to (address_at p.addresses i) x ≢ Some Unable) (exchanges_with p i log) → IsSteady p log i }
+    ensures { (p : Setup) (log : Log) (i : ℕ) → IsFaithful p log → i < length p.addresses →
+        p.link.hold ≡ true →
+        AllByRecursion (λ x. answer_to (address_at p.addresses i) x ≢ Some Unable)
+        (exchanges_with p i log) → IsSteady p log i }
 {
     link::silence_is_no_reset();
 }

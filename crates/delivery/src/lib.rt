@@ -1,11 +1,19 @@
-//! What the control centre gets is what the outstations reported.
+//! What the control centre gets is what the outstations reported, and what the outstations accept
+//! is what the control centre sent.
 //!
-//! Two laws over every log of a gateway ([`gateway::drive`] promises that its log is faithful), with no body, since they hold of
-//! definitions: [`nothing_is_lost`], and [`each_session_is_known`] for links that are reset on the way. Their premises are of the
-//! line alone: serial answers are neither late nor altered unseen (`IsHonest`), and for the first law no link reset is caused
-//! (`IsSteady`; the start of a link is no such reset, and where unanswered services are held silence never is one:
-//! [`silence_is_no_reset`]). Of the control centre and of TCP nothing is asked. What they don't say: that a report is ever
-//! polled, or that a command is ever accepted.
+//! Laws over every log of a gateway ([`gateway::drive`] promises that its log is faithful), with no
+//! body, since they hold of definitions. Upwards: [`nothing_is_lost`], and
+//! [`each_session_is_known`] for links that are reset on the way. Downwards:
+//! [`each_command_is_given_once`]. Between them: [`the_course_is_the_logs`], that what the
+//! gateway's course tells of the line and of commands is what the octets of the log show.
+//!
+//! Their premises are of the line alone: serial answers are neither late nor altered unseen
+//! (`IsHonest`), and for the first law no link reset is caused (`IsSteady`; the start of a link is
+//! no such reset, and where unanswered services are held silence never is one:
+//! [`silence_is_no_reset`]). Of the control centre and of TCP nothing is asked. The laws on
+//! commands speak of settings whose stations are found by their link addresses (`IsSetUp`), as
+//! those of each gateway are ([`settings_are_set_up`]). What they don't say: that a report is ever
+//! polled, or that a command is ever put on the line or accepted.
 #![tactic(auto)]
 
 mod commands;

@@ -1,13 +1,14 @@
-use Rattle.gateway.specs.Connections.{past}
-use Rattle.gateway.specs.Reports.{exchanges_of}
-use Rattle.delivery.proofs.Frames.{IsFit, connections_fit}
+use Rattle.std.proofs.Common.{List, None, ap, ◌∙◌}
+use Rattle.gateway.specs.Reports.{address_at, exchanges_of, exchanges_with}
+use Rattle.delivery.specs.Commands.{LineStep, confirmed_by}
+use Rattle.delivery.proofs.Confirmed.{confirmed_learnt}
 use Rattle.delivery.proofs.Joining.{Joins, joins}
 use Rattle.delivery.proofs.Judgements.{judged_all}
 use Rattle.delivery.proofs.Line.{LinkLaws}
 use Rattle.delivery.proofs.commands.the_course_is_the_logs.Goals as goal
 
 pub returns : goal.returns
-returns c = λ p log f set.
+returns c = λ p log course f set runs.
     let laws : LinkLaws = record {
       begins = c.master_tells_the_log.ensures.start;
       octets = c.master_tells_the_log.ensures.octets;
@@ -23,12 +24,12 @@ returns c = λ p log f set.
       back = c.requests_are_read_back.ensures.whole;
       answered = c.outcomes_are_answers.ensures.octets;
     } in
-    let fit : IsFit f.course = record { here = f.begun.fit; earlier = connections_fit (past log) f.course.earlier f.are } in
-    let j : Joins p (exchanges_of p log) f.course.works = joins laws c.waiting_commands_stay.ensures.mirrored p set log f.course f.course_runs f.acts fit in
+    let j : Joins p (exchanges_of p log) course.works = joins laws c.waiting_commands_stay.ensures.mirrored p set log course runs f.acts in
     record {
       tells = j.tells;
       steps = λ k. (j.told k).steps;
       sent = λ k. (j.told k).sent;
+      confirmed = λ k. ap (λ (steps : List LineStep). confirmed_by steps) (j.told k).steps ∙ confirmed_learnt (address_at p.addresses k) None (exchanges_with p k log);
       mirrored = j.mirrors;
-      judged = judged_all c.waiting_commands_stay.ensures.mirrored p log f.course f.course_runs;
+      judged = judged_all c.waiting_commands_stay.ensures.mirrored p log course runs;
     }

@@ -24,4 +24,6 @@ returns c = λ p log f. record {
         ∙ ap reports (c.each_service_acts_once.ensures.all p.link (address_at p.addresses i) (exchanges_with p i log) turns (f.links i within) steady honest latest);
     downwards = c.commands_are_accepted.ensures.steady p.link (address_at p.addresses i) (exchanges_with p i log) turns (f.links i within) steady honest;
   };
+  sent = λ set i. c.each_command_is_given_once.ensures.sent p log i f set;
+  accepted = λ set i turns within honest. c.each_command_is_given_once.ensures.accepted p log i turns f set within honest;
 }

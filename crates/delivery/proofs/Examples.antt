@@ -1,0 +1,213 @@
+-- The definitions, computed on a line with one station: link address 1, common address 1, one octet each for link address, cause and
+-- common address, two for object addresses. All octets are written by hand.
+use Rattle.std.proofs.Common.{◌≡◌, ◌<◌, ℕ, true, false, List, [], ◌∷◌, ◌++◌, length, map, inl, inr, Option, Some, None, refl, ap, sym, ◌∙◌, subst, arith}
+use Rattle.ft12.specs.declared.frame.LinkSize.TheVariants as sizes_of_link
+use Rattle.ft12.specs.declared.frame.Frame.TheVariants.{Single, Fixed}
+use Rattle.ft12.specs.Fronts.{front_of}
+use Rattle.elements.specs.Types.{type_of}
+use Rattle.apci.specs.declared.apdu.Apdu.TheVariants.{I, S, U}
+use Rattle.apci.specs.declared.apdu.Uf.TheVariants.{StartAct}
+use Rattle.asdu.specs.declared.sizes.CauseSize.TheVariants as causes
+use Rattle.asdu.specs.declared.sizes.CaSize.TheVariants as cas
+use Rattle.asdu.specs.declared.sizes.IoaSize.TheVariants as ioas
+use Rattle.link.specs.declared.service.Asked.TheVariants.{Status}
+use Rattle.link.specs.Exchanges.{Exchange}
+use Rattle.link.specs.Outstation.{Turn, Accepted as Done}
+use Rattle.link.specs.Delivery.{Session}
+use Rattle.command.specs.History.{History, Judged, Sent, Accepted, Refused, Ended}
+use Rattle.gateway.specs.Log.{Log, Came, Went, LineIn, LineOut, Ticked}
+use Rattle.gateway.specs.Frames.{Connection, new_connection}
+use Rattle.gateway.specs.Reports.{Setup, AreFound, exchanges_with}
+use Rattle.delivery.specs.Merges.{IsSublist}
+use Rattle.delivery.specs.Delivery.{before_sessions, sessions_of}
+use Rattle.delivery.specs.Commands.{LineStep, Begun, Confirmed, Busy, steps_in, first_sendings, steps_told, sent_to, forwarded_in, asdus_received, on_line_of, AreCommandsOf}
+
+abbrev example : Setup
+example = record {
+  link = record { size = sizes_of_link.One; answer_ms = 100; retries = 1; hold = true; burst = 3 };
+  addresses = 1 ∷ [];
+  sizes = record { cause = causes.One; ca = cas.One; ioa = ioas.Two };
+  places = 10;
+  session = record { k = 12; w = 8; t1 = 15000; t2 = 10000; t3 = 20000 };
+  stations = record { ca = 1; select = false } ∷ [];
+  select_ms = 30000;
+}
+
+-- A single command on (type 45, activation) to object 10 of station 1: as it comes from the control centre, and as it goes to the line
+
+abbrev from_centre : List ℕ
+from_centre = 45 ∷ 1 ∷ 6 ∷ 0 ∷ 1 ∷ 0 ∷ 10 ∷ 0 ∷ 0 ∷ 1 ∷ []
+
+abbrev to_line : List ℕ
+to_line = 45 ∷ 1 ∷ 6 ∷ 1 ∷ 10 ∷ 0 ∷ 1 ∷ []
+
+in_line_sizes : on_line_of example 0 from_centre ≡ to_line
+unfolding type_of
+in_line_sizes = refl
+
+-- an interrogation to the global address goes to the line with the station's own
+own_address : on_line_of example 0 (100 ∷ 1 ∷ 6 ∷ 0 ∷ 255 ∷ 255 ∷ 0 ∷ 0 ∷ 0 ∷ 20 ∷ []) ≡ 100 ∷ 1 ∷ 6 ∷ 1 ∷ 0 ∷ 0 ∷ 20 ∷ []
+unfolding type_of
+own_address = refl
+
+-- The line: status, reset, and the command with FCB 1
+
+abbrev status : List ℕ
+status = 0x10 ∷ 0x49 ∷ 0x01 ∷ 0x4A ∷ 0x16 ∷ []
+
+abbrev ready : List ℕ
+ready = 0x10 ∷ 0x0B ∷ 0x01 ∷ 0x0C ∷ 0x16 ∷ []
+
+abbrev reset : List ℕ
+reset = 0x10 ∷ 0x40 ∷ 0x01 ∷ 0x41 ∷ 0x16 ∷ []
+
+abbrev confirm : List ℕ
+confirm = 0x10 ∷ 0x00 ∷ 0x01 ∷ 0x01 ∷ 0x16 ∷ []
+
+abbrev command : List ℕ
+command = 0x68 ∷ 0x09 ∷ 0x09 ∷ 0x68 ∷ 0x73 ∷ 0x01 ∷ 0x2D ∷ 0x01 ∷ 0x06 ∷ 0x01 ∷ 0x0A ∷ 0x00 ∷ 0x01 ∷ 0xB4 ∷ 0x16 ∷ []
+
+abbrev started : Log
+started = Came 20 (LineIn confirm) ∷ Went 10 (LineOut reset) ∷ Came 10 (LineIn ready) ∷ Went 0 (LineOut status) ∷ Came 0 Ticked ∷ []
+
+abbrev put : Log
+put = Went 20 (LineOut command) ∷ started
+
+abbrev steps : Log → List LineStep
+steps log = steps_in 1 None (exchanges_with example 0 log)
+
+-- nothing is said of a command before it goes out
+none_yet : steps started ≡ []
+unfolding front_of
+none_yet = refl
+
+is_put : steps put ≡ Begun to_line ∷ []
+unfolding front_of
+is_put = refl
+
+-- the single character confirms it
+confirmed_shortly : steps (Came 30 (LineIn (0xE5 ∷ [])) ∷ put) ≡ Begun to_line ∷ Confirmed to_line ∷ []
+unfolding front_of
+confirmed_shortly = refl
+
+-- function 0 does, in two pieces, and function 1 says that the link is busy
+confirmed_in_pieces : steps (Came 40 (LineIn (0x01 ∷ 0x01 ∷ 0x16 ∷ [])) ∷ Came 30 (LineIn (0x10 ∷ 0x00 ∷ [])) ∷ put) ≡ Begun to_line ∷ Confirmed to_line ∷ []
+unfolding front_of
+confirmed_in_pieces = refl
+
+found_busy : steps (Came 30 (LineIn (0x10 ∷ 0x01 ∷ 0x01 ∷ 0x02 ∷ 0x16 ∷ [])) ∷ put) ≡ Begun to_line ∷ Busy to_line ∷ []
+unfolding front_of
+found_busy = refl
+
+-- neither another station's answer nor a primary's frame nor one that comes too late says anything
+another_station : steps (Came 30 (LineIn (0x10 ∷ 0x00 ∷ 0x02 ∷ 0x02 ∷ 0x16 ∷ [])) ∷ put) ≡ Begun to_line ∷ []
+unfolding front_of
+another_station = refl
+
+a_primary : steps (Came 30 (LineIn (0x10 ∷ 0x40 ∷ 0x01 ∷ 0x41 ∷ 0x16 ∷ [])) ∷ put) ≡ Begun to_line ∷ []
+unfolding front_of
+a_primary = refl
+
+too_late : steps (Came 130 (LineIn confirm) ∷ Came 120 Ticked ∷ put) ≡ Begun to_line ∷ []
+unfolding front_of
+too_late = refl
+
+-- the repeat of an unanswered command is no first sending
+one_command : steps (Came 130 (LineIn confirm) ∷ Went 120 (LineOut command) ∷ Came 120 Ticked ∷ put) ≡ Begun to_line ∷ Confirmed to_line ∷ []
+unfolding front_of
+one_command = refl
+
+-- but after a new start of the link (the station answered 14) the same octets are another command
+abbrev started_again : Log
+started_again = Came 50 (LineIn confirm) ∷ Went 40 (LineOut reset) ∷ Came 40 (LineIn ready) ∷ Went 30 (LineOut status) ∷ Came 30 (LineIn (0x10 ∷ 0x0E ∷ 0x01 ∷ 0x0F ∷ 0x16 ∷ [])) ∷ put
+
+two_commands : first_sendings 1 None (exchanges_with example 0 (Went 50 (LineOut command) ∷ started_again)) ≡ to_line ∷ to_line ∷ []
+unfolding front_of
+two_commands = refl
+
+-- Sessions: the status alone is before the first one
+
+abbrev turns : List Turn
+turns = record { answer = Some (Fixed 0x0B 1); done = [] } ∷ record { answer = Some (Fixed 0x00 1); done = [] } ∷ record { answer = Some Single; done = Done to_line ∷ [] } ∷ []
+
+before_is : (before_sessions example (Came 30 (LineIn (0xE5 ∷ [])) ∷ put) 0 turns).exchanges ≡ record { request = Status; front = Some (Fixed 0x0B 1); closed = false } ∷ []
+unfolding front_of
+before_is = refl
+
+session_is : map (λ (s : Session). s.turns) (sessions_of example (Came 30 (LineIn (0xE5 ∷ [])) ∷ put) 0 turns)
+    ≡ (record { answer = Some (Fixed 0x00 1); done = [] } ∷ record { answer = Some Single; done = Done to_line ∷ [] } ∷ []) ∷ []
+unfolding front_of
+session_is = refl
+
+-- What the course tells
+
+abbrev told : History
+told = Refused 0 None ∷ Sent 0 (2 ∷ []) ∷ Sent 1 (3 ∷ []) ∷ Ended ∷ Accepted 0 ∷ Sent 0 (1 ∷ []) ∷ []
+
+told_of_first : steps_told 0 told ≡ Begun (1 ∷ []) ∷ Confirmed (1 ∷ []) ∷ Begun (2 ∷ []) ∷ Busy (2 ∷ []) ∷ []
+told_of_first = refl
+
+told_of_second : steps_told 1 told ≡ Begun (3 ∷ []) ∷ []
+told_of_second = refl
+
+sent_to_first : sent_to 0 told ≡ (1 ∷ []) ∷ (2 ∷ []) ∷ []
+sent_to_first = refl
+
+-- what is answered isn't forwarded, nor what is for another station
+forwarded_alone : forwarded_in example 0 (Judged 3 (45 ∷ 1 ∷ 6 ∷ 0 ∷ 2 ∷ 0 ∷ 10 ∷ 0 ∷ 0 ∷ 1 ∷ []) None ∷ Judged 2 from_centre None ∷ Judged 1 from_centre (Some []) ∷ []) ≡ from_centre ∷ []
+forwarded_alone = refl
+
+-- From the control centre: the ASDUs of all connections, the oldest first
+
+abbrev first_connection : Connection
+first_connection = record { sent_frames = []; received_frames = I 0 0 (record { items = 1 ∷ [] }) ∷ U StartAct ∷ [] }
+
+abbrev second_connection : Connection
+second_connection = record { sent_frames = []; received_frames = I 1 0 (record { items = 3 ∷ [] }) ∷ S 0 ∷ I 0 0 (record { items = 2 ∷ [] }) ∷ U StartAct ∷ [] }
+
+received_in_order : asdus_received (second_connection ∷ first_connection ∷ []) ≡ (1 ∷ []) ∷ (2 ∷ []) ∷ (3 ∷ []) ∷ []
+received_in_order = refl
+
+-- one of two is some of them, but neither one twice nor two in another order
+one_of_two : IsSublist {A = ℕ} (2 ∷ []) (1 ∷ 2 ∷ [])
+one_of_two = inr (inl (refl, tt))
+
+not_twice : IsSublist {A = ℕ} (1 ∷ 1 ∷ []) (1 ∷ []) → ⊥
+not_twice (inl h) = h.1
+not_twice (inr h) = h
+
+not_turned : IsSublist {A = ℕ} (2 ∷ 1 ∷ []) (1 ∷ 2 ∷ []) → ⊥
+not_turned (inl h) = cc
+not_turned (inr (inl h)) = h.1
+not_turned (inr (inr h)) = h
+
+-- a command is none of the centre's where none came, and one is not two
+not_invented : AreCommandsOf example 0 (new_connection ∷ []) (to_line ∷ []) → ⊥
+not_invented h = go h.given h.received h.whole
+  where
+    go : (given : List (List ℕ)) → IsSublist given [] → to_line ∷ [] ≡ map (λ (asdu : List ℕ). on_line_of example 0 asdu) given → ⊥
+    go [] part whole = cc
+    go (asdu ∷ given) part whole = part
+
+abbrev one_came : Connection
+one_came = record { sent_frames = []; received_frames = I 0 0 (record { items = from_centre }) ∷ U StartAct ∷ [] }
+
+is_given : AreCommandsOf example 0 (one_came ∷ []) (to_line ∷ [])
+unfolding type_of
+is_given = record { given = from_centre ∷ []; received = inl (refl, tt); each = (record { addressed = refl; faultless = refl }, tt); whole = refl }
+
+not_given_twice : AreCommandsOf example 0 (one_came ∷ []) (to_line ∷ to_line ∷ []) → ⊥
+not_given_twice h = go h.given h.received h.whole
+  where
+    go : (given : List (List ℕ)) → IsSublist given (from_centre ∷ []) → to_line ∷ to_line ∷ [] ≡ map (λ (asdu : List ℕ). on_line_of example 0 asdu) given → ⊥
+    go [] part whole = cc
+    go (x ∷ []) part whole = cc
+    go (x ∷ (y ∷ given)) (inl h) whole = h.1
+    go (x ∷ (y ∷ given)) (inr h) whole = h
+
+-- stations with one address aren't told apart
+not_found : AreFound (5 ∷ 5 ∷ []) → ⊥
+not_found h = absurd (omega (arith, one_place 0 1 (h 1 (omega arith))))
+  where
+    one_place : (n m : ℕ) → Some n ≡ Some m → n ≡ m
+    one_place n m e = cc
