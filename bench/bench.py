@@ -1,15 +1,20 @@
 #!/usr/bin/env python3
 """Measures `telegate replay` on large traces made by fixed rules.
 
-    bench/bench.py [--program FILE] [--events N] [--growth] [--keep FOLDER] [WORKLOAD ..]
+    bench/bench.py [--program FILE] [--against FILE] [--events N] [--runs N] [--growth] [--keep FOLDER] [WORKLOAD ..]
 
-For each workload: a trace of about N events is made (the same each time), replayed three times with the output thrown away, and
-the least processor time counts (user and system, so that other work on the machine disturbs little). Printed are the trace's
-octets and events a second, what is counted besides (objects or APDUs), and the peak of the resident memory in octets for each
-octet of the trace. `--growth` replays each workload at 10,000, 100,000 and 1,000,000 events instead, and prints the time and
-memory an event at each. The program is the one that ./build makes.
+For each workload: a trace of about N events is made (the same each time), replayed three times (`--runs`) with the output thrown
+away, and the least processor time counts (user and system, so that other work on the machine disturbs little). Printed are the
+trace's octets and events a second, what is counted besides (objects, APDUs or commands), and the peak of the resident memory in
+octets for each octet of the trace. `--growth` replays each workload at 10,000, 100,000 and 1,000,000 events instead, and prints
+the time and memory an event at each. The program is the one that ./build makes.
+
+With `--against` a second program with the same command line runs in turn with the first, so that both meet the same machine. Their
+outputs have to be equal: else the workload is told and the end is status 1. Printed besides are the ratios of the least processor
+times and of the peak memories, first program to second.
 """
 import argparse
+import filecmp
 import os
 import subprocess
 import sys
@@ -141,13 +146,75 @@ def queue(t, events):
     return config(queue=65535, k=32767), "objects"
 
 
-WORKLOADS = {"steady": steady, "stations": stations, "pieces": pieces, "flood": flood, "queue": queue}
+# element sizes by type, tags left out (IEC 60870-5-101, 7.2.6)
+ELEMENTS = {1: 1, 3: 1, 5: 2, 7: 5, 9: 3, 11: 3, 13: 5, 15: 5, 30: 1, 31: 1, 32: 2, 33: 5, 34: 3, 35: 3, 36: 5, 37: 5}
+TAG = bytes.fromhex("D5DD220C9D0218")
 
 
-def replay(program, settings, trace):
+def mixed_report(number):
+    """A report of 10 to 40 objects of one type, single addresses or a sequence in turn, as many as a frame holds; and how many
+    pieces it goes out in."""
+    kind = sorted(ELEMENTS)[number * 7 % len(ELEMENTS)]
+    tag = TAG if kind >= 30 else b""
+    size = ELEMENTS[kind] + len(tag)
+    is_sequence = number % 3 == 0
+    objects = min(10 + number * 11 % 31, 240 // (size if is_sequence else size + 2))
+    element = bytes((number + place) % 4 for place in range(ELEMENTS[kind])) + tag
+    head = bytes([kind, objects | (0x80 if is_sequence else 0), 0x03, 0x01])
+    first = 100 + number % 50
+    if is_sequence:
+        return data(0x08, 1, head + first.to_bytes(2, "little") + element * objects), -(-objects // min(127, 240 // size))
+    body = b"".join((first + n).to_bytes(2, "little") + element for n in range(objects))
+    return data(0x08, 1, head + body), -(-objects // (243 // (size + 3)))
+
+
+def mixed(t, events):
+    """Reports like a utility's: 10 to 40 objects of all types, half of them with tags, an S frame before the window is full."""
+    t.start_stations(1)
+    t.start_connection()
+    sent, waiting, number = 0, 0, 0
+    while t.events < events:
+        frame, frames = mixed_report(number)
+        number += 1
+        t.add("S", frame)
+        t.counted += 1
+        sent, waiting = sent + frames, waiting + frames
+        if waiting >= 8:
+            t.add("R", acknowledgement(sent))
+            waiting = 0
+    return config(), "reports"
+
+
+def commands(t, events):
+    """Single commands without end: each is forwarded, accepted, confirmed by the station, and its confirmation passed on."""
+    t.start_stations(1)
+    t.start_connection()
+    confirmation = data(0x08, 1, bytes([0x2D, 0x01, 0x07, 0x01, 0x0A, 0x00, 0x01]))
+    while t.events < events:
+        count = (t.counted % 32768 * 2).to_bytes(2, "little")
+        t.add("R", bytes([0x68, 0x0E]) + count + count + bytes.fromhex("2D01060001000A000001"))
+        t.add("S", bytes([0xE5]))
+        t.add("S", bytes([0xE5]))
+        t.add("S", confirmation)
+        t.counted += 1
+    return config(), "commands"
+
+
+WORKLOADS = {
+    "steady": steady,
+    "mixed": mixed,
+    "stations": stations,
+    "pieces": pieces,
+    "flood": flood,
+    "queue": queue,
+    "commands": commands,
+}
+
+
+def replay(program, settings, trace, output=os.devnull):
     """The processor time of one replay in seconds, and its peak memory in octets."""
-    with open(os.devnull, "wb") as nowhere:
-        child = subprocess.Popen([program, "replay", settings, trace], stdout=nowhere)
+    with open(output, "wb") as out:
+        child = subprocess.Popen([program, "replay", settings, trace], stdout=out)
         _, status, used = os.wait4(child.pid, 0)
     child.returncode = os.waitstatus_to_exitcode(status)
     if child.returncode != 0:
@@ -155,7 +222,8 @@ def replay(program, settings, trace):
     return used.ru_utime + used.ru_stime, used.ru_maxrss * 1024
 
 
-def measured(program, folder, name, events):
+def made(folder, name, events):
+    """Writes the workload's settings and trace, and answers their paths, the trace, and what is counted besides."""
     settings = os.path.join(folder, f"{name}.toml")
     path = os.path.join(folder, f"{name}.trace")
     with open(path, "w") as file:
@@ -163,21 +231,51 @@ def measured(program, folder, name, events):
         settings_text, counted = WORKLOADS[name](trace, events)
     with open(settings, "w") as file:
         file.write(settings_text)
-    runs = [replay(program, settings, path) for _ in range(3)]
-    return {
-        "events": trace.events,
-        "octets": os.path.getsize(path),
-        "seconds": min(run[0] for run in runs),
-        "peak": max(run[1] for run in runs),
-        "counted": trace.counted,
-        "what": counted,
-    }
+    return settings, path, trace, counted
+
+
+def is_alike(programs, folder, settings, path):
+    """Whether all programs print the same."""
+    outputs = [os.path.join(folder, f"output-{number}") for number, _ in enumerate(programs)]
+    for program, output in zip(programs, outputs):
+        replay(program, settings, path, output)
+    alike = all(filecmp.cmp(outputs[0], output, shallow=False) for output in outputs[1:])
+    for output in outputs:
+        os.remove(output)
+    return alike
+
+
+def measured(programs, folder, name, events, runs):
+    """Prints what a workload costs each program; answers whether they print the same."""
+    settings, path, trace, counted = made(folder, name, events)
+    alike = len(programs) == 1 or is_alike(programs, folder, settings, path)
+    taken = [[replay(program, settings, path) for program in programs] for _ in range(runs)]
+    costs = [(min(run[n][0] for run in taken), max(run[n][1] for run in taken)) for n, _ in enumerate(programs)]
+    octets = os.path.getsize(path)
+    for seconds, peak in costs:
+        print(
+            f"{name:9} {trace.events:8} events {octets:10} octets {seconds:7.3f} s: "
+            f"{trace.events / seconds:11,.0f} events/s {octets / seconds / 1e6:7.1f} MB/s "
+            f"{trace.counted / seconds:11,.0f} {counted}/s, peak {peak / 1e6:7.1f} MB, "
+            f"{peak / octets:5.2f} of the trace, {seconds / trace.events * 1e9:6.0f} ns an event",
+            flush=True,
+        )
+    if len(programs) > 1:
+        (seconds, peak), (other_seconds, other_peak) = costs
+        print(
+            f"{name:9} {seconds / other_seconds:6.2f} times the processor time, {peak / other_peak:6.2f} times the memory; "
+            f"outputs {'equal' if alike else 'DIFFER'}",
+            flush=True,
+        )
+    return alike
 
 
 def main():
     words = argparse.ArgumentParser()
     words.add_argument("--program", default=os.path.join(TOP, "crates", "telegate", "out", "telegate"))
+    words.add_argument("--against", help="a second program, measured in turn with the first")
     words.add_argument("--events", type=int, default=1000000)
+    words.add_argument("--runs", type=int, default=3)
     words.add_argument("--growth", action="store_true")
     words.add_argument("--keep")
     words.add_argument("workloads", nargs="*")
@@ -185,20 +283,16 @@ def main():
     for name in given.workloads:
         if name not in WORKLOADS:
             words.error(f"no workload {name}: " + ", ".join(WORKLOADS))
+    programs = [given.program] + ([given.against] if given.against else [])
+    alike = True
     with tempfile.TemporaryDirectory() as temporary:
         folder = given.keep or temporary
         os.makedirs(folder, exist_ok=True)
         for name in given.workloads or WORKLOADS:
             for events in (10000, 100000, 1000000) if given.growth else (given.events,):
-                m = measured(given.program, folder, name, events)
-                print(
-                    f"{name:9} {m['events']:8} events {m['octets']:10} octets {m['seconds']:7.3f} s: "
-                    f"{m['events'] / m['seconds']:11,.0f} events/s {m['octets'] / m['seconds'] / 1e6:7.1f} MB/s "
-                    f"{m['counted'] / m['seconds']:11,.0f} {m['what']}/s, peak {m['peak'] / 1e6:7.1f} MB, "
-                    f"{m['peak'] / m['octets']:5.2f} of the trace, {m['seconds'] / m['events'] * 1e9:6.0f} ns an event",
-                    flush=True,
-                )
+                alike = measured(programs, folder, name, events, given.runs) and alike
+    return 0 if alike else 1
 
 
 if __name__ == "__main__":
-    main()
+    sys.exit(main())

@@ -8,8 +8,8 @@ Two stations with twenty reports of class 2 each, one single point a report, and
 every report is given once, the command is accepted once, and 40 objects go to the control centre. In turn the connection is cut at
 each call: then every report is given once, the command is accepted at most once (a cut may take it back), and the objects of all
 connections are 40 to 52, since at most a window of 12 goes out a second time.
-`--without-command` leaves the interrogation out. Printed is a line for each run that ended otherwise, and how many there were; the
-exit status is 1 where there is one. The program is the one that ./build makes.
+`--without-command` leaves the interrogation out. Printed is a line for each run that ended otherwise; the last line is
+`N passed, M failed`, and the exit status is 1 where one failed. The program is the one that ./build makes.
 """
 import argparse
 import os
@@ -18,7 +18,7 @@ import subprocess
 import sys
 import tempfile
 
-TOP = os.path.dirname(os.path.dirname(os.path.abspath(__file__)))
+import ends
 
 SETTINGS = """[line]
 link = 1
@@ -91,7 +91,7 @@ def losses():
 
 def main():
     words = argparse.ArgumentParser()
-    words.add_argument("--program", default=os.path.join(TOP, "crates", "telegate", "out", "telegate"))
+    words.add_argument("--program", default=ends.PROGRAM)
     words.add_argument("--without-command", action="store_true")
     given = words.parse_args()
     accepted = 0 if given.without_command else 1
@@ -110,7 +110,7 @@ def main():
             if not is_good(lines, accepted):
                 wrong += 1
                 print(f"{loss or 'no loss'}: {lines[-4:]}")
-    print(f"{runs} runs, {wrong} wrong")
+    print(f"{runs - wrong} passed, {wrong} failed")
     sys.exit(1 if wrong else 0)
 
 

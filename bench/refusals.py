@@ -3,11 +3,13 @@
 
     bench/refusals.py [--program FILE]
 
-For `check`, `replay` and `sim` over the examples, the Nth request for memory gets none, N from 1 until a run makes fewer requests
-than N. Then either the exit status is 4, standard error is `no memory`, and standard output is a beginning of what the run with
-ample memory prints; or all three are those of the run with ample memory. Requests are refused by a library in front of the C
-library's, which `cc` makes in a folder of its own. Printed is a line for each command, and a line for each run that ended
-otherwise; the exit status is 1 where there is one. The program is the one that ./build makes.
+For `check`, `replay` and `sim` over the examples, and for a simulated command, the Nth request for memory gets none, N from 1 until
+a run makes fewer requests than N. Then either the exit status is 4, standard error is `no memory`, and standard output is a
+beginning of what the run with ample memory prints; or all three are those of the run with ample memory; or, of the simulated
+command alone, they are those of a station that answers it busy, for want of memory. Requests are refused by a library in front of
+the C library's, which `cc` makes in a folder of its own. Printed is a line for each command, and a line for each run that ended
+otherwise; the last line is `N passed, M failed`, and the exit status is 1 where one failed. The program is the one that ./build
+makes.
 """
 import argparse
 import os
@@ -15,7 +17,30 @@ import subprocess
 import sys
 import tempfile
 
-TOP = os.path.dirname(os.path.dirname(os.path.abspath(__file__)))
+import ends
+
+# A single command to a station that has one report.
+SEND = """turns 12
+report 1 2 01010301640001
+send 4 2D010600010064000001
+"""
+
+# What is printed where the station has no memory for the command: it answers busy (10 01 01 02 16), so at the next call the control
+# centre gets the negative confirmation (cause 7 with P/N, octet 47), as its first I frame, which acknowledges the command.
+BUSY = b"""1 > S 1049014A16
+2 > T 68040B000000
+3 > S 1040014116
+5 > S 6809096873012D0106016400010E16
+6 > S 105B015C16
+6 > T 680E000002002D014700010064000001
+8 > S 107B017C16
+8 > T 680E0200020001010300010064000001
+10 > S 105B015C16
+11 > S 107B017C16
+12 > S 105B015C16
+station 1 reports 1 given 1 accepted 0
+connection 1 objects 1
+"""
 
 COMMANDS = [
     ("check", "one-station/config.toml"),
@@ -24,7 +49,10 @@ COMMANDS = [
     ("replay", "one-station/config.toml", "one-station/first.trace", "--left", "--counts"),
     ("replay", "two-stations/config.toml", "two-stations/turns.trace"),
     ("replay", "two-stations/config.toml", "two-stations/turns.trace", "--left", "--counts"),
+    ("replay", "commands/config.toml", "commands/select.trace"),
+    ("replay", "commands/config.toml", "commands/select.trace", "--left", "--counts"),
     ("sim", "sim/config.toml", "sim/first.script"),
+    ("sim", "sim/config.toml", SEND),
 ]
 
 # The request whose number is REFUSED gets none. At the end the number of requests goes to the file that REQUESTS names.
@@ -83,16 +111,6 @@ __attribute__((destructor)) static void tell(void) {
 """
 
 
-def made(folder):
-    """The library, in this folder."""
-    source = os.path.join(folder, "refusals.c")
-    library = os.path.join(folder, "refusals.so")
-    with open(source, "w") as file:
-        file.write(LIBRARY)
-    subprocess.run(["cc", "-O1", "-shared", "-fPIC", "-o", library, source, "-ldl"], check=True)
-    return library
-
-
 def run(words, library, folder, refused):
     """The exit status, what was printed, and how many requests for memory there were. None is refused at 0."""
     told = os.path.join(folder, "requests")
@@ -107,21 +125,24 @@ def run(words, library, folder, refused):
         return done, int(file.read())
 
 
-def refuses(words, library, folder):
-    """How many requests an ample run makes, how many refusals were answered by `no memory`, how many changed nothing, the wrong."""
+def refuses(words, library, folder, busy):
+    """How many requests an ample run makes, how many refusals were answered by `no memory`, how many changed nothing, how many made
+    a station busy, and the wrong."""
     ample, requests = run(words, library, folder, 0)
     if ample.returncode != 0 or not requests:
         sys.exit(f"refusals: {words}: exit status {ample.returncode}: {ample.stderr}")
-    refused, same, wrong = 0, 0, []
+    refused, same, as_busy, wrong = 0, 0, 0, []
     number = 1
     while True:
         done, made_then = run(words, library, folder, number)
         if made_then is not None and made_then < number:
-            return requests, refused, same, wrong
+            return requests, refused, same, as_busy, wrong
         if (done.returncode, done.stdout, done.stderr) == (ample.returncode, ample.stdout, ample.stderr):
             same += 1
         elif done.returncode == 4 and done.stderr == b"no memory\n" and ample.stdout.startswith(done.stdout):
             refused += 1
+        elif busy and (done.returncode, done.stdout, done.stderr) == (0, BUSY, b""):
+            as_busy += 1
         else:
             wrong.append((number, done.returncode, done.stdout, done.stderr))
         number += 1
@@ -129,21 +150,37 @@ def refuses(words, library, folder):
 
 def main():
     words = argparse.ArgumentParser()
-    words.add_argument("--program", default=os.path.join(TOP, "crates", "telegate", "out", "telegate"))
+    words.add_argument("--program", default=ends.PROGRAM)
     given = words.parse_args()
-    examples = os.path.join(TOP, "examples")
-    is_wrong = False
-    print(f"{'requests':>8} {'no memory':>9} {'as ample':>8} {'wrong':>5}  command")
+    passed = failed = 0
+    print(f"{'requests':>8} {'no memory':>9} {'as ample':>8} {'busy':>5} {'wrong':>5}  command")
     with tempfile.TemporaryDirectory() as folder:
-        library = made(folder)
+        library = ends.library(folder, "refusals", LIBRARY)
         for command in COMMANDS:
-            files = [word if word.startswith("--") else os.path.join(examples, word) for word in command[1:]]
-            requests, refused, same, wrong = refuses([given.program, command[0], *files], library, folder)
-            print(f"{requests:8} {refused:9} {same:8} {len(wrong):5}  {' '.join(command)}")
+            words = [placed(word, folder) for word in command[1:]]
+            is_send = SEND in command
+            requests, refused, same, busy, wrong = refuses([given.program, command[0], *words], library, folder, is_send)
+            named = " ".join("a command" if word == SEND else word for word in command)
+            print(f"{requests:8} {refused:9} {same:8} {busy:5} {len(wrong):5}  {named}", flush=True)
             for number, status, out, err in wrong:
                 print(f"    request {number} refused: exit status {status}, {len(out)} octets out, {err!r}")
-            is_wrong = is_wrong or bool(wrong)
-    sys.exit(1 if is_wrong else 0)
+            # Some refusal makes the station busy: else the case isn't looked at.
+            failed += len(wrong) + (is_send and busy == 0)
+            passed += refused + same + busy
+    print(f"{passed} passed, {failed} failed")
+    sys.exit(1 if failed else 0)
+
+
+def placed(word, folder):
+    """A word of a command: a flag, the name of an example, or the text of a script."""
+    if word.startswith("--"):
+        return word
+    if word.endswith("\n"):
+        path = os.path.join(folder, "send.script")
+        with open(path, "w") as file:
+            file.write(word)
+        return path
+    return os.path.join(ends.TOP, "examples", word)
 
 
 if __name__ == "__main__":

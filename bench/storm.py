@@ -6,23 +6,19 @@
 The line loses answers and sends noise in their place; control centres come one after another, send commands, tests, noise and wrong
 receive numbers, read or don't, and go with or without a reset. At the end the line is closed, and the gateway is to end with status
 3. Printed are the requests that the line heard, the connections, the octets that they got, and the gateway's resident memory before
-the end. Nothing in the gate depends on it. The program is the one that ./build makes.
+the end, and then `1 passed, 0 failed` where it stayed up, heard both sides, and ended so. The program is the one that ./build makes.
 """
 import argparse
-import os
 import random
 import socket
 import struct
-import subprocess
 import sys
-import tempfile
 import threading
 import time
 
-TOP = os.path.dirname(os.path.dirname(os.path.abspath(__file__)))
-LINE = ("127.0.0.1", 24301)
-DOOR = ("127.0.0.1", 24304)
-CONFIG = """[line]
+import ends
+
+SETTINGS = """[line]
 link = 1
 cause = 1
 ca = 1
@@ -34,22 +30,8 @@ ca = 1
 [[station]]
 address = 2
 ca = 2
-[live]
-line = "tcp:{}:{}"
-listen = "{}:{}"
-""".format(*LINE, *DOOR)
-START = bytes.fromhex("680407000000")
-TEST = bytes.fromhex("680443000000")
+"""
 COMMAND = bytes.fromhex("680E0000000064010600010000000014")
-
-
-def fixed(control, address):
-    return bytes([0x10, control, address, (control + address) % 256, 0x16])
-
-
-def data(address, asdu):
-    user = bytes([0x08, address]) + asdu
-    return bytes([0x68, len(user), len(user), 0x68]) + user + bytes([sum(user) % 256, 0x16])
 
 
 def answer(request, chance):
@@ -62,9 +44,9 @@ def answer(request, chance):
         return b"\xe5"
     function, address = request[1] % 16, request[2]
     if function == 9:
-        return fixed(0x0B, address)
+        return ends.fixed(0x0B, address)
     if function in (10, 11) and chance.random() < 0.5:
-        return data(address, bytes([1, 1, 3, address, 100, 0, chance.randint(0, 1)]))
+        return ends.data(0x08, address, bytes([1, 1, 3, address, 100, 0, chance.randint(0, 1)]))
     return b"\xe5"
 
 
@@ -81,16 +63,16 @@ def serve(line, end, chance, heard):
         line.sendall(answer(request, chance))
 
 
-def visit(end, chance):
+def visit(door, end, chance):
     """One connection of a control centre; answers how many octets it got."""
     got = 0
-    with socket.create_connection(DOOR, timeout=2) as centre:
+    with socket.create_connection(door, timeout=2) as centre:
         centre.settimeout(0.05)
-        centre.sendall(START)
+        centre.sendall(ends.START)
         for _ in range(chance.randint(1, 60)):
             noise = chance.randbytes(chance.randint(1, 2000))
             receive_number = bytes.fromhex("68040100") + chance.randbytes(2)
-            centre.sendall(chance.choices([TEST, COMMAND, noise, receive_number, b""], [30, 20, 5, 5, 40])[0])
+            centre.sendall(chance.choices([ends.TEST, COMMAND, noise, receive_number, b""], [30, 20, 5, 5, 40])[0])
             try:
                 got += len(centre.recv(4096))
             except TimeoutError:
@@ -109,15 +91,12 @@ def resident(process):
 
 def main():
     words = argparse.ArgumentParser()
-    words.add_argument("--program", default=os.path.join(TOP, "crates", "telegate", "out", "telegate"))
-    words.add_argument("--seconds", type=int, default=20)
+    words.add_argument("--program", default=ends.PROGRAM)
+    words.add_argument("--seconds", type=int, default=10)
     words.add_argument("--seed", type=int, default=1)
     given = words.parse_args()
-    with tempfile.NamedTemporaryFile("w", suffix=".toml") as config, socket.create_server(LINE) as server:
-        config.write(CONFIG)
-        config.flush()
-        process = subprocess.Popen([given.program, "run", config.name], stderr=subprocess.DEVNULL)
-        line, _ = server.accept()
+    with ends.Run(given.program, SETTINGS) as run:
+        line, process = run.line.stream, run.process
         end, heard, got, visits = time.time() + given.seconds, [], 0, 0
         station = threading.Thread(target=serve, args=(line, end, random.Random(given.seed), heard))
         station.start()
@@ -125,16 +104,17 @@ def main():
         while time.time() < end and process.poll() is None:
             try:
                 visits += 1
-                got += visit(end, chance)
+                got += visit(run.door, end, chance)
             except OSError:
                 pass
         is_up = process.poll() is None
         memory = resident(process) if is_up else "none"
         station.join()
-        line.close()
-        status = process.wait(10)
+        status, _ = run.ended()
     print(f"{len(heard)} requests, {visits} connections, {got} octets; up: {is_up}, memory {memory}; then status {status}")
-    return 0 if is_up and status == 3 else 1
+    is_good = is_up and status == 3 and len(heard) > 100 and got > 100
+    print("1 passed, 0 failed" if is_good else "0 passed, 1 failed")
+    return 0 if is_good else 1
 
 
 if __name__ == "__main__":

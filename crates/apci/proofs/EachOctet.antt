@@ -14,10 +14,10 @@ use Rattle.apci.specs.declared.assembling.State.TheVariants as state
 use Rattle.apci.specs.declared.assembling.Step.{Step}
 use Rattle.apci.specs.declared.assembling.Step.TheVariants as steps
 use Rattle.apci.specs.Spelling.{counter, function, IsOctet}
-use Rattle.apci.specs.Reading.{IsMore, IsFront}
+use Rattle.apci.specs.Reading.{IsMore, IsDecidedAt, IsFront}
 use Rattle.apci.specs.Progress.{so_far, IsState, Gives}
 use Rattle.apci.proofs.Fronts.{nothing, start_alone, length_more, i_more, i_asdu, i_third, s_1, s_2, s_3, u_1, u_2, u_3}
-use Rattle.apci.proofs.Stream.{heard_apdu, heard_never}
+use Rattle.apci.proofs.Stream.{heard_apdu, heard_never, decided_by}
 
 -- the octets of a counter
 low_octet : (n : ℕ) → n % 128 * 2 < 256
@@ -146,3 +146,15 @@ never_heard s asdu before piece i o step place why joined lt at h is =
     let x : List ℕ = (before ++ take i piece) ++ get_or piece i 0 ∷ [] in
     let g : Gives x asdu o s (steps.Never place why) = subst (Gives x asdu o s) is (gives_at s asdu before piece i o step joined at h) in
     heard_never before piece (before ++ take i piece) x i place why refl lt refl g
+
+-- the octet that decides is the one looked at last
+pub decided_here : (s : State) (asdu before piece : List ℕ) (i o : ℕ) (step : Step) (place : ℕ) (why : Why)
+    → IsState s asdu → so_far s asdu ≡ Some (before ++ take i piece) → i < length piece → o ≡ get_or piece i 0
+    → IfSome (so_far s asdu) (λ octets. Gives (octets ++ o ∷ []) asdu o s step) → step ≡ steps.Never place why
+    → (decides : ℕ) × IsDecidedAt (before ++ piece) decides × (decides ≡ length before + i)
+decided_here s asdu before piece i o step place why state joined lt at h is =
+    let x : List ℕ = before ++ take i piece in
+    let y : List ℕ = x ++ get_or piece i 0 ∷ [] in
+    let g : Gives y asdu o s (steps.Never place why) = subst (Gives y asdu o s) is (gives_at s asdu before piece i o step joined at h) in
+    let d = decided_by before piece x i g.0 refl lt (state_more s asdu x state joined) g.1 in
+    (g.0, d.0, d.1)

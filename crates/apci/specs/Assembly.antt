@@ -1,9 +1,9 @@
 -- APDUs out of pieces of a stream of octets (this gateway's own profile: TCP cuts octets anywhere).
-use Rattle.std.specs.Prelude.{◌≡◌, ℕ, ◌+◌, ◌-◌, ◌^◌, ◌≤◌, min, List, [], ◌++◌, length, Option, Some, None}
+use Rattle.std.specs.Prelude.{◌≡◌, ℕ, ◌+◌, ◌-◌, ◌^◌, min, List, [], ◌++◌, length, Option, Some, None}
 use Rattle.apci.specs.declared.apdu.Front.TheVariants as front
 use Rattle.apci.specs.declared.assembling.Heard.{Heard}
 use Rattle.apci.specs.declared.assembling.Heard.TheVariants as heard
-use Rattle.apci.specs.Reading.{IsFront}
+use Rattle.apci.specs.Reading.{IsFront, IsDecidedAt}
 
 -- What contracts see of an assembler: the octets since the last APDU (none where it is deaf), and how many octets it
 -- has looked at.
@@ -18,10 +18,11 @@ Hears so_far piece n heard.More after = IsFront (so_far ++ piece) front.More × 
 Hears so_far piece n (heard.Never place why) after = IsFront (so_far ++ piece) (front.Never place why) × (n ≡ length piece) × (after ≡ None)
 Hears so_far piece n heard.Deaf after = ⊥
 
--- Each octet taken was looked at once, but those behind a fault, and those that a deaf assembler drops, not at all.
--- The count saturates.
-abbrev pub HasLooked : ℕ → ℕ → Heard → ℕ → Type 0
-HasLooked before n (heard.Apdu a) after = after ≡ min (2 ^ 64 - 1) (before + n)
-HasLooked before n heard.More after = after ≡ min (2 ^ 64 - 1) (before + n)
-HasLooked before n (heard.Never place why) after = after ≤ before + n
-HasLooked before n heard.Deaf after = after ≡ before
+-- How often octets were looked at, where n octets of the piece were taken: each once. Where they begin no APDU, the last
+-- one looked at is the one that decides it; those behind it aren't looked at. The count saturates.
+abbrev pub HasLooked : List ℕ → List ℕ → ℕ → ℕ → Heard → ℕ → Type 0
+HasLooked so_far piece before n (heard.Apdu a) after = after ≡ min (2 ^ 64 - 1) (before + n)
+HasLooked so_far piece before n heard.More after = after ≡ min (2 ^ 64 - 1) (before + n)
+HasLooked so_far piece before n (heard.Never place why) after =
+    (decides : ℕ) × IsDecidedAt (so_far ++ piece) decides × (after ≡ min (2 ^ 64 - 1) (before + (decides + 1 - length so_far)))
+HasLooked so_far piece before n heard.Deaf after = ⊥

@@ -222,7 +222,8 @@ impl Assembler {
             ((result.0 ≡ length piece.now) × (result.1 ≡ HeardDeaf) × (self.new ≡ self.old)) }
         ensures within { result.0 ≤ length piece.now }
         ensures progress { 0 < length piece.now → 0 < result.0 }
-        ensures looked { HasLooked self.old.looked result.0 result.1 self.new.looked }
+        ensures looked { IfSome self.old.so_far (λ so_far.
+            HasLooked so_far piece.now self.old.looked result.0 result.1 self.new.looked) }
         ensures at_most_once { self.new.looked ≤ self.old.looked + result.0 }
     {
         if is_deaf(&self.state) {

@@ -4,7 +4,7 @@ use Rattle.std.proofs.Math.Nat.{mul-le-mul_left, lt_of_mul-lt-mul_right}
 use Rattle.std.specs.Int.{div_ceil}
 use Rattle.std.proofs.lemmas.Grind.{div_ceil_times}
 use Rattle.elements.specs.declared.types.TypeId.{TypeId}
-use Rattle.elements.specs.declared.types.TypeId.TheVariants.{MSpNa1, MDpNa1, MStNa1, MBoNa1, MMeNa1, MMeNb1, MMeNc1, MItNa1, MSpTb1, MDpTb1, MStTb1, MBoTb1, MMeTd1, MMeTe1, MMeTf1, MItTb1, MEiNa1, CScNa1, CDcNa1, CRcNa1, CSeNa1, CSeNb1, CIcNa1}
+use Rattle.elements.specs.declared.types.TypeId.TheVariants.{MSpNa1, MDpNa1, MStNa1, MBoNa1, MMeNa1, MMeNb1, MMeNc1, MItNa1, MSpTb1, MDpTb1, MStTb1, MBoTb1, MMeTd1, MMeTe1, MMeTf1, MItTb1, MEiNa1, CScNa1, CDcNa1, CRcNa1, CSeNa1, CSeNb1, CIcNa1, CScTa1, CDcTa1, CRcTa1, CSeTa1, CSeTb1}
 use Rattle.std.proofs.Common.{length}
 use Rattle.asdu.specs.declared.unit.Asdu.{Asdu}
 use Rattle.asdu.specs.Sizes.{ioa_len, header_len}
@@ -39,6 +39,11 @@ located-three CRcNa1 n h = omega arith
 located-three CSeNa1 n h = omega arith
 located-three CSeNb1 n h = omega arith
 located-three CIcNa1 n h = omega arith
+located-three CScTa1 n h = omega arith
+located-three CDcTa1 n h = omega arith
+located-three CRcTa1 n h = omega arith
+located-three CSeTa1 n h = omega arith
+located-three CSeTb1 n h = omega arith
 
 counted-three : (t : TypeId) (n : ℕ) → n ≤ 127 → n * content_len t ≤ 249 → n ≤ 3 * piece_size t true
 counted-three MSpNa1 n most h = omega arith
@@ -64,6 +69,11 @@ counted-three CRcNa1 n most h = omega arith
 counted-three CSeNa1 n most h = omega arith
 counted-three CSeNb1 n most h = omega arith
 counted-three CIcNa1 n most h = omega arith
+counted-three CScTa1 n most h = omega arith
+counted-three CDcTa1 n most h = omega arith
+counted-three CRcTa1 n most h = omega arith
+counted-three CSeTa1 n most h = omega arith
+counted-three CSeTb1 n most h = omega arith
 
 -- three pieces are enough
 pub three_pieces : (t : TypeId) (w : ℕ) (b : Bool) (n header : ℕ) → 4 ≤ header → 1 ≤ w → n ≤ 127 → header + body_len t w b n ≤ 253 → n ≤ 3 * piece_size t b

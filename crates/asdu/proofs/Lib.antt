@@ -9,3 +9,4 @@ pub mod Related
 pub mod Spelling
 pub mod Splits
 pub mod Steps
+pub mod Tags

@@ -61,7 +61,7 @@ too_long : objects_of small (1 ∷ 1 ∷ 3 ∷ 1 ∷ 100 ∷ 1 ∷ 0 ∷ []) ≡
 unfolding objects_of type_of
 too_long = refl
 
-unknown : refusal small (58 ∷ 1 ∷ 6 ∷ 1 ∷ 100 ∷ 1 ∷ []) ≡ Some 2
+unknown : refusal small (63 ∷ 1 ∷ 6 ∷ 1 ∷ 100 ∷ 1 ∷ []) ≡ Some 2
 unfolding type_of
 unknown = refl
 

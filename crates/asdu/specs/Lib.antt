@@ -6,5 +6,6 @@ pub mod Reading
 pub mod Refusals
 pub mod Rest
 pub mod Sizes
+pub mod Tagging
 pub mod Translation
 pub mod Writing

@@ -16,6 +16,7 @@ mod laws;
 mod objects;
 mod reading;
 mod sizes;
+mod tagging;
 #[cfg(test)]
 mod tests;
 mod translation;
@@ -27,6 +28,7 @@ pub use laws::{objects_are_those_of_the_asdu, one_asdu_one_spelling};
 pub use objects::{Object, Objects};
 pub use reading::{head, read};
 pub use sizes::{CaSize, CauseSize, IoaSize, Sizes};
+pub use tagging::{is_plain_command, is_tagged_command, retag, retagged_commands_come_back, untag};
 pub use translation::{Piece, Pieces, translate};
 pub use unit::{Asdu, Refused};
 pub use writing::{can_write, write};

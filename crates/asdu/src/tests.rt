@@ -1,7 +1,7 @@
 //! Worked ASDUs: read, cut into pieces, and written.
 use crate::{
-    Asdu, CaSize, CauseSize, Head, IoaSize, Object, Refused, Sizes, can_write, head, read,
-    translate, write,
+    Asdu, CaSize, CauseSize, Head, IoaSize, Object, Refused, Sizes, can_write, head,
+    is_plain_command, is_tagged_command, read, retag, translate, untag, write,
 };
 use arrayvec::ArrayVec;
 use elements::{Cp56, TypeId, Verdict, judge, kind};
@@ -67,44 +67,28 @@ fn shows(asdu: &Asdu, wanted: &[i64]) -> bool {
 }
 
 #[test]
-fn reads_objects(rt: HostRuntime) {
+fn reads_asdus(rt: HostRuntime) {
     let asdu = read(SMALL, &POINTS).expect(&rt, "two single points");
     assert!(rt; has_objects(&asdu, &[(100, &[0x01]), (101, &[0xF0])]));
-}
-
-#[test]
-fn reads_sequences(rt: HostRuntime) {
-    let asdu = read(Sizes::TCP, &VALUES).expect(&rt, "two normalised values");
-    let wanted: [(u32, &[u8]); 2] = [(10, &[0x00, 0x80, 0x00]), (11, &[0xFF, 0xFF, 0x80])];
-    assert!(rt; has_objects(&asdu, &wanted));
-    assert!(rt; shows(&asdu, &[-32_768, -1]));
-}
-
-#[test]
-fn keeps_the_octets(rt: HostRuntime) {
-    let asdu = read(SMALL, &POINTS).expect(&rt, "two single points");
     assert_eq!(rt; asdu.sizes, SMALL);
     assert_eq!(rt; asdu.kind, TypeId::MSpNa1);
     assert_eq!(rt; asdu.octets, POINTS.as_slice());
-}
-
-#[test]
-fn reads_headers(rt: HostRuntime) {
-    let asdu = read(SMALL, &POINTS).expect(&rt, "two single points");
-    assert_eq!(rt; asdu.number(), 2);
     assert!(rt; !asdu.is_sequence());
-    assert_eq!(rt; asdu.cause(), 0x83);
-    assert_eq!(rt; asdu.originator(), 0);
-    assert_eq!(rt; asdu.ca(), 1);
     assert!(rt; asdu.is_passed_on());
-}
-
-#[test]
-fn reads_headers_of_a_connection(rt: HostRuntime) {
+    let wanted = Head {
+        kind: 1,
+        vsq: 2,
+        cause: 0x83,
+        originator: 0,
+        ca: 1,
+        ioa: 100,
+    };
+    assert!(rt; has_head(&asdu, 2, &wanted));
     let asdu = read(Sizes::TCP, &VALUES).expect(&rt, "two normalised values");
-    assert_eq!(rt; asdu.number(), 2);
+    let elements: [(u32, &[u8]); 2] = [(10, &[0x00, 0x80, 0x00]), (11, &[0xFF, 0xFF, 0x80])];
+    assert!(rt; has_objects(&asdu, &elements));
+    assert!(rt; shows(&asdu, &[-32_768, -1]));
     assert!(rt; asdu.is_sequence());
-    assert_eq!(rt; asdu.originator(), 7);
     let wanted = Head {
         kind: 9,
         vsq: 0x82,
@@ -113,52 +97,54 @@ fn reads_headers_of_a_connection(rt: HostRuntime) {
         ca: 1,
         ioa: 10,
     };
-    assert_eq!(rt; asdu.head(), wanted);
+    assert!(rt; has_head(&asdu, 2, &wanted));
 }
 
-/// Whether the octets are refused, for this reason.
-fn is_refused(sizes: Sizes, octets: &[u8], why: u8) -> bool {
-    read(sizes, octets) == Err(Refused(why))
+/// Whether it has so many objects and this header, also field by field.
+fn has_head(asdu: &Asdu, number: usize, head: &Head) -> bool {
+    asdu.number() == number
+        && asdu.cause() == head.cause
+        && asdu.originator() == head.originator
+        && asdu.ca() == head.ca
+        && asdu.head() == *head
 }
 
-/// Too short for a header and an address, whatever the type; in other sizes too.
 #[test]
-fn refuses_what_is_too_short(rt: HostRuntime) {
-    assert!(rt; is_refused(SMALL, &[], 1));
-    assert!(rt; is_refused(SMALL, &[0x02, 0x00, 0x03, 0x01], 1));
-    assert!(rt; is_refused(Sizes::TCP, &[0x01, 0x01, 3, 0, 1, 0, 1, 0], 1));
-}
-
-/// A type that isn't known, also with number 0.
-#[test]
-fn refuses_types_that_are_not_known(rt: HostRuntime) {
-    assert!(rt; is_refused(SMALL, &[0x02, 0x00, 0x03, 0x01, 0x64], 2));
-    for octet in 58..=64u8 {
+fn refuses_what_is_no_asdu(rt: HostRuntime) {
+    let rows: [(Sizes, &[u8], u8); 11] = [
+        // Too short for a header and an address, whatever the type; in other sizes too.
+        (SMALL, &[], 1),
+        (SMALL, &[0x02, 0x00, 0x03, 0x01], 1),
+        (Sizes::TCP, &[0x01, 0x01, 3, 0, 1, 0, 1, 0], 1),
+        // A type that isn't known, also with number 0.
+        (SMALL, &[0x02, 0x00, 0x03, 0x01, 0x64], 2),
+        // Number 0, with SQ 0 and 1, also where the length is wrong.
+        (SMALL, &[0x01, 0x00, 0x03, 0x01, 0x64], 3),
+        (SMALL, &[0x01, 0x80, 0x03, 0x01, 0x64, 0x01], 3),
+        // An octet too few or too many, also where the last address is past the size.
+        (SMALL, &[0x01, 0x01, 0x03, 0x01, 0x64], 4),
+        (SMALL, &[0x01, 0x01, 0x03, 0x01, 0x64, 0x01, 0x00], 4),
+        (SMALL, &[0x01, 0x82, 0x03, 0x01, 0xFF, 0x01], 4),
+        // The last address past the size with SQ 1.
+        (SMALL, &[0x01, 0x82, 0x03, 0x01, 0xFF, 0x01, 0x00], 5),
+        (
+            Sizes::TCP,
+            &[0x01, 0x82, 3, 0, 1, 0, 0xFF, 0xFF, 0xFF, 1, 1],
+            5,
+        ),
+    ];
+    for (sizes, octets, why) in rows {
+        assert!(rt; read(sizes, octets) == Err(Refused(why)), "{why}");
+    }
+    // The greatest address that isn't.
+    assert!(rt; read(SMALL, &[0x01, 0x82, 0x03, 0x01, 0xFE, 0x01, 0x00]).is_ok());
+    // A set point as a short float and a bitstring, each with a time tag, are not carried.
+    for octet in 63..=64u8 {
         let tagged = [
             octet, 0x01, 6, 1, 10, 0x81, 0xD5, 0xDD, 0x22, 0x0C, 0x9D, 0x02, 0x18,
         ];
-        assert!(rt; is_refused(SMALL, &tagged, 2));
+        assert!(rt; read(SMALL, &tagged) == Err(Refused(2)));
     }
-}
-
-#[test]
-fn refuses_wrong_numbers_and_lengths(rt: HostRuntime) {
-    // Number 0, with SQ 0 and 1, also where the length is wrong.
-    assert!(rt; is_refused(SMALL, &[0x01, 0x00, 0x03, 0x01, 0x64], 3));
-    assert!(rt; is_refused(SMALL, &[0x01, 0x80, 0x03, 0x01, 0x64, 0x01], 3));
-    // An octet too few or too many, also where the last address is past the size.
-    assert!(rt; is_refused(SMALL, &[0x01, 0x01, 0x03, 0x01, 0x64], 4));
-    assert!(rt; is_refused(SMALL, &[0x01, 0x01, 0x03, 0x01, 0x64, 0x01, 0x00], 4));
-    assert!(rt; is_refused(SMALL, &[0x01, 0x82, 0x03, 0x01, 0xFF, 0x01], 4));
-}
-
-/// The last address past the size with SQ 1, and the greatest that isn't.
-#[test]
-fn refuses_addresses_past_the_size(rt: HostRuntime) {
-    assert!(rt; is_refused(SMALL, &[0x01, 0x82, 0x03, 0x01, 0xFF, 0x01, 0x00], 5));
-    assert!(rt; read(SMALL, &[0x01, 0x82, 0x03, 0x01, 0xFE, 0x01, 0x00]).is_ok());
-    let last = [0x01, 0x82, 3, 0, 1, 0, 0xFF, 0xFF, 0xFF, 1, 1];
-    assert!(rt; is_refused(Sizes::TCP, &last, 5));
 }
 
 #[test]
@@ -202,8 +188,10 @@ fn two_objects(kind: TypeId, head: &[u8], address: &[u8]) -> Octets {
 /// Two objects at 16 and 17, as a line of one-octet sizes and as a connection has them.
 #[test]
 fn carries_every_type(rt: HostRuntime) {
+    let mut types = 0u32;
     for octet in 0..=255u8 {
         if let Some(kind) = kind(octet) {
+            types = types.wrapping_add(1);
             let small = two_objects(kind, &[octet, 0x02, 0x43, 9, 16], &[17]);
             let wide = two_objects(kind, &[octet, 0x02, 0x43, 0, 9, 0, 16, 0, 0], &[17, 0, 0]);
             check_carried(&rt, kind, small.as_slice(), wide.as_slice());
@@ -212,6 +200,8 @@ fn carries_every_type(rt: HostRuntime) {
             check_carried(&rt, kind, small.as_slice(), wide.as_slice());
         }
     }
+    // Eight of reports without and with a tag, the end of initialisation, and six of commands.
+    assert_eq!(rt; types, 23);
 }
 
 fn check_carried<R: Abort>(rt: &R, kind: TypeId, small: &[u8], wide: &[u8]) {
@@ -222,7 +212,7 @@ fn check_carried<R: Abort>(rt: &R, kind: TypeId, small: &[u8], wide: &[u8]) {
     check_piece(rt, &asdu, wide);
     let asdu = read(Sizes::TCP, wide).expect(rt, "an ASDU of a connection");
     check_objects(rt, &asdu);
-    check_written(rt, &asdu, small);
+    check_written(rt, &asdu, SMALL, small);
 }
 
 /// It is translated into this piece alone.
@@ -236,12 +226,10 @@ fn check_piece<R: Abort>(rt: &R, asdu: &Asdu, wanted: &[u8]) {
     }
 }
 
-/// In one-octet sizes it has these octets.
-fn check_written<R: Abort>(rt: &R, asdu: &Asdu, wanted: &[u8]) {
-    assert!(rt; can_write(SMALL, asdu));
-    if can_write(SMALL, asdu) {
-        assert_eq!(rt; write(SMALL, asdu).as_slice(), wanted);
-    }
+/// In these sizes it has these octets.
+fn check_written<R: Abort>(rt: &R, asdu: &Asdu, sizes: Sizes, wanted: &[u8]) {
+    let is_written = can_write(sizes, asdu) && write(sizes, asdu).as_slice() == wanted;
+    assert!(rt; is_written);
 }
 
 fn check_objects<R: Abort>(rt: &R, asdu: &Asdu) {
@@ -352,15 +340,14 @@ fn writes_what_fits(rt: HostRuntime) {
     // The originator 7 goes where the cause has one octet.
     let octets = [45, 0x01, 0x46, 7, 0x34, 0x12, 0xFF, 0x00, 0x00, 0x81];
     let asdu = read(Sizes::TCP, &octets).expect(&rt, "a command");
-    assert!(rt; can_write(MIDDLE, &asdu));
-    if can_write(MIDDLE, &asdu) {
-        let wanted = [45, 0x01, 0x46, 0x34, 0x12, 0xFF, 0x00, 0x81];
-        assert_eq!(rt; write(MIDDLE, &asdu).as_slice(), wanted.as_slice());
-    }
+    check_written(
+        &rt,
+        &asdu,
+        MIDDLE,
+        &[45, 0x01, 0x46, 0x34, 0x12, 0xFF, 0x00, 0x81],
+    );
     // In its own sizes it has its own octets.
-    if can_write(Sizes::TCP, &asdu) {
-        assert_eq!(rt; write(Sizes::TCP, &asdu).as_slice(), octets.as_slice());
-    }
+    check_written(&rt, &asdu, Sizes::TCP, &octets);
     // A common address past one octet, an object address past two, and too many octets.
     assert!(rt; !can_write(SMALL, &asdu));
     let octets = [45, 0x01, 6, 0, 1, 0, 0x00, 0x00, 0x01, 1];
@@ -374,4 +361,51 @@ fn writes_what_fits(rt: HostRuntime) {
     let asdu = read(SMALL, octets.as_slice()).expect(&rt, "124 single points");
     assert!(rt; can_write(SMALL, &asdu));
     assert!(rt; !can_write(MIDDLE, &asdu));
+}
+
+/// Whether the second is the first with the tag, both ways, in the sizes of a connection.
+fn is_tagged_pair(plain: &[u8], tagged: &[u8]) -> bool {
+    let (Ok(without), Ok(with)) = (read(Sizes::TCP, plain), read(Sizes::TCP, tagged)) else {
+        return false;
+    };
+    if !is_tagged_command(with.kind) || !is_plain_command(without.kind) {
+        return false;
+    }
+    if with.number() != 1 || without.number() != 1 {
+        return false;
+    }
+    untag(&with).as_slice() == plain && retag(&without, &Cp56(THURSDAY)).as_slice() == tagged
+}
+
+/// Commands with a tag: in the sizes of a connection, as they go down without it, and back.
+#[test]
+fn takes_tags_off_and_puts_them_on(rt: HostRuntime) {
+    let commands: [(u8, &[u8]); 5] = [
+        (45, &[0x81]),
+        (46, &[0x02]),
+        (47, &[0x01]),
+        (48, &[0x00, 0xC0, 0x80]),
+        (49, &[0x64, 0x00, 0x05]),
+    ];
+    for (octet, element) in commands {
+        let mut plain = Octets::new();
+        let mut tagged = Octets::new();
+        assert!(rt; extend(&mut plain, &[octet, 1, 6, 0, 1, 0, 0x0A, 0, 0]));
+        assert!(rt; extend(&mut tagged, &[octet + 13, 1, 6, 0, 1, 0, 0x0A, 0, 0]));
+        assert!(rt; extend(&mut plain, element) && extend(&mut tagged, element));
+        assert!(rt; extend(&mut tagged, &THURSDAY));
+        assert!(rt; is_tagged_pair(&plain, &tagged));
+    }
+    // With SQ 1, in sizes of one octet each.
+    let select = [
+        58, 0x81, 6, 1, 10, 0x81, 0xD5, 0xDD, 0x22, 0x0C, 0x9D, 0x02, 0x18,
+    ];
+    let Ok(asdu) = read(SMALL, &select) else {
+        assert!(rt; false);
+        return;
+    };
+    assert!(rt; is_tagged_command(asdu.kind) && asdu.number() == 1);
+    if is_tagged_command(asdu.kind) && asdu.number() == 1 {
+        assert!(rt; untag(&asdu).as_slice() == [45, 0x81, 6, 1, 10, 0x81].as_slice());
+    }
 }

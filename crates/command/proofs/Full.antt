@@ -25,7 +25,8 @@ use Rattle.command.specs.Judging as judging
 use Rattle.command.specs.Judging.{fault, makes_selection, ends_selection, lacks_selection, waiting_count}
 use Rattle.command.specs.Mirrors as mirrors
 use Rattle.command.specs.Mirrors.{is_con, target_at, element_of}
-use Rattle.command.specs.History.{Judged, Sent, Mirrored, Offered, History, Select, standing, names, negates, confirms, IsSelected, sent_count, forwarded_to}
+use Rattle.command.specs.History.{Judged, Sent, Mirrored, Offered, History, sent_count, forwarded_to}
+use Rattle.command.proofs.Machine.{Select, standing, names, negates, confirms, IsSelected}
 use Rattle.command.specs.Calls.{Call, Judge, PutOnLine, Accept, Busy, Lose, Mirror, Own, SendOwn, Cut, Due, Run, after_call, run, after_sending, after_answer, latest, moment_of, NeverFall}
 use Rattle.command.proofs.Sendings.{count_is}
 use Rattle.command.proofs.Keeps.{KeepsQueue}

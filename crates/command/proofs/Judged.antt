@@ -21,7 +21,9 @@ use Rattle.command.specs.Stations.{station_number, is_guarded}
 use Rattle.command.specs.State.{State}
 use Rattle.command.specs.Judging as judging
 use Rattle.command.specs.Judging.{fault, copies, waiting_count, makes_selection, ends_selection, lacks_selection}
-use Rattle.command.specs.History.{Judged, History, Select, sent_count, forwarded_to, standing, names, is_for, IsSelected, cause_given}
+use Rattle.command.specs.History.{Judged, History, sent_count, forwarded_to, is_for, cause_given}
+use Rattle.command.proofs.Machine.{Select, standing, names, IsSelected}
+use Rattle.command.proofs.ReadAlike.{faults_read}
 use Rattle.command.proofs.Sendings.{waiting_for, waiting_for-append, copies_for, if_for, copies_shaped, shaped-append, count_is, same}
 use Rattle.command.proofs.Keeps.{KeepsQueue, KeepsLines, KeepsOwn, Keeps, Same}
 use Rattle.command.proofs.Tied.{AtStage, station_at, select_of, Perhaps, all_kept, all_mapped, Tied, judged_tied}
@@ -149,7 +151,7 @@ module _ (sizes : Sizes) (stations : List StationInfo) (select_ms : ℕ) where
     own = judged_own answers h now xs None k.own;
     tied = all;
     executes = (let_through, k.executes);
-    rightly = (f, k.rightly);
+    rightly = (sym (faults_read sizes stations xs) ∙ f, k.rightly);
   }
 
   abbrev new_one : Command → ℕ → List Waiting → Selection
@@ -187,7 +189,7 @@ module _ (s : State) (h : History) (xs : List ℕ) (now : ℕ) (ks : Keeps s.siz
 
   -- a command without a fault of its own gets a negative answer
   negative_given : fault s.sizes s.stations xs ≡ None → refusal ≡ answer (cause_given s.sizes s.stations s.select_ms xs) xs
-  negative_given f = rw f refl
+  negative_given f = rw (sym (faults_read s.sizes s.stations xs) ∙ f) refl
 
   refuse : (zs : List Selection) → fault s.sizes s.stations xs ≡ None → Tied_after (Some refusal) zs → Goal (judging.refused (negative xs) xs (with_selections zs))
   refuse zs f all = (record { sizes = refl; stations = refl; select_ms = refl }, not_forwarded s.sizes s.stations s.select_ms s.waiting s.lines s.selections zs s.answers h now xs refusal ks (negative_given f) all)
@@ -257,7 +259,7 @@ module _ (s : State) (h : History) (xs : List ℕ) (now : ℕ) (ks : Keeps s.siz
   on_fault : (f : Option ℕ) → fault s.sizes s.stations xs ≡ f → Goal (judging.by_fault f xs now s)
   on_fault (Some cause) e = (
     record { sizes = refl; stations = refl; select_ms = refl },
-    not_forwarded s.sizes s.stations s.select_ms s.waiting s.lines s.selections s.selections s.answers h now xs (answer cause xs) ks (rw e refl)
+    not_forwarded s.sizes s.stations s.select_ms s.waiting s.lines s.selections s.selections s.answers h now xs (answer cause xs) ks (rw (sym (faults_read s.sizes s.stations xs) ∙ e) refl)
         (all_mapped _ _ (λ z t. judged_tied s.sizes s.stations s.select_ms h now xs (Some (answer cause xs)) z t (faulty s.sizes s.stations s.select_ms h now xs cause (answer cause xs) (target_of z.command) e)) s.selections ks.tied),
   )
   on_fault None e = on_lack selected e (lacks_selection (command_at xs) now s) refl

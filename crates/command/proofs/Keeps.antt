@@ -9,8 +9,9 @@ use Rattle.command.specs.declared.waiting.Line.{Line}
 use Rattle.command.specs.declared.waiting.Line.TheVariants as line
 use Rattle.command.specs.declared.selection.Selection.{Selection}
 use Rattle.command.specs.State.{State, is_used}
-use Rattle.command.specs.History.{History, forwarded_to, sent_count, ForwardsCommands, on_line, is_on_line, GivesOwnAnswers, ExecutesAreSelected, own_kept, own_sent, KeepsOwnAnswers}
+use Rattle.command.specs.History.{History, forwarded_to, sent_count, ForwardsCommands, on_line, is_on_line, GivesOwnAnswers, own_kept, own_sent, KeepsOwnAnswers}
 use Rattle.command.proofs.Sendings.{waiting_for, AreShaped}
+use Rattle.command.proofs.Machine.{ExecutesAreSelected}
 use Rattle.command.proofs.Tied.{Tied}
 
 -- the command of the open connection that a line holds

@@ -1,6 +1,9 @@
 pub mod Codes
 pub mod Kept
 pub mod Spelled
+pub mod Machine
+pub mod ReadAlike
+pub mod Bridge
 pub mod Sendings
 pub mod Tied
 pub mod Keeps
@@ -11,5 +14,10 @@ pub mod Runs
 pub mod Ruled
 pub mod Passing
 pub mod Full
+pub mod Converse
+pub mod Distinct
+pub mod Standing
+pub mod Refusals
+pub mod Examples
 pub mod Staying
 pub mod OwnAnswers

@@ -15,7 +15,8 @@ use Rattle.command.specs.State as state
 use Rattle.command.specs.State.{State}
 use Rattle.command.specs.Mirrors as mirrors
 use Rattle.command.specs.Mirrors.{is_con, target_at, element_of}
-use Rattle.command.specs.History.{Mirrored, History, Select, negates, confirms}
+use Rattle.command.specs.History.{Mirrored, History}
+use Rattle.command.proofs.Machine.{Select, negates, confirms}
 use Rattle.command.proofs.Keeps.{Keeps, Same}
 use Rattle.command.proofs.Tied.{AtStage, station_at, select_of, Perhaps, all_kept, all_mapped, Tied, at}
 

@@ -1,5 +1,5 @@
 -- Own answers have no object that is passed on.
-use Rattle.std.proofs.Common.{◌≡◌, ℕ, zero, suc, ◌/◌, ◌<◌, ◌≤◌, ◌&&◌, Bool, true, false, not, List, [], ◌∷◌, ◌++◌, length, drop, refl, sym, subst, ap, ◌∙◌, arith, slice_index}
+use Rattle.std.proofs.Common.{◌≡◌, ℕ, zero, suc, ◌/◌, ◌<◌, ◌≤◌, ◌&&◌, ◌||◌, Bool, true, false, not, List, [], ◌∷◌, ◌++◌, length, drop, refl, sym, subst, ap, ◌∙◌, arith, slice_index}
 use Rattle.std.specs.Prelude.{◌==◌, Option, Some, None, if◌then◌else◌, option_map}
 use Rattle.std.specs.List.{AllByRecursion}
 use Rattle.elements.specs.declared.types.TypeId.{TypeId}
@@ -13,8 +13,10 @@ use Rattle.command.specs.declared.waiting.Line.TheVariants as line
 use Rattle.command.specs.Octets.{answer, negative, refused_cause}
 use Rattle.command.specs.Command.{is_command_type}
 use Rattle.command.specs.State.{State, line_of, refusal_of}
-use Rattle.command.specs.Judging.{fault, judged}
-use Rattle.command.specs.Rules.{rules_for, first_cause}
+use Rattle.command.specs.Judging.{judged}
+use Rattle.command.specs.Standard.{is_process_type, cause_of_fault, first_cause}
+use Rattle.command.specs.Rules.{rules_for}
+use Rattle.command.proofs.ReadAlike.{types_read}
 use Rattle.command.specs.History.{Judged, Sent, Accepted, Refused, GivenUp, Mirrored, Offered, Answered, Ended, History, first, is_for, forwarded_to, sent_count, next_for, on_line, GivesOwnAnswers}
 use Rattle.command.specs.Calls.{Call, run}
 use Rattle.command.proofs.Spelled.{Names, command_type}
@@ -72,7 +74,7 @@ of_unknown xs long small =
 -- ---- judging
 
 pub of_judging : (xs : List ℕ) (now : ℕ) (s : State) (a : List ℕ) → 9 ≤ length xs → slice_index xs 2 < 256 → (judged xs now s).0 ≡ Some a → monitor_objects_of tcp a ≡ []
-of_judging xs now s a long small is = by_type (is_command_type (slice_index xs 0)) refl (sym (first_rule xs now s) ∙ is)
+of_judging xs now s a long small is = by_type (is_process_type (slice_index xs 0) || slice_index xs 0 == 100) refl (sym (first_rule xs now s) ∙ is)
   where
     of_cause : is_command_type (slice_index xs 0) ≡ true → (o : Option ℕ) → option_map (λ (cause : ℕ). answer cause xs) o ≡ Some a → monitor_objects_of tcp a ≡ []
     of_cause known None e = cc
@@ -80,8 +82,8 @@ of_judging xs now s a long small is = by_type (is_command_type (slice_index xs 0
         let same : answer cause xs ≡ a = cc in
         subst (λ (ys : List ℕ). monitor_objects_of tcp ys ≡ []) same (of_command cause xs known)
 
-    by_type : (b : Bool) → is_command_type (slice_index xs 0) ≡ b → option_map (λ (cause : ℕ). answer cause xs) (first_cause (rules_for xs now s)) ≡ Some a → monitor_objects_of tcp a ≡ []
-    by_type true known e = of_cause known (first_cause (rules_for xs now s)) e
+    by_type : (b : Bool) → (is_process_type (slice_index xs 0) || slice_index xs 0 == 100) ≡ b → option_map (λ (cause : ℕ). answer cause xs) (first_cause (rules_for xs now s)) ≡ Some a → monitor_objects_of tcp a ≡ []
+    by_type true known e = of_cause (ap (λ (b : Bool). b || slice_index xs 0 == 100) (types_read (slice_index xs 0)) ∙ known) (first_cause (rules_for xs now s)) e
     by_type false unknown e =
         let same : answer 44 xs ≡ a = (let given : Some (answer 44 xs) ≡ Some a = rw unknown at e in cc) in
         subst (λ (ys : List ℕ). monitor_objects_of tcp ys ≡ []) same (of_unknown xs long small)
@@ -96,7 +98,7 @@ first_of P (suc n) (x ∷ xss) xs all e = first_of P n xss xs all.1 e
 
 module _ (sizes : Sizes) (stations : List StationInfo) (ms : ℕ) where
   abbrev HasNoFault : List ℕ → Type 0
-  HasNoFault xs = fault sizes stations xs ≡ None
+  HasNoFault xs = cause_of_fault sizes stations xs ≡ None
 
   one_more : (b : Bool) (xss : List (List ℕ)) (xs : List ℕ) → AllByRecursion HasNoFault xss → HasNoFault xs → AllByRecursion HasNoFault (if b then xss ++ xs ∷ [] else xss)
   one_more true xss xs all one = all_append HasNoFault xss xs all one
@@ -142,8 +144,8 @@ module _ (sizes : Sizes) (stations : List StationInfo) (ms : ℕ) where
   on_line_faultless k (Ended ∷ h) xs g e = cc
 
 -- the type is known where there is no fault
-typed : (sizes : Sizes) (stations : List StationInfo) (xs : List ℕ) → fault sizes stations xs ≡ None → is_command_type (slice_index xs 0) ≡ true
-typed sizes stations xs e = go (is_command_type (slice_index xs 0)) _ e
+typed : (sizes : Sizes) (stations : List StationInfo) (xs : List ℕ) → cause_of_fault sizes stations xs ≡ None → is_command_type (slice_index xs 0) ≡ true
+typed sizes stations xs e = ap (λ (b : Bool). b || slice_index xs 0 == 100) (types_read (slice_index xs 0)) ∙ go (is_process_type (slice_index xs 0) || slice_index xs 0 == 100) _ e
   where
     go : (b : Bool) (rest : Option ℕ) → (if not b then Some 44 else rest) ≡ None → b ≡ true
     go true rest e = refl

@@ -13,7 +13,8 @@ use Rattle.command.specs.declared.selection.Stage.TheVariants as stage
 use Rattle.command.specs.declared.selection.Sign.{Sign}
 use Rattle.command.specs.declared.selection.Sign.TheVariants as sign
 use Rattle.command.specs.Selection.{advanced, runs_from, is_accepted}
-use Rattle.command.specs.History.{Judged, Sent, Accepted, Refused, GivenUp, Mirrored, Offered, Answered, Ended, History, Select, sent_count, place_on_line, is_accepted_at, confirmed_at, is_place, station_of, confirms}
+use Rattle.command.specs.History.{Judged, Sent, Accepted, Refused, GivenUp, Mirrored, Offered, Answered, Ended, History, sent_count, place_on_line, is_accepted_at, is_place}
+use Rattle.command.proofs.Machine.{Select, confirmed_at, station_of, confirms}
 use Rattle.command.proofs.Sendings.{same}
 
 -- ---- membership

@@ -1,40 +1,16 @@
 -- The judgement is that of the first rule that applies.
-use Rattle.std.proofs.Common.{◌≡◌, ℕ, ◌+◌, ◌%◌, ◌&&◌, ◌||◌, Bool, true, false, not, List, length, refl, sym, subst, ap, ◌∙◌, arith, slice_index}
-use Rattle.std.specs.Prelude.{◌==◌, Option, Some, None, if◌then◌else◌, option_map, nat_le, nat_lt}
-use Rattle.std.specs.Option.{option_map_or}
-use Rattle.std.proofs.lemmas.Bool.{eqb-true}
-use Rattle.elements.specs.declared.types.TypeId.{TypeId}
-use Rattle.elements.specs.Types.{row}
+use Rattle.std.proofs.Common.{◌≡◌, ℕ, ◌+◌, ◌&&◌, ◌||◌, Bool, true, false, not, List, [], ◌∷◌, ◌++◌, refl, sym, ap, ◌∙◌, arith}
+use Rattle.std.specs.Prelude.{Option, Some, None, if◌then◌else◌, option_map, nat_le, nat_lt, count_by, fold}
 use Rattle.command.specs.declared.content.Command.{Command}
+use Rattle.command.specs.declared.station.StationInfo.{StationInfo}
+use Rattle.command.specs.Standard.{Rule, first_cause, own_rules, is_for_station}
 use Rattle.command.specs.Octets.{answer, negative}
-use Rattle.command.specs.Command.{is_command_type, element_len, command_at, is_deactivation, is_select, is_process_command, qualifier}
-use Rattle.command.specs.Stations.{is_guarded}
+use Rattle.command.specs.Command.{command_at, is_deactivation, is_select, is_process_command, qualifier}
+use Rattle.command.specs.Stations.{is_guarded, is_addressed}
 use Rattle.command.specs.State.{State}
-use Rattle.command.specs.Judging.{judged, by_fault, admitted, placed, is_single, lacks_selection, lacks_place, ends_selection, without_selection}
-use Rattle.command.specs.Rules.{malformed, element_size, rules_for, first_cause}
-use Rattle.command.proofs.Spelled.{Names, command_type}
-
--- ---- one object
-
-number_low : (v : ℕ) (b : Bool) → nat_le 128 v ≡ b → (v == 1) ≡ false → (b || not (v % 128 == 1)) ≡ true
-number_low v true e h = refl
-number_low v false e h = grind (arith, e, h)
-
-number_at_once : (v : ℕ) (b : Bool) → (v == 1) ≡ b → (nat_le 128 v || not (v % 128 == 1)) ≡ not b
-number_at_once v true e = subst (λ (n : ℕ). (nat_le 128 n || not (n % 128 == 1)) ≡ false) (sym (eqb-true v 1 e)) refl
-number_at_once v false e = number_low v (nat_le 128 v) refl e
-
-not_both : (a b c : Bool) → a ≡ not b → (a || not c) ≡ not (b && c)
-not_both a true c h = rw h refl
-not_both a false c h = rw h refl
-
-size_is : (xs : List ℕ) → is_command_type (slice_index xs 0) ≡ true → element_size xs ≡ element_len (slice_index xs 0)
-size_is xs h =
-    let n : Names (slice_index xs 0) = command_type (slice_index xs 0) h in
-    ap (λ (o : Option TypeId). option_map_or (λ (t : TypeId). (row t).size) o 0) n.named ∙ n.size
-
-form_is : (xs : List ℕ) → is_command_type (slice_index xs 0) ≡ true → (malformed xs).applies ≡ not (is_single xs)
-form_is xs h = rw (size_is xs h) (not_both _ (slice_index xs 1 == 1) (length xs == 9 + element_len (slice_index xs 0)) (number_at_once (slice_index xs 1) (slice_index xs 1 == 1) refl))
+use Rattle.command.specs.Judging.{judged, by_fault, fault, admitted, placed, lacks_selection, lacks_place, ends_selection, without_selection}
+use Rattle.command.specs.Rules.{not_selected, no_place, rules_for}
+use Rattle.command.proofs.ReadAlike.{IsGood, good, stations_read, guards_read, executes_read, selects_read, faults_read}
 
 -- ---- what is kept
 
@@ -59,6 +35,10 @@ place_left : (c : Command) (s : State) (e : Bool) → ends_selection c ≡ e →
 place_left c s false h = refl
 place_left c s true h = rw (off (is_guarded s.stations c) (is_select c) (no_select c h)) refl
 
+abbrev pub or_else : Option ℕ → Option ℕ → Option ℕ
+or_else None o = o
+or_else (Some cause) o = Some cause
+
 abbrev given : List ℕ → Option ℕ → Option (List ℕ)
 given xs o = option_map (λ cause. answer cause xs) o
 
@@ -71,28 +51,44 @@ admitted_is : (xs : List ℕ) (c : Command) (now : ℕ) (s : State) (b : Bool) �
 admitted_is xs c now s true h = rw h refl
 admitted_is xs c now s false h = rw h (placed_is xs c now s (if ends_selection c then without_selection c s else s) (lacks_place c s) (place_left c s (ends_selection c) refl))
 
--- ---- the ASDU alone
+-- ---- the rules of what is kept
 
-abbrev last_rules : List ℕ → ℕ → State → Option ℕ
-last_rules xs now s = if lacks_selection (command_at xs) now s then Some (negative xs) else (if lacks_place (command_at xs) s then Some (negative xs) else None)
+pub more_rules : (xs : List Rule) (ys : List Rule) → first_cause (xs ++ ys) ≡ or_else (first_cause xs) (first_cause ys)
+more_rules [] ys = refl
+more_rules (r ∷ xs) ys = by (more_rules xs ys) r.applies
+  where
+    by : first_cause (xs ++ ys) ≡ or_else (first_cause xs) (first_cause ys) → (b : Bool) → (if b then Some r.cause else first_cause (xs ++ ys)) ≡ or_else (if b then Some r.cause else first_cause xs) (first_cause ys)
+    by rest true = refl
+    by rest false = rest
 
-abbrev nested : List ℕ → Bool → Bool → Bool → Bool → Bool → Bool → Option ℕ → Option ℕ
-nested xs a b c d e f rest =
-    if a then Some 44 else (if b then Some 45 else (if c then Some 46 else (if d then Some 47 else (if e then Some (negative xs) else (if f then Some (negative xs) else rest)))))
+abbrev count_from : (StationInfo → Bool) → ℕ → List StationInfo → ℕ
+count_from p n stations = fold (λ (a : ℕ) (station : StationInfo). a + (if p station then 1 else 0)) n stations
 
-in_order : (xs : List ℕ) (now : ℕ) (s : State) (a b c d e f : Bool) (rest : Option ℕ) → (admitted xs (command_at xs) now s).0 ≡ given xs rest →
-    (by_fault (nested xs a b c d e f None) xs now s).0 ≡ given xs (nested xs a b c d e f rest)
-in_order xs now s true b c d e f rest h = refl
-in_order xs now s false true c d e f rest h = refl
-in_order xs now s false false true d e f rest h = refl
-in_order xs now s false false false true e f rest h = refl
-in_order xs now s false false false false true f rest h = refl
-in_order xs now s false false false false false true rest h = refl
-in_order xs now s false false false false false false rest h = h
+counts_from : (xs : List ℕ) (n : ℕ) (stations : List StationInfo) → count_from (is_addressed (command_at xs)) n stations ≡ count_from (is_for_station xs) n stations
+counts_from xs n [] = refl
+counts_from xs n (station ∷ stations) =
+    counts_from xs (n + (if is_addressed (command_at xs) station then 1 else 0)) stations
+    ∙ ap (λ (b : Bool). count_from (is_for_station xs) (n + (if b then 1 else 0)) stations) (stations_read xs station)
 
-by_type : (xs : List ℕ) (now : ℕ) (s : State) (b : Bool) → is_command_type (slice_index xs 0) ≡ b → (judged xs now s).0 ≡ given xs (first_cause (rules_for xs now s))
-by_type xs now s false h = rw h refl
-by_type xs now s true h = rw (form_is xs h) (in_order xs now s _ _ _ _ _ _ (last_rules xs now s) (admitted_is xs (command_at xs) now s (lacks_selection (command_at xs) now s) refl))
+counts_read : (xs : List ℕ) (stations : List StationInfo) → count_by (is_addressed (command_at xs)) stations ≡ count_by (is_for_station xs) stations
+counts_read xs stations = counts_from xs 0 stations
+
+lacks_read : (xs : List ℕ) (now : ℕ) (s : State) → IsGood xs → lacks_selection (command_at xs) now s ≡ (not_selected xs now s).applies
+lacks_read xs now s g = rw (guards_read xs s.stations, executes_read xs g) refl
+
+places_read : (xs : List ℕ) (s : State) → IsGood xs → lacks_place (command_at xs) s ≡ (no_place xs s).applies
+places_read xs s g = rw (counts_read xs s.stations, guards_read xs s.stations, selects_read xs g) refl
+
+kept_rules : (xs : List ℕ) (now : ℕ) (s : State) → IsGood xs → (admitted xs (command_at xs) now s).0 ≡ given xs (first_cause (not_selected xs now s ∷ no_place xs s ∷ []))
+kept_rules xs now s g = admitted_is xs (command_at xs) now s (lacks_selection (command_at xs) now s) refl
+    ∙ rw (lacks_read xs now s g, places_read xs s g) refl
+
+by_own : (xs : List ℕ) (now : ℕ) (s : State) (o : Option ℕ) → fault s.sizes s.stations xs ≡ o → (by_fault o xs now s).0 ≡ given xs (or_else o (first_cause (not_selected xs now s ∷ no_place xs s ∷ [])))
+by_own xs now s (Some cause) e = refl
+by_own xs now s None e = kept_rules xs now s (good s.sizes s.stations xs e)
 
 pub first_rule : (xs : List ℕ) (now : ℕ) (s : State) → (judged xs now s).0 ≡ option_map (λ cause. answer cause xs) (first_cause (rules_for xs now s))
-first_rule xs now s = by_type xs now s (is_command_type (slice_index xs 0)) refl
+first_rule xs now s =
+    by_own xs now s (fault s.sizes s.stations xs) refl
+    ∙ ap (λ (o : Option ℕ). given xs (or_else o (first_cause (not_selected xs now s ∷ no_place xs s ∷ [])))) (faults_read s.sizes s.stations xs)
+    ∙ ap (λ (o : Option ℕ). given xs o) (sym (more_rules (own_rules s.sizes s.stations xs) (not_selected xs now s ∷ no_place xs s ∷ [])))

@@ -12,7 +12,9 @@ use Rattle.command.specs.Stations.{is_addressed}
 use Rattle.command.specs.State.{oldest, without_oldest}
 use Rattle.command.specs.Judging.{copies, fault, waiting_count}
 use Rattle.command.specs.History.{line_octets}
+use Rattle.command.specs.Standard.{is_for_station}
 use Rattle.command.proofs.Spelled.{forwarded_octets}
+use Rattle.command.proofs.ReadAlike.{stations_read}
 
 -- `n == n`
 pub same : (n : ℕ) → (n == n) ≡ true
@@ -55,7 +57,7 @@ abbrev pub if_for : Bool → List ℕ → List (List ℕ)
 if_for b xs = if b then xs ∷ [] else []
 
 abbrev pub is_for_at : List ℕ → Option StationInfo → Bool
-is_for_at xs station = option_map_or (is_addressed (command_at xs)) station false
+is_for_at xs station = option_map_or (is_for_station xs) station false
 
 here : (sizes : Sizes) (xs : List ℕ) (i : ℕ) (st : StationInfo) (sts : List StationInfo) (b : Bool) → is_addressed (command_at xs) st ≡ b → waiting_for i (copies sizes xs i (st ∷ sts)) ≡ if_for b xs
 here sizes xs i st sts true e =
@@ -75,7 +77,7 @@ pub copies_for : (sizes : Sizes) (xs : List ℕ) (k i j : ℕ) (sts : List Stati
 copies_for sizes xs k i j [] e = refl
 copies_for sizes xs zero i j (st ∷ sts) e =
     let at : i ≡ j = omega (arith, e) in
-    subst (λ n. waiting_for n (copies sizes xs i (st ∷ sts)) ≡ if_for (is_addressed (command_at xs) st) xs) at (here sizes xs i st sts (is_addressed (command_at xs) st) refl)
+    subst (λ n. waiting_for n (copies sizes xs i (st ∷ sts)) ≡ if_for (is_for_station xs st) xs) at (here sizes xs i st sts (is_for_station xs st) (stations_read xs st))
 copies_for sizes xs (suc k) i j (st ∷ sts) e =
     let on : j ≡ (i + 1) + k = omega (arith, e) in
     let less : i < j = omega (arith, e) in

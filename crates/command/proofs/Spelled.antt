@@ -76,7 +76,7 @@ element_by : (code : ℕ) (ys : List ℕ) (b : Bool) → is_set_point code ≡ b
 element_by code ys true e h = rw e (three ys h)
 element_by code ys false e h = rw e (one ys h)
 
-element_again : (code : ℕ) (ys : List ℕ) → length ys ≡ element_len code → element_octets (element_at code ys) ≡ ys
+pub element_again : (code : ℕ) (ys : List ℕ) → length ys ≡ element_len code → element_octets (element_at code ys) ≡ ys
 element_again code ys h = element_by code ys (is_set_point code) refl h
 
 take_all : (n : ℕ) (ys : List ℕ) → length ys ≡ n → take n ys ≡ ys

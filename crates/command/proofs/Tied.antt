@@ -13,7 +13,8 @@ use Rattle.command.specs.declared.selection.Stage.TheVariants as stage
 use Rattle.command.specs.declared.selection.Sign.TheVariants as sign
 use Rattle.command.specs.Selection.{advanced, target_of, after_sending, after_acceptance, after_loss}
 use Rattle.command.specs.Stations.{station_number}
-use Rattle.command.specs.History.{Judged, Sent, Accepted, Refused, GivenUp, Offered, Answered, History, Select, sent_count, standing, place_on_line, is_accepted_at, confirmed_at, is_place}
+use Rattle.command.specs.History.{Judged, Sent, Accepted, Refused, GivenUp, Offered, Answered, History, sent_count, place_on_line, is_accepted_at, is_place}
+use Rattle.command.proofs.Machine.{Select, standing, confirmed_at}
 
 pub flip : (a b : ℕ) (t : Bool) → (a == b) ≡ t → (b == a) ≡ t
 flip a b true h = grind (arith, eqb-true a b h)

@@ -1,27 +1,21 @@
--- What can be seen of commands from outside, and what the rules make of it. Nothing here knows how it is kept.
+-- What can be seen of commands from outside, and what the rules make of it. Nothing here knows how
+-- it is kept.
 use Rattle.std.specs.Prelude.{◌≡◌, ℕ, suc, ◌+◌, ◌-◌, ◌<◌, Bool, true, false, not, ◌&&◌, ◌||◌, ◌==◌, nat_lt, if◌then◌else◌, List, [], ◌∷◌, ◌++◌, length, drop, Option, Some, None, option_map, is_none, unwrap_or, slice_get, slice_index}
 use Rattle.std.specs.Option.{option_map_or}
-use Rattle.std.specs.List.{list_any}
 use Rattle.elements.specs.declared.types.TypeId.{TypeId}
 use Rattle.elements.specs.Types.{type_of}
 use Rattle.asdu.specs.Sizes.{tcp}
-use Rattle.asdu.specs.Asdu.{AsduValue, Info, spelled}
+use Rattle.asdu.specs.Asdu.{AsduValue, spelled}
 use Rattle.asdu.specs.Fields.{value_at}
 use Rattle.asdu.specs.Writing.{carried}
 use Rattle.asdu.specs.declared.sizes.Sizes.{Sizes}
-use Rattle.command.specs.Octets.{answer, negative}
-use Rattle.command.specs.Command.{command_at, is_execute, without_select}
-use Rattle.command.specs.Selection.{target_of, same_target, same_element, same_test}
-use Rattle.command.specs.Stations.{is_addressed, is_guarded, station_number}
-use Rattle.command.specs.Judging.{fault, makes_selection, ends_selection}
-use Rattle.command.specs.Mirrors.{is_con, target_at, element_of}
-use Rattle.command.specs.declared.content.Command.{Command}
-use Rattle.command.specs.declared.content.Element.{Element}
-use Rattle.command.specs.declared.content.Target.{Target}
+use Rattle.command.specs.Octets.{answer}
+use Rattle.command.specs.Standard.{is_deactivating, selects, executes, have_one_target, have_one_element, have_one_test_bit, confirms_command, refuses_command, is_for_station, must_be_selected, station_of, negative_of, cause_of_fault}
 use Rattle.command.specs.declared.station.StationInfo.{StationInfo}
 
 pub data Told : Type 0 where
-  -- at this moment an ASDU came from the control centre; it was answered so, or forwarded (no answer)
+  -- at this moment an ASDU came from the control centre; it was answered so, or forwarded (no
+  -- answer)
   Judged : ℕ → List ℕ → Option (List ℕ) → Told
   -- a command went to the station for the first time, with these octets
   Sent : ℕ → List ℕ → Told
@@ -58,30 +52,14 @@ typed_line_octets sizes ca (Some t) xs = spelled sizes (carried sizes (record (v
 abbrev pub line_octets : Sizes → List ℕ → StationInfo → List ℕ
 line_octets sizes xs station = typed_line_octets sizes station.ca (type_of (slice_index xs 0)) xs
 
--- ---- Selects and cons
+-- ---- Selects
 
--- a select, when it came, and how many commands for its station were forwarded before it on its connection
+-- A select, as it came; when it came; and how many commands for its station were forwarded before
+-- it on its connection.
 pub record Select : Type 0 where
-  pub command : Command
+  pub octets : List ℕ
   pub came : ℕ
   pub place : ℕ
-
--- a negative con of this target
-abbrev pub negates : Target → AsduValue → Bool
-negates target v = is_con true v.cause && list_any (λ i. same_target target (target_at v i)) v.infos
-
-abbrev pub is_element : Element → Option Element → Bool
-is_element e None = false
-is_element e (Some f) = same_element e f
-
-abbrev pub names_one : Command → AsduValue → List Info → Bool
-names_one c v [] = false
-names_one c v (i ∷ []) = same_target (target_of c) (target_at v i) && is_element c.element (element_of i.element)
-names_one c v (i ∷ j ∷ is) = false
-
--- a positive con of this select: of one object, of equal type, addresses and element
-abbrev pub confirms : Command → AsduValue → Bool
-confirms c v = not (is_con true v.cause) && is_con false v.cause && names_one c v v.infos
 
 -- the command that stands on a line is that of this place
 abbrev pub is_place : ℕ → Option ℕ → Bool
@@ -91,7 +69,7 @@ is_place place (Some n) = n == place
 module _ (sizes : Sizes) (stations : List StationInfo) (select_ms : ℕ) where
   -- the ASDU is for station k
   abbrev pub is_for : ℕ → List ℕ → Bool
-  is_for k xs = option_map_or (is_addressed (command_at xs)) (slice_get stations k) false
+  is_for k xs = option_map_or (is_for_station xs) (slice_get stations k) false
 
   -- the ASDUs forwarded to station k on the open connection, oldest first
   abbrev pub forwarded_to : ℕ → History → List (List ℕ)
@@ -115,8 +93,9 @@ module _ (sizes : Sizes) (stations : List StationInfo) (select_ms : ℕ) where
   abbrev pub next_octets : ℕ → History → Option (List ℕ)
   next_octets k h = option_map (λ xs. option_map_or (line_octets sizes xs) (slice_get stations k) []) (next_for k h)
 
-  -- Each first sending is the oldest command that was forwarded to its station on the open connection and didn't go
-  -- out: in the order in which they came, each once, and only while their connection is open.
+  -- Each first sending is the oldest command that was forwarded to its station on the open
+  -- connection and didn't go out: in the order in which they came, each once, and only while their
+  -- connection is open.
   abbrev pub ForwardsCommands : History → Type 0
   ForwardsCommands [] = Unit {0}
   ForwardsCommands (Sent k octets ∷ h) = (next_octets k h ≡ Some octets) × ForwardsCommands h
@@ -124,7 +103,8 @@ module _ (sizes : Sizes) (stations : List StationInfo) (select_ms : ℕ) where
 
   -- ---- The line
 
-  -- the ASDU whose command stands on the line of station k: it was put there on the open connection and isn't done
+  -- the ASDU whose command stands on the line of station k: it was put there on the open connection
+  -- and isn't done
   abbrev pub on_line : ℕ → History → Option (List ℕ)
   on_line k [] = None
   on_line k (Sent j octets ∷ h) = if k == j then next_for k h else on_line k h
@@ -145,44 +125,47 @@ module _ (sizes : Sizes) (stations : List StationInfo) (select_ms : ℕ) where
 
   -- ---- Answers
 
-  -- the cause of the answer to an ASDU that isn't forwarded: that of its own fault, or else a negative one
+  -- the cause of the answer to an ASDU that isn't forwarded: that of its own fault, or else a
+  -- negative one
   abbrev pub cause_given : List ℕ → ℕ
-  cause_given xs = unwrap_or (fault sizes stations xs) (negative xs)
+  cause_given xs = unwrap_or (cause_of_fault sizes stations xs) (negative_of xs)
 
   -- the answer that a busy station's command gets: a negative one, where its connection is open
   abbrev pub busy_answer : ℕ → History → Option (List ℕ)
-  busy_answer k h = option_map (λ xs. answer (negative xs) xs) (on_line k h)
+  busy_answer k h = option_map (λ xs. answer (negative_of xs) xs) (on_line k h)
 
-  -- Each answer is the ASDU that came with its cause octet replaced, and nothing that has a fault of its own is forwarded.
+  -- Each answer is the ASDU that came with its cause octet replaced, and nothing that has a fault
+  -- of its own is forwarded.
   abbrev pub GivesOwnAnswers : History → Type 0
   GivesOwnAnswers [] = Unit {0}
   GivesOwnAnswers (Judged now xs (Some a) ∷ h) = (a ≡ answer (cause_given xs) xs) × GivesOwnAnswers h
-  GivesOwnAnswers (Judged now xs None ∷ h) = (fault sizes stations xs ≡ None) × GivesOwnAnswers h
+  GivesOwnAnswers (Judged now xs None ∷ h) = (cause_of_fault sizes stations xs ≡ None) × GivesOwnAnswers h
   GivesOwnAnswers (Refused k a ∷ h) = (a ≡ busy_answer k h) × GivesOwnAnswers h
   GivesOwnAnswers (GivenUp k b ∷ h) = (b ≡ is_on_line k h) × GivesOwnAnswers h
   GivesOwnAnswers (_ ∷ h) = GivesOwnAnswers h
 
   -- ---- Selections
 
-  -- the command has no fault of its own, and is for this target
-  abbrev pub names : Target → List ℕ → Bool
-  names target xs = is_none (fault sizes stations xs) && same_target target (target_of (command_at xs))
+  -- nothing is wrong with the command ys, and its target is that of xs
+  abbrev pub is_of_target : List ℕ → List ℕ → Bool
+  is_of_target xs ys = is_none (cause_of_fault sizes stations ys) && have_one_target xs ys
 
-  abbrev pub station_of : Command → ℕ
-  station_of c = station_number c.ca stations
+  -- it was forwarded, and selects at a station that asks for selects
+  abbrev pub begins_selection : Option (List ℕ) → List ℕ → Bool
+  begins_selection a ys = is_none a && (must_be_selected stations ys && selects ys)
 
-  -- The select that stands for this target: the latest that was forwarded on the open connection, where no execute or
-  -- deactivation without a fault of its own, and no negative con, came since.
-  abbrev pub standing : Target → History → Option Select
-  standing t [] = None
-  standing t (Judged now xs a ∷ h) =
-      if not (names t xs) then standing t h
-      else (if is_none a && makes_selection stations (command_at xs)
-      then Some (record { command = command_at xs; came = now; place = length (forwarded_to (station_of (command_at xs)) h) })
-      else (if ends_selection (command_at xs) then None else standing t h))
-  standing t (Mirrored now v ∷ h) = if negates t v then None else standing t h
-  standing t (Ended ∷ h) = None
-  standing t (_ ∷ h) = standing t h
+  -- The select that stands for the target of xs: the latest that was forwarded on the open
+  -- connection, if none of these came since: a deactivation or an execute of this target that
+  -- nothing is wrong with (forwarded or not), and a station's negative confirmation of this target.
+  abbrev pub standing : List ℕ → History → Option Select
+  standing xs [] = None
+  standing xs (Judged now ys a ∷ h) =
+      if not (is_of_target xs ys) then standing xs h
+      else (if begins_selection a ys then Some (record { octets = ys; came = now; place = length (forwarded_to (station_of stations ys) h) })
+      else (if is_deactivating ys || executes ys then None else standing xs h))
+  standing xs (Mirrored now v ∷ h) = if refuses_command xs v then None else standing xs h
+  standing xs (Ended ∷ h) = None
+  standing xs (_ ∷ h) = standing xs h
 
   -- the place of the command that stands on the line of station k, where its connection is open
   abbrev pub place_on_line : ℕ → History → Option ℕ
@@ -201,21 +184,23 @@ module _ (sizes : Sizes) (stations : List StationInfo) (select_ms : ℕ) where
   is_accepted_at k place (Ended ∷ h) = false
   is_accepted_at k place (_ ∷ h) = is_accepted_at k place h
 
-  -- when the select was confirmed: its latest con that came in time, after the station accepted it
+  -- when the select was confirmed: its latest confirmation that came in time, after the station
+  -- accepted it
   abbrev pub confirmed_at : Select → History → Option ℕ
   confirmed_at z [] = None
   confirmed_at z (Mirrored now v ∷ h) =
-      if (confirms z.command v && nat_lt (now - z.came) select_ms) && is_accepted_at (station_of z.command) z.place h then Some now else confirmed_at z h
+      if (confirms_command z.octets v && nat_lt (now - z.came) select_ms) && is_accepted_at (station_of stations z.octets) z.place h then Some now else confirmed_at z h
   confirmed_at z (Ended ∷ h) = None
   confirmed_at z (_ ∷ h) = confirmed_at z h
 
-  -- This execute, which comes now, is selected: a select of its type and addresses stands, with its test bit and its
-  -- element apart from S/E; the station accepted it, and confirmed it less than select_ms ago.
-  pub record IsSelected (x : Command) (now : ℕ) (h : History) : Type 0 where
+  -- The execute xs, which comes now, is selected: a select of its type and addresses stands, with
+  -- its test bit and its element apart from S/E; the station accepted it, and confirmed it less
+  -- than select_ms ago.
+  pub record IsSelected (xs : List ℕ) (now : ℕ) (h : History) : Type 0 where
     pub select : Select
-    pub stands : standing (target_of x) h ≡ Some select
-    pub element : same_element (without_select select.command.element) x.element ≡ true
-    pub test : same_test select.command.cause x.cause ≡ true
+    pub stands : standing xs h ≡ Some select
+    pub element : have_one_element select.octets xs ≡ true
+    pub test : have_one_test_bit select.octets xs ≡ true
     pub moment : ℕ
     pub confirmed : confirmed_at select h ≡ Some moment
     pub in_time : now - moment < select_ms
@@ -224,7 +209,7 @@ module _ (sizes : Sizes) (stations : List StationInfo) (select_ms : ℕ) where
   abbrev pub ExecutesAreSelected : History → Type 0
   ExecutesAreSelected [] = Unit {0}
   ExecutesAreSelected (Judged now xs None ∷ h) =
-      (is_guarded stations (command_at xs) ≡ true → is_execute (command_at xs) ≡ true → IsSelected (command_at xs) now h) × ExecutesAreSelected h
+      (must_be_selected stations xs ≡ true → executes xs ≡ true → IsSelected xs now h) × ExecutesAreSelected h
   ExecutesAreSelected (_ ∷ h) = ExecutesAreSelected h
 
 -- ---- Own answers

@@ -1,11 +1,21 @@
 -- What holds after every list of calls.
-use Rattle.std.specs.Prelude.{ℕ, List}
+use Rattle.std.specs.Prelude.{ℕ, ◌≤◌, List, ◌∷◌}
 use Rattle.asdu.specs.declared.sizes.Sizes.{Sizes}
 use Rattle.command.specs.declared.station.StationInfo.{StationInfo}
 use Rattle.command.specs.State.{State}
 use Rattle.command.specs.History.{History}
-use Rattle.command.specs.Calls.{Call, run}
+use Rattle.command.specs.Calls.{Call, Due, run, latest, NeverFall}
 
 abbrev pub AfterEachRun : (List StationInfo → Sizes → ℕ → State → History → Type 0) → Type 0
 AfterEachRun P = (stations : List StationInfo) (sizes : Sizes) (select_ms : ℕ) (calls : List Call) →
     P stations sizes select_ms (run stations sizes select_ms calls).state (run stations sizes select_ms calls).history
+
+-- the same at each moment that isn't before them, where their moments never fall
+abbrev pub AtEachMoment : (List StationInfo → Sizes → ℕ → ℕ → State → History → Type 0) → Type 0
+AtEachMoment P = (stations : List StationInfo) (sizes : Sizes) (select_ms : ℕ) (calls : List Call) → NeverFall calls → (now : ℕ) → latest calls ≤ now →
+    P stations sizes select_ms now (run stations sizes select_ms calls).state (run stations sizes select_ms calls).history
+
+-- what holds after a last call of `due` at this moment, where no moment falls
+abbrev pub AfterEachDue : (List StationInfo → Sizes → ℕ → ℕ → State → History → Type 0) → Type 0
+AfterEachDue P = (stations : List StationInfo) (sizes : Sizes) (select_ms : ℕ) (calls : List Call) (now : ℕ) → NeverFall (Due now ∷ calls) →
+    P stations sizes select_ms now (run stations sizes select_ms (Due now ∷ calls)).state (run stations sizes select_ms (Due now ∷ calls)).history

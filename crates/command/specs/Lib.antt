@@ -1,4 +1,5 @@
 pub mod Octets
+pub mod Standard
 pub mod Command
 pub mod Selection
 pub mod Stations
@@ -7,6 +8,8 @@ pub mod Judging
 pub mod Mirrors
 pub mod Fields
 pub mod History
+pub mod Selections
 pub mod Calls
 pub mod Rules
 pub mod Laws
+pub mod Examples

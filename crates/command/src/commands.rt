@@ -110,7 +110,7 @@ impl Commands {
     }
 
     /// Judges an ASDU of 9 to 249 octets from the control centre, at moment `now` in ms: it is forwarded, or answered by the
-    /// first rule that applies.
+    /// first rule that applies. The answer is no report.
     pub fn judge_command(&mut self, octets: &[u8], now: u64) -> Act
         requires long { 9 ≤ length octets.now }
         requires fits { length octets.now ≤ 249 }
@@ -312,8 +312,8 @@ impl Commands {
         self.set_line(station, Line::Free);
     }
 
-    /// The station refused the command on its line as busy. The answer is for the control centre; there is none where the
-    /// connection that sent the command has ended.
+    /// The station refused the command on its line as busy. The answer is for the control centre, and no report; there is
+    /// none where the connection that sent the command has ended.
     pub fn busy(&mut self, station: usize) -> Option<Answer>
         ensures answer { option_map (λ answer. answer.items) result ≡ refusal_of (line_of station self.old) }
         ensures fits { IfSome result (λ answer. (9 ≤ array_vec_len answer) × (array_vec_len answer ≤ 249)) }
@@ -394,7 +394,8 @@ impl Commands {
         }
     }
 
-    /// Keeps an own answer of 9 to 249 octets. It is false, and nothing changes, where 16 are kept.
+    /// Keeps an own answer of 9 to 249 octets, as it is. It is false, and nothing changes, where 16 are kept. That it is no
+    /// report to the control centre is for the caller to see to: the answers that are made here are none.
     pub fn own(&mut self, octets: &[u8]) -> bool
         requires long { 9 ≤ length octets.now }
         requires fits { length octets.now ≤ 249 }

@@ -3,53 +3,74 @@
 //! The history has what came from the control centre and what became of it, what went to the stations and what they
 //! answered, and the own answers. Each law says what the calls do by what the rules make of that history.
 
-ghost use Rattle.std.specs.Prelude.{◌≡◌, ◌≤◌, ◌<◌, ◌==◌, ◌++◌, ℕ, List, [], length, slice_index, Some, false, true, option_map};
-ghost use Rattle.std.specs.List.{list_any};
+ghost use Rattle.std.specs.Prelude.{◌≡◌, ◌≤◌, ◌<◌, ◌==◌, ◌++◌, ℕ, List, [], length, slice_index, Some, None, false, true, option_map};
+ghost use Rattle.std.specs.List.{AllByRecursion};
 ghost use Rattle.asdu.specs.Asdu.{AsduValue};
 ghost use Rattle.asdu.specs.InformationObjects.{monitor_objects_of};
 ghost use Rattle.asdu.specs.Sizes.{tcp};
-ghost use Rattle.asdu.specs.declared.sizes.Sizes.{Sizes};
-ghost use Rattle.command.specs.declared.station.StationInfo.{StationInfo};
-ghost use Rattle.command.specs.declared.content.Command.{Command};
 ghost use Rattle.command.specs.Octets.{answer};
-ghost use Rattle.command.specs.Selection.{lets_through};
-ghost use Rattle.command.specs.Calls.{Call, run, latest, NeverFall};
 ghost use Rattle.command.specs.State.{State, octets_waiting, sent, line_of, refusal_of};
 ghost use Rattle.command.specs.Judging.{judged};
 ghost use Rattle.command.specs.Mirrors.{mirrored};
-ghost use Rattle.command.specs.Rules.{rules_for, first_cause};
+ghost use Rattle.command.specs.Standard.{first_cause, cause_of_fault, executes, IsRefusal};
+ghost use Rattle.command.specs.Rules.{rules_for, not_selected, no_place};
 ghost use Rattle.command.specs.History.{ForwardsCommands, next_octets, ExecutesAreSelected, IsSelected, GivesOwnAnswers, own_kept, own_sent, KeepsOwnAnswers};
-ghost use Rattle.command.specs.Laws.{AfterEachRun};
+ghost use Rattle.command.specs.Selections.{AreDistinct, IsStanding, IsInTime};
+ghost use Rattle.command.specs.Examples.{OctetExamples, IsRight, WaitsSo, rule_examples, selection_examples, line_examples};
+ghost use Rattle.command.specs.Laws.{AfterEachRun, AtEachMoment, AfterEachDue};
 
-/// The answer to an ASDU is the one that the first rule that applies gives; where none applies it is forwarded.
+/// The answer to an ASDU is the one that the first rule that applies gives; where none applies it
+/// is forwarded.
 pub fn judgement_is_the_first_rule_that_applies()
     ensures { (xs : List ℕ) (now : ℕ) (s : State) → (judged xs now s).0 ≡ option_map (λ cause. answer cause xs) (first_cause (rules_for xs now s)) }
 {}
 
-/// First sendings to a station are the commands forwarded to it, in their order, each once, and only while their
-/// connection is open. What waits is the next of them.
+/// First sendings to a station are the commands forwarded to it, in their order, each once, and
+/// only while their connection is open. What waits is the next of them.
 pub fn commands_are_forwarded()
     ensures in_turn { AfterEachRun (λ stations sizes select_ms s h. ForwardsCommands sizes stations select_ms h) }
     ensures waiting { AfterEachRun (λ stations sizes select_ms s h. (k : ℕ) → octets_waiting k s ≡ next_octets sizes stations select_ms k h) }
 {}
 
-/// Before each forwarded execute to a station that asks for selects its select stands: the latest of its type and
-/// addresses, accepted on the line and confirmed in time, with nothing between that ends it.
+/// Before each forwarded execute to a station that asks for selects its select stands: the latest
+/// of its type and addresses, accepted on the line and confirmed in time, with nothing between that
+/// ends it.
 pub fn executes_are_selected()
     ensures { AfterEachRun (λ stations sizes select_ms s h. ExecutesAreSelected sizes stations select_ms h) }
 {}
 
-/// Where moments never fall, a selected execute is refused for no want of a selection: one that is live lets it through.
+/// Where moments never fall, a selected execute is refused for no want of a selection: one that is
+/// live lets it through. So it is forwarded where there are places for it.
 pub fn selected_executes_pass()
-    ensures { (stations : List StationInfo) (sizes : Sizes) (select_ms : ℕ) (calls : List Call) → NeverFall calls → (x : Command) (now : ℕ) → latest calls ≤ now → IsSelected sizes stations select_ms x now (run stations sizes select_ms calls).history → list_any (lets_through select_ms x now) (run stations sizes select_ms calls).state.selections ≡ true }
+    ensures selected { AtEachMoment (λ stations sizes select_ms now s h.
+        (xs : List ℕ) → cause_of_fault sizes stations xs ≡ None → executes xs ≡ true
+        → IsSelected sizes stations select_ms xs now h → (not_selected xs now s).applies ≡ false) }
+    ensures forwarded { AtEachMoment (λ stations sizes select_ms now s h.
+        (xs : List ℕ) → cause_of_fault sizes stations xs ≡ None → executes xs ≡ true
+        → IsSelected sizes stations select_ms xs now h → (no_place xs s).applies ≡ false
+        → (judged xs now s).0 ≡ None) }
 {}
 
-/// Each answer is the right one, and the own answers that are kept go out first in, first out: 16 of them at most
-/// wait, and the end of a connection removes them.
+/// No two selections are of one target, and each is the select that stands for its target, as far
+/// as that has come. After `due`, where moments never fall, each one's select, or its latest
+/// confirmation, came less than `select_ms` ago.
+pub fn selections_are_selects_that_stand()
+    ensures distinct { AfterEachRun (λ stations sizes select_ms s h. AreDistinct s.selections) }
+    ensures standing { AfterEachRun (λ stations sizes select_ms s h.
+        (xs : List ℕ) → AllByRecursion (IsStanding sizes stations select_ms h xs) s.selections) }
+    ensures in_time { AfterEachDue (λ stations sizes select_ms now s h.
+        (xs : List ℕ) → AllByRecursion (IsInTime sizes stations select_ms now h xs) s.selections) }
+{}
+
+/// Each answer is the right one: the ASDU that came, with another cause, P/N 1, and its test bit
+/// and all other octets as they were. The own answers that are kept go out first in, first out: 16
+/// of them at most wait, and the end of a connection removes them.
 pub fn own_answers_are_given()
     ensures right { AfterEachRun (λ stations sizes select_ms s h. GivesOwnAnswers sizes stations select_ms h) }
     ensures in_turn { AfterEachRun (λ stations sizes select_ms s h. own_kept h ≡ own_sent h ++ s.answers) }
     ensures kept { AfterEachRun (λ stations sizes select_ms s h. KeepsOwnAnswers h) }
+    ensures spelled { (cause : ℕ) (xs : List ℕ) → cause < 64 → 9 ≤ length xs → slice_index xs 2 < 256
+        → IsRefusal cause xs (answer cause xs) }
 {}
 
 /// No call changes the settings.
@@ -59,8 +80,9 @@ pub fn settings_stay()
     ensures select_ms { AfterEachRun (λ stations sizes select_ms s h. s.select_ms ≡ select_ms) }
 {}
 
-/// What waits for a station first stays so until it goes out or its connection ends: no ASDU, no station's answer and nothing
-/// that goes out to another station changes it. Nor do they change the own answers that are kept.
+/// What waits for a station first stays so until it goes out or its connection ends: no ASDU, no
+/// station's answer and nothing that goes out to another station changes it. Nor do they change the
+/// own answers that are kept.
 pub fn waiting_commands_stay()
     ensures judged { (xs : List ℕ) (now k : ℕ) (s : State) (octets : List ℕ) → octets_waiting k s ≡ Some octets → octets_waiting k (judged xs now s).1 ≡ Some octets }
     ensures mirrored { (v : AsduValue) (now : ℕ) (s : State) → (mirrored v now s).waiting ≡ s.waiting }
@@ -70,9 +92,20 @@ pub fn waiting_commands_stay()
     ensures answers_sent { (j : ℕ) (s : State) → (sent j s).answers ≡ s.answers }
 {}
 
-/// An own answer has no object that is passed on as a station's report: its type is a command's, or its cause is 'unknown type'
-/// with P/N set. So it is no report to the control centre.
+/// An answer that this crate makes, to an ASDU that isn't forwarded or for a busy station, has no
+/// object that is passed on as a station's report: its type is a command's, or its cause is
+/// 'unknown type' with P/N set. So none of them is a report to the control centre. Of what is
+/// handed to `own` this says nothing: that is kept and given back as it is.
 pub fn own_answers_bear_no_objects()
     ensures judged { (xs : List ℕ) (now : ℕ) (s : State) (a : List ℕ) → 9 ≤ length xs → slice_index xs 2 < 256 → (judged xs now s).0 ≡ Some a → monitor_objects_of tcp a ≡ [] }
     ensures busy { AfterEachRun (λ stations sizes select_ms s h. (k : ℕ) (a : List ℕ) → refusal_of (line_of k s) ≡ Some a → monitor_objects_of tcp a ≡ []) }
+{}
+
+/// Examples worked by hand: which octets say what, which answer a command gets by each rule, what
+/// lets an execute through and what doesn't, and what goes to the line.
+pub fn worked_examples_hold()
+    ensures octets { OctetExamples }
+    ensures rules { AllByRecursion IsRight rule_examples }
+    ensures selections { AllByRecursion IsRight selection_examples }
+    ensures line { AllByRecursion WaitsSo line_examples }
 {}

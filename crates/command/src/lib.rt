@@ -1,21 +1,28 @@
-//! Commands of the control centre on their way to the stations, the selections that they make, and the gateway's own
-//! answers (IEC 60870-5-101, 7.2.3 for causes, 7.2.6 for elements and S/E; IEC 60870-5-104, 7, for the sizes of the
-//! connection; how long a selection lasts, how much is kept, and which rule comes first is this gateway's own profile).
+//! Commands of the control centre on their way to the stations, the selections that they make, and
+//! the gateway's own answers (IEC 60870-5-101, 7.2.3 for causes, 7.2.6 for elements and S/E; IEC
+//! 60870-5-104, 7, for the sizes of the connection; how long a selection lasts, how much is kept,
+//! and which rule comes first is this gateway's own profile).
 //!
-//! [`Commands::judge_command`] says whether an ASDU of the connection is forwarded or answered ([`Act`]). What is
-//! forwarded waits, in the line's sizes and with the station's own common address ([`Commands::waiting`]), until it goes
-//! out ([`Commands::on_line`]) and the station accepts it, is busy, or is given up. [`Commands::mirror`] hears what
-//! stations answer to commands. Own answers are handed over and taken back first in, first out. The crate knows no
+//! [`Commands::judge_command`] says whether an ASDU of the connection is forwarded or answered
+//! ([`Act`]). What is forwarded waits, in the line's sizes and with the station's own common
+//! address ([`Commands::waiting`]), until it goes out ([`Commands::on_line`]) and the station
+//! accepts it, is busy, or is given up. [`Commands::mirror`] hears what stations answer to
+//! commands. Own answers are handed over and taken back first in, first out. The crate knows no
 //! frames, sockets or clock: moments are handed in, in ms, and never fall from call to call.
 //!
-//! Proved: each call is one small function on a record of plain fields. Above it, for every list of calls: an ASDU gets
-//! the answer of the first rule that applies; first sendings to a station are the commands forwarded to it, in order,
-//! each once, and only while their connection is open; before each forwarded execute to a station that asks for selects
-//! its select stands, accepted on the line and confirmed in time, with nothing between that ends it, and where that is so
-//! the execute is refused for no want of a selection (as long as moments never fall); each answer is the
-//! ASDU that came with its cause octet replaced, and bears no object that is passed on as a station's report; own answers
-//! go out first in, first out, 16 of them at most wait; what waits for a station stays what is next until it goes out; and
-//! the settings stay. Only `new` takes memory.
+//! Proved: each call is one small function on a record of plain fields. Above it, for every list of
+//! calls: an ASDU gets the answer of the first rule that applies; first sendings to a station are
+//! the commands forwarded to it, in order, each once, and only while their connection is open;
+//! before each forwarded execute to a station that asks for selects its select stands, accepted on
+//! the line and confirmed in time, with nothing between that ends it, and where that is so the
+//! execute is refused for no want of a selection, and forwarded where it has a place (as long as
+//! moments never fall); kept selections have distinct targets, each is the select that stands, and
+//! after `due` each one's select, or its latest confirmation, came less than `select_ms` ago; each
+//! answer that is made here is the ASDU that came with its cause octet replaced, and bears no
+//! object that is passed on as a station's report; own answers go out first in, first out, 16 of
+//! them at most wait; what waits for a station stays what is next until it goes out; and the
+//! settings stay. These laws speak of octets, in words of their own (specs/Standard) that no call
+//! is built of; a table of worked examples holds too. Only `new` takes memory.
 #![tactic(auto)]
 
 mod act;
@@ -33,8 +40,8 @@ pub use act::{Act, Answer};
 pub use commands::{Commands, NoMemory};
 pub use laws::{
     commands_are_forwarded, executes_are_selected, judgement_is_the_first_rule_that_applies,
-    own_answers_are_given, own_answers_bear_no_objects, selected_executes_pass, settings_stay,
-    waiting_commands_stay,
+    own_answers_are_given, own_answers_bear_no_objects, selected_executes_pass,
+    selections_are_selects_that_stand, settings_stay, waiting_commands_stay, worked_examples_hold,
 };
 pub use station::StationInfo;
 

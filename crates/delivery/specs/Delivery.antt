@@ -1,6 +1,6 @@
 -- What the control centre is sent, seen from the outstations: the end that the frame count bit (IEC 60870-5-2, unbalanced
 -- transmission procedures) and the window (IEC 60870-5-104, 5.1) serve.
-use Rattle.std.specs.Prelude.{◌≡◌, ℕ, ◌<◌, List, ◌∷◌, length, None}
+use Rattle.std.specs.Prelude.{◌≡◌, ℕ, ◌<◌, List, [], ◌∷◌, length, None}
 use Rattle.std.specs.List.{flat_map}
 use Rattle.asdu.specs.declared.sizes.Sizes.{Sizes}
 use Rattle.asdu.specs.InformationObjects.{InformationObject}
@@ -8,7 +8,7 @@ use Rattle.link.specs.Procedure as link
 use Rattle.link.specs.declared.procedure.Link.TheVariants.{Down}
 use Rattle.link.specs.Outstation.{Turn, all_done}
 use Rattle.link.specs.Delivery as outstation
-use Rattle.link.specs.Delivery.{IsAllOrButLast, IsLatestAnswered, reports, commands, sendings_not_busy}
+use Rattle.link.specs.Delivery.{Session, IsAllOrButLast, IsLatestAnswered, learnt, reports, commands, sendings_not_busy, before_reset, sessions}
 use Rattle.gateway.specs.Log.{Log}
 use Rattle.gateway.specs.Objects.{monitor_objects}
 use Rattle.gateway.specs.Reports.{Setup, address_at, exchanges_with, reports_in, taken_objects}
@@ -40,6 +40,21 @@ objects_in sizes reports = flat_map (λ report. monitor_objects sizes report) re
 -- the monitor objects taken from it, in order
 abbrev pub taken_from : Setup → Log → ℕ → List InformationObject
 taken_from p log i = objects_in p.sizes (reports_from p log i)
+
+-- Sessions of the link
+
+-- its exchanges before the first answered reset of the link
+abbrev pub before_sessions : Setup → Log → ℕ → List Turn → Session
+before_sessions p log i turns = before_reset (address_at p.addresses i) (exchanges_with p i log) turns
+
+-- those from one answered reset to the next, and with each its turns
+abbrev pub sessions_of : Setup → Log → ℕ → List Turn → List Session
+sessions_of p log i turns = sessions (address_at p.addresses i) (exchanges_with p i log) turns
+
+-- Nothing was taken of a report, nor confirmed; and the outstation gave no report and accepted no command.
+pub record IsIdle (station : ℕ) (session : Session) : Type 0 where
+  pub taken : learnt station session.exchanges ≡ []
+  pub done : all_done session.turns ≡ []
 
 -- What was taken from an outstation that took these turns is what it reported, or all but the last report; and all of it where its
 -- latest exchange was answered. The commands that it accepted are those put on the line for it (a repeat of an unanswered one not

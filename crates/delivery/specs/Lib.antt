@@ -1,2 +1,4 @@
 pub mod Merges
 pub mod Delivery
+pub mod Commands
+pub mod Joined

@@ -1,5 +1,5 @@
 -- Lists that are made of others.
-use Rattle.std.specs.Prelude.{◌≡◌, ℕ, ◌<◌, ◌==◌, List, [], ◌∷◌, map, if◌then◌else◌}
+use Rattle.std.specs.Prelude.{◌≡◌, ℕ, ◌<◌, ◌==◌, ◌⊎◌, List, [], ◌∷◌, map, if◌then◌else◌}
 use Rattle.std.specs.List.{AllByRecursion}
 
 -- the values that bear this number, in order
@@ -13,3 +13,9 @@ pub record IsMerge {A : Type 0} (count : ℕ) (part : ℕ → List A) (whole : L
   pub all : map (λ x. x.1) owned ≡ whole
   pub owners : AllByRecursion (λ x. x.0 < count) owned
   pub each : (i : ℕ) → values_of i owned ≡ part i
+
+-- The first is left where elements of the second are struck out: in the same order, each at most once.
+abbrev pub IsSublist : {A : Type 0} → List A → List A → Type 0
+IsSublist {A} [] ys = Unit {0}
+IsSublist {A} (x ∷ xs) [] = ⊥
+IsSublist {A} (x ∷ xs) (y ∷ ys) = (x ≡ y) × IsSublist xs ys ⊎ IsSublist (x ∷ xs) ys

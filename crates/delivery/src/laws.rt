@@ -1,14 +1,14 @@
 //! The laws.
-ghost use Rattle.std.specs.Prelude.{◌≡◌, ◌≢◌, ◌<◌, ℕ, true, List, length, Some, flat_map};
+ghost use Rattle.std.specs.Prelude.{◌≡◌, ◌≢◌, ◌<◌, ◌++◌, ℕ, true, List, length, Some, flat_map};
 ghost use Rattle.std.specs.List.{AllByRecursion};
 ghost use Rattle.link.specs.declared.answer.Answer.TheVariants.{Unable};
 ghost use Rattle.link.specs.Exchanges.{answer_to};
 ghost use Rattle.link.specs.Outstation.{Turn, all_done};
-ghost use Rattle.link.specs.Delivery.{learnt, reports, sessions, HasReports, AcceptsSendings};
+ghost use Rattle.link.specs.Delivery.{learnt, reports, HasReports, AcceptsSendings};
 ghost use Rattle.gateway.specs.Log.{Log};
 ghost use Rattle.gateway.specs.Reports.{Setup, address_at, exchanges_with};
 ghost use Rattle.gateway.specs.Traffic.{IsFaithful};
-ghost use Rattle.delivery.specs.Delivery.{IsHonest, IsSteady, reports_from, Delivers};
+ghost use Rattle.delivery.specs.Delivery.{IsHonest, IsSteady, reports_from, before_sessions, sessions_of, IsIdle, Delivers};
 
 use link::{commands_are_accepted, each_service_acts_once, reports_are_learnt, sessions_are_known};
 
@@ -23,15 +23,21 @@ pub fn nothing_is_lost()
 }
 
 /// Without the premise on resets: in each session of the link, from one confirmed reset to the next, the same holds. What was
-/// taken is what the sessions' exchanges bore, joined: of each session all reports, or all but the last.
+/// taken, and what the outstation gave and accepted, is what the sessions' exchanges bore, joined: of each session all reports,
+/// or all but the last. Before the first session there was nothing.
 pub fn each_session_is_known()
     ensures reports { (p : Setup) (log : Log) (i : ℕ) (turns : List Turn) → IsFaithful p log → i < length p.addresses → IsHonest p log i turns →
-        AllByRecursion (λ s. HasReports (address_at p.addresses i) s) (sessions (address_at p.addresses i) (exchanges_with p i log) turns) }
+        AllByRecursion (λ s. HasReports (address_at p.addresses i) s) (sessions_of p log i turns) }
     ensures joined { (p : Setup) (log : Log) (i : ℕ) (turns : List Turn) → IsFaithful p log → i < length p.addresses → IsHonest p log i turns →
-        flat_map (λ s. reports (learnt (address_at p.addresses i) s.exchanges)) (sessions (address_at p.addresses i) (exchanges_with p i log) turns)
-        ≡ reports_from p log i }
+        flat_map (λ s. reports (learnt (address_at p.addresses i) s.exchanges)) (sessions_of p log i turns) ≡ reports_from p log i }
     ensures commands { (p : Setup) (log : Log) (i : ℕ) (turns : List Turn) → IsFaithful p log → i < length p.addresses → IsHonest p log i turns →
-        AllByRecursion (λ s. AcceptsSendings (address_at p.addresses i) s) (sessions (address_at p.addresses i) (exchanges_with p i log) turns) }
+        AllByRecursion (λ s. AcceptsSendings (address_at p.addresses i) s) (sessions_of p log i turns) }
+    ensures done { (p : Setup) (log : Log) (i : ℕ) (turns : List Turn) → IsFaithful p log → i < length p.addresses → IsHonest p log i turns →
+        flat_map (λ s. all_done s.turns) (sessions_of p log i turns) ≡ all_done turns }
+    ensures before { (p : Setup) (log : Log) (i : ℕ) (turns : List Turn) → IsFaithful p log → i < length p.addresses → IsHonest p log i turns →
+        IsIdle (address_at p.addresses i) (before_sessions p log i turns) }
+    ensures whole { (p : Setup) (log : Log) (i : ℕ) (turns : List Turn) → IsHonest p log i turns →
+        (before_sessions p log i turns).exchanges ++ flat_map (λ s. s.exchanges) (sessions_of p log i turns) ≡ exchanges_with p i log }
 {
     sessions_are_known();
     reports_are_learnt();

@@ -3,7 +3,7 @@ use Rattle.std.proofs.Common.{◌≡◌, ℕ, List, [], ◌∷◌, Bool, true, f
 use Rattle.std.specs.List.{find}
 use Rattle.std.proofs.lemmas.Bool.{eqb-true}
 use Rattle.elements.specs.declared.types.TypeId.{TypeId}
-use Rattle.elements.specs.declared.types.TypeId.TheVariants.{MSpNa1, MDpNa1, MStNa1, MBoNa1, MMeNa1, MMeNb1, MMeNc1, MItNa1, MSpTb1, MDpTb1, MStTb1, MBoTb1, MMeTd1, MMeTe1, MMeTf1, MItTb1, MEiNa1, CScNa1, CDcNa1, CRcNa1, CSeNa1, CSeNb1, CIcNa1}
+use Rattle.elements.specs.declared.types.TypeId.TheVariants.{MSpNa1, MDpNa1, MStNa1, MBoNa1, MMeNa1, MMeNb1, MMeNc1, MItNa1, MSpTb1, MDpTb1, MStTb1, MBoTb1, MMeTd1, MMeTe1, MMeTf1, MItTb1, MEiNa1, CScNa1, CDcNa1, CRcNa1, CSeNa1, CSeNb1, CIcNa1, CScTa1, CDcTa1, CRcTa1, CSeTa1, CSeTb1}
 use Rattle.elements.specs.Types.{row, type_of, types}
 
 pub type_of-code : (t : TypeId) → type_of ((row t).code) ≡ Some t
@@ -31,6 +31,11 @@ type_of-code CRcNa1 = refl
 type_of-code CSeNa1 = refl
 type_of-code CSeNb1 = refl
 type_of-code CIcNa1 = refl
+type_of-code CScTa1 = refl
+type_of-code CDcTa1 = refl
+type_of-code CRcTa1 = refl
+type_of-code CSeTa1 = refl
+type_of-code CSeTb1 = refl
 
 first_passes : {X : Type 0} (p : X → Bool) (x y : X) (rest : Option X) (b : Bool) → p x ≡ b → (rest ≡ Some y → p y ≡ true) → cond b (Some x) rest ≡ Some y → p y ≡ true
 first_passes p x y rest true here later h = cc

@@ -2,7 +2,7 @@
 use Rattle.std.specs.Prelude.{ℕ, ℤ, pos, ◌-ℤ◌, ◌%◌, Bool, true, false, nat_lt, if◌then◌else◌, List, [], ◌∷◌, Option, ◌==◌, find, slice_index}
 use Rattle.elements.specs.Layouts.{short_at, word_at, long_at}
 use Rattle.elements.specs.declared.types.TypeId.{TypeId}
-use Rattle.elements.specs.declared.types.TypeId.TheVariants.{MSpNa1, MDpNa1, MStNa1, MBoNa1, MMeNa1, MMeNb1, MMeNc1, MItNa1, MSpTb1, MDpTb1, MStTb1, MBoTb1, MMeTd1, MMeTe1, MMeTf1, MItTb1, MEiNa1, CScNa1, CDcNa1, CRcNa1, CSeNa1, CSeNb1, CIcNa1}
+use Rattle.elements.specs.declared.types.TypeId.TheVariants.{MSpNa1, MDpNa1, MStNa1, MBoNa1, MMeNa1, MMeNb1, MMeNc1, MItNa1, MSpTb1, MDpTb1, MStTb1, MBoTb1, MMeTd1, MMeTe1, MMeTf1, MItTb1, MEiNa1, CScNa1, CDcNa1, CRcNa1, CSeNa1, CSeNb1, CIcNa1, CScTa1, CDcTa1, CRcTa1, CSeTa1, CSeTb1}
 
 -- A type's octet, how many octets its element has, whether a time tag follows each, and whether it goes in
 -- monitor direction.
@@ -36,10 +36,15 @@ row CRcNa1 = record { code = 47; size = 1; tagged = false; monitor = false }
 row CSeNa1 = record { code = 48; size = 3; tagged = false; monitor = false }
 row CSeNb1 = record { code = 49; size = 3; tagged = false; monitor = false }
 row CIcNa1 = record { code = 100; size = 1; tagged = false; monitor = false }
+row CScTa1 = record { code = 58; size = 1; tagged = true; monitor = false }
+row CDcTa1 = record { code = 59; size = 1; tagged = true; monitor = false }
+row CRcTa1 = record { code = 60; size = 1; tagged = true; monitor = false }
+row CSeTa1 = record { code = 61; size = 3; tagged = true; monitor = false }
+row CSeTb1 = record { code = 62; size = 3; tagged = true; monitor = false }
 
 -- each type
 abbrev pub types : List TypeId
-types = MSpNa1 ∷ MDpNa1 ∷ MStNa1 ∷ MBoNa1 ∷ MMeNa1 ∷ MMeNb1 ∷ MMeNc1 ∷ MItNa1 ∷ MSpTb1 ∷ MDpTb1 ∷ MStTb1 ∷ MBoTb1 ∷ MMeTd1 ∷ MMeTe1 ∷ MMeTf1 ∷ MItTb1 ∷ MEiNa1 ∷ CScNa1 ∷ CDcNa1 ∷ CRcNa1 ∷ CSeNa1 ∷ CSeNb1 ∷ CIcNa1 ∷ []
+types = MSpNa1 ∷ MDpNa1 ∷ MStNa1 ∷ MBoNa1 ∷ MMeNa1 ∷ MMeNb1 ∷ MMeNc1 ∷ MItNa1 ∷ MSpTb1 ∷ MDpTb1 ∷ MStTb1 ∷ MBoTb1 ∷ MMeTd1 ∷ MMeTe1 ∷ MMeTf1 ∷ MItTb1 ∷ MEiNa1 ∷ CScNa1 ∷ CDcNa1 ∷ CRcNa1 ∷ CSeNa1 ∷ CSeNb1 ∷ CIcNa1 ∷ CScTa1 ∷ CDcTa1 ∷ CRcTa1 ∷ CSeTa1 ∷ CSeTb1 ∷ []
 
 -- the type that an octet names
 unfoldable pub type_of : ℕ → Option TypeId
@@ -74,3 +79,8 @@ value_shown CRcNa1 xs = pos (slice_index xs 0 % 4)
 value_shown CSeNa1 xs = short_at xs
 value_shown CSeNb1 xs = short_at xs
 value_shown CIcNa1 xs = pos (slice_index xs 0)
+value_shown CScTa1 xs = pos (slice_index xs 0 % 2)
+value_shown CDcTa1 xs = pos (slice_index xs 0 % 4)
+value_shown CRcTa1 xs = pos (slice_index xs 0 % 4)
+value_shown CSeTa1 xs = short_at xs
+value_shown CSeTb1 xs = short_at xs

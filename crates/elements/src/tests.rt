@@ -5,7 +5,7 @@ use crate::{
 };
 
 /// The octet, the type, the element's octets, whether it is tagged, and whether it goes in monitor direction.
-const TABLE: [(u8, TypeId, usize, bool, bool); 23] = [
+const TABLE: [(u8, TypeId, usize, bool, bool); 28] = [
     (1, TypeId::MSpNa1, 1, false, true),
     (30, TypeId::MSpTb1, 1, true, true),
     (3, TypeId::MDpNa1, 1, false, true),
@@ -29,6 +29,11 @@ const TABLE: [(u8, TypeId, usize, bool, bool); 23] = [
     (48, TypeId::CSeNa1, 3, false, false),
     (49, TypeId::CSeNb1, 3, false, false),
     (100, TypeId::CIcNa1, 1, false, false),
+    (58, TypeId::CScTa1, 1, true, false),
+    (59, TypeId::CDcTa1, 1, true, false),
+    (60, TypeId::CRcTa1, 1, true, false),
+    (61, TypeId::CSeTa1, 3, true, false),
+    (62, TypeId::CSeTb1, 3, true, false),
 ];
 
 #[test]
@@ -90,6 +95,11 @@ fn shows_values(rt: HostRuntime) {
     assert_eq!(rt; TypeId::CSeNa1.value(&[0x00, 0xC0, 0x80]), -16_384);
     assert_eq!(rt; TypeId::CSeNb1.value(&[0x9C, 0xFF, 0x00]), -100);
     assert_eq!(rt; TypeId::CIcNa1.value(&[0x14]), 20);
+    assert_eq!(rt; TypeId::CScTa1.value(&[0x81]), 1);
+    assert_eq!(rt; TypeId::CDcTa1.value(&[0x82]), 2);
+    assert_eq!(rt; TypeId::CRcTa1.value(&[0x7D]), 1);
+    assert_eq!(rt; TypeId::CSeTa1.value(&[0x00, 0xC0, 0x80]), -16_384);
+    assert_eq!(rt; TypeId::CSeTb1.value(&[0x9C, 0xFF, 0x00]), -100);
 }
 
 // All bits are carried: reserved ones, quality, and the sign.

@@ -54,6 +54,16 @@ pub enum TypeId {
     CSeNb1,
     /// Interrogation.
     CIcNa1,
+    /// Single command with tag.
+    CScTa1,
+    /// Double command with tag.
+    CDcTa1,
+    /// Regulating step command with tag.
+    CRcTa1,
+    /// Set point, normalised, with tag.
+    CSeTa1,
+    /// Set point, scaled, with tag.
+    CSeTb1,
 }
 
 /// The type that an octet names, if it is known.
@@ -87,6 +97,11 @@ pub fn kind(octet: u8) -> Option<TypeId>
         48 => TypeId::CSeNa1,
         49 => TypeId::CSeNb1,
         100 => TypeId::CIcNa1,
+        58 => TypeId::CScTa1,
+        59 => TypeId::CDcTa1,
+        60 => TypeId::CRcTa1,
+        61 => TypeId::CSeTa1,
+        62 => TypeId::CSeTb1,
         _ => return None,
     })
 }
@@ -107,11 +122,11 @@ impl TypeId {
             TypeId::MMeNb1 | TypeId::MMeTe1 => Sva::SIZE,
             TypeId::MItNa1 | TypeId::MItTb1 => Bcr::SIZE,
             TypeId::MEiNa1 => Coi::SIZE,
-            TypeId::CScNa1 => Sco::SIZE,
-            TypeId::CDcNa1 => Dco::SIZE,
-            TypeId::CRcNa1 => Rco::SIZE,
-            TypeId::CSeNa1 => SeNva::SIZE,
-            TypeId::CSeNb1 => SeSva::SIZE,
+            TypeId::CScNa1 | TypeId::CScTa1 => Sco::SIZE,
+            TypeId::CDcNa1 | TypeId::CDcTa1 => Dco::SIZE,
+            TypeId::CRcNa1 | TypeId::CRcTa1 => Rco::SIZE,
+            TypeId::CSeNa1 | TypeId::CSeTa1 => SeNva::SIZE,
+            TypeId::CSeNb1 | TypeId::CSeTb1 => SeSva::SIZE,
             TypeId::CIcNa1 => Qoi::SIZE,
         }
     }
@@ -130,6 +145,11 @@ impl TypeId {
                 | TypeId::MMeTe1
                 | TypeId::MMeTf1
                 | TypeId::MItTb1
+                | TypeId::CScTa1
+                | TypeId::CDcTa1
+                | TypeId::CRcTa1
+                | TypeId::CSeTa1
+                | TypeId::CSeTb1
         )
     }
 
@@ -143,7 +163,12 @@ impl TypeId {
             | TypeId::CRcNa1
             | TypeId::CSeNa1
             | TypeId::CSeNb1
-            | TypeId::CIcNa1 => false,
+            | TypeId::CIcNa1
+            | TypeId::CScTa1
+            | TypeId::CDcTa1
+            | TypeId::CRcTa1
+            | TypeId::CSeTa1
+            | TypeId::CSeTb1 => false,
             _ => true,
         }
     }
@@ -165,11 +190,11 @@ impl TypeId {
             TypeId::MMeNb1 | TypeId::MMeTe1 => i64::from(Sva::get(octets).value),
             TypeId::MItNa1 | TypeId::MItTb1 => i64::from(Bcr::get(octets).reading),
             TypeId::MEiNa1 => i64::from(Coi::get(octets).0 & 0x7F),
-            TypeId::CScNa1 => i64::from(Sco::get(octets).0 & 1),
-            TypeId::CDcNa1 => i64::from(Dco::get(octets).0 & 3),
-            TypeId::CRcNa1 => i64::from(Rco::get(octets).0 & 3),
-            TypeId::CSeNa1 => i64::from(SeNva::get(octets).value),
-            TypeId::CSeNb1 => i64::from(SeSva::get(octets).value),
+            TypeId::CScNa1 | TypeId::CScTa1 => i64::from(Sco::get(octets).0 & 1),
+            TypeId::CDcNa1 | TypeId::CDcTa1 => i64::from(Dco::get(octets).0 & 3),
+            TypeId::CRcNa1 | TypeId::CRcTa1 => i64::from(Rco::get(octets).0 & 3),
+            TypeId::CSeNa1 | TypeId::CSeTa1 => i64::from(SeNva::get(octets).value),
+            TypeId::CSeNb1 | TypeId::CSeTb1 => i64::from(SeSva::get(octets).value),
             TypeId::CIcNa1 => i64::from(Qoi::get(octets).0),
         }
     }

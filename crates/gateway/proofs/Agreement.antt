@@ -25,7 +25,7 @@ use Rattle.gateway.specs.Log.{Log, Went, TcpOut, Closed, latest}
 use Rattle.gateway.specs.Streams.{spelled, IsRefused}
 use Rattle.gateway.specs.Frames.{Sent, Connection, new_connection, data_frames, acknowledged_count, acknowledged_reports, reports_among, fault_of, objects_of_frames, IsNumberedFrom, IsInOrder, AreInOrder}
 use Rattle.gateway.specs.Connections.{is_replaced, Channel, no_channel, sending, ends, present, past, over, closed_by, IsBehind, BeginsWithFault, IsConnection, AreConnections}
-use Rattle.gateway.specs.Reports.{Setup, exchanges_of, taken_objects, reports_in, parts_of_all}
+use Rattle.gateway.specs.Reports.{Setup, address_at, exchanges_of, exchanges_with, taken_objects, reports_in, parts_of_all}
 use Rattle.gateway.specs.Polls.{has_room}
 use Rattle.gateway.specs.Room.{IsFull}
 use Rattle.gateway.specs.Traffic.{replaces, IsAtRest, IsFaithful}
@@ -38,7 +38,11 @@ use Rattle.gateway.proofs.Serving.{upto_leaves, offers_reach, unasked_stays, lef
 use Rattle.link.specs.Offers.{offered_at}
 use Rattle.link.specs.Leave.{holds_poll}
 use Rattle.link.specs.Turns.{station_at}
-use Rattle.link.specs.Procedure.{holds_command}
+use Rattle.link.specs.Procedure.{holds_command, link_after}
+use Rattle.link.specs.declared.procedure.Link.TheVariants.{Down}
+use Rattle.link.specs.Flags.{clear, flags_after}
+use Rattle.link.specs.Telling as telling
+use Rattle.ft12.specs.Fronts.{front_of}
 use Rattle.command.specs.State.{octets_waiting, oldest}
 use Rattle.command.specs.declared.waiting.Waiting.{Waiting}
 use Rattle.command.specs.Calls.{SendOwn}
@@ -887,9 +891,19 @@ rested laws p s log a spent quiet = record {
         by_oldest None e never = refl
         by_oldest (Some z) e never = absurd (never z e)
 
-    served : s.line.outstanding ≡ None → (i : ℕ) → i < length p.addresses → IsServed p (done_in p log a.course) i
+    served : s.line.outstanding ≡ None → (i : ℕ) → i < length p.addresses → IsServed p log (done_in p log a.course) i
     served out i within =
         let left = laws.left s.line room a.line.fits out (none_left w.is_due refl) i (omega (arith, within, a.line.count)) in
+        let link : link_after p.link (address_at p.addresses i) Down (exchanges_with p i log) ≡ (station_at s.line.stations i).link =
+        subst (λ (o : Option primary.Outstanding). telling.AreLinks (front_of p.link.size) p.link p.addresses s.line.stations (telling.past o (exchanges_of p log))) out a.line.links i in
+        let flags = a.line.flags i in
         let here = left_at_rest s.line i (octets_waiting i s.commands) left (none_waits w.is_due refl out i within) in
-        subst (λ (l : primary.Primary). (octets_waiting i (tasks_of p (done_in p log a.course)).state ≡ None) ⊎ ((station_at l.stations i).dfc ≡ true) ⊎ (holds_poll (station_at l.stations i).link ≡ true)) a.stands.does.line
-        (subst (λ (c : tasks.State). (octets_waiting i c ≡ None) ⊎ ((station_at s.line.stations i).dfc ≡ true) ⊎ (holds_poll (station_at s.line.stations i).link ≡ true)) a.stands.does.commands here)
+        subst (λ (c : tasks.State). (octets_waiting i c ≡ None) ⊎ ((flags_after (address_at p.addresses i) clear (exchanges_with p i log)).dfc ≡ true) ⊎ (holds_poll (link_after p.link (address_at p.addresses i) Down (exchanges_with p i log)) ≡ true)) a.stands.does.commands
+        (by_exchanges link flags here)
+      where
+        by_exchanges : link_after p.link (address_at p.addresses i) Down (exchanges_with p i log) ≡ (station_at s.line.stations i).link → flags_after (address_at p.addresses i) clear (exchanges_with p i log) ≡ telling.flags_of (station_at s.line.stations i) →
+            (octets_waiting i s.commands ≡ None) ⊎ ((station_at s.line.stations i).dfc ≡ true) ⊎ (holds_poll (station_at s.line.stations i).link ≡ true) →
+            (octets_waiting i s.commands ≡ None) ⊎ ((flags_after (address_at p.addresses i) clear (exchanges_with p i log)).dfc ≡ true) ⊎ (holds_poll (link_after p.link (address_at p.addresses i) Down (exchanges_with p i log)) ≡ true)
+        by_exchanges link flags (inl none) = inl none
+        by_exchanges link flags (inr (inl full)) = inr (inl (ap (λ f. f.dfc) flags ∙ full))
+        by_exchanges link flags (inr (inr held)) = inr (inr (ap holds_poll link ∙ held))

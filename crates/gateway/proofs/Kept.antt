@@ -11,10 +11,9 @@ use Rattle.asdu.specs.Translation.{parts, IsPiece, IsFull, AllButLast}
 use Rattle.events.specs.Queue as queue
 use Rattle.events.specs.Queue.{octets_of}
 use Rattle.gateway.specs.Objects.{objects, has_objects, monitor_objects, parts_of}
-use Rattle.elements.specs.Types.{row}
 use Rattle.asdu.specs.Asdu.{AsduValue, Info, IsAsdu}
 use Rattle.gateway.specs.declared.counts.Tally.{Tally}
-use Rattle.gateway.specs.Counting.{counted, counted_by, one_skipped}
+use Rattle.gateway.specs.Counting.{is_answer_type, counted, counted_by, one_skipped}
 use Rattle.gateway.specs.State.{State}
 use Rattle.session.specs.Session.{is_running}
 use Rattle.gateway.specs.Steps.{Keeps, Mirrors, LearnsReport, mirrored_state, mirror_fits}
@@ -66,34 +65,34 @@ keeps_none s t report octets sizes same is none after =
 
 -- How a report is counted: by its type and cause, where it is read.
 
-read_counts : (infos : List Info) (u : AsduValue) (c : Tally) → u.infos ≡ infos → 1 ≤ length infos → counted_by (value_objects u) c ≡ (if (row u.kind).monitor then (if is_passed_on u.kind u.cause then c else one_skipped c) else c)
+read_counts : (infos : List Info) (u : AsduValue) (c : Tally) → u.infos ≡ infos → 1 ≤ length infos → counted_by (value_objects u) c ≡ (if is_answer_type u.kind then c else (if is_passed_on u.kind u.cause then c else one_skipped c))
 read_counts [] u c is some = absurd (omega (arith, some))
 read_counts (i ∷ infos) u c is some = ap (λ is. counted_by (map (object_in u) is) c) is
 
 -- in the sizes and octets as the gateway has them
 pub counted_as : (s : State) (report octets : List ℕ) (sizes : Sizes) (u : AsduValue) → sizes ≡ s.sizes → octets ≡ report → objects_of s.sizes report ≡ value_objects u → 1 ≤ length u.infos →
-    counted s.sizes report s.counts ≡ (if (row u.kind).monitor then (if is_passed_on u.kind u.cause then s.counts else one_skipped s.counts) else s.counts)
+    counted s.sizes report s.counts ≡ (if is_answer_type u.kind then s.counts else (if is_passed_on u.kind u.cause then s.counts else one_skipped s.counts))
 counted_as s report octets sizes u same is objects some = ap (λ os. counted_by os s.counts) objects ∙ read_counts u.infos u s.counts refl some
 
-pub passed_counts : (monitor passed : Bool) (c : Tally) → passed ≡ true → (if monitor then (if passed then c else one_skipped c) else c) ≡ c
-passed_counts true passed c on = ap (λ b. if b then c else one_skipped c) on
-passed_counts false passed c on = refl
+pub passed_counts : (answer passed : Bool) (c : Tally) → passed ≡ true → (if answer then c else (if passed then c else one_skipped c)) ≡ c
+passed_counts true passed c on = refl
+passed_counts false passed c on = ap (λ b. if b then c else one_skipped c) on
 
-pub skipped_counts : (monitor passed : Bool) (c : Tally) → monitor ≡ true → passed ≡ false → (if monitor then (if passed then c else one_skipped c) else c) ≡ one_skipped c
-skipped_counts monitor passed c on off = ap (λ b. if b then (if passed then c else one_skipped c) else c) on ∙ ap (λ b. if b then c else one_skipped c) off
+pub skipped_counts : (answer passed : Bool) (c : Tally) → answer ≡ false → passed ≡ false → (if answer then c else (if passed then c else one_skipped c)) ≡ one_skipped c
+skipped_counts answer passed c on off = ap (λ b. if b then c else (if passed then c else one_skipped c)) on ∙ ap (λ b. if b then c else one_skipped c) off
 
--- Whether a report is of a command type
+-- Whether a report is an answer to a command
 
-read_command : (infos : List Info) (u : AsduValue) → u.infos ≡ infos → 1 ≤ length infos → is_command_by (value_objects u) ≡ not (row u.kind).monitor
+read_command : (infos : List Info) (u : AsduValue) → u.infos ≡ infos → 1 ≤ length infos → is_command_by (value_objects u) ≡ is_answer_type u.kind
 read_command [] u is some = absurd (omega (arith, some))
 read_command (i ∷ infos) u is some = ap (λ is. is_command_by (map (object_in u) is)) is
 
-pub command_as : (sizes : Sizes) (report : List ℕ) (u : AsduValue) → objects_of sizes report ≡ value_objects u → 1 ≤ length u.infos → is_command_report sizes report ≡ not (row u.kind).monitor
+pub command_as : (sizes : Sizes) (report : List ℕ) (u : AsduValue) → objects_of sizes report ≡ value_objects u → 1 ≤ length u.infos → is_command_report sizes report ≡ is_answer_type u.kind
 command_as sizes report u objects some = ap is_command_by objects ∙ read_command u.infos u refl some
 
-pub passed_monitor : (monitor passed a b : Bool) → (monitor && a && b) ≡ passed → passed ≡ true → not monitor ≡ false
-passed_monitor true passed a b is on = refl
-passed_monitor false passed a b is on = let no : false ≡ true = is ∙ on in cc
+pub passed_monitor : (monitor tagged passed a b : Bool) → (monitor && a && b) ≡ passed → passed ≡ true → (not monitor && not tagged) ≡ false
+passed_monitor true tagged passed a b is on = refl
+passed_monitor false tagged passed a b is on = let no : false ≡ true = is ∙ on in cc
 
 pub learns_kept : (of_command : Bool) (s t : State) (report : List ℕ) (fits : Bool) → of_command ≡ false → Keeps s report t → fits ≡ true → LearnsReport of_command s report fits t
 learns_kept false s t report fits is kept all = (kept, all)

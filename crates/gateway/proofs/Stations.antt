@@ -93,7 +93,7 @@ after_request laws p q log now may s found h is =
 
 -- Nothing is left to be asked
 
-asks_alone : (laws : LineLaws) (p : Setup) (q : Primary) (log : Log) (course : Course) (may : Bool) → Tells p.link p.addresses q (exchanges_of p log) → q.outstanding ≡ None → sending q may ≡ None → (connections : List Connection) → (may ≡ false → IsFull p log connections) → ((i : ℕ) → i < length p.addresses → IsServed p (done_in p log course) i) → LacksOnlyRoom p log course connections
+asks_alone : (laws : LineLaws) (p : Setup) (q : Primary) (log : Log) (course : Course) (may : Bool) → Tells p.link p.addresses q (exchanges_of p log) → q.outstanding ≡ None → sending q may ≡ None → (connections : List Connection) → (may ≡ false → IsFull p log connections) → ((i : ℕ) → i < length p.addresses → IsServed p log (done_in p log course) i) → LacksOnlyRoom p log course connections
 asks_alone laws p q log course may h out none connections full served =
     let link : (i : ℕ) → link_after p.link (address_at p.addresses i) Down (exchanges_with p i log) ≡ (station_at q.stations i).link = λ i.
     subst (λ (o : Option Outstanding). telling.AreLinks (front_of p.link.size) p.link p.addresses q.stations (telling.past o (exchanges_of p log))) out h.links i in
@@ -123,7 +123,7 @@ waits_for p q log o h out = go (exchanges_of p log).current refl
         let w : IsAwaited (front_of p.link.size) (address_at p.addresses q.turn) q.turn o x = subst (telling.IsCurrent (front_of p.link.size) p.addresses q.turn (Some o)) is current in
         record { exchange = x; latest_is = is; waits = (at_station x w, w.waits) }
 
-pub line_rests : (laws : LineLaws) (p : Setup) (q : Primary) (log : Log) (course : Course) (may : Bool) → Tells p.link p.addresses q (exchanges_of p log) → sending q may ≡ None → (connections : List Connection) → (may ≡ false → IsFull p log connections) → (q.outstanding ≡ None → (i : ℕ) → i < length p.addresses → IsServed p (done_in p log course) i) → IsLineAtRest p log course connections
+pub line_rests : (laws : LineLaws) (p : Setup) (q : Primary) (log : Log) (course : Course) (may : Bool) → Tells p.link p.addresses q (exchanges_of p log) → sending q may ≡ None → (connections : List Connection) → (may ≡ false → IsFull p log connections) → (q.outstanding ≡ None → (i : ℕ) → i < length p.addresses → IsServed p log (done_in p log course) i) → IsLineAtRest p log course connections
 line_rests laws p q log course may h none connections full served = go q.outstanding refl
   where
     go : (o : Option Outstanding) → q.outstanding ≡ o → IsLineAtRest p log course connections

@@ -2,7 +2,7 @@
 use Rattle.std.specs.Prelude.{◌≡◌, ℕ, ◌<◌, ◌⊎◌, true, false, List, length, Some, None}
 use Rattle.ft12.specs.Fronts.{front_of}
 use Rattle.link.specs.Exchanges.{OpenExchange, IsOutstanding, view}
-use Rattle.link.specs.Turns.{station_at}
+use Rattle.link.specs.Flags.{clear, flags_after}
 use Rattle.link.specs.Leave.{holds_poll}
 use Rattle.link.specs.declared.procedure.Link.TheVariants.{Down}
 use Rattle.link.specs.Procedure.{IsUp, link_after, holds_command}
@@ -24,17 +24,20 @@ pub record IsWaiting (p : Setup) (log : Log) : Type 0 where
 abbrev pub done_in : Setup → Log → Course → Works
 done_in p log c = done_works p (latest log) (room_in p log c) c.works
 
--- No command waits for the station, or it is one that takes none: DFC is set, or an unanswered poll is held.
-abbrev pub IsServed : Setup → Works → ℕ → Type 0
-IsServed p w i =
-    (octets_waiting i (tasks_of p w).state ≡ None) ⊎ ((station_at w.line.stations i).dfc ≡ true) ⊎ (holds_poll (station_at w.line.stations i).link ≡ true)
+-- No command waits for the station, or it is one that takes none, as its exchanges show: DFC stood in its latest answer, or an
+-- unanswered poll is held.
+abbrev pub IsServed : Setup → Log → Works → ℕ → Type 0
+IsServed p log w i =
+    (octets_waiting i (tasks_of p w).state ≡ None)
+    ⊎ ((flags_after (address_at p.addresses i) clear (exchanges_with p i log)).dfc ≡ true)
+    ⊎ (holds_poll (link_after p.link (address_at p.addresses i) Down (exchanges_with p i log)) ≡ true)
 
 -- There is no room for data, and nothing else to be asked: each station is up, none holds a command, and no command waits that may go.
 pub record LacksOnlyRoom (p : Setup) (log : Log) (c : Course) (connections : List Connection) : Type 0 where
   pub full : IsFull p log connections
   pub up : (i : ℕ) → i < length p.addresses → IsUp p.link (address_at p.addresses i) (exchanges_with p i log)
   pub free : (i : ℕ) → i < length p.addresses → holds_command (link_after p.link (address_at p.addresses i) Down (exchanges_with p i log)) ≡ false
-  pub served : (i : ℕ) → i < length p.addresses → IsServed p (done_in p log c) i
+  pub served : (i : ℕ) → i < length p.addresses → IsServed p log (done_in p log c) i
 
 abbrev pub IsLineAtRest : Setup → Log → Course → List Connection → Type 0
 IsLineAtRest p log c connections = IsWaiting p log ⊎ LacksOnlyRoom p log c connections

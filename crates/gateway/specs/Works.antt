@@ -4,7 +4,6 @@
 use Rattle.std.specs.Prelude.{◌≡◌, ℕ, zero, suc, Bool, true, false, not, ◌&&◌, if◌then◌else◌, List, [], ◌∷◌, length, Option, Some, None}
 use Rattle.std.specs.List.{flat_map, AllByRecursion}
 use Rattle.ft12.specs.Fronts.{front_of}
-use Rattle.elements.specs.Types.{row}
 use Rattle.asdu.specs.declared.sizes.Sizes.{Sizes}
 use Rattle.asdu.specs.Sizes.{tcp}
 use Rattle.asdu.specs.Asdu.{AsduValue, IsAsdu}
@@ -27,7 +26,7 @@ use Rattle.command.specs.Calls.{Call, Judge, PutOnLine, Accept, Busy, Lose, Mirr
 use Rattle.gateway.specs.declared.counts.Tally.{Tally}
 use Rattle.gateway.specs.Log.{Input, LineIn}
 use Rattle.gateway.specs.Objects.{has_objects}
-use Rattle.gateway.specs.Counting.{nothing_counted, counted, one_mirrored, one_lost}
+use Rattle.gateway.specs.Counting.{is_answer_type, nothing_counted, counted, one_mirrored, one_lost}
 use Rattle.gateway.specs.Reports.{Setup}
 
 pub record Works : Type 0 where
@@ -77,10 +76,10 @@ listed (Some x) = x ∷ []
 
 -- What came of an exchange
 
--- by its first object: it is of a command type
+-- by its first object: it is an answer to a command
 abbrev pub is_command_by : List InformationObject → Bool
 is_command_by [] = false
-is_command_by (o ∷ objects) = not (row o.kind).monitor
+is_command_by (o ∷ objects) = is_answer_type o.kind
 
 abbrev pub is_command_report : Sizes → List ℕ → Bool
 is_command_report sizes report = is_command_by (objects_of sizes report)

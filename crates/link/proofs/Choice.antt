@@ -97,14 +97,14 @@ place_fits count place some = go (nat_lt (suc place) count) refl
     go true e = ltb-true (suc place) count e
     go false e = some
 
-at_may : (size : LinkSize) (burst : ℕ) (may_poll again : Bool) (stations : List StationState) (place : ℕ) (phase : Phase) → FitStations size stations →
+pub at_may : (size : LinkSize) (burst : ℕ) (may_poll again : Bool) (stations : List StationState) (place : ℕ) (phase : Phase) → FitStations size stations →
     place < length stations →
     MayWant size (station_at stations place).link (wanted_by burst may_poll again (station_at stations place) (station_at stations place).link phase)
 at_may size burst may_poll again stations place phase fits within =
     let s = station_fits size stations place within fits in
     wanted_may size burst may_poll again (station_at stations place) (station_at stations place).link phase s.link s.offered
 
-first_may : (size : LinkSize) (burst : ℕ) (may_poll : Bool) (stations : List StationState) (many place : ℕ) → FitStations size stations → 0 < length stations →
+pub first_may : (size : LinkSize) (burst : ℕ) (may_poll : Bool) (stations : List StationState) (many place : ℕ) → FitStations size stations → 0 < length stations →
     MayChooseIt size stations (first_after burst may_poll stations many place)
 first_may size burst may_poll stations zero place fits some = tt
 first_may size burst may_poll stations (suc many) place fits some =

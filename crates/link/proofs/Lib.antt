@@ -23,3 +23,8 @@ pub mod Running
 pub mod Turning
 pub mod Leaving
 pub mod Resting
+pub mod Flagging
+pub mod Heeding
+pub mod Visiting
+pub mod VisitRuns
+pub mod Fairness

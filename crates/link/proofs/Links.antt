@@ -22,7 +22,7 @@ set_view {A} f stations k s same i = go (cases_lt k (length stations)) (cases_eq
         ap (λ (j : ℕ). f (station_at (slice_set stations k s) j)) at ∙ ap f (get_or-set_same stations k s no_station fits) ∙ same
         ∙ ap (λ (j : ℕ). f (station_at stations j)) (sym at)
 
-with_station-append : (i : ℕ) (es fs : List LineExchange) → with_station i (es ++ fs) ≡ with_station i es ++ with_station i fs
+pub with_station-append : (i : ℕ) (es fs : List LineExchange) → with_station i (es ++ fs) ≡ with_station i es ++ with_station i fs
 with_station-append i [] fs = refl
 with_station-append i (e ∷ es) fs = go (e.station == i) (with_station-append i es fs)
   where
@@ -44,7 +44,7 @@ keeps_join : (settings : LinkSettings) (station : ℕ) (link : Link) (xs : List 
 keeps_join settings station link [] x k may = (may, tt)
 keeps_join settings station link (y ∷ ys) x k may = (k.0, keeps_join settings station (after settings station y link) ys x k.1 may)
 
-link_after-push : (settings : LinkSettings) (station : ℕ) (link : Link) (xs : List Exchange) (x : Exchange) →
+pub link_after-push : (settings : LinkSettings) (station : ℕ) (link : Link) (xs : List Exchange) (x : Exchange) →
     link_after settings station link (xs ++ x ∷ []) ≡ after settings station x (link_after settings station link xs)
 link_after-push settings station link [] x = refl
 link_after-push settings station link (y ∷ ys) x = link_after-push settings station (after settings station y link) ys x
@@ -54,7 +54,7 @@ views-append front [] ys = refl
 views-append front (x ∷ xs) ys = ap (λ (es : List LineExchange). view front x ∷ es) (views-append front xs ys)
 
 -- the exchanges with station i, one more being the last
-with_one : (front : List ℕ → Front) (xs : List OpenExchange) (x : OpenExchange) (i : ℕ) →
+pub with_one : (front : List ℕ → Front) (xs : List OpenExchange) (x : OpenExchange) (i : ℕ) →
     with_station i (views front (xs ++ x ∷ [])) ≡ with_station i (views front xs) ++ (if x.station == i then (view front x).exchange ∷ [] else [])
 with_one front xs x i = ap (λ (es : List LineExchange). with_station i es) (views-append front xs (x ∷ [])) ∙ with_station-append i (views front xs) (view front x ∷ [])
 

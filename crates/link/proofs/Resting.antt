@@ -58,7 +58,7 @@ offered_none burst may_poll fcb s (Some asdu) e none = go s.dfc refl none
     go true full h = (polls_none burst may_poll fcb s h, inr full)
     go false open_ h = cc
 
-left : (burst : ℕ) (may_poll : Bool) (s : StationState) (link : Link) → wanted_by burst may_poll false s link Starting ≡ None →
+pub left : (burst : ℕ) (may_poll : Bool) (s : StationState) (link : Link) → wanted_by burst may_poll false s link Starting ≡ None →
     (may_poll ≡ false) × IsLeftToPolls s link
 left burst may_poll s Down none = cc
 left burst may_poll s Available none = cc

@@ -3,18 +3,20 @@ use Rattle.std.proofs.Common.{◌≡◌, ℕ, zero, suc, ◌+◌, ◌<◌, ◌||
 use Rattle.std.proofs.lemmas.List.{length-set, length-map}
 use Rattle.ft12.specs.declared.frame.Front.{Front}
 use Rattle.ft12.specs.declared.frame.Front.TheVariants.{Whole, More, Never}
-use Rattle.link.specs.Answers.{Asked, Answer, answer_of}
+use Rattle.link.specs.Answers.{Frame, Single, Fixed, Data, Asked, Answer, answer_of}
 use Rattle.link.specs.Counts.{saturated}
 use Rattle.link.specs.Exchanges.{OpenExchange, Exchanges, no_exchanges, as_list, whole_of, view, heard_octets, heard_current, timed, timed_current, begun_by, spoilt_count}
+use Rattle.link.specs.Flags.{clear, flags_in}
 use Rattle.link.specs.Procedure.{LinkSettings, Link, Down, MaySend, after_outcome, after_answer, after_silence}
 use Rattle.link.specs.Requests.{IsUserData, FitsAddress, FitsAsked}
 use Rattle.link.specs.Turns.{StationState, Chosen, station_at}
-use Rattle.link.specs.Primary.{Outstanding, Primary, start, station_down, choice, station_asked, after_choice, asked_from, asked, sending_from, sending_by, sending, station_answered, awaits, answer_at, said_by, open_octets, took, with_octets, received_after, received_from, received, station_unanswered, unanswered, is_late, due_from, timed_out, may_offer, with_offer, offered_to, without_offer, withdrawn}
+use Rattle.link.specs.Primary.{Outstanding, Primary, start, station_down, choice, station_asked, after_choice, asked_from, asked, sending_from, sending_by, sending, acd_of, dfc_of, station_answered, awaits, answer_at, said_by, open_octets, took, with_octets, received_after, received_from, received, station_unanswered, unanswered, is_late, due_from, timed_out, may_offer, with_offer, offered_to, without_offer, withdrawn}
 use Rattle.link.specs.Holding.{FitsOutstanding}
-use Rattle.link.specs.Telling.{IsStable, IsSaid, IsAllowed, IsHeard, IsOver, IsCurrent, past, AreKept, AreLinks, AreSpoilt, TellsBy}
+use Rattle.link.specs.Telling.{IsStable, IsSaid, IsAllowed, IsHeard, IsOver, IsCurrent, past, AreKept, AreLinks, flags_of, AreFlags, AreSpoilt, TellsBy}
 use Rattle.link.proofs.Fitting.{FitStations, station_fits, set_fits, down_fits, withdrawn_fits, asked_fits, offered_fits, answered_fits, unanswered_fits, length-down}
 use Rattle.link.proofs.Choice.{MayChooseIt, choice_may}
 use Rattle.link.proofs.Links.{set_view, grown_keeps, begun_keeps, ended_links, alike_links}
+use Rattle.link.proofs.Flagging.{unanswered_flags, alike_flags, answered_flags}
 use Rattle.link.proofs.Spoilt.{open_push, answered_push, missed_push, more_octets}
 
 nil : (xs : List ℕ) → xs ++ [] ≡ xs
@@ -49,9 +51,10 @@ same_state : (front : List ℕ → Front) (settings : LinkSettings) (addresses :
     p.outstanding ≡ o → TellsBy front settings addresses p (record { ended = ended; current = cur }) →
     IsCurrent front addresses p.turn o cur' → AreKept front settings addresses (ended ++ as_list cur') →
     AreLinks front settings addresses p.stations (past o (record { ended = ended; current = cur' })) →
+    AreFlags front addresses p.stations (ended ++ as_list cur') →
     spoilt_count front (λ i. slice_index addresses i) (ended ++ as_list cur') ≡ spoilt_count front (λ i. slice_index addresses i) (ended ++ as_list cur) →
     TellsBy front settings addresses p (record { ended = ended; current = cur' })
-same_state front settings addresses p ended cur cur' o is t current keeps links count = record {
+same_state front settings addresses p ended cur cur' o is t current keeps links flags count = record {
   settings_are = t.settings_are;
   fits = t.fits;
   count = t.count;
@@ -60,6 +63,7 @@ same_state front settings addresses p ended cur cur' o is t current keeps links 
   current = subst (λ (q : Option Outstanding). IsCurrent front addresses p.turn q cur') (sym is) current;
   keeps = keeps;
   links = subst (λ (q : Option Outstanding). AreLinks front settings addresses p.stations (past q (record { ended = ended; current = cur' }))) (sym is) links;
+  flags = flags;
   spoilt = t.spoilt ∙ ap saturated (sym count);
 }
 
@@ -67,6 +71,24 @@ same_state front settings addresses p ended cur cur' o is t current keeps links 
 pub links_at : (front : List ℕ → Front) (settings : LinkSettings) (addresses : List ℕ) (p : Primary) (e : Exchanges) (o : Option Outstanding) →
     p.outstanding ≡ o → TellsBy front settings addresses p e → AreLinks front settings addresses p.stations (past o e)
 links_at front settings addresses p e o is t = subst (λ (q : Option Outstanding). AreLinks front settings addresses p.stations (past q e)) is t.links
+
+-- what is awaited isn't answered
+unheard : (front : List ℕ → Front) (a : ℕ) (x : OpenExchange) (h : Option (List ℕ)) → IsHeard front a x h →
+    option_and_then (answer_of a x.request) (whole_of (front x.octets)) ≡ None
+unheard front a x (Some octets) m = ap (λ (f : Front). option_and_then (answer_of a x.request) (whole_of f)) m.1
+unheard front a x None said = said_now front a x None said
+
+-- the frame that answers an exchange stays at its front
+answered_front : (front : List ℕ → Front) (a : ℕ) (x : OpenExchange) (octets : List ℕ) (answer : Answer) → IsStable front →
+    option_and_then (answer_of a x.request) (whole_of (front x.octets)) ≡ Some answer →
+    whole_of (front (x.octets ++ octets)) ≡ whole_of (front x.octets)
+answered_front front a x octets answer stable said = go (front x.octets) refl said
+  where
+    go : (f : Front) → front x.octets ≡ f → option_and_then (answer_of a x.request) (whole_of f) ≡ Some answer →
+        whole_of (front (x.octets ++ octets)) ≡ whole_of f
+    go More e none = cc
+    go (Never place why) e none = cc
+    go (Whole frame n) e some = ap whole_of (stable.whole x.octets octets frame n e)
 
 -- `next`
 
@@ -90,6 +112,7 @@ ask_tells front settings addresses p e now may_poll stable t = go p.outstanding 
           current = t.current;
           keeps = t.keeps;
           links = t.links;
+          flags = t.flags;
           spoilt = t.spoilt;
         }
         choose (Some c) may =
@@ -111,6 +134,10 @@ ask_tells front settings addresses p e now may_poll stable t = go p.outstanding 
               current = record { station = refl; request = refl; since = refl; waits = refl; heard = (refl, stable.nothing); has_octets = refl };
               keeps = begun_keeps front settings addresses p.stations (e.ended ++ as_list e.current) x t.keeps links may.may;
               links = λ i. links i ∙ sym (set_view (λ (r : StationState). r.link) p.stations c.station s refl i);
+              flags = λ i.
+                  unanswered_flags front addresses (e.ended ++ as_list e.current) x
+                  (ap (λ (f : Front). option_and_then (answer_of (slice_index addresses x.station) x.request) (whole_of f)) stable.nothing) i
+                  ∙ t.flags i ∙ sym (set_view flags_of p.stations c.station s refl i);
               spoilt = t.spoilt ∙ ap saturated (sym (open_push front (λ i. slice_index addresses i) (e.ended ++ as_list e.current) x refl));
             }
 
@@ -148,6 +175,7 @@ due_tells front settings addresses p ended cur at t = go p.outstanding cur refl 
             (λ i. alike_links front settings addresses ended x (timed settings.answer_ms at x) refl
             (λ (l : Link). ap (λ (m : Option Answer). after_outcome settings m (view front (timed settings.answer_ms at x)).exchange l) e
             ∙ ap (λ (m : Option Answer). after_outcome settings m (view front x).exchange l) (sym e)) i ∙ links i)
+            (λ i. alike_flags front addresses ended x (timed settings.answer_ms at x) refl refl refl i ∙ t.flags i)
             (answered_push front (λ i. slice_index addresses i) ended (timed settings.answer_ms at x) a.0 e
             ∙ sym (answered_push front (λ i. slice_index addresses i) ended x a.0 e))
     go (Some q) (Some x) is t w = late (is_late p q at) refl
@@ -163,17 +191,13 @@ due_tells front settings addresses p ended cur at t = go p.outstanding cur refl 
             ap (λ (c : Bool). c || nat_le (x.since + settings.answer_ms) at) w.waits ∙ ap (λ (s : ℕ). nat_le (s + settings.answer_ms) at) w.since
             ∙ ap (λ (s : LinkSettings). nat_le (q.since + s.answer_ms) at) (sym t.settings_are) ∙ e
 
-        none : (h : Option (List ℕ)) → IsHeard front (slice_index addresses p.turn) x h →
-            option_and_then (answer_of (slice_index addresses p.turn) x.request) (whole_of (front x.octets)) ≡ None
-        none (Some octets) m = ap (λ (f : Front). option_and_then (answer_of (slice_index addresses p.turn) x.request) (whole_of f)) m.1
-        none None said = said_now front (slice_index addresses p.turn) x None said
-
         late : (b : Bool) → is_late p q at ≡ b →
             TellsBy front settings addresses (if b then unanswered p q else p) (record { ended = ended; current = Some (timed settings.answer_ms at x) })
         late false e =
             same_state front settings addresses p ended (Some x) (Some (timed settings.answer_ms at x)) (Some q) is t
             (record { station = w.station; request = w.request; since = w.since; waits = closes false e; heard = same_heard q.heard w.heard; has_octets = w.has_octets })
             (grown_keeps front settings addresses ended x (timed settings.answer_ms at x) refl refl t.keeps) links
+            (λ i. alike_flags front addresses ended x (timed settings.answer_ms at x) refl refl refl i ∙ t.flags i)
             (open_push front (λ i. slice_index addresses i) ended (timed settings.answer_ms at x) (closes false e)
             ∙ sym (open_push front (λ i. slice_index addresses i) ended x w.waits))
           where
@@ -202,13 +226,22 @@ due_tells front settings addresses p ended cur at t = go p.outstanding cur refl 
                   ∙ ap (λ (r : Asked). after_silence settings r true (station_at p.stations p.turn).link) (sym w.request)
                   ∙ ap (λ (c : Bool). after_silence settings x.request c (station_at p.stations p.turn).link) (sym (closes true e))
                   ∙ ap (λ (m : Option Answer). after_outcome settings m (view front (timed settings.answer_ms at x)).exchange (station_at p.stations p.turn).link)
-                  (sym (none q.heard w.heard)));
+                  (sym (unheard front (slice_index addresses p.turn) x q.heard w.heard)));
+              flags = λ i.
+                  alike_flags front addresses ended x (timed settings.answer_ms at x) refl refl refl i ∙ t.flags i
+                  ∙ sym (set_view flags_of p.stations p.turn s refl i);
               spoilt = missed_push front (λ i. slice_index addresses i) ended (timed settings.answer_ms at x) q.has_octets p.spoilt (closes true e) w.has_octets
-                  (ap (λ (i : ℕ). option_and_then (answer_of (slice_index addresses i) x.request) (whole_of (front x.octets))) w.station ∙ none q.heard w.heard)
+                  (ap (λ (i : ℕ). option_and_then (answer_of (slice_index addresses i) x.request) (whole_of (front x.octets))) w.station ∙ unheard front (slice_index addresses p.turn) x q.heard w.heard)
                   (t.spoilt ∙ ap saturated (open_push front (λ i. slice_index addresses i) ended x w.waits));
             }
 
 -- `octets`
+
+-- the machine reads the flags as the control octet has them
+flags_are : (frame : Frame) → flags_in frame ≡ record { acd = acd_of frame; dfc = dfc_of frame }
+flags_are Single = refl
+flags_are (Fixed control address) = refl
+flags_are (Data control address body) = refl
 
 pub hear_tells : (front : List ℕ → Front) (settings : LinkSettings) (addresses : List ℕ) (p : Primary) (ended : List OpenExchange) (cur : Option OpenExchange) (octets : List ℕ) →
     IsStable front → TellsBy front settings addresses p (record { ended = ended; current = cur }) →
@@ -236,6 +269,8 @@ hear_tells front settings addresses p ended cur octets stable t = go p.outstandi
             (λ i. alike_links front settings addresses ended x (grown x octets) refl
             (λ (l : Link). ap (λ (m : Option Answer). after_outcome settings m (view front (grown x octets)).exchange l) (a.1 octets)
             ∙ ap (λ (m : Option Answer). after_outcome settings m (view front x).exchange l) (sym before)) i ∙ links i)
+            (λ i. alike_flags front addresses ended x (grown x octets) refl refl
+            (answered_front front (slice_index addresses x.station) x octets a.0 stable before) i ∙ t.flags i)
             (answered_push front (λ i. slice_index addresses i) ended (grown x octets) a.0 (a.1 octets)
             ∙ sym (answered_push front (λ i. slice_index addresses i) ended x a.0 before))
 
@@ -262,6 +297,14 @@ hear_tells front settings addresses p ended cur octets stable t = go p.outstandi
         asked_fits' : FitsAsked p.settings.size q.request
         asked_fits' = subst (λ (r : Option Outstanding). FitsOutstanding p.settings.size r) is t.fits.outstanding
 
+        -- before its answer the flags are those of the exchanges that ended
+        before_it : AreFlags front addresses p.stations ended
+        before_it i =
+            sym (unanswered_flags front addresses ended x
+            (subst (λ (j : ℕ). option_and_then (answer_of (slice_index addresses j) x.request) (whole_of (front x.octets)) ≡ None) (sym w.station)
+            (unheard front here x q.heard w.heard)) i)
+            ∙ t.flags i
+
         spoilt : AreSpoilt front addresses p.spoilt (ended ++ grown x octets ∷ [])
         spoilt =
             t.spoilt ∙ ap saturated (open_push front (λ i. slice_index addresses i) ended x w.waits)
@@ -285,6 +328,11 @@ hear_tells front settings addresses p ended cur octets stable t = go p.outstandi
           };
           keeps = keeps;
           links = links;
+          flags = λ i.
+              unanswered_flags front addresses ended (grown x octets)
+              (subst (λ (j : ℕ). option_and_then (answer_of (slice_index addresses j) x.request) (whole_of (front (x.octets ++ octets))) ≡ None) (sym w.station)
+              (unheard front here (grown x octets) heard so)) i
+              ∙ before_it i;
           spoilt = spoilt;
         }
 
@@ -327,6 +375,10 @@ hear_tells front settings addresses p ended cur octets stable t = go p.outstandi
                       (ap (λ (r : Asked). after_answer r answer (station_at p.stations p.turn).link) (sym w.request)
                       ∙ ap (λ (m : Option Answer). after_outcome settings m (view front (grown x octets)).exchange (station_at p.stations p.turn).link)
                       (sym (said_now front (slice_index addresses p.turn) (grown x octets) (Some answer) (said (Some answer) e'))));
+                  flags = answered_flags front addresses p.stations p.turn ended (grown x octets) s answer frame t.fits.turn before_it w.station
+                      (subst (λ (j : ℕ). option_and_then (answer_of (slice_index addresses j) x.request) (whole_of (front (x.octets ++ octets))) ≡ Some answer) (sym w.station)
+                      (said_now front here (grown x octets) (Some answer) (said (Some answer) e')))
+                      (ap whole_of e) (flags_are frame);
                   spoilt = spoilt;
                 }
 
@@ -342,8 +394,9 @@ hear_tells front settings addresses p ended cur octets stable t = go p.outstandi
 same_views : (front : List ℕ → Front) (settings : LinkSettings) (addresses : List ℕ) (p : Primary) (e : Exchanges) (stations : List StationState) →
     FitStations p.settings.size stations → length stations ≡ length p.stations →
     ((i : ℕ) → (station_at stations i).link ≡ (station_at p.stations i).link) → ((i : ℕ) → (station_at stations i).address ≡ (station_at p.stations i).address) →
+    ((i : ℕ) → flags_of (station_at stations i) ≡ flags_of (station_at p.stations i)) →
     TellsBy front settings addresses p e → TellsBy front settings addresses (record p { stations = stations }) e
-same_views front settings addresses p e stations fit count link address t = record {
+same_views front settings addresses p e stations fit count link address flags t = record {
   settings_are = t.settings_are;
   fits = record { turn = subst (λ (n : ℕ). p.turn < n) (sym count) t.fits.turn; stations = fit; outstanding = t.fits.outstanding };
   count = count ∙ t.count;
@@ -352,6 +405,7 @@ same_views front settings addresses p e stations fit count link address t = reco
   current = t.current;
   keeps = t.keeps;
   links = λ i. t.links i ∙ sym (link i);
+  flags = λ i. t.flags i ∙ sym (flags i);
   spoilt = t.spoilt;
 }
   where
@@ -376,13 +430,14 @@ offer_tells front settings addresses p e station asdu within carried t = go (may
         (offered_fits p.settings.size (station_at p.stations station) asdu (station_fits p.settings.size p.stations station within t.fits.stations) carried))
         (length-set p.stations station _)
         (set_view (λ (r : StationState). r.link) p.stations station _ refl)
-        (set_view (λ (r : StationState). r.address) p.stations station _ refl) t
+        (set_view (λ (r : StationState). r.address) p.stations station _ refl)
+        (set_view flags_of p.stations station _ refl) t
 
 pub withdraw_tells : (front : List ℕ → Front) (settings : LinkSettings) (addresses : List ℕ) (p : Primary) (e : Exchanges) → TellsBy front settings addresses p e →
     TellsBy front settings addresses (withdrawn p) e
 withdraw_tells front settings addresses p e t =
     same_views front settings addresses p e (map without_offer p.stations) (withdrawn_fits p.settings.size p.stations t.fits.stations)
-    (length-map p.stations without_offer) (link p.stations) (address p.stations) t
+    (length-map p.stations without_offer) (link p.stations) (address p.stations) (flags p.stations) t
   where
     link : (ss : List StationState) (i : ℕ) → (station_at (map without_offer ss) i).link ≡ (station_at ss i).link
     link [] i = refl
@@ -393,6 +448,11 @@ withdraw_tells front settings addresses p e t =
     address [] i = refl
     address (s ∷ ss) zero = refl
     address (s ∷ ss) (suc i) = address ss i
+
+    flags : (ss : List StationState) (i : ℕ) → flags_of (station_at (map without_offer ss) i) ≡ flags_of (station_at ss i)
+    flags [] i = refl
+    flags (s ∷ ss) zero = refl
+    flags (s ∷ ss) (suc i) = flags ss i
 
 -- `new`
 
@@ -407,6 +467,7 @@ start_tells front settings addresses some fit = record {
   current = tt;
   keeps = λ i. tt;
   links = λ i. sym (link addresses i);
+  flags = λ i. sym (flags addresses i);
   spoilt = refl;
 }
   where
@@ -419,3 +480,8 @@ start_tells front settings addresses some fit = record {
     address [] i = refl
     address (a ∷ rest) zero = refl
     address (a ∷ rest) (suc i) = address rest i
+
+    flags : (list : List ℕ) (i : ℕ) → flags_of (station_at (map station_down list) i) ≡ clear
+    flags [] i = refl
+    flags (a ∷ rest) zero = refl
+    flags (a ∷ rest) (suc i) = flags rest i

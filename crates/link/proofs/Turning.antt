@@ -1,19 +1,19 @@
 -- Whose turn comes next.
-use Rattle.std.proofs.Common.{◌≡◌, ℕ, zero, suc, ◌<◌, Bool, false, List, length, Option, Some, None, refl, sym, ap, subst, ◌∙◌, arith}
+use Rattle.std.proofs.Common.{◌≡◌, ℕ, zero, suc, ◌<◌, Bool, false, List, length, Option, Some, None, refl, sym, ap, subst, ◌∙◌, ◌⊎◌, inl, inr, arith}
 use Rattle.link.specs.Exchanges.{Sending}
 use Rattle.link.specs.Turns.{StationState, Starting, Wanted, Chosen, station_at, wanted, place_after, chosen_or, first_after}
 use Rattle.link.specs.Primary.{Outstanding, Primary, sending_by, sending_from, sending}
 use Rattle.link.specs.Runs.{nth_after, BeginsTurn, HaveNone}
 
 -- the first of so many stations after a place that has a request
-record IsFound (burst : ℕ) (may_poll : Bool) (stations : List StationState) (many place : ℕ) (c : Chosen) : Type 0 where
+pub record IsFound (burst : ℕ) (may_poll : Bool) (stations : List StationState) (many place : ℕ) (c : Chosen) : Type 0 where
   pub steps : ℕ
   pub within : steps < many
   pub station : c.station ≡ nth_after (length stations) place (suc steps)
   pub first : wanted burst may_poll false (station_at stations c.station) Starting ≡ Some c.wanted
   pub nearer : (n : ℕ) → n < steps → wanted burst may_poll false (station_at stations (nth_after (length stations) place (suc n))) Starting ≡ None
 
-found : (burst : ℕ) (may_poll : Bool) (stations : List StationState) (many place : ℕ) (c : Chosen) → first_after burst may_poll stations many place ≡ Some c →
+pub found : (burst : ℕ) (may_poll : Bool) (stations : List StationState) (many place : ℕ) (c : Chosen) → first_after burst may_poll stations many place ≡ Some c →
     IsFound burst may_poll stations many place c
 found burst may_poll stations zero place c is = cc
 found burst may_poll stations (suc many) place c is =
@@ -95,3 +95,31 @@ rests p may_poll free none = go (present p may_poll) refl
     go : (v : Option Wanted) → present p may_poll ≡ v → HaveNone p may_poll
     go (Some w) is = let some = goes_on p may_poll w free is in cc
     go None is = by (first_after p.settings.burst may_poll p.stations (length p.stations) p.turn) refl (sym (passed p may_poll free is) ∙ none)
+
+-- what goes out goes on with the present turn, or begins one
+pub record GoesOn (p : Primary) (may_poll : Bool) (s : Sending) : Type 0 where
+  pub wanted : Wanted
+  pub is : present p may_poll ≡ Some wanted
+  pub station : s.station ≡ p.turn
+  pub request : s.request ≡ wanted.request
+
+pub free_where : (p : Primary) (may_poll : Bool) (s : Sending) → sending p may_poll ≡ Some s → p.outstanding ≡ None
+free_where p may_poll s sent = go p.outstanding refl sent
+  where
+    go : (o : Option Outstanding) → p.outstanding ≡ o → sending_from p o may_poll ≡ Some s → o ≡ None
+    go None is e = refl
+    go (Some o) is e = cc
+
+pub either_turn : (p : Primary) (may_poll : Bool) (s : Sending) → sending p may_poll ≡ Some s →
+    GoesOn p may_poll s ⊎ ((present p may_poll ≡ None) × BeginsTurn p may_poll s)
+either_turn p may_poll s sent = go (present p may_poll) refl
+  where
+    free : p.outstanding ≡ None
+    free = free_where p may_poll s sent
+
+    go : (v : Option Wanted) → present p may_poll ≡ v → GoesOn p may_poll s ⊎ ((present p may_poll ≡ None) × BeginsTurn p may_poll s)
+    go None is = inr (is, passes_on p may_poll s free is sent)
+    go (Some w) is =
+        let same : Some s ≡ Some (record { station = p.turn; request = w.request }) = sym sent ∙ goes_on p may_poll w free is in
+        let at : s ≡ record { station = p.turn; request = w.request } = cc in
+        inl (record { wanted = w; is = is; station = ap (λ (z : Sending). z.station) at; request = ap (λ (z : Sending). z.request) at })

@@ -1,6 +1,7 @@
 pub mod Answers
 pub mod Counts
 pub mod Exchanges
+pub mod Flags
 pub mod Procedure
 pub mod Requests
 pub mod Turns
@@ -14,3 +15,5 @@ pub mod Life
 pub mod Runs
 pub mod Leave
 pub mod Offers
+pub mod Visits
+pub mod Waits

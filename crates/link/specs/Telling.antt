@@ -8,6 +8,7 @@ use Rattle.ft12.specs.Fronts.{front_of}
 use Rattle.link.specs.Answers.{Answer, answer_of}
 use Rattle.link.specs.Counts.{saturated}
 use Rattle.link.specs.Exchanges.{Sending, OpenExchange, Exchanges, all_of, whole_of, views, with_station, spoilt_count}
+use Rattle.link.specs.Flags.{Flags, clear, flags_after}
 use Rattle.link.specs.Procedure.{LinkSettings, Down, MaySend, KeepsFrameCountBit, link_after}
 use Rattle.link.specs.Requests.{FitsAddress, FitsAsked}
 use Rattle.link.specs.Turns.{StationState, station_at}
@@ -72,6 +73,14 @@ AreLinks front settings addresses stations xs =
 abbrev pub AreSpoilt : (front : List ℕ → Front) → (addresses : List ℕ) → (spoilt : ℕ) → List OpenExchange → Type 0
 AreSpoilt front addresses spoilt xs = spoilt ≡ saturated (spoilt_count front (λ i. slice_index addresses i) xs)
 
+abbrev pub flags_of : StationState → Flags
+flags_of s = record { acd = s.acd; dfc = s.dfc }
+
+-- The stations' flags are those that these exchanges leave.
+abbrev pub AreFlags : (front : List ℕ → Front) → (addresses : List ℕ) → List StationState → List OpenExchange → Type 0
+AreFlags front addresses stations xs =
+    (i : ℕ) → flags_after (slice_index addresses i) clear (with_station i (views front xs)) ≡ flags_of (station_at stations i)
+
 -- the same by any reader of fronts
 pub record TellsBy (front : List ℕ → Front) (settings : LinkSettings) (addresses : List ℕ) (p : Primary) (e : Exchanges) : Type 0 where
   pub settings_are : p.settings ≡ settings
@@ -82,6 +91,7 @@ pub record TellsBy (front : List ℕ → Front) (settings : LinkSettings) (addre
   pub current : IsCurrent front addresses p.turn p.outstanding e.current
   pub keeps : AreKept front settings addresses (all_of e)
   pub links : AreLinks front settings addresses p.stations (past p.outstanding e)
+  pub flags : AreFlags front addresses p.stations (all_of e)
   pub spoilt : AreSpoilt front addresses p.spoilt (all_of e)
 
 -- The primary's state is what these exchanges make it, and they keep the frame count bit of each station.

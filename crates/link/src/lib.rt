@@ -23,6 +23,7 @@ mod answer;
 mod asdu;
 mod asking;
 mod awaited;
+mod flags;
 mod laws;
 mod leave;
 mod life;
@@ -38,10 +39,12 @@ mod service;
 mod settings;
 mod station;
 mod turn;
+mod visits;
 
 pub use answer::Answer;
 pub use asdu::Asdu;
 pub use asking::next_changes_nothing;
+pub use flags::flags_are_heeded;
 pub use laws::{
     master_tells_the_log, outcomes_bear_the_reports, requests_are_read_back,
     requests_wait_their_turn, services_need_a_station_that_is_up,
@@ -65,6 +68,7 @@ pub use runs::{
 pub use service::{Asked, Service};
 pub use settings::LinkSettings;
 pub use station::Station;
+pub use visits::{no_station_starves, turns_end};
 
 #[cfg(test)]
 mod tests;

@@ -1,2 +1,4 @@
 pub mod Turns
 pub mod Puts
+pub mod Tries
+pub mod Law

@@ -16,11 +16,11 @@ dropped_none old new octets due none same = record { taken = false; done = same 
 pub written : (old new : Ends) (octets : List ℕ) (wire : History) (taken : Bool) → old.is_cut_due ≡ false → old.connection ≡ Some wire → new ≡ written_open false octets taken (Some wire) old → IsWritten old octets new
 written old new octets wire taken due there done = record { taken = taken; done = done ∙ sym (ap (λ b. written_open b octets taken old.connection old) due ∙ ap (λ h. written_open false octets taken h old) there) }
 
-pub put_line : (old new : Ends) (octets : List ℕ) (taken : Bool) → new ≡ after_action (LineOut octets) taken old → Puts old (LineOut octets) new
-put_line old new octets taken done = record { taken = taken; done = done }
+pub put_line : (old new : Ends) (moment written : ℕ) (octets : List ℕ) (taken : Bool) → new ≡ after_action moment (LineOut octets) written taken old → Puts old moment (LineOut octets) new
+put_line old new moment written octets taken done = record { written = written; taken = taken; done = done }
 
-pub put_tcp : (old new : Ends) (octets : List ℕ) → IsWritten old octets new → Puts old (TcpOut octets) new
-put_tcp old new octets w = record { taken = w.taken; done = w.done }
+pub put_tcp : (old new : Ends) (moment : ℕ) (octets : List ℕ) → IsWritten old octets new → Puts old moment (TcpOut octets) new
+put_tcp old new moment octets w = record { written = 0; taken = w.taken; done = w.done }
 
-pub put_close : (old new : Ends) (cause : Close) → new ≡ after_action (Closed cause) false old → Puts old (Closed cause) new
-put_close old new cause done = record { taken = false; done = done }
+pub put_close : (old new : Ends) (moment : ℕ) (cause : Close) → new ≡ after_action moment (Closed cause) 0 false old → Puts old moment (Closed cause) new
+put_close old new moment cause done = record { written = 0; taken = false; done = done }

@@ -1,11 +1,12 @@
 -- A turn from its looks. Each source answers at its look; a turn is told by the answers of all three.
 use Rattle.std.proofs.Common.{◌≡◌, ℕ, true, false, Option, Some, None, IfSome, refl, sym, ap, ◌∙◌}
 use Rattle.live.specs.Wires.{IsNew}
-use Rattle.live.specs.Ends.{Ends, Answers, after, found_at, looked_at, next_round, unless_found, look, round, turn, turn_by, IsTurn, Turns, event_at}
+use Rattle.live.specs.Timing.{is_behind, moment_at}
+use Rattle.live.specs.Ends.{Ends, Answers, after, found_at, looked_at, next_round, unless_found, look, nothing_more, round, turn, turn_by, sources_by, taken_by, told_at, IsTurn, IsTold, Turns, event_at}
 use Rattle.gateway.specs.declared.ports.Next.{Next}
 use Rattle.live.specs.Looks.{Looks, answers_for}
 use Rattle.live.specs.declared.found.Found.{Found}
-use Rattle.live.specs.declared.found.Found.TheVariants.{Cut}
+use Rattle.live.specs.declared.found.Found.TheVariants.{Cut, Bytes}
 use Rattle.live.specs.declared.wires.Got.TheVariants.{Quiet}
 use Rattle.live.specs.declared.source.Source.{Source}
 use Rattle.live.specs.declared.source.Source.TheVariants.{Door, Connection, Line}
@@ -28,11 +29,11 @@ found_1 Door a b c e = refl
 found_1 Connection a b c e = refl
 found_1 Line a b c e = refl
 
-ends_1 : (s : Source) (a b c : Answers) (e : Ends) → looked_at s (joined s a b c) e ≡ looked_at s a e
+ends_1 : (s : Source) (n : ℕ) (a b c : Answers) (e : Ends) → looked_at s n (joined s a b c) e ≡ looked_at s n a e
 unfolding joined
-ends_1 Door a b c e = refl
-ends_1 Connection a b c e = refl
-ends_1 Line a b c e = refl
+ends_1 Door n a b c e = refl
+ends_1 Connection n a b c e = refl
+ends_1 Line n a b c e = refl
 
 found_2 : (s : Source) (a b c : Answers) (e : Ends) → found_at (after s) (joined s a b c) e ≡ found_at (after s) b e
 unfolding joined
@@ -40,11 +41,11 @@ found_2 Door a b c e = refl
 found_2 Connection a b c e = refl
 found_2 Line a b c e = refl
 
-ends_2 : (s : Source) (a b c : Answers) (e : Ends) → looked_at (after s) (joined s a b c) e ≡ looked_at (after s) b e
+ends_2 : (s : Source) (n : ℕ) (a b c : Answers) (e : Ends) → looked_at (after s) n (joined s a b c) e ≡ looked_at (after s) n b e
 unfolding joined
-ends_2 Door a b c e = refl
-ends_2 Connection a b c e = refl
-ends_2 Line a b c e = refl
+ends_2 Door n a b c e = refl
+ends_2 Connection n a b c e = refl
+ends_2 Line n a b c e = refl
 
 found_3 : (s : Source) (a b c : Answers) (e : Ends) → found_at (after (after s)) (joined s a b c) e ≡ found_at (after (after s)) c e
 unfolding joined
@@ -52,73 +53,100 @@ found_3 Door a b c e = refl
 found_3 Connection a b c e = refl
 found_3 Line a b c e = refl
 
-ends_3 : (s : Source) (a b c : Answers) (e : Ends) → looked_at (after (after s)) (joined s a b c) e ≡ looked_at (after (after s)) c e
+ends_3 : (s : Source) (n : ℕ) (a b c : Answers) (e : Ends) → looked_at (after (after s)) n (joined s a b c) e ≡ looked_at (after (after s)) n c e
 unfolding joined
-ends_3 Door a b c e = refl
-ends_3 Connection a b c e = refl
-ends_3 Line a b c e = refl
+ends_3 Door n a b c e = refl
+ends_3 Connection n a b c e = refl
+ends_3 Line n a b c e = refl
 
 -- a look with these answers
-look_of : (s : Source) (a : Answers) (e n : Ends) (f : Option Found) (others : Ends → Option Found × Ends) → f ≡ found_at s a e → n ≡ next_round s f (looked_at s a e) → look s a e others ≡ unless_found f n others
-look_of s a e n f others found ends = rw (ends, ← found) refl
+look_of : (s : Source) (t : ℕ) (a : Answers) (e n : Ends) (f : Option Found) (others : Ends → Option Found × Ends) → f ≡ found_at s a e → n ≡ next_round s f (looked_at s t a e) → look s t a e others ≡ unless_found f n others
+look_of s t a e n f others found ends = rw (ends, ← found) refl
 
 -- the cut that is due
-pub due_turn : (old new : Ends) → old.is_cut_due ≡ true → new ≡ record old { connection = None; first = after Connection; is_cut_due = false } → IsTurn old (Some Cut) new
-due_turn old new due done = record {
+pub due_turn : (t : ℕ) (old new : Ends) → old.is_cut_due ≡ true → new ≡ record old { connection = None; first = after Connection; is_cut_due = false } → IsTurn t old (Some Cut) new
+due_turn t old new due done = record {
   answers = record { visitor = None; connection = Quiet; line = Quiet };
   visitor = tt;
   turned = rw (due, done) refl;
 }
 
-look_1 : (s : Source) (a b c : Answers) (e n : Ends) (f : Option Found) (others : Ends → Option Found × Ends) → f ≡ found_at s a e → n ≡ next_round s f (looked_at s a e) → look s (joined s a b c) e others ≡ unless_found f n others
-look_1 s a b c e n f others found ends = look_of s (joined s a b c) e n f others (found ∙ sym (found_1 s a b c e)) (ends ∙ ap (next_round s f) (sym (ends_1 s a b c e)))
+look_1 : (s : Source) (t : ℕ) (a b c : Answers) (e n : Ends) (f : Option Found) (others : Ends → Option Found × Ends) → f ≡ found_at s a e → n ≡ next_round s f (looked_at s t a e) → look s t (joined s a b c) e others ≡ unless_found f n others
+look_1 s t a b c e n f others found ends = look_of s t (joined s a b c) e n f others (found ∙ sym (found_1 s a b c e)) (ends ∙ ap (next_round s f) (sym (ends_1 s t a b c e)))
 
-look_2 : (s : Source) (a b c : Answers) (e n : Ends) (f : Option Found) (others : Ends → Option Found × Ends) → f ≡ found_at (after s) b e → n ≡ next_round (after s) f (looked_at (after s) b e) → look (after s) (joined s a b c) e others ≡ unless_found f n others
-look_2 s a b c e n f others found ends = look_of (after s) (joined s a b c) e n f others (found ∙ sym (found_2 s a b c e)) (ends ∙ ap (next_round (after s) f) (sym (ends_2 s a b c e)))
+look_2 : (s : Source) (t : ℕ) (a b c : Answers) (e n : Ends) (f : Option Found) (others : Ends → Option Found × Ends) → f ≡ found_at (after s) b e → n ≡ next_round (after s) f (looked_at (after s) t b e) → look (after s) t (joined s a b c) e others ≡ unless_found f n others
+look_2 s t a b c e n f others found ends = look_of (after s) t (joined s a b c) e n f others (found ∙ sym (found_2 s a b c e)) (ends ∙ ap (next_round (after s) f) (sym (ends_2 s t a b c e)))
 
-look_3 : (s : Source) (a b c : Answers) (e n : Ends) (f : Option Found) (others : Ends → Option Found × Ends) → f ≡ found_at (after (after s)) c e → n ≡ next_round (after (after s)) f (looked_at (after (after s)) c e) → look (after (after s)) (joined s a b c) e others ≡ unless_found f n others
-look_3 s a b c e n f others found ends = look_of (after (after s)) (joined s a b c) e n f others (found ∙ sym (found_3 s a b c e)) (ends ∙ ap (next_round (after (after s)) f) (sym (ends_3 s a b c e)))
+look_3 : (s : Source) (t : ℕ) (a b c : Answers) (e n : Ends) (f : Option Found) (others : Ends → Option Found × Ends) → f ≡ found_at (after (after s)) c e → n ≡ next_round (after (after s)) f (looked_at (after (after s)) t c e) → look (after (after s)) t (joined s a b c) e others ≡ unless_found f n others
+look_3 s t a b c e n f others found ends = look_of (after (after s)) t (joined s a b c) e n f others (found ∙ sym (found_3 s a b c e)) (ends ∙ ap (next_round (after (after s)) f) (sym (ends_3 s t a b c e)))
 
-not_due : (answers : Answers) (old : Ends) → old.is_cut_due ≡ false → turn answers old ≡ round answers old
-not_due answers old due = ap (λ b. turn_by b answers old) due
+-- no cut is due, and no moment too far behind
+plain : (t : ℕ) (answers : Answers) (old : Ends) → old.is_cut_due ≡ false → is_behind old.timing t ≡ false → turn t answers old ≡ round t answers old
+plain t answers old due level = ap (λ b. turn_by b t answers old) due ∙ ap (λ b. sources_by b t answers old) level
 
-last_look : (f : Option Found) (n : Ends) → unless_found f n (λ e. (None, e)) ≡ (f, n)
+last_look : (f : Option Found) (n : Ends) → unless_found f n nothing_more ≡ (f, n)
 last_look None n = refl
 last_look (Some f) n = refl
 
+-- the line alone is looked at
+pub line_turn : (t : ℕ) (old new : Ends) (f : Option Found) → old.is_cut_due ≡ false → is_behind old.timing t ≡ true → Looks Line t old f new → IsTurn t old f new
+line_turn t old new f due behind l =
+    let a = answers_for f new in
+    record {
+      answers = a;
+      visitor = l.visitor;
+      turned = sym (ap (λ b. turn_by b t a old) due ∙ (ap (λ b. sources_by b t a old) behind ∙ (look_of Line t a old new f nothing_more l.found l.ends ∙ last_look f new)));
+    }
+
 -- the first look finds something
-pub first_turn : (old new : Ends) (f : Found) → old.is_cut_due ≡ false → Looks old.first old (Some f) new → IsTurn old (Some f) new
-first_turn old new f due l =
+pub first_turn : (t : ℕ) (old new : Ends) (f : Found) → old.is_cut_due ≡ false → is_behind old.timing t ≡ false → Looks old.first t old (Some f) new → IsTurn t old (Some f) new
+first_turn t old new f due level l =
     let a = answers_for (Some f) new in
     record {
       answers = joined old.first a a a;
       visitor = visitor_of old.first a a a l.visitor l.visitor l.visitor;
-      turned = sym (not_due (joined old.first a a a) old due ∙ look_1 old.first a a a old new (Some f) _ l.found l.ends);
+      turned = sym (plain t (joined old.first a a a) old due level ∙ look_1 old.first t a a a old new (Some f) _ l.found l.ends);
     }
 
 -- the second look finds something
-pub second_turn : (old mid new : Ends) (f : Found) → old.is_cut_due ≡ false → Looks old.first old None mid → Looks (after old.first) mid (Some f) new → IsTurn old (Some f) new
-second_turn old mid new f due l m =
+pub second_turn : (t : ℕ) (old mid new : Ends) (f : Found) → old.is_cut_due ≡ false → is_behind old.timing t ≡ false → Looks old.first t old None mid → Looks (after old.first) t mid (Some f) new → IsTurn t old (Some f) new
+second_turn t old mid new f due level l m =
     let a = answers_for None mid in
     let b = answers_for (Some f) new in
     record {
       answers = joined old.first a b b;
       visitor = visitor_of old.first a b b l.visitor m.visitor m.visitor;
-      turned = sym (not_due (joined old.first a b b) old due ∙ (look_1 old.first a b b old mid None _ l.found l.ends ∙ look_2 old.first a b b mid new (Some f) _ m.found m.ends));
+      turned = sym (plain t (joined old.first a b b) old due level ∙ (look_1 old.first t a b b old mid None _ l.found l.ends ∙ look_2 old.first t a b b mid new (Some f) _ m.found m.ends));
     }
 
 -- the third look tells the turn
-pub third_turn : (old mid more new : Ends) (f : Option Found) → old.is_cut_due ≡ false → Looks old.first old None mid → Looks (after old.first) mid None more → Looks (after (after old.first)) more f new → IsTurn old f new
-third_turn old mid more new f due l m n =
+pub third_turn : (t : ℕ) (old mid more new : Ends) (f : Option Found) → old.is_cut_due ≡ false → is_behind old.timing t ≡ false → Looks old.first t old None mid → Looks (after old.first) t mid None more → Looks (after (after old.first)) t more f new → IsTurn t old f new
+third_turn t old mid more new f due level l m n =
     let a = answers_for None mid in
     let b = answers_for None more in
     let c = answers_for f new in
     record {
       answers = joined old.first a b c;
       visitor = visitor_of old.first a b c l.visitor m.visitor n.visitor;
-      turned = sym (not_due (joined old.first a b c) old due ∙ (look_1 old.first a b c old mid None _ l.found l.ends ∙ (look_2 old.first a b c mid more None _ m.found m.ends ∙ (look_3 old.first a b c more new f _ n.found n.ends ∙ last_look f new))));
+      turned = sym (plain t (joined old.first a b c) old due level ∙ (look_1 old.first t a b c old mid None _ l.found l.ends ∙ (look_2 old.first t a b c mid more None _ m.found m.ends ∙ (look_3 old.first t a b c more new f _ n.found n.ends ∙ last_look f new))));
     }
 
+-- octets that came too far behind the clock
+pub told_cut : (now : ℕ) (old new : Ends) (len : ℕ) (event : Next) → is_behind old.timing now ≡ true → new ≡ record old { connection = None } → event ≡ event_at (moment_at new.timing now) (Some Cut) → IsTold now old (Some (Bytes len)) event new
+told_cut now old new len event behind done told = record {
+  taken = Some Cut;
+  ends = ap (λ e. (Some Cut, e)) done ∙ sym (ap (λ b. taken_by b (Some (Bytes len)) old) behind);
+  told = told;
+}
+
+-- octets that came in time
+pub told_level : (now : ℕ) (old : Ends) (f : Option Found) (event : Next) → is_behind old.timing now ≡ false → event ≡ event_at (moment_at old.timing now) f → IsTold now old f event old
+told_level now old f event level told = record {
+  taken = f;
+  ends = sym (ap (λ b. taken_by b f old) level);
+  told = told;
+}
+
 -- a turn, with its event
-pub turned : (old new : Ends) (now : ℕ) (f : Option Found) (event : Next) → event ≡ event_at now f → IsTurn old f new → Turns old event new
-turned old new now f event told turn = record { now = now; f = f; told = told; turn = turn }
+pub turned : (old found new : Ends) (begun now : ℕ) (f : Option Found) (event : Next) → IsTurn begun (told_at begun old) f found → IsTold now (told_at now found) f event new → Turns old event new
+turned old found new begun now f event turn told = record { begun = begun; now = now; f = f; found = found; turn = turn; told = told }

@@ -8,20 +8,25 @@ use Rattle.session.specs.declared.kinds.Close.TheVariants.{Replaced}
 use Rattle.live.specs.Wires.{Looked, Wrote, History, noted, IsNew, Visits, visited}
 use Rattle.live.specs.declared.wires.Got.{Got}
 use Rattle.live.specs.declared.wires.Got.TheVariants.{Octets, Quiet, Gone}
+use Rattle.live.specs.Timing.{Moments, read_at, moment_at, is_behind, heard_at, asked_at}
+use Rattle.live.specs.declared.timing.Timing.{Timing}
 use Rattle.live.specs.declared.found.Found.{Found}
 use Rattle.live.specs.declared.found.Found.TheVariants as found
 use Rattle.live.specs.declared.source.Source.{Source}
 use Rattle.live.specs.declared.source.Source.TheVariants.{Door, Connection, Line}
 
--- What happened at the line, at the connection, if there is one, and at the door; the source that is looked at first;
--- whether a write to the connection failed, so that a cut is due; and how often the line was gone.
+-- What happened at the line, at the connection, if there is one, at the door, and what the clock told; the source that is
+-- looked at first; whether a write to the connection failed, so that a cut is due; how often the line was gone; and what tells
+-- the moment of an event.
 pub record Ends : Type 0 where
   pub line : History
   pub connection : Option History
   pub door : Visits
+  pub clock : Moments
   pub first : Source
   pub is_cut_due : Bool
   pub failed : ℕ
+  pub timing : Timing
 
 -- the sources in their round
 abbrev pub after : Source → Source
@@ -83,11 +88,11 @@ failed_by (Octets len) failed = failed
 failed_by Quiet failed = failed
 failed_by Gone failed = failed + 1
 
--- the ends after a look at a source
-abbrev pub looked_at : Source → Answers → Ends → Ends
-looked_at Door answers ends = let_in answers.visitor ends
-looked_at Connection answers ends = record ends { connection = read_from ends.connection answers.connection }
-looked_at Line answers ends = record ends { line = noted ends.line (Looked answers.line); failed = failed_by answers.line ends.failed }
+-- the ends after a look at a source, before which the clock told this moment
+abbrev pub looked_at : Source → ℕ → Answers → Ends → Ends
+looked_at Door begun answers ends = let_in answers.visitor ends
+looked_at Connection begun answers ends = record ends { connection = read_from ends.connection answers.connection }
+looked_at Line begun answers ends = record ends { line = noted ends.line (Looked answers.line); failed = failed_by answers.line ends.failed; timing = heard_at begun ends.timing }
 
 -- where something is found the next round begins after its source
 abbrev pub next_round : Source → Option Found → Ends → Ends
@@ -99,22 +104,37 @@ abbrev pub unless_found : Option Found → Ends → (Ends → Option Found × En
 unless_found None ends others = others ends
 unless_found (Some f) ends others = (Some f, ends)
 
-abbrev pub look : Source → Answers → Ends → (Ends → Option Found × Ends) → Option Found × Ends
-look source answers ends others =
-    let f = found_at source answers ends in unless_found f (next_round source f (looked_at source answers ends)) others
+abbrev pub look : Source → ℕ → Answers → Ends → (Ends → Option Found × Ends) → Option Found × Ends
+look source begun answers ends others =
+    let f = found_at source answers ends in unless_found f (next_round source f (looked_at source begun answers ends)) others
+
+-- no other is looked at
+abbrev pub nothing_more : Ends → Option Found × Ends
+nothing_more ends = (None, ends)
 
 -- The sources are looked at in turn, beginning with `first`, until something is found; the next round begins after that source.
-abbrev pub round : Answers → Ends → Option Found × Ends
-round answers ends =
-    look ends.first answers ends (λ e. look (after ends.first) answers e (λ e. look (after (after ends.first)) answers e (λ e. (None, e))))
+abbrev pub round : ℕ → Answers → Ends → Option Found × Ends
+round begun answers ends =
+    look ends.first begun answers ends (λ e. look (after ends.first) begun answers e (λ e. look (after (after ends.first)) begun answers e nothing_more))
+
+-- Where the moment of an event would be too far behind the clock, the line alone is looked at.
+abbrev pub sources_by : Bool → ℕ → Answers → Ends → Option Found × Ends
+sources_by true begun answers ends = look Line begun answers ends nothing_more
+sources_by false begun answers ends = round begun answers ends
 
 -- a cut that is due comes before any source is looked at, as an event of the connection, which is no more
-abbrev pub turn_by : Bool → Answers → Ends → Option Found × Ends
-turn_by true answers ends = (Some found.Cut, record ends { connection = None; first = after Connection; is_cut_due = false })
-turn_by false answers ends = round answers ends
+abbrev pub turn_by : Bool → ℕ → Answers → Ends → Option Found × Ends
+turn_by true begun answers ends = (Some found.Cut, record ends { connection = None; first = after Connection; is_cut_due = false })
+turn_by false begun answers ends = sources_by (is_behind ends.timing begun) begun answers ends
 
-abbrev pub turn : Answers → Ends → Option Found × Ends
-turn answers ends = turn_by ends.is_cut_due answers ends
+abbrev pub turn : ℕ → Answers → Ends → Option Found × Ends
+turn begun answers ends = turn_by ends.is_cut_due begun answers ends
+
+-- Octets of the connection that would bear a moment too far behind the clock aren't taken: the connection is cut.
+abbrev pub taken_by : Bool → Option Found → Ends → Option Found × Ends
+taken_by true (Some (found.Bytes len)) ends = (Some found.Cut, record ends { connection = None })
+taken_by true f ends = (f, ends)
+taken_by false f ends = (f, ends)
 
 -- only a line that is gone is a failure
 abbrev pub faults_in : Option Found → ℕ
@@ -143,17 +163,29 @@ event_at now (Some (found.Line len)) = next.Line now len
 event_at now (Some found.Fault) = next.Fault
 
 -- what was found, and the ends after it, are those of a turn in which the ends answered so
-pub record IsTurn (old : Ends) (f : Option Found) (new : Ends) : Type 0 where
+pub record IsTurn (begun : ℕ) (old : Ends) (f : Option Found) (new : Ends) : Type 0 where
   pub answers : Answers
   pub visitor : IfSome answers.visitor IsNew
-  pub turned : (f, new) ≡ turn answers old
+  pub turned : (f, new) ≡ turn begun answers old
 
--- the same, with the event of a moment
+-- the clock tells this moment
+abbrev pub told_at : ℕ → Ends → Ends
+told_at now ends = record ends { clock = read_at ends.clock now }
+
+-- what was found when the clock was read again, as an event
+pub record IsTold (now : ℕ) (old : Ends) (f : Option Found) (event : Next) (new : Ends) : Type 0 where
+  pub taken : Option Found
+  pub ends : (taken, new) ≡ taken_by (is_behind old.timing now) f old
+  pub told : event ≡ event_at (moment_at new.timing now) taken
+
+-- The clock is read before the looks and after them, and what was found is an event of the moment that is due.
 pub record Turns (old : Ends) (event : Next) (new : Ends) : Type 0 where
+  pub begun : ℕ
   pub now : ℕ
   pub f : Option Found
-  pub told : event ≡ event_at now f
-  pub turn : IsTurn old f new
+  pub found : Ends
+  pub turn : IsTurn begun (told_at begun old) f found
+  pub told : IsTold now (told_at now found) f event new
 
 -- the ends after octets for the connection: they are dropped where there is none, and where a cut is due
 abbrev pub written_open : Bool → List ℕ → Bool → Option History → Ends → Ends
@@ -172,14 +204,15 @@ abbrev pub closed_by : Close → Ends → Ends
 closed_by Replaced ends = ends
 closed_by _ ends = record ends { connection = None; is_cut_due = false }
 
--- The ends after an action, where the wire that it goes to took the octets, or not: a write to the connection that failed
--- makes a cut due, one to the line loses a request.
-abbrev pub after_action : Output → Bool → Ends → Ends
-after_action (LineOut octets) taken ends = record ends { line = noted ends.line (Wrote octets taken) }
-after_action (TcpOut octets) taken ends = written_open ends.is_cut_due octets taken ends.connection ends
-after_action (Closed cause) taken ends = closed_by cause ends
+-- The ends after an action of this moment, where the wire that it goes to took the octets, or not: a write to the connection
+-- that failed makes a cut due, one to the line loses a request. Once a request is written the clock is read.
+abbrev pub after_action : ℕ → Output → ℕ → Bool → Ends → Ends
+after_action moment (LineOut octets) written taken ends = record ends { line = noted ends.line (Wrote octets taken); clock = read_at ends.clock written; timing = asked_at moment written ends.timing }
+after_action moment (TcpOut octets) written taken ends = written_open ends.is_cut_due octets taken ends.connection ends
+after_action moment (Closed cause) written taken ends = closed_by cause ends
 
 -- the action was put out so
-pub record Puts (old : Ends) (action : Output) (new : Ends) : Type 0 where
+pub record Puts (old : Ends) (moment : ℕ) (action : Output) (new : Ends) : Type 0 where
+  pub written : ℕ
   pub taken : Bool
-  pub done : new ≡ after_action action taken old
+  pub done : new ≡ after_action moment action written taken old

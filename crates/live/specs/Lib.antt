@@ -1,3 +1,7 @@
 pub mod Wires
+pub mod Timing
 pub mod Ends
 pub mod Looks
+pub mod Streams
+pub mod Redial
+pub mod Law

@@ -1,5 +1,5 @@
 -- One look at one source, told by what it found (this gateway's own profile).
-use Rattle.std.specs.Prelude.{◌≡◌, Option, Some, None, IfSome}
+use Rattle.std.specs.Prelude.{◌≡◌, ℕ, Option, Some, None, IfSome}
 use Rattle.live.specs.Wires.{History, IsNew}
 use Rattle.live.specs.Ends.{Ends, Answers, found_at, looked_at, next_round}
 use Rattle.live.specs.declared.found.Found.{Found}
@@ -26,13 +26,13 @@ abbrev pub answers_for : Option Found → Ends → Answers
 answers_for f new = record { visitor = visitor_for f new.connection; connection = got_for f; line = got_for f }
 
 -- such answers of a source give what was found, and the ends after it
-pub record LooksAt (source : Source) (old : Ends) (f : Option Found) (new : Ends) : Type 0 where
+pub record LooksAt (source : Source) (begun : ℕ) (old : Ends) (f : Option Found) (new : Ends) : Type 0 where
   pub visitor : IfSome (answers_for f new).visitor IsNew
   pub found : f ≡ found_at source (answers_for f new) old
-  pub ends : new ≡ looked_at source (answers_for f new) old
+  pub ends : new ≡ looked_at source begun (answers_for f new) old
 
 -- and the next round begins after the source, where something was found
-pub record Looks (source : Source) (old : Ends) (f : Option Found) (new : Ends) : Type 0 where
+pub record Looks (source : Source) (begun : ℕ) (old : Ends) (f : Option Found) (new : Ends) : Type 0 where
   pub visitor : IfSome (answers_for f new).visitor IsNew
   pub found : f ≡ found_at source (answers_for f new) old
-  pub ends : new ≡ next_round source f (looked_at source (answers_for f new) old)
+  pub ends : new ≡ next_round source f (looked_at source begun (answers_for f new) old)

@@ -10,17 +10,40 @@
 //! a connection that is gone is a cut; after a write to the connection that failed the next event is a cut, no end is looked at
 //! before, and nothing more is written to it; a close ends the connection and that cut; who comes through the door takes the
 //! place of the connection, and stays when the gateway closes the one before; a request that the line doesn't take is lost and
-//! no failure; the line's end alone is one. What sockets do is no matter of a proof.
+//! no failure; the line's end alone is one.
+//!
+//! And of time, whatever the gateway stalls: an event bears the clock's moment after the looks, but none that ends an exchange
+//! whose line hasn't been looked at for `answer_ms` since the request was written ([`no_exchange_ends_unheard`]); where that
+//! moment is more than 50 ms behind the clock, the line alone is looked at, and octets of a control centre that would bear such
+//! a moment are not taken: the connection is cut ([`what_the_centre_sent_is_told_in_time`]).
+//!
+//! [`Redialled`] is a wire that is reached again where it has gone: proved, for any dialler that tells its tries, is that it is
+//! quiet and takes nothing while it is away, is tried at once and then every second, and begins as a new wire each time.
+//!
+//! One call to a stream of the system is read as one fact about its answer: octets, quiet or gone, and taken only where all was
+//! taken. What sockets do beyond that is no matter of a proof.
 #![tactic(auto)]
 
+#[cfg(test)]
+mod configured;
 mod found;
+mod laws;
 #[cfg(test)]
 mod memory;
 mod port;
+mod redial;
 mod sockets;
 mod source;
+mod stream;
+#[cfg(test)]
+mod timed;
+mod timing;
 mod wires;
 
+pub use laws::{
+    looks_ask_nothing, no_exchange_ends_unheard, what_the_centre_sent_is_told_in_time,
+};
 pub use port::Live;
-pub use sockets::{CentreListener, CentreSocket, LineSocket, SystemClock};
+pub use redial::{Dialler, Redialled};
+pub use sockets::{CentreListener, CentreSocket, LineDialler, LineSocket, SystemClock};
 pub use wires::{Clock, Door, Got, Wire};

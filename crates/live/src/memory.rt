@@ -81,6 +81,8 @@ impl Door for MemoryDoor {
 pub(crate) struct MemoryClock(pub(crate) u64);
 
 impl Clock for MemoryClock {
+    ghost moments = { λ _. None };
+
     fn now_ms(&mut self) -> u64 {
         self.0 = self.0.saturating_add(1);
         self.0

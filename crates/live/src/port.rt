@@ -1,13 +1,15 @@
 //! The port over live ends.
 ghost use Rattle.std.specs.Prelude.{◌≡◌, ℕ, ◌+◌, ◌<◌, true, false, List, [], None, IfSome};
 ghost use Rattle.gateway.specs.Ports.{FitsBuffer, faults_of, output_of, told_by};
-ghost use Rattle.live.specs.Ends.{Ends, IsTurn, Turns, Puts, FitsFound, IsWritten, faults_in};
+ghost use Rattle.live.specs.Ends.{Ends, told_at, IsTurn, IsTold, Turns, Puts, FitsFound, IsWritten, faults_in};
+ghost use Rattle.live.specs.Timing.{is_behind, moment_at};
 ghost use Rattle.live.specs.Looks.{Looks, LooksAt};
 ghost use Rattle.gateway.specs.Log.{tell, Went};
 ghost use Rattle.gateway.specs.declared.ports.Next.TheVariants.{Done};
 
 use crate::found::{Found, event_at};
 use crate::source::Source;
+use crate::timing::Timing;
 use crate::wires::{Clock, Door, Got, Wire};
 use gateway::{Action, Next, Port};
 use session::Close;
@@ -25,6 +27,7 @@ pub struct Live<L: Wire, D: Door + Drop, C: Clock + Drop> {
     /// A write to the connection failed, so that the next event is a cut.
     is_cut_due: bool,
     failures: u64,
+    timing: Timing,
 }
 
 impl<L: Wire, D: Door + Drop, C: Clock + Drop> Model for Live<L, D, C> {
@@ -33,15 +36,16 @@ impl<L: Wire, D: Door + Drop, C: Clock + Drop> Model for Live<L, D, C> {
 
     ghost Value = { Ends };
 
-    ghost view = { λ a. record { line = L.history a.line; connection = option_map (λ wire. D.Wire.history wire) a.connection; door = D.visits a.door; first = a.first; is_cut_due = a.is_cut_due; failed = a.failures } };
+    ghost view = { λ a. record { line = L.history a.line; connection = option_map (λ wire. D.Wire.history wire) a.connection; door = D.visits a.door; clock = C.moments a.clock; first = a.first; is_cut_due = a.is_cut_due; failed = a.failures; timing = a.timing } };
 }
 
 impl<L: Wire, D: Door + Drop, C: Clock + Drop> Live<L, D, C> {
     ghost use Rattle.live.specs.declared.source.Source.TheVariants as sources;
 
-    /// A port over these ends, with no connection yet.
-    pub fn new(line: L, door: D, clock: C) -> Live<L, D, C>
-        ensures { result ≡ record { line = L.history line; connection = None; door = D.visits door; first = sources.Door; is_cut_due = false; failed = 0 } }
+    /// A port over these ends, with no connection yet. An answer of the line is awaited for `answer_ms`, in ms, as in the
+    /// gateway's settings.
+    pub fn new(line: L, door: D, clock: C, answer_ms: u64) -> Live<L, D, C>
+        ensures { result ≡ record { line = L.history line; connection = None; door = D.visits door; clock = C.moments clock; first = sources.Door; is_cut_due = false; failed = 0; timing = record { answer_ms = answer_ms; heard = 0; request = None } } }
     {
         Live {
             line,
@@ -51,16 +55,28 @@ impl<L: Wire, D: Door + Drop, C: Clock + Drop> Live<L, D, C> {
             first: Source::Door,
             is_cut_due: false,
             failures: 0,
+            timing: Timing {
+                answer_ms,
+                heard: 0,
+                request: None,
+            },
         }
     }
 
-    /// What a turn finds: the cut that is due, else the first thing in one round over the sources.
-    #[tactic(auto, using(crate::proofs::Turns::due_turn, crate::proofs::Turns::first_turn, crate::proofs::Turns::second_turn, crate::proofs::Turns::third_turn))]
-    fn turn(&mut self, buf: &mut [u8; 1024]) -> Option<Found>
+    fn read_clock(&mut self) -> u64
+        ensures { self.new ≡ told_at result self.old }
+    {
+        self.clock.now_ms()
+    }
+
+    /// What a turn finds, which the clock begins at this moment: the cut that is due, else the first thing in one round over the
+    /// sources, or, where the moment of an event would be too far behind the clock, on the line alone.
+    #[tactic(auto, using(crate::proofs::Turns::due_turn, crate::proofs::Turns::line_turn, crate::proofs::Turns::first_turn, crate::proofs::Turns::second_turn, crate::proofs::Turns::third_turn))]
+    fn turn(&mut self, begun: u64, buf: &mut [u8; 1024]) -> Option<Found>
         requires { self.old.failed < u64.MAX }
         ensures fits { IfSome result FitsFound }
         ensures failed { self.new.failed ≡ self.old.failed + faults_in result }
-        ensures turn { IsTurn self.old result self.new }
+        ensures turn { IsTurn begun self.old result self.new }
     {
         if self.is_cut_due {
             self.is_cut_due = false;
@@ -68,28 +84,31 @@ impl<L: Wire, D: Door + Drop, C: Clock + Drop> Live<L, D, C> {
             self.first = Source::Connection.after();
             return Some(Found::Cut);
         }
+        if self.timing.is_behind(begun) {
+            return self.look(Source::Line, begun, buf);
+        }
         let first = self.first;
-        if let Some(found) = self.look(first, buf) {
+        if let Some(found) = self.look(first, begun, buf) {
             return Some(found);
         }
         let second = first.after();
-        if let Some(found) = self.look(second, buf) {
+        if let Some(found) = self.look(second, begun, buf) {
             return Some(found);
         }
-        self.look(second.after(), buf)
+        self.look(second.after(), begun, buf)
     }
 
     /// Looks once at a source. Where something is found, the next round begins with the source after it.
-    fn look(&mut self, source: Source, buf: &mut [u8; 1024]) -> Option<Found>
+    fn look(&mut self, source: Source, begun: u64, buf: &mut [u8; 1024]) -> Option<Found>
         requires { self.old.failed < u64.MAX }
         ensures fits { IfSome result FitsFound }
         ensures failed { self.new.failed ≡ self.old.failed + faults_in result }
-        ensures looks { Looks source self.old result self.new }
+        ensures looks { Looks source begun self.old result self.new }
     {
         let found = match source {
             Source::Door => self.look_at_door(),
             Source::Connection => self.look_at_connection(buf),
-            Source::Line => self.look_at_line(buf),
+            Source::Line => self.look_at_line(begun, buf),
         };
         if found.is_some() {
             self.first = source.after();
@@ -101,7 +120,7 @@ impl<L: Wire, D: Door + Drop, C: Clock + Drop> Live<L, D, C> {
     fn look_at_door(&mut self) -> Option<Found>
         ensures fits { IfSome result FitsFound }
         ensures failed { self.new.failed ≡ self.old.failed + faults_in result }
-        ensures looks { LooksAt sources.Door self.old result self.new }
+        ensures looks { LooksAt sources.Door 0 self.old result self.new }
     {
         match self.door.accept() {
             Some(wire) => {
@@ -115,7 +134,7 @@ impl<L: Wire, D: Door + Drop, C: Clock + Drop> Live<L, D, C> {
     fn look_at_connection(&mut self, buf: &mut [u8; 1024]) -> Option<Found>
         ensures fits { IfSome result FitsFound }
         ensures failed { self.new.failed ≡ self.old.failed + faults_in result }
-        ensures looks { LooksAt sources.Connection self.old result self.new }
+        ensures looks { LooksAt sources.Connection 0 self.old result self.new }
     {
         let Some(wire) = &mut self.connection else {
             return None;
@@ -130,12 +149,13 @@ impl<L: Wire, D: Door + Drop, C: Clock + Drop> Live<L, D, C> {
         }
     }
 
-    fn look_at_line(&mut self, buf: &mut [u8; 1024]) -> Option<Found>
+    fn look_at_line(&mut self, begun: u64, buf: &mut [u8; 1024]) -> Option<Found>
         requires { self.old.failed < u64.MAX }
         ensures fits { IfSome result FitsFound }
         ensures failed { self.new.failed ≡ self.old.failed + faults_in result }
-        ensures looks { LooksAt sources.Line self.old result self.new }
+        ensures looks { LooksAt sources.Line begun self.old result self.new }
     {
+        self.timing.hear(begun);
         match self.line.read(buf) {
             Got::Octets(len) => Some(Found::Line(len)),
             Got::Quiet => None,
@@ -144,6 +164,24 @@ impl<L: Wire, D: Door + Drop, C: Clock + Drop> Live<L, D, C> {
                 Some(Found::Fault)
             }
         }
+    }
+
+    /// What was found, as an event of the moment that is due now. Octets of the connection whose moment would be too far behind
+    /// the clock are not taken: the connection is cut, since an execute among them could come in time by that moment alone.
+    #[tactic(auto, using(crate::proofs::Turns::told_cut, crate::proofs::Turns::told_level))]
+    fn tell(&mut self, now: u64, found: Option<Found>) -> Next
+        requires { IfSome found FitsFound }
+        ensures fits { FitsBuffer result }
+        ensures failed { faults_of result ≡ faults_in found }
+        ensures same { self.new.failed ≡ self.old.failed }
+        ensures told { IsTold now self.old found result self.new }
+    {
+        let mut taken = found;
+        if self.timing.is_behind(now) && matches!(found, Some(Found::Bytes(_))) {
+            self.connection = None;
+            taken = Some(Found::Cut);
+        }
+        event_at(self.timing.moment(now), taken)
     }
 
     /// Octets for the connection are dropped where there is none, and where a cut is due.
@@ -169,7 +207,7 @@ impl<L: Wire, D: Door + Drop, C: Clock + Drop> Port for Live<L, D, C> {
 
     ghost script = { λ _. [] };
 
-    /// The moment is that after the looks.
+    /// The clock is read before the looks and after them.
     #[tactic(auto, using(crate::proofs::Turns::turned))]
     fn next(&mut self, buf: &mut [u8; 1024]) -> Next
         requires { self.old.failed < u64.MAX }
@@ -179,20 +217,23 @@ impl<L: Wire, D: Door + Drop, C: Clock + Drop> Port for Live<L, D, C> {
         ensures cause { self.new.failed ≡ self.old.failed + faults_of result }
         ensures turns { Turns self.old result self.new }
     {
-        let found = self.turn(buf);
-        event_at(self.clock.now_ms(), found)
+        let begun = self.read_clock();
+        let found = self.turn(begun, buf);
+        let now = self.read_clock();
+        self.tell(now, found)
     }
 
     /// It never fails: what an end doesn't take is lost.
     #[tactic(auto, using(crate::proofs::Puts::put_line, crate::proofs::Puts::put_tcp, crate::proofs::Puts::put_close))]
-    fn put(&mut self, _now: u64, action: &Action<'_>) -> bool
+    fn put(&mut self, now: u64, action: &Action<'_>) -> bool
         ensures done { result ≡ true }
-        ensures puts { Puts self.old (output_of action.now) self.new }
+        ensures puts { Puts self.old now (output_of action.now) self.new }
     {
         match action {
             // A request that the line doesn't take is lost.
             Action::Line(octets) => {
                 let _taken = self.line.write(*octets);
+                self.timing.ask(now, self.clock.now_ms());
             }
             Action::Tcp(octets) => self.put_on_connection(*octets),
             // Its wire went when another took its place.
@@ -210,5 +251,7 @@ impl<L: Wire, D: Door + Drop, C: Clock + Drop> Port for Live<L, D, C> {
     }
 }
 
+#[cfg(test)]
+mod stalls;
 #[cfg(test)]
 mod tests;

@@ -3,42 +3,33 @@
 //! Only a look at the line waits, for some milliseconds; the door and a connection are asked without a wait. So octets of the
 //! line are seen at once, those of a control centre after one look at a quiet line.
 ghost use Rattle.std.specs.Prelude.{None};
-ghost use Rattle.live.specs.Wires.{FitsBuffer};
 
+use crate::redial::Dialler;
+use crate::stream::{drop_waiting, read_once, write_once, write_some};
 use crate::wires::{Clock, Door, Got, Wire};
 use std::io;
-use std::io::{ErrorKind, Read, Write};
-use std::net::{Net, OpenListener, OpenStream, SocketAddr, TcpListener, TcpStream};
+use std::io::{Eprint, ErrorKind};
+use std::net::{
+    Net, OpenListener, OpenStream, SocketAddr, TcpListener, TcpStream, ToSocketAddrs,
+};
 use std::os::unix::net::UnixStream;
+use std::thread;
 use std::time::{Duration, Instant};
 
-/// How long a look at the line waits, in ms. A system may round it up to some 10 ms.
-const LOOK_MS: u64 = 5;
+/// How long a look at the line waits, in ms. A system may round it up to some ms.
+const LOOK_MS: u64 = 1;
 
 /// How long a write may wait, in ms.
-const WRITE_MS: u64 = 1000;
+const WRITE_MS: u64 = 20;
 
-/// Reads once: a timeout and an interruption are quiet, an end and every other failure are the wire's end.
-fn read_once<S: Read>(stream: &mut S, buf: &mut [u8; 1024]) -> Got
-    ensures { FitsBuffer result }
-{
-    match stream.read(buf) {
-        Ok(0) => Got::Gone,
-        Ok(len) => Got::Octets(len),
-        Err(fault) => match fault.kind() {
-            ErrorKind::WouldBlock | ErrorKind::TimedOut | ErrorKind::Interrupted => Got::Quiet,
-            _ => Got::Gone,
-        },
-    }
-}
+/// How long it is tried to reach the line, in ms, before a run begins.
+const REACH_MS: u64 = 5000;
 
-/// Writes in one call, so that it waits no longer than the stream's timeout, and answers whether all octets were taken.
-fn write_once<S: Write>(stream: &mut S, octets: &[u8]) -> bool {
-    match stream.write(octets) {
-        Ok(taken) => taken == octets.len(),
-        Err(_) => false,
-    }
-}
+/// The same in mid-run, where a control centre waits meanwhile.
+const REDIAL_MS: u64 = 500;
+
+/// How many visitors are taken in at the most at one look at the door.
+const VISITORS: u32 = 256;
 
 /// The line: a serial device server, by TCP or by a Unix socket.
 #[derive(Drop)]
@@ -50,29 +41,57 @@ pub enum LineSocket {
 }
 
 impl LineSocket {
-    /// Connects to `tcp:HOST:PORT` or `unix:PATH`.
+    /// Connects to `tcp:HOST:PORT` or `unix:PATH`, within some seconds for each address that HOST has.
     ///
     /// # Errors
     ///
     /// Those of the system, and `InvalidInput` where the text is neither.
     pub fn reach<R: Net<Stream = TcpStream>>(rt: &R, place: &str) -> io::Result<LineSocket> {
-        let look = Some(Duration::from_millis(LOOK_MS));
-        let write = Some(Duration::from_millis(WRITE_MS));
+        LineSocket::reach_within(rt, place, Duration::from_millis(REACH_MS))
+    }
+
+    fn reach_within<R: Net<Stream = TcpStream>>(
+        rt: &R,
+        place: &str,
+        time: Duration,
+    ) -> io::Result<LineSocket> {
         if let Some(address) = place.strip_prefix("tcp:") {
-            let stream = TcpStream::connect(rt, address)?;
-            stream.set_nodelay(true)?;
-            stream.set_read_timeout(look)?;
-            stream.set_write_timeout(write)?;
-            return Ok(LineSocket::Tcp(stream));
+            return LineSocket::over_tcp(connect_within(rt, address, time)?);
         }
         let Some(path) = place.strip_prefix("unix:") else {
             return Err(io::Error::from(ErrorKind::InvalidInput));
         };
-        let stream = UnixStream::connect(rt, path)?;
-        stream.set_read_timeout(look)?;
-        stream.set_write_timeout(write)?;
+        LineSocket::over_unix(UnixStream::connect(rt, path)?)
+    }
+
+    fn over_tcp(stream: TcpStream) -> io::Result<LineSocket> {
+        stream.set_nodelay(true)?;
+        stream.set_read_timeout(Some(Duration::from_millis(LOOK_MS)))?;
+        stream.set_write_timeout(Some(Duration::from_millis(WRITE_MS)))?;
+        Ok(LineSocket::Tcp(stream))
+    }
+
+    fn over_unix(stream: UnixStream) -> io::Result<LineSocket> {
+        stream.set_read_timeout(Some(Duration::from_millis(LOOK_MS)))?;
+        stream.set_write_timeout(Some(Duration::from_millis(WRITE_MS)))?;
         Ok(LineSocket::Unix(stream))
     }
+}
+
+/// Connects to the first address that answers, each within this time.
+fn connect_within<R: Net<Stream = TcpStream>>(
+    rt: &R,
+    address: &str,
+    time: Duration,
+) -> io::Result<TcpStream> {
+    let mut last = io::Error::from(ErrorKind::NotFound);
+    for address in address.to_socket_addrs(rt)? {
+        match TcpStream::connect_timeout(rt, &address, time) {
+            Ok(stream) => return Ok(stream),
+            Err(fault) => last = fault,
+        }
+    }
+    Err(last)
 }
 
 impl Wire for LineSocket {
@@ -85,15 +104,52 @@ impl Wire for LineSocket {
         }
     }
 
+    /// What came before a request is no answer to it and is dropped: the exchange before is over, and what is late of it the
+    /// station gives again, since the request that wasn't answered is repeated with its frame count bit.
     fn write(&mut self, octets: &[u8]) -> bool {
         match self {
-            LineSocket::Tcp(stream) => write_once(stream, octets),
-            LineSocket::Unix(stream) => write_once(stream, octets),
+            LineSocket::Tcp(stream) => {
+                drop_waiting(stream);
+                write_once(stream, octets)
+            }
+            LineSocket::Unix(stream) => {
+                drop_waiting(stream);
+                write_once(stream, octets)
+            }
         }
     }
 }
 
-/// The connection of a control centre. Its reads don't wait; a write waits for a second at the most.
+/// Reaches the line at `tcp:HOST:PORT` or `unix:PATH` again and again, within half a second for each address that HOST has. A name
+/// is looked up at each try.
+#[derive(Drop)]
+pub struct LineDialler<'a, R> {
+    rt: &'a R,
+    place: &'a str,
+}
+
+impl<'a, R> LineDialler<'a, R> {
+    /// One for the line at this place.
+    pub fn new(rt: &'a R, place: &'a str) -> LineDialler<'a, R> {
+        LineDialler { rt, place }
+    }
+}
+
+impl<R: Net<Stream = TcpStream> + std::rt::Clock> Dialler for LineDialler<'_, R> {
+    type Wire = LineSocket;
+
+    ghost tries = { λ _. None };
+
+    fn dial(&mut self) -> Option<LineSocket> {
+        LineSocket::reach_within(self.rt, self.place, Duration::from_millis(REDIAL_MS)).ok()
+    }
+
+    fn pause(&mut self) {
+        thread::sleep(self.rt, Duration::from_millis(LOOK_MS));
+    }
+}
+
+/// The connection of a control centre. Its reads don't wait; a write waits for 20 ms at the most, where the system has no room.
 #[derive(Drop)]
 pub struct CentreSocket(TcpStream);
 
@@ -122,27 +178,37 @@ impl Wire for CentreSocket {
     }
 
     fn write(&mut self, octets: &[u8]) -> bool {
-        self.write_in_time(octets).unwrap_or(false)
+        let taken = write_some(&mut self.0, octets);
+        if taken == octets.len() {
+            return true;
+        }
+        self.write_in_time(&octets[taken..]).unwrap_or(false)
     }
 }
 
-/// The door: a TCP listener that doesn't wait.
+/// The door: a TCP listener that doesn't wait. All who wait come in, and the last of them stays.
 #[derive(Drop)]
-pub struct CentreListener(TcpListener);
+pub struct CentreListener<'a, R> {
+    rt: &'a R,
+    listener: TcpListener,
+    /// That nobody can be let in was said, and nobody has come in since.
+    is_shut: bool,
+}
 
-impl CentreListener {
+impl<'a, R: Net<Listener = TcpListener, Stream = TcpStream> + Eprint> CentreListener<'a, R> {
     /// Listens at `HOST:PORT`.
     ///
     /// # Errors
     ///
     /// Those of the system.
-    pub fn listen<R: Net<Listener = TcpListener, Stream = TcpStream>>(
-        rt: &R,
-        address: &str,
-    ) -> io::Result<CentreListener> {
+    pub fn listen(rt: &'a R, address: &str) -> io::Result<CentreListener<'a, R>> {
         let listener = TcpListener::bind(rt, address)?;
         listener.set_nonblocking(true)?;
-        Ok(CentreListener(listener))
+        Ok(CentreListener {
+            rt,
+            listener,
+            is_shut: false,
+        })
     }
 
     /// Where it listens.
@@ -151,18 +217,43 @@ impl CentreListener {
     ///
     /// Those of the system.
     pub fn address(&self) -> io::Result<SocketAddr> {
-        self.0.local_addr()
+        self.listener.local_addr()
+    }
+
+    /// Says once that nobody can be let in, as with too few descriptors.
+    fn say_shut(&mut self, fault: &io::Error) {
+        if !self.is_shut {
+            let _ = eprintln!(self.rt; "connections can't be accepted: {fault}");
+        }
+        self.is_shut = true;
     }
 }
 
-impl Door for CentreListener {
+impl<R: Net<Listener = TcpListener, Stream = TcpStream> + Eprint> Door for CentreListener<'_, R> {
     type Wire = CentreSocket;
 
     ghost visits = { λ _. None };
 
     fn accept(&mut self) -> Option<CentreSocket> {
-        let (stream, _) = self.0.accept().ok()?;
-        CentreSocket::new(stream).ok()
+        let mut newest = None;
+        for _ in 0..VISITORS {
+            match self.listener.accept() {
+                Ok((stream, _)) => {
+                    self.is_shut = false;
+                    newest = Some(stream);
+                }
+                Err(fault) => match fault.kind() {
+                    ErrorKind::WouldBlock => break,
+                    // Who came has gone again.
+                    ErrorKind::Interrupted | ErrorKind::ConnectionAborted => {}
+                    _ => {
+                        self.say_shut(&fault);
+                        break;
+                    }
+                },
+            }
+        }
+        CentreSocket::new(newest?).ok()
     }
 }
 
@@ -190,6 +281,8 @@ impl<'a, R: std::rt::Clock> SystemClock<'a, R> {
 }
 
 impl<R: std::rt::Clock> Clock for SystemClock<'_, R> {
+    ghost moments = { λ _. None };
+
     fn now_ms(&mut self) -> u64 {
         if let Ok(passed) = self.start.elapsed(self.rt) {
             self.now = u64::try_from(passed.as_millis()).unwrap_or(u64::MAX);

@@ -45,8 +45,14 @@ pub trait Door {
         ensures told { visits self.new ≡ visited (visits self.old) (is_some result) };
 }
 
-/// A clock that begins anywhere.
+/// A clock that begins anywhere. One that tells what it told adds each moment.
 pub trait Clock {
+    ghost use Rattle.live.specs.Timing.{Moments, read_at};
+
+    /// The moments that it told, the newest first, where it tells them.
+    ghost moments: { Self → Moments };
+
     /// The moment, in milliseconds.
-    fn now_ms(&mut self) -> u64;
+    fn now_ms(&mut self) -> u64
+        ensures told { moments self.new ≡ read_at (moments self.old) result };
 }

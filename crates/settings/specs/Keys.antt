@@ -15,7 +15,8 @@ abbrev pub given_at : List ℕ → Option Members → Option Data
 given_at key None = None
 given_at key (Some t) = get_member key t
 
--- a setting that is a whole number: its key, its dotted path, its least and greatest value, its default
+-- a setting that is a whole number: its key, its dotted path, its least and greatest value, its
+-- default
 pub record Row : Type 0 where
   pub key : List ℕ
   pub path : Path
@@ -80,6 +81,7 @@ abbrev pub section_of : List ℕ → Path → Members → Result (Option Members
 section_of key first root = section_or first (get_member key root)
 
 -- the section that was found, as its members
-abbrev pub sections_seen : Result (Option (Bor (BTreeMap (String Global) Value))) WrongKey → Result (Option Members) Path
+abbrev pub sections_seen : Result (Option (Bor (BTreeMap (String Global) Value))) WrongKey →
+    Result (Option Members) Path
 sections_seen (Ok t) = Ok (members_in t)
 sections_seen (Err wrong) = Err wrong.path.now

@@ -1,4 +1,5 @@
--- The settings of the table `line` (this gateway's own profile): each key in its order, up to the first that is wrong.
+-- The settings of the table `line` (this gateway's own profile): each key in its order, up to the
+-- first that is wrong.
 use Rattle.std.specs.Prelude.{ℕ, codes, List, ◌==◌, if◌then◌else◌, Option, Some, None, Result, Ok, Err}
 use Rattle.std.specs.Str.{bytes_eq}
 use Rattle.toml.specs.Data.{Data, Members, as_str}
@@ -34,7 +35,10 @@ ioa_size n = if n == 1 then ioa.One else if n == 2 then ioa.Two else ioa.Three
 -- what silence of a station does, as the word of `line.silence` says; the default is "hold"
 abbrev pub silence_word : Option (List ℕ) → Result Silence Path
 silence_word None = Err (codes "line.silence")
-silence_word (Some word) = if bytes_eq word (codes "hold") then Ok Hold else if bytes_eq word (codes "reset") then Ok Reset else Err (codes "line.silence")
+silence_word (Some word) =
+    if bytes_eq word (codes "hold") then Ok Hold
+    else if bytes_eq word (codes "reset") then Ok Reset
+    else Err (codes "line.silence")
 
 abbrev pub silence_of : Option Data → Result Silence Path
 silence_of None = Ok Hold
@@ -51,7 +55,15 @@ pub record Line : Type 0 where
   pub queue : ℕ
 
 abbrev pub line_of : LineSettings → Line
-line_of l = record { link = l.link; sizes = l.sizes; answer_ms = l.answer_ms; retries = l.retries; silence = l.silence; burst = l.burst; queue = l.queue }
+line_of l = record {
+  link = l.link;
+  sizes = l.sizes;
+  answer_ms = l.answer_ms;
+  retries = l.retries;
+  silence = l.silence;
+  burst = l.burst;
+  queue = l.queue;
+}
 
 -- the sizes of an ASDU
 abbrev pub sizes_of : Option Members → Result Sizes Path
@@ -76,4 +88,12 @@ line_settings t = do
   w ← waits_of t
   b ← whole_of (row (codes "burst") (codes "line.burst") 1 255 (Some 8)) t
   q ← whole_of (row (codes "queue") (codes "line.queue") 3 65535 (Some 1000)) t
-  Ok (record { link = link_size l; sizes = s; answer_ms = w.answer_ms; retries = w.retries; silence = w.silence; burst = b; queue = q })
+  Ok (record {
+    link = link_size l;
+    sizes = s;
+    answer_ms = w.answer_ms;
+    retries = w.retries;
+    silence = w.silence;
+    burst = b;
+    queue = q;
+  })

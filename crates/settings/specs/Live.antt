@@ -1,5 +1,5 @@
--- The keys of the table `live` (this gateway's own profile): each is a text, and may be missing; a live run needs both, and says
--- what they are.
+-- The keys of the table `live` (this gateway's own profile): each is a text, and may be missing; a
+-- live run needs both, and says what they are.
 use Rattle.std.specs.Prelude.{ℕ, nat_eq, nat_le, nat_lt, ◌&&◌, ◌||◌, codes, Bool, false, if◌then◌else◌, List, [], ◌∷◌, length, take, drop, Option, Some, None, Result, Ok, Err, string_bytes}
 use Rattle.std.specs.Str.{bytes_eq}
 use Rattle.traces.specs.Fields.{decimal_of}
@@ -20,7 +20,9 @@ abbrev pub word_of : List ℕ → Path → Option Members → Result (Unit {0}) 
 word_of key path t = text_or path (given_at key t)
 
 abbrev pub live_keys : Option Members → Result (Unit {0}) Path
-live_keys t = word_of (codes "line") (codes "live.line") t >>= (λ _. word_of (codes "listen") (codes "live.listen") t)
+live_keys t =
+    word_of (codes "line") (codes "live.line") t
+    >>= (λ _. word_of (codes "listen") (codes "live.listen") t)
 
 -- a port: 1 to 65535
 abbrev pub is_port_number : Option ℕ → Bool
@@ -48,7 +50,8 @@ begins_with head text = bytes_eq (take (length head) text) head
 -- `tcp:HOST:PORT`, or `unix:PATH`, whose path isn't empty
 abbrev pub is_line : List ℕ → Bool
 is_line text =
-    (begins_with (codes "tcp:") text && is_address (drop 4 text)) || (begins_with (codes "unix:") text && nat_lt 5 (length text))
+    (begins_with (codes "tcp:") text && is_address (drop 4 text))
+    || (begins_with (codes "unix:") text && nat_lt 5 (length text))
 
 -- the text of a key, where it is there and is one
 abbrev pub text_of : Option Data → Option (List ℕ)

@@ -1,7 +1,7 @@
--- The settings of a whole file, up to the first wrong key; unknown keys are looked for after these (this gateway's own
--- profile). The keys and their values stand in `Line.antt`, `Tcp.antt`, `Stations.antt` and `Live.antt`, in the order in
--- which they are judged. A default is judged like a given value. Where `line`, `tcp` or `live` is no table, its first key is
--- wrong.
+-- The settings of a whole file, up to the first wrong key; unknown keys are looked for after these
+-- (this gateway's own profile). The keys and their values stand in `Line.antt`, `Tcp.antt`,
+-- `Stations.antt` and `Live.antt`, in the order in which they are judged. A default is judged like
+-- a given value. Where `line`, `tcp` or `live` is no table, its first key is wrong.
 use Rattle.std.specs.Prelude.{◌≡◌, ℕ, codes, List, [], Some, None, Result, Ok, Err, IsOk, IsUtf8, MatchResult}
 use Rattle.toml.specs.Data.{Members, get_member}
 use Rattle.toml.specs.Parse.{parse_document}
@@ -65,13 +65,17 @@ IsKnownOf known seen result = MatchResult result (λ c. known ≡ Ok (seen c)) (
 abbrev pub IsFirstFault : {V : Type 0} → Result V Path → Members → ConfigFault → Type 0
 IsFirstFault known root NotToml = ⊥
 IsFirstFault known root (Key path) = known ≡ Err path.now
-IsFirstFault known root (Unknown path) = IsOk known × IsLeastUnknown (unknown_paths root) (Unknown path)
+IsFirstFault known root (Unknown path) =
+    IsOk known × IsLeastUnknown (unknown_paths root) (Unknown path)
 IsFirstFault known root NoMemory = Unit {0}
 
 -- what was read, where no key is wrong and none unknown; else the first fault
-abbrev pub IsReadOf : {A V : Type 0} → Result V Path → (A → V) → Members → Result A ConfigFault → Type 0
+abbrev pub IsReadOf : {A V : Type 0} → Result V Path → (A → V) → Members →
+    Result A ConfigFault → Type 0
 IsReadOf known seen root result =
-    MatchResult result (λ c. (known ≡ Ok (seen c)) × (unknown_paths root ≡ [])) (IsFirstFault known root)
+    MatchResult result
+    (λ c. (known ≡ Ok (seen c)) × (unknown_paths root ≡ []))
+    (IsFirstFault known root)
 
 -- the octets are no text, or no TOML document
 abbrev pub IsNoDocument : List ℕ → Type 0
@@ -89,8 +93,10 @@ IsRootFault text NoMemory = Unit {0}
 IsRootFault text _ = ⊥
 
 -- what a document's fault is
-abbrev pub IsDocumentFault : {V : Type 0} → (Members → Result V Path) → List ℕ → ConfigFault → Type 0
-IsDocumentFault known text e = (root : Members) × IsDocument text root × IsFirstFault (known root) root e
+abbrev pub IsDocumentFault : {V : Type 0} → (Members → Result V Path) → List ℕ → ConfigFault →
+    Type 0
+IsDocumentFault known text e =
+    (root : Members) × IsDocument text root × IsFirstFault (known root) root e
 
 abbrev pub IsFaultOfText : {V : Type 0} → (Members → Result V Path) → List ℕ → ConfigFault → Type 0
 IsFaultOfText known text NotToml = IsNoDocument text
@@ -99,10 +105,12 @@ IsFaultOfText known text (Unknown path) = IsDocumentFault known text (Unknown pa
 IsFaultOfText known text NoMemory = Unit {0}
 
 -- what is read from the document that the octets are, or the first fault
-abbrev pub IsReadBy : {A V : Type 0} → (Members → Result V Path) → (A → V) → List ℕ → Result A ConfigFault → Type 0
+abbrev pub IsReadBy : {A V : Type 0} → (Members → Result V Path) → (A → V) → List ℕ →
+    Result A ConfigFault → Type 0
 IsReadBy known seen text result =
     MatchResult result
-    (λ c. (root : Members) × IsDocument text root × (known root ≡ Ok (seen c)) × (unknown_paths root ≡ []))
+    (λ c. (root : Members) × IsDocument text root × (known root ≡ Ok (seen c))
+    × (unknown_paths root ≡ []))
     (IsFaultOfText known text)
 
 -- the settings of the document that the octets are, or the first fault

@@ -1,5 +1,5 @@
--- The list of stations (this gateway's own profile): each in its order, its keys one before the next, up to the first that
--- is wrong.
+-- The list of stations (this gateway's own profile): each in its order, its keys one before the
+-- next, up to the first that is wrong.
 use Rattle.std.specs.Prelude.{◌≡◌, ℕ, false, codes, List, [], ◌∷◌, ◌++◌, Bool, ◌==◌, if◌then◌else◌, nat_lt, nat_le, ◌&&◌, suc, Option, Some, None, Result, Ok, Err, Vec, MatchResult}
 use Rattle.std.specs.List.{list_any}
 use Rattle.std.specs.declared.alloc.Global.{Global}
@@ -59,7 +59,8 @@ station_of link ca before d = station_in link ca before (as_table d)
 -- the stations before, and those of the items
 abbrev pub stations_from : LinkSize → CaSize → List Station → Items → Result (List Station) Path
 stations_from link ca before no_items = Ok before
-stations_from link ca before (item d ds) = station_of link ca before d >>= (λ s. stations_from link ca (before ++ s ∷ []) ds)
+stations_from link ca before (item d ds) =
+    station_of link ca before d >>= (λ s. stations_from link ca (before ++ s ∷ []) ds)
 
 abbrev pub count_of : Items → ℕ
 count_of no_items = 0
@@ -68,18 +69,26 @@ count_of (item d ds) = suc (count_of ds)
 -- an array of 1 to 32 stations
 abbrev pub stations_in : LinkSize → CaSize → Option Items → Result (List Station) Path
 stations_in link ca None = Err (codes "station")
-stations_in link ca (Some ds) = if nat_lt 0 (count_of ds) && nat_le (count_of ds) 32 then stations_from link ca [] ds else Err (codes "station")
+stations_in link ca (Some ds) =
+    if nat_lt 0 (count_of ds) && nat_le (count_of ds) 32
+    then stations_from link ca [] ds
+    else Err (codes "station")
 
 abbrev pub stations_of : LinkSize → CaSize → Option Data → Result (List Station) Path
 stations_of link ca None = Err (codes "station")
 stations_of link ca (Some d) = stations_in link ca (as_array d)
 
--- the list that was read is the expected one, and a fault is the expected wrong key or want of memory
-abbrev pub IsAsExpected : Result (List Station) Path → Result (Vec Station Global) ConfigFault → Type 0
-IsAsExpected expected result = MatchResult result (λ v. expected ≡ Ok v.items) (IsWrongKeyOf expected)
+-- the list that was read is the expected one, and a fault is the expected wrong key or want of
+-- memory
+abbrev pub IsAsExpected : Result (List Station) Path →
+    Result (Vec Station Global) ConfigFault → Type 0
+IsAsExpected expected result =
+    MatchResult result (λ v. expected ≡ Ok v.items) (IsWrongKeyOf expected)
 
--- the station can follow the others: it has addresses that it can have, and none that one of them has
-pub record IsNext (link : LinkSize) (ca : CaSize) (others : List Station) (s : Station) : Type 0 where
+-- the station can follow the others: it has addresses that it can have, and none that one of them
+-- has
+pub record IsNext (link : LinkSize) (ca : CaSize) (others : List Station) (s : Station)
+    : Type 0 where
   pub station : IsStation link ca s
   pub new_address : list_any (λ o. o.address == s.address) others ≡ false
   pub new_ca : list_any (λ o. o.ca == s.ca) others ≡ false

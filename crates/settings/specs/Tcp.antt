@@ -1,5 +1,5 @@
--- The settings of the table `tcp` (this gateway's own profile), which may be missing: each key in its order, up to the
--- first that is wrong.
+-- The settings of the table `tcp` (this gateway's own profile), which may be missing: each key in
+-- its order, up to the first that is wrong.
 use Rattle.std.specs.Prelude.{ℕ, codes, ◌-◌, Option, Some, Result, Ok}
 use Rattle.toml.specs.Data.{Members}
 use Rattle.settings.specs.Faults.{Path, ◌>>=◌}
@@ -16,7 +16,14 @@ pub record Tcp : Type 0 where
   pub select_ms : ℕ
 
 abbrev pub tcp_of : TcpSettings → Tcp
-tcp_of t = record { k = t.k; w = t.w; t1_ms = t.t1_ms; t2_ms = t.t2_ms; t3_ms = t.t3_ms; select_ms = t.select_ms }
+tcp_of t = record {
+  k = t.k;
+  w = t.w;
+  t1_ms = t.t1_ms;
+  t2_ms = t.t2_ms;
+  t3_ms = t.t3_ms;
+  select_ms = t.select_ms;
+}
 
 -- t2 is below t1, also where one of them has its default
 abbrev pub tcp_settings : Option Members → Result Tcp Path

@@ -11,22 +11,29 @@ use Rattle.settings.specs.declared.unknown.Section.TheVariants.{Root, Line, Tcp,
 
 -- the keys of sizes that the table `line` may have
 abbrev pub knows_size : List ℕ → Bool
-knows_size k = bytes_eq k (codes "link") || bytes_eq k (codes "cause") || bytes_eq k (codes "ca") || bytes_eq k (codes "ioa")
+knows_size k =
+    bytes_eq k (codes "link") || bytes_eq k (codes "cause")
+    || bytes_eq k (codes "ca") || bytes_eq k (codes "ioa")
 
 -- the keys that the table `line` may have
 abbrev pub knows_line : List ℕ → Bool
 knows_line k =
-    knows_size k || bytes_eq k (codes "answer_ms") || bytes_eq k (codes "retries") || bytes_eq k (codes "silence")
+    knows_size k || bytes_eq k (codes "answer_ms") || bytes_eq k (codes "retries")
+    || bytes_eq k (codes "silence")
     || bytes_eq k (codes "burst") || bytes_eq k (codes "queue")
 
 -- the keys that a table may have
 abbrev pub knows : Section → List ℕ → Bool
-knows Root k = bytes_eq k (codes "line") || bytes_eq k (codes "tcp") || bytes_eq k (codes "station") || bytes_eq k (codes "live")
+knows Root k =
+    bytes_eq k (codes "line") || bytes_eq k (codes "tcp")
+    || bytes_eq k (codes "station") || bytes_eq k (codes "live")
 knows Line k = knows_line k
 knows Tcp k =
-    bytes_eq k (codes "k") || bytes_eq k (codes "w") || bytes_eq k (codes "t1_ms") || bytes_eq k (codes "t2_ms")
+    bytes_eq k (codes "k") || bytes_eq k (codes "w")
+    || bytes_eq k (codes "t1_ms") || bytes_eq k (codes "t2_ms")
     || bytes_eq k (codes "t3_ms") || bytes_eq k (codes "select_ms")
-knows Station k = bytes_eq k (codes "address") || bytes_eq k (codes "ca") || bytes_eq k (codes "select")
+knows Station k =
+    bytes_eq k (codes "address") || bytes_eq k (codes "ca") || bytes_eq k (codes "select")
 knows Live k = bytes_eq k (codes "line") || bytes_eq k (codes "listen")
 
 -- what stands before such a key in its dotted path

@@ -14,8 +14,9 @@ use gateway::Config;
 use std::alloc::Global;
 use toml::Table;
 
-/// Reads the settings of a file. The first fault is answered: octets that are no TOML document, then the first key that is
-/// missing or wrong, then the least key that isn't known; `NoMemory` can come at any step.
+/// Reads the settings of a file. The first fault is answered: octets that are no TOML document,
+/// then the first key that is missing or wrong, then the least key that isn't known; `NoMemory` can
+/// come at any step.
 #[tactic(auto, using(crate::proofs::SettingsLemmas::read_text, crate::proofs::SettingsLemmas::no_root))]
 pub fn read_config(alloc: Global, text: &[u8]) -> Result<Config, ConfigFault>
     ensures { IsReadOfText text.now result }
@@ -26,8 +27,9 @@ pub fn read_config(alloc: Global, text: &[u8]) -> Result<Config, ConfigFault>
     }
 }
 
-/// Reads the settings of a file for a live run, which has to say where its line and its control centre are. The faults are
-/// those of [`read_config`], where the keys of `live` come after all others and before unknown ones.
+/// Reads the settings of a file for a live run, which has to say where its line and its control
+/// centre are. The faults are those of [`read_config`], where the keys of `live` come after all
+/// others and before unknown ones.
 #[tactic(auto, using(crate::proofs::SettingsLemmas::read_text, crate::proofs::SettingsLemmas::no_root))]
 pub fn read_live_config(alloc: Global, text: &[u8]) -> Result<(Config, LiveSettings), ConfigFault>
     ensures { IsLiveReadOfText text.now result }

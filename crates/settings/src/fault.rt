@@ -14,7 +14,8 @@ pub enum ConfigFault {
     /// This key is missing, or its value is wrong. The text is its dotted path.
     #[error("config: {0}")]
     Key(&'static str),
-    /// There is no such key. Of several it is the one whose dotted path comes first in the order of octets.
+    /// There is no such key. Of several it is the one whose dotted path comes first in the order of
+    /// octets.
     #[error("config: unknown {0}")]
     Unknown(String),
     /// Memory was refused.

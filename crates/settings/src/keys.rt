@@ -8,7 +8,8 @@ ghost use Rattle.settings.specs.Keys.{given_at, row_of, whole_of, flag_of, numbe
 use crate::fault::WrongKey;
 use toml::{Table, Value};
 
-/// A setting that is a whole number from `low` to `high`. A missing one has the default, which is judged likewise.
+/// A setting that is a whole number from `low` to `high`. A missing one has the default, which is
+/// judged likewise.
 #[derive(Clone, Copy, Debug)]
 pub(crate) struct Whole {
     pub(crate) key: &'static str,
@@ -19,7 +20,8 @@ pub(crate) struct Whole {
     pub(crate) default: Option<u32>,
 }
 
-/// The table at `key`, if it is there. `first` is its first key, which is the wrong one where it is no table.
+/// The table at `key`, if it is there. `first` is its first key, which is the wrong one where it is
+/// no table.
 pub(crate) fn section<'a>(
     root: &'a Table,
     key: &str,

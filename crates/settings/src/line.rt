@@ -76,7 +76,8 @@ const QUEUE: Whole = Whole {
     default: Some(1000),
 };
 
-/// How long an answer is waited for, in ms, how often a request is sent again, and what a station's silence does.
+/// How long an answer is waited for, in ms, how often a request is sent again, and what a station's
+/// silence does.
 struct Waits {
     answer_ms: u64,
     retries: u8,

@@ -46,7 +46,9 @@ fn judge_text(table: Option<&Table>, key: &str, path: &'static str) -> Result<()
 
 /// Reads the keys of the table `live`, which a live run needs.
 pub(crate) fn read_live(alloc: Global, table: Option<&Table>) -> Result<LiveSettings, ConfigFault>
-    ensures { MatchResult result (λ s. live_places (members_in table.entry) ≡ Ok (places_of s)) (IsWrongKeyOf (live_places (members_in table.entry))) }
+    ensures { MatchResult result
+        (λ s. live_places (members_in table.entry) ≡ Ok (places_of s))
+        (IsWrongKeyOf (live_places (members_in table.entry))) }
 {
     let line = line_place(table)?;
     let listen = listen_place(table)?;
@@ -58,7 +60,8 @@ pub(crate) fn read_live(alloc: Global, table: Option<&Table>) -> Result<LiveSett
 
 /// The place of the line.
 fn line_place<'a>(table: Option<&'a Table>) -> Result<&'a str, WrongKey>
-    ensures { seen_by (λ text. text.now) result ≡ place_of is_line (codes "line") (codes "live.line") (members_in table.entry) }
+    ensures { seen_by (λ text. text.now) result
+        ≡ place_of is_line (codes "line") (codes "live.line") (members_in table.entry) }
 {
     match text_at(table, "line") {
         Some(text) if is_line(text.as_bytes()) => Ok(text),
@@ -68,7 +71,8 @@ fn line_place<'a>(table: Option<&'a Table>) -> Result<&'a str, WrongKey>
 
 /// The place of the door.
 fn listen_place<'a>(table: Option<&'a Table>) -> Result<&'a str, WrongKey>
-    ensures { seen_by (λ text. text.now) result ≡ place_of is_address (codes "listen") (codes "live.listen") (members_in table.entry) }
+    ensures { seen_by (λ text. text.now) result
+        ≡ place_of is_address (codes "listen") (codes "live.listen") (members_in table.entry) }
 {
     match text_at(table, "listen") {
         Some(text) if is_address(text.as_bytes()) => Ok(text),

@@ -17,8 +17,8 @@ fn verdict(alloc: Global, text: &[u8]) -> Result<String, Fail> {
     }
 }
 
-/// The first change of config A after which `check` prints something else than is wanted, and what it prints; nothing
-/// where there is none.
+/// The first change of config A after which `check` prints something else than is wanted, and what
+/// it prints; nothing where there is none.
 fn first_difference(alloc: Global, changes: &[(&str, &str, &str)]) -> Result<String, Fail> {
     for (before, after, want) in changes {
         let text = CONFIG_A.replacen(alloc, *before, *after, 1)?;
@@ -61,8 +61,11 @@ fn config_a_has_the_defaults(rt: HostRuntime) -> Result<(), Fail> {
 
 #[test]
 fn each_value_is_read(rt: HostRuntime) -> Result<(), Fail> {
-    let text =
-        "[line]\nlink = 2\ncause = 2\nca = 2\nioa = 3\nanswer_ms = 60000\nretries = 0\nsilence = \"reset\"\nburst = 255\nqueue = 65535\n[tcp]\nk = 32767\nw = 1\nt1_ms = 255000\nt2_ms = 254999\nt3_ms = 86400000\nselect_ms = 600000\n[[station]]\naddress = 65534\nca = 65533\nselect = true\n[[station]]\naddress = 65533\nca = 65534\n[live]\nline = \"anything\"\nlisten = \"\"\n";
+    let text = "[line]\nlink = 2\ncause = 2\nca = 2\nioa = 3\nanswer_ms = 60000\nretries = 0\n\
+        silence = \"reset\"\nburst = 255\nqueue = 65535\n\
+        [tcp]\nk = 32767\nw = 1\nt1_ms = 255000\nt2_ms = 254999\nt3_ms = 86400000\nselect_ms = 600000\n\
+        [[station]]\naddress = 65534\nca = 65533\nselect = true\n\
+        [[station]]\naddress = 65533\nca = 65534\n[live]\nline = \"anything\"\nlisten = \"\"\n";
     let config = read_config(rt.alloc(), text.as_bytes())?;
     let line = config.line();
     assert_eq!(rt; line.link, LinkSize::Two);

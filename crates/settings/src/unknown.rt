@@ -71,7 +71,8 @@ fn knows_size(key: &str) -> bool
     key == "link" || key == "cause" || key == "ca" || key == "ioa"
 }
 
-/// Refuses a file with an unknown key, and names the one whose dotted path is the least in the order of octets.
+/// Refuses a file with an unknown key, and names the one whose dotted path is the least in the
+/// order of octets.
 #[tactic(auto, using(crate::proofs::UnknownLemmas::least_of, crate::proofs::UnknownLemmas::none_of))]
 pub(crate) fn refuse_unknown(alloc: Global, root: &Table) -> Result<(), ConfigFault>
     ensures { IsRefusedFor (unknown_paths (table_view root.now)) result }
@@ -84,7 +85,8 @@ pub(crate) fn refuse_unknown(alloc: Global, root: &Table) -> Result<(), ConfigFa
 
 /// The least of some texts.
 fn least(paths: Vec<String>) -> Option<String>
-    ensures { MatchOption result (paths.items ≡ []) (λ m. Contains paths.items m × All (λ x. is_lt (string_cmp x m) ≡ false) paths.items) }
+    ensures { MatchOption result (paths.items ≡ [])
+        (λ m. Contains paths.items m × All (λ x. is_lt (string_cmp x m) ≡ false) paths.items) }
 {
     paths.into_iter().min()
 }
@@ -112,7 +114,8 @@ fn push_unknown(
     table: &Table,
 ) -> Result<(), AllocError>
     ensures { OnOk result (map string_bytes paths.new.items
-        ≡ map string_bytes paths.old.items ++ unknown_in section (member_keys (table_view table.now))) }
+        ≡ map string_bytes paths.old.items
+        ++ unknown_in section (member_keys (table_view table.now))) }
 {
     let before = section.prefix();
     for key in table.keys() {
@@ -131,7 +134,8 @@ fn push_section(
     value: Option<&Value>,
 ) -> Result<(), AllocError>
     ensures { OnOk result (map string_bytes paths.new.items
-        ≡ map string_bytes paths.old.items ++ unknown_under section (option_map (λ v. view v.now) value.entry)) }
+        ≡ map string_bytes paths.old.items
+        ++ unknown_under section (option_map (λ v. view v.now) value.entry)) }
 {
     match value {
         Some(value) => push_table(alloc, paths, section, value),

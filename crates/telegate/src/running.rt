@@ -8,6 +8,7 @@ use live::{CentreListener, LineSocket, Live, SystemClock};
 use settings::{ConfigFault, LiveSettings, read_live_config};
 use std::alloc::Global;
 use std::io;
+use std::io::Eprint;
 use std::net::{Net, TcpListener, TcpStream};
 use std::rt::Clock;
 
@@ -15,13 +16,15 @@ use std::rt::Clock;
 /// reached, then the door is opened.
 pub(crate) fn run_live<R>(rt: &R, config: &[u8]) -> Result<(), Fault>
 where
-    R: Net<Listener = TcpListener, Stream = TcpStream> + Clock + AllocGlobal,
+    R: Net<Listener = TcpListener, Stream = TcpStream> + Clock + Eprint + AllocGlobal,
 {
     let (config, places) = read_live(rt.alloc(), config)?;
     let line = LineSocket::reach(rt, places.line.as_str()).map_err(device_fault)?;
     let door = CentreListener::listen(rt, places.listen.as_str()).map_err(device_fault)?;
     let clock = SystemClock::start(rt).map_err(device_fault)?;
-    serve(rt.alloc(), &config, &mut Live::new(line, door, clock))
+    let answer_ms = config.line().answer_ms;
+    let mut port = Live::new(line, door, clock, answer_ms);
+    serve(rt.alloc(), &config, &mut port)
 }
 
 /// The settings of a file for a live run.

@@ -12,7 +12,7 @@ ghost use Rattle.asdu.specs.Asdu.{IsAsdu};
 ghost use Rattle.asdu.specs.InformationObjects.{monitor_objects_of};
 ghost use Rattle.asdu.specs.Reading.{value_of};
 ghost use Rattle.gateway.specs.Polls.{has_room};
-ghost use Rattle.gateway.specs.Counting.{one_skipped, one_mirrored, one_lost};
+ghost use Rattle.gateway.specs.Counting.{is_answer_type, one_skipped, one_mirrored, one_lost};
 ghost use Rattle.gateway.specs.Works.{kept_until, all_kept, is_command_report, offered_by, offered_upto};
 ghost use Rattle.gateway.specs.State.{after_request};
 ghost use Rattle.gateway.specs.Steps.{Mirrors, LearnsReport, Hears, Learns, refused, refusal_fits, given_up, line_timed, settled};
@@ -21,6 +21,7 @@ use super::Gateway;
 use crate::counts::Tally;
 use asdu::{Asdu, Piece, read, translate};
 use command::Commands;
+use elements::TypeId;
 use link::{
     Master, Outcome, Request, RequestKind, master_tells_the_log, next_changes_nothing, offers_wait,
     polls_wait_for_leave,
@@ -47,6 +48,13 @@ impl Tally {
     {
         self.mirrors = self.mirrors.saturating_add(1);
     }
+}
+
+/// Whether a station answers a command by this type: a command type without a time tag.
+fn is_answer(kind: TypeId) -> bool
+    ensures { result ≡ is_answer_type kind }
+{
+    !kind.monitor() && !kind.tagged()
 }
 
 /// Offers a station user data that fit any frame.
@@ -124,7 +132,7 @@ impl Gateway {
             self.events.push(translate(&asdu));
             return true;
         }
-        if asdu.kind.monitor() {
+        if !is_answer(asdu.kind) {
             self.counts.skip();
             return true;
         }

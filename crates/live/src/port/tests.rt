@@ -9,13 +9,13 @@ use std::test::Fail;
 type Ends = Live<MemoryWire, MemoryDoor, MemoryClock>;
 
 fn ends(line: MemoryWire, visitor: Option<MemoryWire>) -> Ends {
-    Live::new(line, MemoryDoor { visitor }, MemoryClock(0))
+    Live::new(line, MemoryDoor { visitor }, MemoryClock(0), 1000)
 }
 
 /// Ends whose connection is open, and whose next look is at the connection.
 fn connected(rt: &impl Abort, line: MemoryWire, visitor: MemoryWire) -> Ends {
     let mut port = ends(line, Some(visitor));
-    assert!(rt; matches!(next(rt, &mut port), Next::Open(1)));
+    assert!(rt; matches!(next(rt, &mut port), Next::Open(2)));
     port
 }
 
@@ -34,19 +34,19 @@ fn send(rt: &impl Abort, port: &mut Ends) {
 #[test]
 fn the_sources_have_their_turns(rt: HostRuntime) {
     let mut port = connected(&rt, MemoryWire::busy(), MemoryWire::busy());
-    assert!(rt; matches!(next(&rt, &mut port), Next::Bytes(2, 1)));
-    assert!(rt; matches!(next(&rt, &mut port), Next::Line(3, 1)));
     assert!(rt; matches!(next(&rt, &mut port), Next::Bytes(4, 1)));
+    assert!(rt; matches!(next(&rt, &mut port), Next::Line(6, 1)));
+    assert!(rt; matches!(next(&rt, &mut port), Next::Bytes(8, 1)));
     port.door.visitor = Some(MemoryWire::busy());
-    assert!(rt; matches!(next(&rt, &mut port), Next::Line(5, 1)));
-    assert!(rt; matches!(next(&rt, &mut port), Next::Open(6)));
+    assert!(rt; matches!(next(&rt, &mut port), Next::Line(10, 1)));
+    assert!(rt; matches!(next(&rt, &mut port), Next::Open(12)));
 }
 
 #[test]
 fn where_nothing_is_found_time_passed(rt: HostRuntime) {
     let mut port = ends(MemoryWire::quiet(), None);
-    assert!(rt; matches!(next(&rt, &mut port), Next::Tick(1)));
     assert!(rt; matches!(next(&rt, &mut port), Next::Tick(2)));
+    assert!(rt; matches!(next(&rt, &mut port), Next::Tick(4)));
     assert_eq!(rt; port.line.reads, 2);
 }
 
@@ -55,8 +55,8 @@ fn a_connection_that_is_gone_is_a_cut_once(rt: HostRuntime) {
     let mut visitor = MemoryWire::quiet();
     visitor.failing_read = 1;
     let mut port = connected(&rt, MemoryWire::quiet(), visitor);
-    assert!(rt; matches!(next(&rt, &mut port), Next::Cut(2)));
-    assert!(rt; matches!(next(&rt, &mut port), Next::Tick(3)));
+    assert!(rt; matches!(next(&rt, &mut port), Next::Cut(4)));
+    assert!(rt; matches!(next(&rt, &mut port), Next::Tick(6)));
     assert_eq!(rt; port.failures(), 0);
 }
 
@@ -65,19 +65,19 @@ fn a_failed_write_to_the_connection_is_a_cut_before_any_look(rt: HostRuntime) ->
     let mut visitor = MemoryWire::busy();
     visitor.failing_write = 1;
     let mut port = connected(&rt, MemoryWire::busy(), visitor);
-    assert!(rt; matches!(next(&rt, &mut port), Next::Bytes(2, 1)));
-    assert!(rt; matches!(next(&rt, &mut port), Next::Line(3, 1)));
+    assert!(rt; matches!(next(&rt, &mut port), Next::Bytes(4, 1)));
+    assert!(rt; matches!(next(&rt, &mut port), Next::Line(6, 1)));
     port.door.visitor = Some(MemoryWire::quiet());
     send(&rt, &mut port);
     // What is put until the cut is dropped.
     send(&rt, &mut port);
     assert_eq!(rt; port.connection.as_ref().ok_or("a connection")?.writes, 1);
-    assert!(rt; matches!(next(&rt, &mut port), Next::Cut(4)));
+    assert!(rt; matches!(next(&rt, &mut port), Next::Cut(8)));
     assert_eq!(rt; port.line.reads, 1);
     assert!(rt; port.door.visitor.is_some());
     // It was an event of the connection: the line is next.
-    assert!(rt; matches!(next(&rt, &mut port), Next::Line(5, 1)));
-    assert!(rt; matches!(next(&rt, &mut port), Next::Open(6)));
+    assert!(rt; matches!(next(&rt, &mut port), Next::Line(10, 1)));
+    assert!(rt; matches!(next(&rt, &mut port), Next::Open(12)));
     Ok(())
 }
 
@@ -89,7 +89,7 @@ fn a_close_shuts_the_connection_and_forgets_the_cut(rt: HostRuntime) {
     send(&rt, &mut port);
     assert!(rt; port.put(0, &Action::Close(Close::Timeout)));
     assert!(rt; port.connection.is_none());
-    assert!(rt; matches!(next(&rt, &mut port), Next::Tick(2)));
+    assert!(rt; matches!(next(&rt, &mut port), Next::Tick(4)));
 }
 
 #[test]
@@ -97,11 +97,11 @@ fn a_new_connection_takes_the_place_of_the_old(rt: HostRuntime) -> Result<(), Fa
     let mut port = connected(&rt, MemoryWire::quiet(), MemoryWire::quiet());
     send(&rt, &mut port);
     port.door.visitor = Some(MemoryWire::busy());
-    assert!(rt; matches!(next(&rt, &mut port), Next::Open(2)));
+    assert!(rt; matches!(next(&rt, &mut port), Next::Open(4)));
     // The gateway closes the old one, and the new one stays.
     assert!(rt; port.put(2, &Action::Close(Close::Replaced)));
     assert_eq!(rt; port.connection.as_ref().ok_or("a connection")?.writes, 0);
-    assert!(rt; matches!(next(&rt, &mut port), Next::Bytes(3, 1)));
+    assert!(rt; matches!(next(&rt, &mut port), Next::Bytes(6, 1)));
     Ok(())
 }
 
@@ -109,7 +109,7 @@ fn a_new_connection_takes_the_place_of_the_old(rt: HostRuntime) -> Result<(), Fa
 fn without_a_connection_an_apdu_is_dropped(rt: HostRuntime) {
     let mut port = ends(MemoryWire::quiet(), None);
     send(&rt, &mut port);
-    assert!(rt; matches!(next(&rt, &mut port), Next::Tick(1)));
+    assert!(rt; matches!(next(&rt, &mut port), Next::Tick(2)));
 }
 
 #[test]
@@ -121,7 +121,7 @@ fn a_request_that_the_line_does_not_take_is_lost(rt: HostRuntime) {
     assert_eq!(rt; port.failures(), 0);
     assert!(rt; port.put(0, &Action::Line(&[0x10])));
     assert_eq!(rt; port.line.writes, 2);
-    assert!(rt; matches!(next(&rt, &mut port), Next::Tick(1)));
+    assert!(rt; matches!(next(&rt, &mut port), Next::Tick(4)));
 }
 
 #[test]
@@ -129,7 +129,7 @@ fn the_end_of_the_line_alone_is_a_failure(rt: HostRuntime) {
     let mut line = MemoryWire::quiet();
     line.failing_read = 2;
     let mut port = ends(line, None);
-    assert!(rt; matches!(next(&rt, &mut port), Next::Tick(1)));
+    assert!(rt; matches!(next(&rt, &mut port), Next::Tick(2)));
     assert!(rt; matches!(next(&rt, &mut port), Next::Fault));
     assert_eq!(rt; port.failures(), 1);
 }

@@ -1,47 +1,16 @@
 //! A gateway between a line and a control centre on the loopback, both served in this process.
-use super::{CentreListener, LineSocket, SystemClock};
+use super::{CentreListener, LineDialler, LineSocket, SystemClock};
+use crate::redial::Redialled;
 use crate::Live;
-use asdu::{CaSize, CauseSize, IoaSize, Sizes};
-use ft12::LinkSize;
-use gateway::{Config, End, Gateway, LineSettings, Port, Silence, Station, TcpSettings, drive_on};
-use std::alloc::{AllocError, Global};
+use crate::configured::config;
+use crate::wires::{Door, Got, Wire};
+use gateway::{End, Gateway, Port, drive_on};
 use std::io::{Read, Write};
 use std::net::{Net, OpenStream, SocketAddr, TcpListener, TcpStream};
+use std::os::unix::net::UnixStream;
 use std::process::Abort;
 use std::test::Fail;
-use std::time::Duration;
-
-const STATION: Station = Station {
-    address: 1,
-    ca: 1,
-    select: false,
-};
-
-/// One station, whose answer is awaited for longer than the test lasts.
-fn config(alloc: Global) -> Result<Config, AllocError> {
-    let line = LineSettings {
-        link: LinkSize::One,
-        sizes: Sizes {
-            cause: CauseSize::One,
-            ca: CaSize::One,
-            ioa: IoaSize::Two,
-        },
-        answer_ms: 60000,
-        retries: 3,
-        silence: Silence::Hold,
-        burst: 8,
-        queue: 100,
-    };
-    let tcp = TcpSettings {
-        k: 12,
-        w: 8,
-        t1_ms: 15000,
-        t2_ms: 10000,
-        t3_ms: 20000,
-        select_ms: 30000,
-    };
-    Ok(Config::new(line, tcp, Vec::from_slice(alloc, &[STATION])?))
-}
+use std::time::{Duration, Instant};
 
 /// Some turns of the gateway.
 fn turn<P: Port>(rt: &impl Abort, gateway: &mut Gateway, port: &mut P) {
@@ -131,8 +100,9 @@ fn a_report_goes_through_and_is_acknowledged(rt: HostRuntime) -> Result<(), Fail
     station.set_read_timeout(Some(Duration::from_millis(1000)))?;
     let door = CentreListener::listen(&rt, "127.0.0.1:0")?;
     let address = door.address()?;
-    let mut port = Live::new(line, door, SystemClock::start(&rt)?);
-    let config = config(rt.alloc())?;
+    // The answer is awaited for longer than the test lasts.
+    let mut port = Live::new(line, door, SystemClock::start(&rt)?, 60000);
+    let config = config(rt.alloc(), 60000)?;
     let mut gateway = Gateway::new(rt.alloc(), &config).ok().ok_or("no memory")?;
 
     start_link(&rt, &mut gateway, &mut port, &mut station)?;
@@ -153,5 +123,72 @@ fn a_report_goes_through_and_is_acknowledged(rt: HostRuntime) -> Result<(), Fail
     drop(station);
     assert!(rt; port.failures() < 9);
     assert_eq!(rt; drive_on(&mut gateway, &mut port, 9), End::Device);
+    Ok(())
+}
+
+#[test]
+fn a_quiet_line_does_not_hold_who_looks(rt: HostRuntime) -> Result<(), Fail> {
+    let (stream, mut station) = UnixStream::pair(&rt)?;
+    let mut line = LineSocket::over_unix(stream)?;
+    let mut buf = [0; 1024];
+    assert_eq!(rt; line.read(&mut buf), Got::Quiet);
+    station.write_all(&[0xE5])?;
+    assert_eq!(rt; line.read(&mut buf), Got::Octets(1));
+
+    // What waits when a request goes out is no answer to it.
+    station.write_all(&[0x10, 0x0B])?;
+    assert!(rt; line.write(&[0x10, 0x49, 0x01, 0x4A, 0x16]));
+    assert_eq!(rt; line.read(&mut buf), Got::Quiet);
+    station.read_exact(&mut buf[..5])?;
+    assert_eq!(rt; buf[1], 0x49);
+
+    drop(station);
+    assert_eq!(rt; line.read(&mut buf), Got::Gone);
+    assert!(rt; !line.write(&[0xE5]));
+    Ok(())
+}
+
+#[test]
+fn of_all_who_wait_the_last_one_stays(rt: HostRuntime) -> Result<(), Fail> {
+    let mut door = CentreListener::listen(&rt, "127.0.0.1:0")?;
+    assert!(rt; door.accept().is_none());
+    let address = door.address()?;
+    let mut first = started(&rt, address)?;
+    let mut last = started(&rt, address)?;
+    let mut wire = door.accept().ok_or("a visitor")?;
+    assert!(rt; door.accept().is_none());
+    assert!(rt; matches!(first.read(&mut [0; 1]), Ok(0) | Err(_)), "the first is shut");
+    assert!(rt; wire.write(&[0x68, 4, 0x0B, 0, 0, 0]));
+    hears(&rt, &mut last, &[0x68, 4, 0x0B, 0, 0, 0])?;
+
+    // A control centre that never reads takes no more at some time, and then it isn't waited for long.
+    let start = Instant::now(&rt)?;
+    let mut is_taken = true;
+    for _ in 0..1_000_000 {
+        if !wire.write(&[0; 255]) {
+            is_taken = false;
+            break;
+        }
+    }
+    assert!(rt; !is_taken);
+    assert!(rt; start.elapsed(&rt)? < Duration::from_secs(20));
+    Ok(())
+}
+
+#[test]
+fn a_line_comes_back(rt: HostRuntime) -> Result<(), Fail> {
+    let server = TcpListener::bind(&rt, "127.0.0.1:0")?;
+    let place = format!(in rt.alloc(); "tcp:{}", server.local_addr()?)?;
+    let mut line = Redialled::new(LineDialler::new(&rt, place.as_str()), SystemClock::start(&rt)?);
+    let mut buf = [0; 1024];
+    assert!(rt; !line.write(&[0xE5]), "it is away");
+    assert_eq!(rt; line.read(&mut buf), Got::Quiet);
+    let (mut station, _) = server.accept()?;
+    station.write_all(&[0xE5])?;
+    assert_eq!(rt; line.read(&mut buf), Got::Octets(1));
+    assert!(rt; line.write(&[0xE5]));
+    drop(station);
+    assert_eq!(rt; line.read(&mut buf), Got::Quiet);
+    assert!(rt; !line.write(&[0xE5]), "it is away again");
     Ok(())
 }

@@ -1,3 +1,4 @@
+use Rattle.command.proofs.Refusals.{refuses}
 use Rattle.command.proofs.Runs.{run_holds}
 use Rattle.command.proofs.laws.own_answers_are_given.Goals as goal
 
@@ -9,3 +10,6 @@ returns-clause-in_turn c = λ stations sizes select_ms calls. (run_holds sizes s
 
 pub returns-clause-kept : goal.returns-clause-kept
 returns-clause-kept c = λ stations sizes select_ms calls. (run_holds sizes stations select_ms calls).keeps.own.kept
+
+pub returns-clause-spelled : goal.returns-clause-spelled
+returns-clause-spelled c = refuses

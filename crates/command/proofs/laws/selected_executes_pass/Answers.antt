@@ -1,5 +1,8 @@
-use Rattle.command.proofs.Full.{run_passes}
+use Rattle.command.proofs.Converse.{is_let, is_forwarded}
 use Rattle.command.proofs.laws.selected_executes_pass.Goals as goal
 
-pub returns : goal.returns
-returns c = λ stations sizes select_ms calls falls x now late selected. run_passes sizes stations select_ms calls falls x now late selected
+pub returns-clause-selected : goal.returns-clause-selected
+returns-clause-selected c = λ stations sizes select_ms calls falls now later xs faultless executing selected. is_let stations sizes select_ms calls falls now later xs faultless executing selected
+
+pub returns-clause-forwarded : goal.returns-clause-forwarded
+returns-clause-forwarded c = λ stations sizes select_ms calls falls now later xs faultless executing selected. is_forwarded stations sizes select_ms calls falls now later xs faultless executing selected

@@ -5,7 +5,7 @@ use Rattle.arrayvec.specs.ArrayVec.{ArrayVec}
 use Rattle.apci.specs.declared.apdu.Apdu.TheVariants.{I}
 use Rattle.apci.specs.declared.apdu.Front.TheVariants.{Whole}
 use Rattle.apci.specs.Reading.{IsFront}
-use Rattle.apci.proofs.EachOctet.{hears, state_more, i_heard, never_heard}
+use Rattle.apci.proofs.EachOctet.{hears, state_more, i_heard, never_heard, decided_here}
 use Rattle.apci.proofs.assembling.Assembler.feed.Goals as goal
 
 pub loop-i-init : goal.loop-i-init
@@ -28,6 +28,13 @@ returns-in-Never-clause-listening c =
     let h = never_heard c.loop-i.self-inside.state c.loop-i.self-inside.asdu.items before c.args.piece.now c.loop-i.i c.look-octet.result c.stepped.result c.in-Never.place c.in-Never.why
     c.loop-i.invariant.joined.2 c.loop-i-test.true c.look-octet.ensures.value (rw (← c.deref.ensures.0) c.stepped.ensures) c.in-Never.is in
     rw (← c.self.view_is, c.loop-i.invariant.joined.1) (h, refl, refl)
+
+pub returns-in-Never-clause-looked : goal.returns-in-Never-clause-looked
+returns-in-Never-clause-looked c =
+    let before = c.loop-i.invariant.joined.0 in
+    let d = decided_here c.loop-i.self-inside.state c.loop-i.self-inside.asdu.items before c.args.piece.now c.loop-i.i c.look-octet.result c.stepped.result c.in-Never.place c.in-Never.why
+    c.loop-i.invariant.state c.loop-i.invariant.joined.2 c.loop-i-test.true c.look-octet.ensures.value (rw (← c.deref.ensures.0) c.stepped.ensures) c.in-Never.is in
+    rw (← c.self.view_is, c.loop-i.invariant.joined.1) (d.0, d.1, omega (arith, d.2, c.loop-i.invariant.looked, c.look-octet.ensures.counted))
 
 pub returns-clause-listening : goal.returns-clause-listening
 returns-clause-listening c =

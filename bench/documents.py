@@ -1,0 +1,130 @@
+#!/usr/bin/env python3
+"""Compares the documents with the built program and with the repository.
+
+    bench/documents.py [--program FILE]
+
+Each block of docs/*.md and packaging/*.md that begins with ```console is run: after `$ ` a command of `telegate`, then what it
+prints (standard output, then standard error), then `(status N)` where its exit status isn't 0. The crates in the table of
+docs/ARCHITECTURE.md are those of crates.txt, each below the crates that it stands on. Lines of README.md and of the documents have at most
+100 columns, README.md has at most 900 words and no sentence of 30 words or more, and each file that they name is there. Printed is
+a line for each case that failed, then `N passed, M failed`; the exit status is 1 where one failed. The program is the one that
+./build makes.
+"""
+import argparse
+import glob
+import os
+import re
+import shlex
+import subprocess
+import sys
+
+TOP = os.path.dirname(os.path.dirname(os.path.abspath(__file__)))
+COLUMNS = 100
+WORDS = 900
+SENTENCE = 30
+# What a sentence names as a file: a path with one of these endings, or in one of these folders.
+NAMED = re.compile(r"`?(?<![\w/])((?:bench|crates|docs|examples|packaging|tools|specs|src|\.ci)/[\w./*-]*\w|[\w-]+\.(?:md|txt|py))`?")
+
+
+def read(name):
+    with open(os.path.join(TOP, name), encoding="utf-8") as file:
+        return file.read()
+
+
+def documents():
+    names = ["README.md", *sorted(glob.glob("docs/*.md", root_dir=TOP)), *sorted(glob.glob("packaging/*.md", root_dir=TOP))]
+    return {name: read(name) for name in names}
+
+
+class Judge:
+    def __init__(self):
+        self.passed = self.failed = 0
+
+    def case(self, holds, told):
+        self.passed += bool(holds)
+        self.failed += not holds
+        if not holds:
+            print(told)
+
+
+def blocks(text):
+    """Commands and what is written under each, of the blocks for a console."""
+    for block in re.findall(r"^```console\n(.*?)^```$", text, re.M | re.S):
+        for part in re.split(r"^\$ ", block, flags=re.M)[1:]:
+            command, _, printed = part.partition("\n")
+            yield command, printed
+
+
+def judge_commands(judge, program, name, text):
+    for command, printed in blocks(text):
+        words = shlex.split(command)
+        if words[0] != "telegate":
+            continue
+        ran = subprocess.run([program, *words[1:]], cwd=TOP, capture_output=True, text=True, timeout=60, stdin=subprocess.DEVNULL)
+        got = ran.stdout + ran.stderr + (f"(status {ran.returncode})\n" if ran.returncode else "")
+        judge.case(got == printed, f"{name}: {command}\n-- printed:\n{got}-- written:\n{printed}")
+
+
+def judge_crates(judge, text):
+    """The table of crates has those of crates.txt, each below all that it stands on."""
+    stands_on = {}
+    for line in read("crates.txt").splitlines():
+        if line and not line.startswith("#"):
+            crate, _, others = line.partition(":")
+            stands_on[crate] = set(others.split())
+    told = re.findall(r"^\| `(\w+)` \|.*\|$", text, re.M)
+    judge.case(sorted(told) == sorted(stands_on), f"ARCHITECTURE.md has the crates {told}, crates.txt {list(stands_on)}")
+    for place, crate in enumerate(told):
+        early = stands_on.get(crate, set()) & set(told[place:])
+        judge.case(not early, f"ARCHITECTURE.md tells {crate} before {early}, which it stands on")
+
+
+def judge_layout(judge, name, text):
+    for number, line in enumerate(text.splitlines(), 1):
+        if len(line) > COLUMNS:
+            judge.case(False, f"{name}:{number} has {len(line)} columns")
+    judge.case(text.endswith("\n"), f"{name}: the last line isn't ended")
+
+
+def prose(text):
+    """The text without blocks, tables and headings."""
+    text = re.sub(r"^```.*?^```$", "", text, flags=re.M | re.S)
+    return "\n".join(line for line in text.splitlines() if not line.startswith(("|", "#")))
+
+
+def judge_readme(judge, text):
+    words = len(text.split())
+    judge.case(words <= WORDS, f"README.md has {words} words")
+    for paragraph in re.split(r"\n\s*\n|\n[-*] ", prose(text)):
+        for sentence in re.split(r"[.:;?!]\s", paragraph.replace("\n", " ") + " "):
+            count = len([word for word in sentence.split() if re.search(r"\w", word)])
+            judge.case(count < SENTENCE, f"README.md: {count} words in: {sentence.strip()}")
+
+
+def judge_names(judge, name, text):
+    """Each file that a document names is there: from the top, beside the document, or in some crate."""
+    bare = re.sub(r"^```.*?^```$", "", text, flags=re.M | re.S)
+    for path in sorted(set(NAMED.findall(bare))):
+        if path.startswith("crates/telegate/out/"):
+            continue
+        places = [path, os.path.join(os.path.dirname(name), path), os.path.join("docs", path), os.path.join("crates/*", path), os.path.join("crates/*", path + ".*")]
+        judge.case(any(glob.glob(place, root_dir=TOP) for place in places), f"{name} names {path}, which isn't there")
+
+
+def main():
+    parser = argparse.ArgumentParser()
+    parser.add_argument("--program", default=os.path.join(TOP, "crates/telegate/out/telegate"))
+    program = os.path.abspath(parser.parse_args().program)
+    judge, texts = Judge(), documents()
+    for name, text in texts.items():
+        judge_layout(judge, name, text)
+        judge_commands(judge, program, name, text)
+        judge_names(judge, name, text)
+    judge_crates(judge, texts["docs/ARCHITECTURE.md"])
+    judge_readme(judge, texts["README.md"])
+    print(f"{judge.passed} passed, {judge.failed} failed")
+    sys.exit(1 if judge.failed else 0)
+
+
+if __name__ == "__main__":
+    main()

@@ -1,0 +1,328 @@
+-- What an event or a request makes of the steps of commands, as the exchanges show them and as the course tells them.
+use Rattle.std.specs.Prelude.{◌==◌, ◌&&◌, not, option_and_then, option_map}
+use Rattle.std.proofs.Common.{◌≡◌, ℕ, Bool, true, false, List, [], ◌∷◌, ◌++◌, ◌⊎◌, inl, inr, map, Option, Some, None, refl, ap, sym, subst, ◌∙◌, append_assoc, eq-eqb, if◌then◌else◌}
+use Rattle.std.proofs.lemmas.List.{append-nil}
+use Rattle.std.proofs.lemmas.Bool.{eqb-true}
+use Rattle.ft12.specs.declared.frame.Frame.{Frame}
+use Rattle.ft12.specs.declared.frame.Front.{Front}
+use Rattle.link.specs.declared.service.Service.{Service}
+use Rattle.link.specs.declared.service.Service.TheVariants.{Class1, Class2, Command}
+use Rattle.link.specs.declared.service.Asked.{Asked}
+use Rattle.link.specs.declared.service.Asked.TheVariants.{Status, Reset, Counted}
+use Rattle.link.specs.declared.answer.Answer.{Answer}
+use Rattle.link.specs.declared.answer.Answer.TheVariants as answer
+use Rattle.link.specs.declared.outcome.Outcome.{Outcome}
+use Rattle.link.specs.declared.outcome.Outcome.TheVariants as outcome
+use Rattle.link.specs.declared.procedure.Link.{Link}
+use Rattle.link.specs.declared.procedure.Link.TheVariants.{Down, Available, Next, Held}
+use Rattle.link.specs.Answers.{answer_of}
+use Rattle.link.specs.Exchanges.{Exchange, LineExchange, OpenExchange, Exchanges, Sending, as_list, all_of, answer_to, begun_by, heard_octets, timed, view, views, whole_of, with_station}
+use Rattle.link.specs.Procedure.{MaySend, is_held}
+use Rattle.link.specs.Primary.{is_command, outcome_of}
+use Rattle.link.specs.Delivery.{pending_by, pending_after, first_sending}
+use Rattle.command.specs.History.{History, Sent, Accepted, Refused}
+use Rattle.delivery.specs.Commands.{LineStep, Begun, Confirmed, Busy, said_of, steps_at, steps_in, first_sendings, last_sent, steps_told, sent_to}
+use Rattle.delivery.proofs.Steps.{pending_more, steps_more, sendings_more, Pends, AreProper, none_said, no_first}
+use Rattle.delivery.proofs.History.{LineTold, line_told}
+
+pub other_place : (a b : ℕ) → (a == b) ≡ false → (b == a) ≡ false
+other_place a b h = go (b == a) refl
+  where
+    go : (c : Bool) → (b == a) ≡ c → (b == a) ≡ false
+    go false e = e
+    go true e = let same : b ≡ a = eqb-true b a e in let met : (a == b) ≡ true = eq-eqb a b (sym same) in cc
+
+-- The exchanges with a station
+
+abbrev pub exchanges_at : (List ℕ → Front) → ℕ → Exchanges → List Exchange
+exchanges_at front i e = with_station i (views front (all_of e))
+
+pub at_append : (front : List ℕ → Front) (i : ℕ) (xs ys : List OpenExchange) → with_station i (views front (xs ++ ys)) ≡ with_station i (views front xs) ++ with_station i (views front ys)
+at_append front i [] ys = refl
+at_append front i (x ∷ xs) ys = go (x.station == i) (at_append front i xs ys)
+  where
+    go : (b : Bool) → with_station i (views front (xs ++ ys)) ≡ with_station i (views front xs) ++ with_station i (views front ys) →
+        (if b then (view front x).exchange ∷ with_station i (views front (xs ++ ys)) else with_station i (views front (xs ++ ys)))
+        ≡ (if b then (view front x).exchange ∷ with_station i (views front xs) else with_station i (views front xs)) ++ with_station i (views front ys)
+    go true ih = ap (λ (l : List Exchange). (view front x).exchange ∷ l) ih
+    go false ih = ih
+
+-- the one exchange, where it is with this station
+abbrev pub alone : ℕ → LineExchange → List Exchange
+alone i v = if v.station == i then v.exchange ∷ [] else []
+
+-- What is told of a station's line is what its exchanges show; and the command that isn't done was sent last.
+pub record IsTold (a : ℕ) (xs : List Exchange) (k : ℕ) (h : History) : Type 0 where
+  pub steps : steps_told k h ≡ steps_in a None xs
+  pub last : (asdu : List ℕ) → pending_after a None xs ≡ Some (Command asdu) → last_sent k h ≡ asdu
+  pub sent : sent_to k h ≡ first_sendings a None xs
+
+pub stays_told : (a : ℕ) (xs : List Exchange) (k : ℕ) (h new : History) → line_told k new ≡ line_told k h → IsTold a xs k h → IsTold a xs k new
+stays_told a xs k h new same t = record {
+  steps = ap (λ (l : LineTold). l.steps) same ∙ t.steps;
+  last = λ asdu e. ap (λ (l : LineTold). l.last) same ∙ t.last asdu e;
+  sent = ap (λ (l : LineTold). l.sent) same ∙ t.sent;
+}
+
+-- another exchange with the same answer in place of the last one
+pub alike_told : (a k : ℕ) (xs : List Exchange) (request : Asked) (front later : Option Frame) (closed over : Bool) (h new : History) →
+    answer_to a (record { request = request; front = front; closed = closed }) ≡ answer_to a (record { request = request; front = later; closed = over }) → line_told k new ≡ line_told k h →
+    IsTold a (xs ++ record { request = request; front = front; closed = closed } ∷ []) k h → IsTold a (xs ++ record { request = request; front = later; closed = over } ∷ []) k new
+alike_told a k xs request front later closed over h new alike same t =
+    let pending : Option Service = pending_after a None xs in
+    let x : Exchange = record { request = request; front = front; closed = closed } in
+    let y : Exchange = record { request = request; front = later; closed = over } in
+    record {
+      steps = ap (λ (l : LineTold). l.steps) same ∙ t.steps ∙ steps_more a None xs x ∙ ap (λ (o : Option Answer). steps_in a None xs ++ (map (λ (asdu : List ℕ). Begun asdu) (first_sending pending request) ++ said_of request o)) alike ∙ sym (steps_more a None xs y);
+      last = λ asdu e. ap (λ (l : LineTold). l.last) same ∙ t.last asdu (pending_more a None xs x ∙ ap (λ (o : Option Answer). pending_by request o pending) alike ∙ sym (pending_more a None xs y) ∙ e);
+      sent = ap (λ (l : LineTold). l.sent) same ∙ t.sent ∙ sendings_more a None xs x ∙ sym (sendings_more a None xs y);
+    }
+
+-- An answer comes
+
+-- what an outcome tells
+abbrev pub told_by : Outcome → History → History
+told_by (outcome.Accepted station) h = Accepted station ∷ h
+told_by (outcome.Busy station) h = Refused station None ∷ h
+told_by other h = h
+
+-- what is pending after an answer was pending before
+pending_back : (request : Asked) (m : Option Answer) (pending : Option Service) (service : Service) → pending_by request m pending ≡ Some service → pending_by request None pending ≡ Some service
+pending_back Status None pending service e = e
+pending_back Status (Some said) pending service e = e
+pending_back Reset None pending service e = e
+pending_back Reset (Some answer.Ready) pending service e = e
+pending_back Reset (Some answer.Confirmed) pending service e = cc
+pending_back Reset (Some answer.Busy) pending service e = e
+pending_back Reset (Some (answer.Report asdu)) pending service e = e
+pending_back Reset (Some answer.NoData) pending service e = e
+pending_back Reset (Some answer.Unable) pending service e = e
+pending_back (Counted fcb s) None pending service e = e
+pending_back (Counted fcb s) (Some answer.Ready) pending service e = cc
+pending_back (Counted fcb s) (Some answer.Confirmed) pending service e = cc
+pending_back (Counted fcb s) (Some answer.Busy) pending service e = cc
+pending_back (Counted fcb s) (Some (answer.Report asdu)) pending service e = cc
+pending_back (Counted fcb s) (Some answer.NoData) pending service e = cc
+pending_back (Counted fcb s) (Some answer.Unable) pending service e = e
+
+module _ (a k : ℕ) (xs : List Exchange) (request : Asked) (front later : Option Frame) (closed over : Bool) where
+  abbrev before_it : Exchange
+  before_it = record { request = request; front = front; closed = closed }
+
+  abbrev after_it : Exchange
+  after_it = record { request = request; front = later; closed = over }
+
+  -- the steps grow by what the answer says
+  grown : (m : Option Answer) → answer_to a before_it ≡ None → answer_to a after_it ≡ m → steps_in a None (xs ++ after_it ∷ []) ≡ steps_in a None (xs ++ before_it ∷ []) ++ said_of request m
+  grown m none is =
+      let pending : Option Service = pending_after a None xs in
+      let first : List LineStep = map (λ (asdu : List ℕ). Begun asdu) (first_sending pending request) in
+      let old : List LineStep = steps_in a None xs in
+      let was : steps_in a None (xs ++ before_it ∷ []) ≡ old ++ first =
+          steps_more a None xs before_it ∙ ap (λ (o : Option Answer). old ++ (first ++ said_of request o)) none ∙ ap (λ (l : List LineStep). old ++ (first ++ l)) (none_said request) ∙ ap (λ (l : List LineStep). old ++ l) (append-nil first) in
+      steps_more a None xs after_it ∙ ap (λ (o : Option Answer). old ++ (first ++ said_of request o)) is
+      ∙ sym (append_assoc old first (said_of request m)) ∙ ap (λ (l : List LineStep). l ++ said_of request m) (sym was)
+
+  same_sendings : first_sendings a None (xs ++ after_it ∷ []) ≡ first_sendings a None (xs ++ before_it ∷ [])
+  same_sendings = sendings_more a None xs after_it ∙ sym (sendings_more a None xs before_it)
+
+  still_pending : (m : Option Answer) → answer_to a before_it ≡ None → answer_to a after_it ≡ m → (service : Service) → pending_after a None (xs ++ after_it ∷ []) ≡ Some service → pending_after a None (xs ++ before_it ∷ []) ≡ Some service
+  still_pending m none is service e =
+      let pending : Option Service = pending_after a None xs in
+      pending_more a None xs before_it ∙ ap (λ (o : Option Answer). pending_by request o pending) none
+      ∙ pending_back request m pending service (ap (λ (o : Option Answer). pending_by request o pending) (sym is) ∙ sym (pending_more a None xs after_it) ∙ e)
+
+  -- nothing is said of a command
+  quiet_told : (m : Option Answer) (h new : History) → answer_to a before_it ≡ None → answer_to a after_it ≡ m → said_of request m ≡ [] → line_told k new ≡ line_told k h →
+      IsTold a (xs ++ before_it ∷ []) k h → IsTold a (xs ++ after_it ∷ []) k new
+  quiet_told m h new none is nothing same t = record {
+    steps = ap (λ (l : LineTold). l.steps) same ∙ t.steps ∙ sym (append-nil (steps_in a None (xs ++ before_it ∷ []))) ∙ ap (λ (l : List LineStep). steps_in a None (xs ++ before_it ∷ []) ++ l) (sym nothing) ∙ sym (grown m none is);
+    last = λ asdu e. ap (λ (l : LineTold). l.last) same ∙ t.last asdu (still_pending m none is (Command asdu) e);
+    sent = ap (λ (l : LineTold). l.sent) same ∙ t.sent ∙ sym same_sendings;
+  }
+
+  -- the command that went out last is spoken of
+  spoken_told : (m : Option Answer) (asdu : List ℕ) (step : List ℕ → LineStep) (h new : History) → answer_to a before_it ≡ None → answer_to a after_it ≡ m →
+      said_of request m ≡ step asdu ∷ [] → pending_by request None (pending_after a None xs) ≡ Some (Command asdu) → pending_by request m (pending_after a None xs) ≡ None →
+      steps_told k new ≡ steps_told k h ++ step (last_sent k h) ∷ [] → sent_to k new ≡ sent_to k h →
+      IsTold a (xs ++ before_it ∷ []) k h → IsTold a (xs ++ after_it ∷ []) k new
+  spoken_told m asdu step h new none is says held done steps sent t =
+      let pending : Option Service = pending_after a None xs in
+      let it : last_sent k h ≡ asdu = t.last asdu (pending_more a None xs before_it ∙ ap (λ (o : Option Answer). pending_by request o pending) none ∙ held) in
+      let over : pending_after a None (xs ++ after_it ∷ []) ≡ None = pending_more a None xs after_it ∙ ap (λ (o : Option Answer). pending_by request o pending) is ∙ done in
+      record {
+        steps = steps ∙ ap (λ (l : List LineStep). l ++ step (last_sent k h) ∷ []) t.steps ∙ ap (λ (x : List ℕ). steps_in a None (xs ++ before_it ∷ []) ++ step x ∷ []) it
+            ∙ ap (λ (l : List LineStep). steps_in a None (xs ++ before_it ∷ []) ++ l) (sym says) ∙ sym (grown m none is);
+        last = λ other e. let no : None ≡ Some (Command other) = sym over ∙ e in cc;
+        sent = sent ∙ t.sent ∙ sym same_sendings;
+      }
+
+here_is : (k : ℕ) → (k == k) ≡ true
+here_is k = eq-eqb k k refl
+
+pub heard_one : (a k : ℕ) (xs : List Exchange) (request : Asked) (front later : Option Frame) (closed over : Bool) (m : Option Answer) (h new : History) →
+    answer_to a (record { request = request; front = front; closed = closed }) ≡ None → answer_to a (record { request = request; front = later; closed = over }) ≡ m → AreProper request m →
+    line_told k new ≡ line_told k (told_by (outcome_of k request m) h) →
+    IsTold a (xs ++ record { request = request; front = front; closed = closed } ∷ []) k h → IsTold a (xs ++ record { request = request; front = later; closed = over } ∷ []) k new
+heard_one a k xs request front later closed over None h new none is proper same t = quiet_told a k xs request front later closed over None h new none is (none_said request) same t
+heard_one a k xs Status front later closed over (Some answer.Ready) h new none is proper same t = quiet_told a k xs Status front later closed over (Some answer.Ready) h new none is refl same t
+heard_one a k xs Status front later closed over (Some answer.Unable) h new none is proper same t = quiet_told a k xs Status front later closed over (Some answer.Unable) h new none is refl same t
+heard_one a k xs Status front later closed over (Some answer.Confirmed) h new none is proper same t = absurd proper
+heard_one a k xs Status front later closed over (Some answer.Busy) h new none is proper same t = absurd proper
+heard_one a k xs Status front later closed over (Some (answer.Report asdu)) h new none is proper same t = absurd proper
+heard_one a k xs Status front later closed over (Some answer.NoData) h new none is proper same t = absurd proper
+heard_one a k xs Reset front later closed over (Some answer.Confirmed) h new none is proper same t = quiet_told a k xs Reset front later closed over (Some answer.Confirmed) h new none is refl same t
+heard_one a k xs Reset front later closed over (Some answer.Ready) h new none is proper same t = absurd proper
+heard_one a k xs Reset front later closed over (Some answer.Unable) h new none is proper same t = absurd proper
+heard_one a k xs Reset front later closed over (Some answer.Busy) h new none is proper same t = absurd proper
+heard_one a k xs Reset front later closed over (Some (answer.Report asdu)) h new none is proper same t = absurd proper
+heard_one a k xs Reset front later closed over (Some answer.NoData) h new none is proper same t = absurd proper
+heard_one a k xs (Counted fcb Class1) front later closed over (Some (answer.Report asdu)) h new none is proper same t = quiet_told a k xs (Counted fcb Class1) front later closed over (Some (answer.Report asdu)) h new none is refl same t
+heard_one a k xs (Counted fcb Class1) front later closed over (Some answer.NoData) h new none is proper same t = quiet_told a k xs (Counted fcb Class1) front later closed over (Some answer.NoData) h new none is refl same t
+heard_one a k xs (Counted fcb Class1) front later closed over (Some answer.Unable) h new none is proper same t = quiet_told a k xs (Counted fcb Class1) front later closed over (Some answer.Unable) h new none is refl same t
+heard_one a k xs (Counted fcb Class1) front later closed over (Some answer.Ready) h new none is proper same t = absurd proper
+heard_one a k xs (Counted fcb Class1) front later closed over (Some answer.Confirmed) h new none is proper same t = absurd proper
+heard_one a k xs (Counted fcb Class1) front later closed over (Some answer.Busy) h new none is proper same t = absurd proper
+heard_one a k xs (Counted fcb Class2) front later closed over (Some (answer.Report asdu)) h new none is proper same t = quiet_told a k xs (Counted fcb Class2) front later closed over (Some (answer.Report asdu)) h new none is refl same t
+heard_one a k xs (Counted fcb Class2) front later closed over (Some answer.NoData) h new none is proper same t = quiet_told a k xs (Counted fcb Class2) front later closed over (Some answer.NoData) h new none is refl same t
+heard_one a k xs (Counted fcb Class2) front later closed over (Some answer.Unable) h new none is proper same t = quiet_told a k xs (Counted fcb Class2) front later closed over (Some answer.Unable) h new none is refl same t
+heard_one a k xs (Counted fcb Class2) front later closed over (Some answer.Ready) h new none is proper same t = absurd proper
+heard_one a k xs (Counted fcb Class2) front later closed over (Some answer.Confirmed) h new none is proper same t = absurd proper
+heard_one a k xs (Counted fcb Class2) front later closed over (Some answer.Busy) h new none is proper same t = absurd proper
+heard_one a k xs (Counted fcb (Command asdu)) front later closed over (Some answer.Confirmed) h new none is proper same t =
+    spoken_told a k xs (Counted fcb (Command asdu)) front later closed over (Some answer.Confirmed) asdu (λ x. Confirmed x) h new none is refl refl refl
+    (ap (λ (l : LineTold). l.steps) same ∙ ap (λ (b : Bool). if b then steps_told k h ++ Confirmed (last_sent k h) ∷ [] else steps_told k h) (here_is k)) (ap (λ (l : LineTold). l.sent) same) t
+heard_one a k xs (Counted fcb (Command asdu)) front later closed over (Some answer.Busy) h new none is proper same t =
+    spoken_told a k xs (Counted fcb (Command asdu)) front later closed over (Some answer.Busy) asdu (λ x. Busy x) h new none is refl refl refl
+    (ap (λ (l : LineTold). l.steps) same ∙ ap (λ (b : Bool). if b then steps_told k h ++ Busy (last_sent k h) ∷ [] else steps_told k h) (here_is k)) (ap (λ (l : LineTold). l.sent) same) t
+heard_one a k xs (Counted fcb (Command asdu)) front later closed over (Some answer.Unable) h new none is proper same t = quiet_told a k xs (Counted fcb (Command asdu)) front later closed over (Some answer.Unable) h new none is refl same t
+heard_one a k xs (Counted fcb (Command asdu)) front later closed over (Some answer.Ready) h new none is proper same t = absurd proper
+heard_one a k xs (Counted fcb (Command asdu)) front later closed over (Some (answer.Report report)) h new none is proper same t = absurd proper
+heard_one a k xs (Counted fcb (Command asdu)) front later closed over (Some answer.NoData) h new none is proper same t = absurd proper
+
+-- What is told of one station says nothing of another.
+
+accepted_far : (k j : ℕ) (h : History) → (k == j) ≡ false → line_told k (Accepted j ∷ h) ≡ line_told k h
+accepted_far k j h far = ap (λ (t : Bool). let r : LineTold = record { steps = if t then steps_told k h ++ Confirmed (last_sent k h) ∷ [] else steps_told k h; last = last_sent k h; sent = sent_to k h } in r) far
+
+busy_far : (k j : ℕ) (h : History) → (k == j) ≡ false → line_told k (Refused j None ∷ h) ≡ line_told k h
+busy_far k j h far = ap (λ (t : Bool). let r : LineTold = record { steps = if t then steps_told k h ++ Busy (last_sent k h) ∷ [] else steps_told k h; last = last_sent k h; sent = sent_to k h } in r) far
+
+sent_far : (k j : ℕ) (asdu : List ℕ) (h : History) → (k == j) ≡ false → line_told k (Sent j asdu ∷ h) ≡ line_told k h
+sent_far k j asdu h far = ap (λ (t : Bool). let r : LineTold = record {
+  steps = if t then steps_told k h ++ Begun asdu ∷ [] else steps_told k h;
+  last = if t then asdu else last_sent k h;
+  sent = if t then sent_to k h ++ asdu ∷ [] else sent_to k h;
+} in r) far
+
+pub heard_far : (k j : ℕ) (request : Asked) (m : Option Answer) (h : History) → (k == j) ≡ false → line_told k (told_by (outcome_of j request m) h) ≡ line_told k h
+heard_far k j request None h far = refl
+heard_far k j request (Some answer.Busy) h far = by_request request
+  where
+    by_request : (r : Asked) → line_told k (told_by (outcome_of j r (Some answer.Busy)) h) ≡ line_told k h
+    by_request Status = busy_far k j h far
+    by_request Reset = busy_far k j h far
+    by_request (Counted fcb service) = busy_far k j h far
+heard_far k j request (Some answer.Confirmed) h far = by_request request
+  where
+    by_request : (r : Asked) → line_told k (told_by (outcome_of j r (Some answer.Confirmed)) h) ≡ line_told k h
+    by_request Status = refl
+    by_request Reset = refl
+    by_request (Counted fcb service) = accepted_far k j h far
+heard_far k j request (Some answer.Ready) h far = by_request request
+  where
+    by_request : (r : Asked) → line_told k (told_by (outcome_of j r (Some answer.Ready)) h) ≡ line_told k h
+    by_request Status = refl
+    by_request Reset = refl
+    by_request (Counted fcb service) = refl
+heard_far k j request (Some (answer.Report asdu)) h far = by_request request
+  where
+    by_request : (r : Asked) → line_told k (told_by (outcome_of j r (Some (answer.Report asdu))) h) ≡ line_told k h
+    by_request Status = refl
+    by_request Reset = refl
+    by_request (Counted fcb service) = refl
+heard_far k j request (Some answer.NoData) h far = by_request request
+  where
+    by_request : (r : Asked) → line_told k (told_by (outcome_of j r (Some answer.NoData)) h) ≡ line_told k h
+    by_request Status = refl
+    by_request Reset = refl
+    by_request (Counted fcb service) = refl
+heard_far k j request (Some answer.Unable) h far = by_request request
+  where
+    by_request : (r : Asked) → line_told k (told_by (outcome_of j r (Some answer.Unable)) h) ≡ line_told k h
+    by_request Status = refl
+    by_request Reset = refl
+    by_request (Counted fcb service) = refl
+
+-- A request goes out
+
+-- what a request tells that goes out, where it is a command's first sending
+abbrev pub told_asked : Bool → (station : ℕ) → Asked → History → History
+told_asked true station (Counted fcb (Command asdu)) h = Sent station asdu ∷ h
+told_asked first station request h = h
+
+pub asked_far : (first : Bool) (k j : ℕ) (request : Asked) (h : History) → (k == j) ≡ false → line_told k (told_asked first j request h) ≡ line_told k h
+asked_far true k j Status h far = refl
+asked_far true k j Reset h far = refl
+asked_far true k j (Counted fcb Class1) h far = refl
+asked_far true k j (Counted fcb Class2) h far = refl
+asked_far true k j (Counted fcb (Command asdu)) h far = sent_far k j asdu h far
+asked_far false k j request h far = refl
+
+module _ (a k : ℕ) (xs : List Exchange) (request : Asked) (front : Option Frame) where
+  abbrev new_one : Exchange
+  new_one = record { request = request; front = front; closed = false }
+
+  asked_steps : (first : List (List ℕ)) → answer_to a new_one ≡ None → first_sending (pending_after a None xs) request ≡ first → steps_in a None (xs ++ new_one ∷ []) ≡ steps_in a None xs ++ map (λ (asdu : List ℕ). Begun asdu) first
+  asked_steps first none is =
+      steps_more a None xs new_one
+      ∙ ap (λ (o : Option Answer). steps_in a None xs ++ (map (λ (asdu : List ℕ). Begun asdu) (first_sending (pending_after a None xs) request) ++ said_of request o)) none
+      ∙ ap (λ (l : List (List ℕ)). steps_in a None xs ++ (map (λ (asdu : List ℕ). Begun asdu) l ++ said_of request None)) is
+      ∙ ap (λ (l : List LineStep). steps_in a None xs ++ (map (λ (asdu : List ℕ). Begun asdu) first ++ l)) (none_said request)
+      ∙ ap (λ (l : List LineStep). steps_in a None xs ++ l) (append-nil (map (λ (asdu : List ℕ). Begun asdu) first))
+
+  asked_sendings : (first : List (List ℕ)) → first_sending (pending_after a None xs) request ≡ first → first_sendings a None (xs ++ new_one ∷ []) ≡ first_sendings a None xs ++ first
+  asked_sendings first is = sendings_more a None xs new_one ∙ ap (λ (l : List (List ℕ)). first_sendings a None xs ++ l) is
+
+  asked_pending : answer_to a new_one ≡ None → pending_after a None (xs ++ new_one ∷ []) ≡ pending_by request None (pending_after a None xs)
+  asked_pending none = pending_more a None xs new_one ∙ ap (λ (o : Option Answer). pending_by request o (pending_after a None xs)) none
+
+  -- no command is sent for the first time
+  again_told : (h new : History) → answer_to a new_one ≡ None → first_sending (pending_after a None xs) request ≡ [] → ((asdu : List ℕ) → pending_by request None (pending_after a None xs) ≡ Some (Command asdu) → pending_after a None xs ≡ Some (Command asdu)) →
+      line_told k new ≡ line_told k h → IsTold a xs k h → IsTold a (xs ++ new_one ∷ []) k new
+  again_told h new none nothing back same t = record {
+    steps = ap (λ (l : LineTold). l.steps) same ∙ t.steps ∙ sym (append-nil (steps_in a None xs)) ∙ sym (asked_steps [] none nothing);
+    last = λ asdu e. ap (λ (l : LineTold). l.last) same ∙ t.last asdu (back asdu (sym (asked_pending none) ∙ e));
+    sent = ap (λ (l : LineTold). l.sent) same ∙ t.sent ∙ sym (append-nil (first_sendings a None xs)) ∙ sym (asked_sendings [] nothing);
+  }
+
+  -- a command is
+  first_told : (fcb : Bool) (asdu : List ℕ) (h new : History) → answer_to a new_one ≡ None → request ≡ Counted fcb (Command asdu) → pending_after a None xs ≡ None →
+      line_told k new ≡ line_told k (Sent k asdu ∷ h) → IsTold a xs k h → IsTold a (xs ++ new_one ∷ []) k new
+  first_told fcb asdu h new none is free same t =
+      let first : first_sending (pending_after a None xs) request ≡ asdu ∷ [] = ap (λ (o : Option Service). first_sending o request) free ∙ ap (λ (r : Asked). first_sending None r) is in
+      record {
+        steps = ap (λ (l : LineTold). l.steps) same ∙ ap (λ (b : Bool). if b then steps_told k h ++ Begun asdu ∷ [] else steps_told k h) (here_is k)
+            ∙ ap (λ (l : List LineStep). l ++ Begun asdu ∷ []) t.steps ∙ sym (asked_steps (asdu ∷ []) none first);
+        last = λ other e.
+        let held : Some (Command asdu) ≡ Some (Command other) = sym (ap (λ (r : Asked). pending_by r None (pending_after a None xs)) is) ∙ sym (asked_pending none) ∙ e in
+        let same_one : asdu ≡ other = cc in
+        ap (λ (l : LineTold). l.last) same ∙ ap (λ (b : Bool). if b then asdu else last_sent k h) (here_is k) ∙ same_one;
+        sent = ap (λ (l : LineTold). l.sent) same ∙ ap (λ (b : Bool). if b then sent_to k h ++ asdu ∷ [] else sent_to k h) (here_is k)
+            ∙ ap (λ (l : List (List ℕ)). l ++ asdu ∷ []) t.sent ∙ sym (asked_sendings (asdu ∷ []) first);
+      }
+
+pub asked_one : (a k : ℕ) (xs : List Exchange) (request : Asked) (front : Option Frame) (link : Link) (h new : History) →
+    answer_to a (record { request = request; front = front; closed = false }) ≡ None → MaySend link request → Pends link (pending_after a None xs) →
+    line_told k new ≡ line_told k (told_asked (is_command request && not (is_held link)) k request h) →
+    IsTold a xs k h → IsTold a (xs ++ record { request = request; front = front; closed = false } ∷ []) k new
+asked_one a k xs Status front link h new none may pends same t = again_told a k xs Status front h new none (no_first (pending_after a None xs) Status (λ fcb asdu e. cc)) (λ asdu e. e) same t
+asked_one a k xs Reset front link h new none may pends same t = again_told a k xs Reset front h new none (no_first (pending_after a None xs) Reset (λ fcb asdu e. cc)) (λ asdu e. e) same t
+asked_one a k xs (Counted fcb Class1) front link h new none may pends same t = again_told a k xs (Counted fcb Class1) front h new none (no_first (pending_after a None xs) (Counted fcb Class1) (λ f asdu e. cc)) (λ asdu e. cc) same t
+asked_one a k xs (Counted fcb Class2) front link h new none may pends same t = again_told a k xs (Counted fcb Class2) front h new none (no_first (pending_after a None xs) (Counted fcb Class2) (λ f asdu e. cc)) (λ asdu e. cc) same t
+asked_one a k xs (Counted fcb (Command asdu)) front Down h new none may pends same t = absurd may
+asked_one a k xs (Counted fcb (Command asdu)) front Available h new none may pends same t = absurd may
+asked_one a k xs (Counted fcb (Command asdu)) front (Next due) h new none may pends same t = first_told a k xs (Counted fcb (Command asdu)) front fcb asdu h new none refl pends same t
+asked_one a k xs (Counted fcb (Command asdu)) front (Held due service missed) h new none may pends same t =
+    again_told a k xs (Counted fcb (Command asdu)) front h new none (ap (λ (o : Option Service). first_sending o (Counted fcb (Command asdu))) pends)
+    (λ other e. pends ∙ ap (λ (s : Service). Some s) (sym may.1) ∙ e) same t

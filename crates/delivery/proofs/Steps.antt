@@ -1,0 +1,218 @@
+-- How the steps of commands grow with the exchanges of a station.
+use Rattle.std.proofs.Common.{◌≡◌, ℕ, suc, Bool, true, false, List, [], ◌∷◌, ◌++◌, map, Option, Some, None, refl, ap, sym, ◌∙◌, append_assoc, nat_lt, if◌then◌else◌}
+use Rattle.std.specs.Prelude.{◌==◌, ◌%◌, ◌||◌, ◌&&◌, option_and_then}
+use Rattle.std.proofs.lemmas.List.{append-nil}
+use Rattle.ft12.specs.declared.frame.Frame.{Frame}
+use Rattle.ft12.specs.declared.frame.Frame.TheVariants.{Single, Fixed, Data}
+use Rattle.link.specs.declared.service.Service.{Service}
+use Rattle.link.specs.declared.service.Service.TheVariants.{Class1, Class2, Command}
+use Rattle.link.specs.declared.service.Asked.{Asked}
+use Rattle.link.specs.declared.service.Asked.TheVariants.{Status, Reset, Counted}
+use Rattle.link.specs.declared.answer.Answer.{Answer}
+use Rattle.link.specs.declared.answer.Answer.TheVariants.{Ready, Confirmed, Busy, Report, NoData, Unable}
+use Rattle.link.specs.declared.settings.LinkSettings.{LinkSettings}
+use Rattle.link.specs.declared.procedure.Link.{Link}
+use Rattle.link.specs.declared.procedure.Link.TheVariants.{Down, Available, Next, Held}
+use Rattle.link.specs.Answers.{unable_answer, service_answer, code_answer, single_answer, data_answer, comes_from, answer_of}
+use Rattle.link.specs.Exchanges.{Exchange, answer_to}
+use Rattle.link.specs.Procedure.{held, after, after_outcome, after_silence, link_after, missed_so_far, MaySend, KeepsFrameCountBit}
+use Rattle.link.specs.Delivery.{pending_by, pending_after, first_sending}
+use Rattle.delivery.specs.Commands.{LineStep, said_of, steps_at, steps_in, first_sendings}
+
+-- One more exchange
+
+pub pending_more : (a : ℕ) (pending : Option Service) (xs : List Exchange) (x : Exchange) →
+    pending_after a pending (xs ++ x ∷ []) ≡ pending_by x.request (answer_to a x) (pending_after a pending xs)
+pending_more a pending [] x = refl
+pending_more a pending (y ∷ xs) x = pending_more a (pending_by y.request (answer_to a y) pending) xs x
+
+pub steps_more : (a : ℕ) (pending : Option Service) (xs : List Exchange) (x : Exchange) →
+    steps_in a pending (xs ++ x ∷ []) ≡ steps_in a pending xs ++ steps_at a (pending_after a pending xs) x
+steps_more a pending [] x = append-nil (steps_at a pending x)
+steps_more a pending (y ∷ xs) x =
+    ap (λ (l : List LineStep). steps_at a pending y ++ l) (steps_more a (pending_by y.request (answer_to a y) pending) xs x)
+    ∙ sym (append_assoc (steps_at a pending y) (steps_in a (pending_by y.request (answer_to a y) pending) xs) (steps_at a (pending_after a pending (y ∷ xs)) x))
+
+pub sendings_more : (a : ℕ) (pending : Option Service) (xs : List Exchange) (x : Exchange) →
+    first_sendings a pending (xs ++ x ∷ []) ≡ first_sendings a pending xs ++ first_sending (pending_after a pending xs) x.request
+sendings_more a pending [] x = append-nil (first_sending pending x.request)
+sendings_more a pending (y ∷ xs) x =
+    ap (λ (l : List (List ℕ)). first_sending pending y.request ++ l) (sendings_more a (pending_by y.request (answer_to a y) pending) xs x)
+    ∙ sym (append_assoc (first_sending pending y.request) (first_sendings a (pending_by y.request (answer_to a y) pending) xs) (first_sending (pending_after a pending (y ∷ xs)) x.request))
+
+pub last_may : (settings : LinkSettings) (a : ℕ) (link : Link) (xs : List Exchange) (x : Exchange) →
+    KeepsFrameCountBit settings a link (xs ++ x ∷ []) → MaySend (link_after settings a link xs) x.request
+last_may settings a link [] x h = h.0
+last_may settings a link (y ∷ xs) x h = last_may settings a (after settings a y link) xs x h.1
+
+pub front_keeps : (settings : LinkSettings) (a : ℕ) (link : Link) (xs : List Exchange) (x : Exchange) →
+    KeepsFrameCountBit settings a link (xs ++ x ∷ []) → KeepsFrameCountBit settings a link xs
+front_keeps settings a link [] x h = tt
+front_keeps settings a link (y ∷ xs) x h = (h.0, front_keeps settings a (after settings a y link) xs x h.1)
+
+-- The service that isn't done is the one that the link holds.
+
+abbrev pub Pends : Link → Option Service → Type 0
+Pends Down pending = Unit {0}
+Pends Available pending = Unit {0}
+Pends (Next fcb) pending = pending ≡ None
+Pends (Held fcb service missed) pending = pending ≡ Some service
+
+held_pends : (settings : LinkSettings) (fcb : Bool) (service : Service) (missed : ℕ) → Pends (held settings fcb service missed) (Some service)
+held_pends settings fcb service missed = by_repeats (nat_lt settings.retries missed) settings.hold
+  where
+    by_repeats : (b c : Bool) → Pends (if b then (if c then Held fcb service (suc settings.retries) else Down) else Held fcb service missed) (Some service)
+    by_repeats true true = refl
+    by_repeats true false = tt
+    by_repeats false c = refl
+
+silent_pends : (settings : LinkSettings) (fcb : Bool) (service : Service) (closed : Bool) (link : Link) → Pends (after_silence settings (Counted fcb service) closed link) (Some service)
+silent_pends settings fcb service true link = held_pends settings fcb service (suc (missed_so_far link))
+silent_pends settings fcb service false link = refl
+
+counted_pends : (settings : LinkSettings) (fcb : Bool) (service : Service) (m : Option Answer) (front : Option Frame) (closed : Bool) (link : Link) (pending : Option Service) →
+    Pends (after_outcome settings m (record { request = Counted fcb service; front = front; closed = closed }) link) (pending_by (Counted fcb service) m pending)
+counted_pends settings fcb service None front closed link pending = silent_pends settings fcb service closed link
+counted_pends settings fcb service (Some Ready) front closed link pending = refl
+counted_pends settings fcb service (Some Confirmed) front closed link pending = refl
+counted_pends settings fcb service (Some Busy) front closed link pending = refl
+counted_pends settings fcb service (Some (Report asdu)) front closed link pending = refl
+counted_pends settings fcb service (Some NoData) front closed link pending = refl
+counted_pends settings fcb service (Some Unable) front closed link pending = tt
+
+-- a link that isn't up
+abbrev IsDown : Link → Type 0
+IsDown Down = Unit {0}
+IsDown Available = Unit {0}
+IsDown (Next fcb) = ⊥
+IsDown (Held fcb service missed) = ⊥
+
+down_pends : (link : Link) (pending : Option Service) → IsDown link → Pends link pending
+down_pends Down pending h = tt
+down_pends Available pending h = tt
+down_pends (Next fcb) pending h = absurd h
+down_pends (Held fcb service missed) pending h = absurd h
+
+status_pends : (settings : LinkSettings) (m : Option Answer) (front : Option Frame) (closed : Bool) (link : Link) (pending : Option Service) → IsDown link →
+    Pends (after_outcome settings m (record { request = Status; front = front; closed = closed }) link) (pending_by Status m pending)
+status_pends settings None front closed link pending h = tt
+status_pends settings (Some Ready) front closed link pending h = tt
+status_pends settings (Some Confirmed) front closed link pending h = down_pends link pending h
+status_pends settings (Some Busy) front closed link pending h = down_pends link pending h
+status_pends settings (Some (Report asdu)) front closed link pending h = down_pends link pending h
+status_pends settings (Some NoData) front closed link pending h = down_pends link pending h
+status_pends settings (Some Unable) front closed link pending h = tt
+
+reset_pends : (settings : LinkSettings) (m : Option Answer) (front : Option Frame) (closed : Bool) (link : Link) (pending : Option Service) → IsDown link →
+    Pends (after_outcome settings m (record { request = Reset; front = front; closed = closed }) link) (pending_by Reset m pending)
+reset_pends settings None front closed link pending h = tt
+reset_pends settings (Some Ready) front closed link pending h = down_pends link pending h
+reset_pends settings (Some Confirmed) front closed link pending h = refl
+reset_pends settings (Some Busy) front closed link pending h = down_pends link pending h
+reset_pends settings (Some (Report asdu)) front closed link pending h = down_pends link pending h
+reset_pends settings (Some NoData) front closed link pending h = down_pends link pending h
+reset_pends settings (Some Unable) front closed link pending h = down_pends link pending h
+
+may_status : (link : Link) → MaySend link Status → IsDown link
+may_status Down h = tt
+may_status Available h = tt
+may_status (Next fcb) h = h
+may_status (Held fcb service missed) h = h
+
+may_reset : (link : Link) → MaySend link Reset → IsDown link
+may_reset Down h = tt
+may_reset Available h = tt
+may_reset (Next fcb) h = h
+may_reset (Held fcb service missed) h = h
+
+one_pends : (settings : LinkSettings) (request : Asked) (m : Option Answer) (front : Option Frame) (closed : Bool) (link : Link) (pending : Option Service) → MaySend link request →
+    Pends (after_outcome settings m (record { request = request; front = front; closed = closed }) link) (pending_by request m pending)
+one_pends settings Status m front closed link pending h = status_pends settings m front closed link pending (may_status link h)
+one_pends settings Reset m front closed link pending h = reset_pends settings m front closed link pending (may_reset link h)
+one_pends settings (Counted fcb service) m front closed link pending h = counted_pends settings fcb service m front closed link pending
+
+pub pends : (settings : LinkSettings) (a : ℕ) (link : Link) (pending : Option Service) (xs : List Exchange) → KeepsFrameCountBit settings a link xs → Pends link pending →
+    Pends (link_after settings a link xs) (pending_after a pending xs)
+pends settings a link pending [] h p = p
+pends settings a link pending (x ∷ xs) h p =
+    pends settings a (after settings a x link) (pending_by x.request (answer_to a x) pending) xs h.1
+    (one_pends settings x.request (answer_to a x) x.front x.closed link pending h.0)
+
+-- What an answer says
+
+-- which answers a request can have
+abbrev pub IsProper : Asked → Answer → Type 0
+IsProper Status Ready = Unit {0}
+IsProper Status Unable = Unit {0}
+IsProper Reset Confirmed = Unit {0}
+IsProper (Counted fcb (Command asdu)) Confirmed = Unit {0}
+IsProper (Counted fcb (Command asdu)) Busy = Unit {0}
+IsProper (Counted fcb (Command asdu)) Unable = Unit {0}
+IsProper (Counted fcb Class1) (Report asdu) = Unit {0}
+IsProper (Counted fcb Class1) NoData = Unit {0}
+IsProper (Counted fcb Class1) Unable = Unit {0}
+IsProper (Counted fcb Class2) (Report asdu) = Unit {0}
+IsProper (Counted fcb Class2) NoData = Unit {0}
+IsProper (Counted fcb Class2) Unable = Unit {0}
+IsProper request answer = ⊥
+
+abbrev pub AreProper : Asked → Option Answer → Type 0
+AreProper request None = Unit {0}
+AreProper request (Some answer) = IsProper request answer
+
+either : (request : Asked) (b : Bool) (m n : Option Answer) → AreProper request m → AreProper request n → AreProper request (if b then m else n)
+either request true m n h k = h
+either request false m n h k = k
+
+unable_proper : (request : Asked) (code : ℕ) → IsProper request Unable → AreProper request (unable_answer code)
+unable_proper request code h = either request ((code == 14) || (code == 15)) (Some Unable) None h tt
+
+code_proper : (request : Asked) (code : ℕ) → AreProper request (code_answer request code)
+code_proper Status code = either Status (code == 11) (Some Ready) (unable_answer code) tt (unable_proper Status code tt)
+code_proper Reset code = either Reset (code == 0) (Some Confirmed) None tt tt
+code_proper (Counted fcb Class1) code = either (Counted fcb Class1) (code == 9) (Some NoData) (unable_answer code) tt (unable_proper (Counted fcb Class1) code tt)
+code_proper (Counted fcb Class2) code = either (Counted fcb Class2) (code == 9) (Some NoData) (unable_answer code) tt (unable_proper (Counted fcb Class2) code tt)
+code_proper (Counted fcb (Command asdu)) code =
+    either (Counted fcb (Command asdu)) (code == 0) (Some Confirmed) (if code == 1 then Some Busy else unable_answer code) tt
+    (either (Counted fcb (Command asdu)) (code == 1) (Some Busy) (unable_answer code) tt (unable_proper (Counted fcb (Command asdu)) code tt))
+
+single_proper : (request : Asked) → AreProper request (single_answer request)
+single_proper Status = tt
+single_proper Reset = tt
+single_proper (Counted fcb Class1) = tt
+single_proper (Counted fcb Class2) = tt
+single_proper (Counted fcb (Command asdu)) = tt
+
+data_proper : (request : Asked) (asdu : List ℕ) → AreProper request (data_answer request asdu)
+data_proper Status asdu = tt
+data_proper Reset asdu = tt
+data_proper (Counted fcb Class1) asdu = tt
+data_proper (Counted fcb Class2) asdu = tt
+data_proper (Counted fcb (Command command)) asdu = tt
+
+frame_proper : (a : ℕ) (request : Asked) (frame : Frame) → AreProper request (answer_of a request frame)
+frame_proper a request Single = single_proper request
+frame_proper a request (Fixed control address) = either request (comes_from a control address) (code_answer request (control % 16)) None (code_proper request (control % 16)) tt
+frame_proper a request (Data control address body) =
+    either request (comes_from a control address && (control % 16 == 8)) (data_answer request body.items) None (data_proper request body.items) tt
+
+pub answers_proper : (a : ℕ) (request : Asked) (front : Option Frame) → AreProper request (option_and_then (answer_of a request) front)
+answers_proper a request None = tt
+answers_proper a request (Some frame) = frame_proper a request frame
+
+-- nothing is said of a request without an answer
+pub none_said : (request : Asked) → said_of request None ≡ []
+none_said Status = refl
+none_said Reset = refl
+none_said (Counted fcb Class1) = refl
+none_said (Counted fcb Class2) = refl
+none_said (Counted fcb (Command asdu)) = refl
+
+-- and only a command is sent for the first time
+pub no_first : (pending : Option Service) (request : Asked) → ((fcb : Bool) (asdu : List ℕ) → request ≡ Counted fcb (Command asdu) → ⊥) → first_sending pending request ≡ []
+no_first None Status h = refl
+no_first None Reset h = refl
+no_first None (Counted fcb Class1) h = refl
+no_first None (Counted fcb Class2) h = refl
+no_first None (Counted fcb (Command asdu)) h = absurd (h fcb asdu refl)
+no_first (Some service) request h = refl

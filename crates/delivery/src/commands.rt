@@ -1,0 +1,55 @@
+//! The way of a command: the course of a log is that of its exchanges, and each command is one of the control centre's, given once.
+ghost use Rattle.std.specs.Prelude.{◌<◌, ℕ, List, length, None};
+ghost use Rattle.link.specs.Outstation.{Turn, all_done};
+ghost use Rattle.link.specs.Delivery.{commands};
+ghost use Rattle.gateway.specs.Config.{Settings, AreStations};
+ghost use Rattle.gateway.specs.Log.{Log};
+ghost use Rattle.gateway.specs.Reports.{Setup, address_at, exchanges_with};
+ghost use Rattle.gateway.specs.Setups.{setup_of};
+ghost use Rattle.gateway.specs.Traffic.{IsFaithful};
+ghost use Rattle.delivery.specs.Commands.{first_sendings, AreOfTheCentre};
+ghost use Rattle.delivery.specs.Delivery.{IsHonest};
+ghost use Rattle.delivery.specs.Joined.{IsSetUp, IsJoined};
+
+use command::{commands_are_forwarded, own_answers_are_given, waiting_commands_stay};
+use link::{
+    commands_are_accepted, master_tells_the_log, offers_wait, outcomes_are_answers,
+    outcomes_bear_the_reports, requests_are_read_back, requests_wait_their_turn,
+    sessions_are_known,
+};
+
+/// The stations of a gateway's settings have link addresses that fit the line, and each is found by its own.
+pub fn settings_are_set_up()
+    ensures { (c : Settings) → AreStations c.line.link c.line.sizes.ca c.stations → IsSetUp (setup_of c) }
+{}
+
+/// The course of a log says of the line what its exchanges say: its primary station is what they make it; which command went out
+/// for the first time, which was confirmed and which found the link busy is, in the same order, what they show; a station's answer
+/// to a command is a report that was taken; and what was judged are the ASDUs of the I frames of the log's connections.
+pub fn the_course_is_the_logs()
+    ensures { (p : Setup) (log : Log) (f : IsFaithful p log) → IsSetUp p → IsJoined p log f.course }
+{
+    master_tells_the_log();
+    outcomes_bear_the_reports();
+    outcomes_are_answers();
+    requests_wait_their_turn();
+    requests_are_read_back();
+    offers_wait();
+    waiting_commands_stay();
+}
+
+/// Each command that is put on the line for the first time is the ASDU of one I frame of the control centre, in the line's sizes and
+/// with the station's own common address, in the order in which they came, each at most once. So is each that an honest outstation
+/// accepted, whatever is lost, whatever times out, and however often the link is reset.
+pub fn each_command_is_given_once()
+    ensures sent { (p : Setup) (log : Log) (i : ℕ) → IsSetUp p → IsFaithful p log →
+        AreOfTheCentre p log i (first_sendings (address_at p.addresses i) None (exchanges_with p i log)) }
+    ensures accepted { (p : Setup) (log : Log) (i : ℕ) (turns : List Turn) → IsSetUp p → IsFaithful p log → i < length p.addresses → IsHonest p log i turns →
+        AreOfTheCentre p log i (commands (all_done turns)) }
+{
+    the_course_is_the_logs();
+    commands_are_forwarded();
+    own_answers_are_given();
+    sessions_are_known();
+    commands_are_accepted();
+}

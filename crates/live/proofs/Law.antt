@@ -1,0 +1,143 @@
+-- The laws of the port over live ends.
+use Rattle.std.proofs.Common.{◌≡◌, ℕ, ◌+◌, ◌-◌, ◌<◌, ◌≤◌, true, false, Bool, List, ◌∷◌, Option, Some, None, refl, sym, ap, subst, ◌∙◌, arith, nat_le, nat_lt, if◌then◌else◌}
+use Rattle.gateway.specs.declared.ports.Next.{Next}
+use Rattle.gateway.specs.declared.ports.Next.TheVariants as next
+use Rattle.live.specs.Timing.{Moments, read_at, moment_at, moment_by, is_heard_out, goes_on, is_behind, eve}
+use Rattle.live.specs.Ends.{Ends, Answers, Turns, IsTold, IsTurn, event_at, taken_by, told_at, turn, turn_by, sources_by, round, look, unless_found, next_round, looked_at, found_at, after, nothing_more, let_in}
+use Rattle.live.specs.Wires.{History}
+use Rattle.live.specs.declared.source.Source.{Source}
+use Rattle.live.specs.declared.source.Source.TheVariants.{Door, Connection, Line}
+use Rattle.live.specs.Law.{AtMoment, AtBytes, AtClock}
+use Rattle.live.specs.declared.found.Found.{Found}
+use Rattle.live.specs.declared.found.Found.TheVariants as found
+use Rattle.live.specs.declared.timing.Timing.{Timing}
+use Rattle.live.specs.declared.timing.Request.{Request}
+
+-- an event has the moment that it is given
+at_moment : (now : ℕ) (f : Option Found) (Holds : ℕ → Type 0) → Holds now → AtMoment (event_at now f) Holds
+at_moment now None Holds h = h
+at_moment now (Some found.Open) Holds h = h
+at_moment now (Some (found.Bytes len)) Holds h = h
+at_moment now (Some found.Cut) Holds h = h
+at_moment now (Some (found.Line len)) Holds h = h
+at_moment now (Some found.Fault) Holds h = tt
+
+-- by whether the line is heard out, and whether the exchange goes on
+heard_by : (h g : Bool) (t : Timing) (r : Request) (now : ℕ) → is_heard_out t r ≡ h → goes_on t r now ≡ g → 0 < t.answer_ms →
+    r.moment + t.answer_ms ≤ (if h then now else (if g then now else eve t r)) → t.answer_ms ≤ t.heard - r.written
+heard_by true g t r now heard on some late = grind (arith, heard)
+heard_by false true t r now heard on some late = grind (arith, on)
+heard_by false false t r now heard on some late = omega (arith, some, late)
+
+by_request : (t : Timing) (q : Option Request) (r : Request) (now : ℕ) → q ≡ Some r → 0 < t.answer_ms → r.moment + t.answer_ms ≤ moment_by t q now → t.answer_ms ≤ t.heard - r.written
+by_request t q r now asked some late = heard_by (is_heard_out t r) (goes_on t r now) t r now refl refl some (let P : Option Request → Type 0 = λ q. r.moment + t.answer_ms ≤ moment_by t q now in subst P asked late)
+
+pub heard_out : (old new : Ends) (event : Next) (r : Request) → Turns old event new → new.timing.request ≡ Some r → 0 < new.timing.answer_ms →
+    AtMoment event (λ moment. r.moment + new.timing.answer_ms ≤ moment → new.timing.answer_ms ≤ new.timing.heard - r.written)
+heard_out old new event r t asked some =
+    let Holds : ℕ → Type 0 = λ moment. r.moment + new.timing.answer_ms ≤ moment → new.timing.answer_ms ≤ new.timing.heard - r.written in
+    let P : Next → Type 0 = λ e. AtMoment e Holds in
+    subst P (sym t.told.told) (at_moment (moment_at new.timing t.now) t.told.taken Holds (by_request new.timing new.timing.request r t.now asked some))
+
+-- the clock has told this last
+at_clock : (told : Moments) (now : ℕ) (Holds : ℕ → Type 0) → Holds now → AtClock (read_at told now) Holds
+at_clock None now Holds h = tt
+at_clock (Some before) now Holds h = h
+
+-- what a control centre sent is at most 50 ms behind the clock
+InTime : ℕ → Option Found × Ends → Type 0
+InTime now p = AtClock p.1.clock (λ n. AtBytes (event_at (moment_at p.1.timing now) p.0) (λ m. n ≤ m + 50))
+
+level_bound : (now m : ℕ) → nat_lt 50 (now - m) ≡ false → now ≤ m + 50
+level_bound now m level = grind (arith, level)
+
+timely : (b : Bool) (f : Option Found) (e : Ends) (now : ℕ) → is_behind e.timing now ≡ b → InTime now (taken_by b f (told_at now e))
+unfolding InTime
+timely true None e now behind = at_clock e.clock now (λ n. Unit {0}) tt
+timely true (Some found.Open) e now behind = at_clock e.clock now (λ n. Unit {0}) tt
+timely true (Some (found.Bytes len)) e now behind = at_clock e.clock now (λ n. Unit {0}) tt
+timely true (Some found.Cut) e now behind = at_clock e.clock now (λ n. Unit {0}) tt
+timely true (Some (found.Line len)) e now behind = at_clock e.clock now (λ n. Unit {0}) tt
+timely true (Some found.Fault) e now behind = at_clock e.clock now (λ n. Unit {0}) tt
+timely false None e now behind = at_clock e.clock now (λ n. Unit {0}) tt
+timely false (Some found.Open) e now behind = at_clock e.clock now (λ n. Unit {0}) tt
+timely false (Some (found.Bytes len)) e now behind = at_clock e.clock now (λ n. n ≤ moment_at e.timing now + 50) (level_bound now (moment_at e.timing now) behind)
+timely false (Some found.Cut) e now behind = at_clock e.clock now (λ n. Unit {0}) tt
+timely false (Some (found.Line len)) e now behind = at_clock e.clock now (λ n. Unit {0}) tt
+timely false (Some found.Fault) e now behind = at_clock e.clock now (λ n. Unit {0}) tt
+
+pub in_time : (old new : Ends) (event : Next) → Turns old event new → AtClock new.clock (λ now. AtBytes event (λ moment. now ≤ moment + 50))
+unfolding InTime
+in_time old new event t =
+    let P : Next → Type 0 = λ e. AtClock new.clock (λ now. AtBytes e (λ moment. now ≤ moment + 50)) in
+    let Q : Option Found × Ends → Type 0 = λ p. InTime t.now p in
+    subst P (sym t.told.told) (subst Q (sym t.told.ends) (timely (is_behind t.found.timing t.now) t.f t.found t.now refl))
+
+-- the latest request and how long an answer is awaited are the same
+Keeps : Timing → Timing → Type 0
+Keeps a b = (b.request ≡ a.request) × (b.answer_ms ≡ a.answer_ms)
+
+let_in_keeps : (k : Timing) (v : Option History) (e : Ends) → Keeps k e.timing → Keeps k (let_in v e).timing
+let_in_keeps k None e h = h
+let_in_keeps k (Some visitor) e h = h
+
+looked_keeps : (k : Timing) (s : Source) (t : ℕ) (a : Answers) (e : Ends) → Keeps k e.timing → Keeps k (looked_at s t a e).timing
+unfolding Keeps
+looked_keeps k Door t a e h = let_in_keeps k a.visitor e h
+looked_keeps k Connection t a e h = h
+looked_keeps k Line t a e h = h
+
+next_keeps : (k : Timing) (s : Source) (f : Option Found) (e : Ends) → Keeps k e.timing → Keeps k (next_round s f e).timing
+next_keeps k s None e h = h
+next_keeps k s (Some f) e h = h
+
+-- what goes on from ends that keep them keeps them
+IsKeeping : Timing → (Ends → Option Found × Ends) → Type 0
+IsKeeping k others = (e : Ends) → Keeps k e.timing → Keeps k (others e).1.timing
+
+unless_keeps : (k : Timing) (f : Option Found) (e : Ends) (others : Ends → Option Found × Ends) → Keeps k e.timing → IsKeeping k others → Keeps k (unless_found f e others).1.timing
+unfolding IsKeeping
+unless_keeps k None e others h on = on e h
+unless_keeps k (Some f) e others h on = h
+
+look_keeps : (k : Timing) (s : Source) (t : ℕ) (a : Answers) (others : Ends → Option Found × Ends) → IsKeeping k others → IsKeeping k (λ e. look s t a e others)
+unfolding IsKeeping
+look_keeps k s t a others on e h =
+    let f = found_at s a e in
+    unless_keeps k f (next_round s f (looked_at s t a e)) others (next_keeps k s f (looked_at s t a e) (looked_keeps k s t a e h)) on
+
+nothing_keeps : (k : Timing) → IsKeeping k nothing_more
+unfolding IsKeeping
+nothing_keeps k e h = h
+
+round_keeps : (k : Timing) (t : ℕ) (a : Answers) (e : Ends) → Keeps k e.timing → Keeps k (round t a e).1.timing
+unfolding IsKeeping
+round_keeps k t a e h =
+    let third = look_keeps k (after (after e.first)) t a nothing_more (nothing_keeps k) in
+    let second = look_keeps k (after e.first) t a (λ x. look (after (after e.first)) t a x nothing_more) third in
+    look_keeps k e.first t a (λ x. look (after e.first) t a x (λ y. look (after (after e.first)) t a y nothing_more)) second e h
+
+sources_keeps : (k : Timing) (b : Bool) (t : ℕ) (a : Answers) (e : Ends) → Keeps k e.timing → Keeps k (sources_by b t a e).1.timing
+unfolding IsKeeping
+sources_keeps k true t a e h = look_keeps k Line t a nothing_more (nothing_keeps k) e h
+sources_keeps k false t a e h = round_keeps k t a e h
+
+turn_keeps : (k : Timing) (d : Bool) (t : ℕ) (a : Answers) (e : Ends) → Keeps k e.timing → Keeps k (turn_by d t a e).1.timing
+turn_keeps k true t a e h = h
+turn_keeps k false t a e h = sources_keeps k (is_behind e.timing t) t a e h
+
+taken_keeps : (k : Timing) (b : Bool) (f : Option Found) (e : Ends) → Keeps k e.timing → Keeps k (taken_by b f e).1.timing
+taken_keeps k false f e h = h
+taken_keeps k true None e h = h
+taken_keeps k true (Some found.Open) e h = h
+taken_keeps k true (Some (found.Bytes len)) e h = h
+taken_keeps k true (Some found.Cut) e h = h
+taken_keeps k true (Some (found.Line len)) e h = h
+taken_keeps k true (Some found.Fault) e h = h
+
+pub kept : (old new : Ends) (event : Next) → Turns old event new → (new.timing.request ≡ old.timing.request) × (new.timing.answer_ms ≡ old.timing.answer_ms)
+unfolding Keeps
+kept old new event t =
+    let Q : Option Found × Ends → Type 0 = λ p. Keeps old.timing p.1.timing in
+    let found : Keeps old.timing t.found.timing = subst Q (sym t.turn.turned) (turn_keeps old.timing old.is_cut_due t.begun t.turn.answers (told_at t.begun old) (refl, refl)) in
+    subst Q (sym t.told.ends) (taken_keeps old.timing (is_behind t.found.timing t.now) t.f (told_at t.now t.found) found)

@@ -1,0 +1,141 @@
+//! What a stall of the gateway does, over ends in a time of their own.
+use super::Live;
+use crate::configured::config;
+use crate::timed::{Time, TimedClock, TimedDoor, TimedLine};
+use gateway::{Action, End, Gateway, Next, Port, drive_on};
+use std::alloc::Global;
+use std::process::Abort;
+use std::test::Fail;
+
+type Ends<'a> = Live<TimedLine<'a>, TimedDoor<'a>, TimedClock<'a>>;
+
+/// So long an answer is awaited, in ms.
+const ANSWER_MS: u64 = 1000;
+
+/// Ends whose station answers in one piece after so long, where a control centre comes, or none.
+fn ends<'a>(time: &'a Time, answer_ms: u64, has_centre: bool) -> Ends<'a> {
+    let line = TimedLine::new(time, answer_ms, 0);
+    let door = TimedDoor::new(time, has_centre);
+    Live::new(line, door, TimedClock(time), ANSWER_MS)
+}
+
+/// The next event of a port that never fails.
+fn next(rt: &impl Abort, port: &mut Ends<'_>) -> Next {
+    assert!(rt; port.failures() < 9);
+    port.next(&mut [0; 1024])
+}
+
+/// A request of this moment goes out, a poll.
+fn ask(rt: &impl Abort, port: &mut Ends<'_>, moment: u64) {
+    assert!(rt; port.failures() < 9);
+    assert!(rt; port.put(moment, &Action::Line(&[0x10, 0x7B, 0x01, 0x7C, 0x16])));
+}
+
+#[test]
+fn before_any_request_the_moment_is_the_clocks(rt: HostRuntime) {
+    let time = Time::new(0, 0);
+    let mut port = ends(&time, 170, true);
+    time.pass(5000);
+    assert!(rt; matches!(next(&rt, &mut port), Next::Open(5000)));
+    assert!(rt; matches!(next(&rt, &mut port), Next::Bytes(5000, 6)));
+    assert!(rt; matches!(next(&rt, &mut port), Next::Bytes(5001, 6)));
+}
+
+/// A stall of 1.2 s at each place, with an answer after 170 ms, and with none.
+#[test]
+fn a_stall_is_no_late_answer(rt: HostRuntime) {
+    // In the write of the request, which goes out after it: the exchange has its whole time from then on.
+    let time = Time::new(0, 0);
+    let mut port = ends(&time, 170, false);
+    port.line.write_ms = 1200;
+    ask(&rt, &mut port, 0);
+    assert!(rt; matches!(next(&rt, &mut port), Next::Tick(999)));
+    time.pass(200);
+    assert!(rt; matches!(next(&rt, &mut port), Next::Line(999, 5)));
+    ask(&rt, &mut port, 999);
+    assert!(rt; matches!(next(&rt, &mut port), Next::Tick(1402)));
+
+    // After it, as in a write to the control centre: the answer that waits is heard before anything else.
+    let time = Time::new(0, 0);
+    let mut port = ends(&time, 170, true);
+    ask(&rt, &mut port, 0);
+    time.pass(1200);
+    assert!(rt; matches!(next(&rt, &mut port), Next::Line(1200, 5)));
+    assert!(rt; matches!(next(&rt, &mut port), Next::Open(1200)));
+
+    // In the look at the line: its answer ends an exchange that still goes on.
+    let time = Time::new(0, 0);
+    let mut port = ends(&time, 170, false);
+    ask(&rt, &mut port, 0);
+    port.line.look_ms = 1200;
+    assert!(rt; matches!(next(&rt, &mut port), Next::Line(999, 5)));
+
+    // No answer comes: the exchange ends once the line has been looked at that late.
+    let time = Time::new(0, 0);
+    let mut port = ends(&time, 60000, true);
+    ask(&rt, &mut port, 0);
+    time.pass(1200);
+    assert!(rt; matches!(next(&rt, &mut port), Next::Tick(1201)));
+    assert!(rt; matches!(next(&rt, &mut port), Next::Open(1201)));
+}
+
+#[test]
+fn a_stall_makes_no_selection_longer(rt: HostRuntime) {
+    // What the control centre sent in a stall after the looks bears the moment after it.
+    let time = Time::new(0, 0);
+    let mut port = ends(&time, 60000, true);
+    assert!(rt; matches!(next(&rt, &mut port), Next::Open(0)));
+    ask(&rt, &mut port, 0);
+    time.pass(2000);
+    assert!(rt; matches!(next(&rt, &mut port), Next::Tick(2001)));
+    assert!(rt; matches!(next(&rt, &mut port), Next::Bytes(2001, 6)));
+
+    // What it sent in a stall within its look, while the line isn't heard out, isn't taken.
+    let time = Time::new(0, 0);
+    let mut port = ends(&time, 60000, true);
+    assert!(rt; matches!(next(&rt, &mut port), Next::Open(0)));
+    ask(&rt, &mut port, 0);
+    if let Some(centre) = &mut port.connection {
+        centre.look_ms = 2000;
+    }
+    assert!(rt; matches!(next(&rt, &mut port), Next::Cut(999)));
+    assert!(rt; port.connection.is_none());
+
+    // Up to 50 ms behind the clock are let through.
+    let time = Time::new(0, 0);
+    let mut port = ends(&time, 60000, true);
+    assert!(rt; matches!(next(&rt, &mut port), Next::Open(0)));
+    ask(&rt, &mut port, 0);
+    time.pass(1049);
+    assert!(rt; matches!(next(&rt, &mut port), Next::Bytes(999, 6)));
+}
+
+/// The gateway stalls before each so manieth call to an end, while the station answers in time: no request goes out twice.
+fn runs_without_repeat(
+    rt: &impl Abort,
+    alloc: Global,
+    every: u64,
+    stall_ms: u64,
+) -> Result<(), Fail> {
+    let time = Time::new(every, stall_ms);
+    let line = TimedLine::new(&time, 300, 650);
+    let door = TimedDoor::new(&time, true);
+    let mut port = Live::new(line, door, TimedClock(&time), ANSWER_MS);
+    let config = config(alloc, ANSWER_MS)?;
+    let mut gateway = Gateway::new(alloc, &config).ok().ok_or("no memory")?;
+    assert!(rt; port.failures() < 9);
+    assert_eq!(rt; drive_on(&mut gateway, &mut port, 2000), End::Turns);
+    assert_eq!(rt; port.line.repeats, 0, "every {every}, {stall_ms} ms");
+    assert!(rt; port.line.requests > 2, "every {every}, {stall_ms} ms");
+    Ok(())
+}
+
+#[test]
+fn wherever_it_stalls_no_exchange_is_unanswered(rt: HostRuntime) -> Result<(), Fail> {
+    for every in 1..60 {
+        for stall_ms in [20, 150, 400, 600, 1200, 5000] {
+            runs_without_repeat(&rt, rt.alloc(), every, stall_ms)?;
+        }
+    }
+    Ok(())
+}

@@ -1,0 +1,119 @@
+//! One call to a stream of the system, and what its answer means.
+ghost use Rattle.std.specs.Prelude.{◌≤◌, length};
+ghost use Rattle.live.specs.Wires.{FitsBuffer};
+ghost use Rattle.live.specs.Streams.{ReadsOnce, WritesOnce, WritesAll};
+
+use crate::wires::Got;
+use std::io;
+use std::io::{ErrorKind, Read, Write};
+use std::net::TcpStream;
+use std::os::unix::net::UnixStream;
+
+/// How many pieces are dropped at the most before a request is written.
+const STALE_PIECES: u32 = 64;
+
+/// Octets both ways, as the system has them. A stream that tells its calls adds the answer of each.
+pub(crate) trait Stream {
+    ghost use Rattle.std.specs.Prelude.{◌≡◌, ◌≤◌, length, IfOk};
+    ghost use Rattle.live.specs.Streams.{Calls, called};
+
+    /// What the system answered to each call, the newest first, where it tells that.
+    ghost calls: { Self → Calls };
+
+    /// Octets that came, at the front of the buffer; 0 at the stream's end.
+    fn receive(&mut self, buf: &mut [u8; 1024]) -> io::Result<usize>
+        ensures bound { IfOk result (λ len. len ≤ 1024) }
+        ensures told { calls self.new ≡ called (calls self.old) result };
+
+    /// How many octets were taken, from the front.
+    fn send(&mut self, octets: &[u8]) -> io::Result<usize>
+        ensures bound { IfOk result (λ count. count ≤ length octets.now) }
+        ensures told { calls self.new ≡ called (calls self.old) result };
+
+    /// Says whether its calls wait, each as long as its timeout says.
+    fn set_waiting(&mut self, is_waiting: bool) -> io::Result<()>
+        ensures { calls self.new ≡ calls self.old };
+}
+
+impl Stream for TcpStream {
+    ghost use Rattle.std.specs.Prelude.{None};
+
+    ghost calls = { λ _. None };
+
+    fn receive(&mut self, buf: &mut [u8; 1024]) -> io::Result<usize> {
+        self.read(buf)
+    }
+
+    fn send(&mut self, octets: &[u8]) -> io::Result<usize> {
+        self.write(octets)
+    }
+
+    fn set_waiting(&mut self, is_waiting: bool) -> io::Result<()> {
+        self.set_nonblocking(!is_waiting)
+    }
+}
+
+impl Stream for UnixStream {
+    ghost use Rattle.std.specs.Prelude.{None};
+
+    ghost calls = { λ _. None };
+
+    fn receive(&mut self, buf: &mut [u8; 1024]) -> io::Result<usize> {
+        self.read(buf)
+    }
+
+    fn send(&mut self, octets: &[u8]) -> io::Result<usize> {
+        self.write(octets)
+    }
+
+    fn set_waiting(&mut self, is_waiting: bool) -> io::Result<()> {
+        self.set_nonblocking(!is_waiting)
+    }
+}
+
+/// Reads once: a timeout and an interruption are quiet, an end and every other failure are the wire's end.
+pub(crate) fn read_once<S: Stream>(stream: &mut S, buf: &mut [u8; 1024]) -> Got
+    ensures fits { FitsBuffer result }
+    ensures reads { ReadsOnce (S.calls stream.old) result (S.calls stream.new) }
+{
+    match stream.receive(buf) {
+        Ok(0) => Got::Gone,
+        Ok(len) => Got::Octets(len),
+        Err(fault) => match fault.kind() {
+            ErrorKind::WouldBlock | ErrorKind::TimedOut | ErrorKind::Interrupted => Got::Quiet,
+            _ => Got::Gone,
+        },
+    }
+}
+
+/// Writes in one call, so that it waits no longer than the stream's timeout, and answers whether all octets were taken.
+pub(crate) fn write_once<S: Stream>(stream: &mut S, octets: &[u8]) -> bool
+    ensures { WritesAll (S.calls stream.old) octets.now result (S.calls stream.new) }
+{
+    match stream.send(octets) {
+        Ok(count) => count == octets.len(),
+        Err(_) => false,
+    }
+}
+
+/// Writes in one call, and answers how many octets were taken.
+pub(crate) fn write_some<S: Stream>(stream: &mut S, octets: &[u8]) -> usize
+    ensures bound { result ≤ length octets.now }
+    ensures writes { WritesOnce (S.calls stream.old) result (S.calls stream.new) }
+{
+    stream.send(octets).unwrap_or(0)
+}
+
+/// Drops what has come and wasn't read, without a wait.
+pub(crate) fn drop_waiting<S: Stream>(stream: &mut S) {
+    if stream.set_waiting(false).is_err() {
+        return;
+    }
+    let mut stale = [0; 1024];
+    for _ in 0..STALE_PIECES {
+        let Got::Octets(_) = read_once(stream, &mut stale) else {
+            break;
+        };
+    }
+    let _ = stream.set_waiting(true);
+}

@@ -1,0 +1,218 @@
+//! Ends in memory in a time of their own, in which the gateway stalls wherever a test wants it to.
+ghost use Rattle.std.specs.Prelude.{None};
+
+use crate::wires::{Clock, Door, Got, Wire};
+use std::cell::Cell;
+
+/// The time, in ms, and when the gateway stalls in it.
+#[derive(Drop)]
+pub(crate) struct Time {
+    now: Cell<u64>,
+    /// How many calls to an end go by before the next stall; 0 for no stall any more.
+    left: Cell<u64>,
+    /// Before each so manieth call the gateway stalls.
+    every: u64,
+    /// For how long, in ms.
+    stall_ms: u64,
+}
+
+impl Time {
+    pub(crate) fn new(every: u64, stall_ms: u64) -> Time {
+        Time {
+            now: Cell::new(0),
+            left: Cell::new(every),
+            every,
+            stall_ms,
+        }
+    }
+
+    pub(crate) fn now(&self) -> u64 {
+        self.now.get()
+    }
+
+    pub(crate) fn pass(&self, ms: u64) {
+        self.now.set(self.now.get().saturating_add(ms));
+    }
+
+    /// A call to an end begins, before which the gateway may stall.
+    fn begin(&self) {
+        let left = self.left.get().saturating_sub(1);
+        self.left.set(left);
+        if left == 0 {
+            self.pass(self.stall_ms);
+            self.left.set(self.every);
+        }
+    }
+}
+
+/// A line whose station gives each answer in two pieces: 'not available' to a poll, and what the link's start wants.
+#[derive(Drop)]
+pub(crate) struct TimedLine<'a> {
+    time: &'a Time,
+    /// How long after a request the first piece of its answer comes, and the second one after it, in ms.
+    answer_ms: u64,
+    rest_ms: u64,
+    /// How long the next look takes, and the next write, in ms.
+    pub(crate) look_ms: u64,
+    pub(crate) write_ms: u64,
+    /// The control octet of the latest request, and when it came.
+    control: u8,
+    asked: u64,
+    /// Which pieces of its answer have been read.
+    has_first: bool,
+    has_second: bool,
+    pub(crate) requests: u32,
+    /// How many requests were the one before again.
+    pub(crate) repeats: u32,
+}
+
+impl<'a> TimedLine<'a> {
+    pub(crate) fn new(time: &'a Time, answer_ms: u64, rest_ms: u64) -> TimedLine<'a> {
+        TimedLine {
+            time,
+            answer_ms,
+            rest_ms,
+            look_ms: 0,
+            write_ms: 0,
+            control: 0,
+            asked: 0,
+            has_first: true,
+            has_second: true,
+            requests: 0,
+            repeats: 0,
+        }
+    }
+
+    /// The control octet of the answer: to the request for the status, to the reset, to a poll.
+    fn answer(&self) -> u8 {
+        match self.control {
+            0x49 => 0x0B,
+            0x40 => 0x00,
+            _ => 0x09,
+        }
+    }
+}
+
+impl Wire for TimedLine<'_> {
+    ghost history = { λ _. None };
+
+    fn read(&mut self, buf: &mut [u8; 1024]) -> Got {
+        self.time.begin();
+        self.time.pass(self.look_ms);
+        self.look_ms = 0;
+        let passed = self.time.now().saturating_sub(self.asked);
+        let is_second = !self.has_second && self.answer_ms.saturating_add(self.rest_ms) <= passed;
+        let answer = self.answer();
+        if is_second && self.has_first {
+            self.has_second = true;
+            buf[0] = 1;
+            buf[1] = answer + 1;
+            buf[2] = 0x16;
+            return Got::Octets(3);
+        }
+        if self.has_first || passed < self.answer_ms {
+            self.time.pass(1);
+            return Got::Quiet;
+        }
+        self.has_first = true;
+        buf[0] = 0x10;
+        buf[1] = answer;
+        if !is_second {
+            return Got::Octets(2);
+        }
+        self.has_second = true;
+        buf[2] = 1;
+        buf[3] = answer + 1;
+        buf[4] = 0x16;
+        Got::Octets(5)
+    }
+
+    fn write(&mut self, octets: &[u8]) -> bool {
+        self.time.begin();
+        self.time.pass(self.write_ms);
+        self.write_ms = 0;
+        let control = octets.get(1).copied().unwrap_or(0);
+        if control == self.control {
+            self.repeats = self.repeats.saturating_add(1);
+        }
+        self.requests = self.requests.saturating_add(1);
+        self.control = control;
+        self.asked = self.time.now();
+        self.has_first = false;
+        self.has_second = false;
+        true
+    }
+}
+
+/// A control centre that starts data transfer and then tests the connection without end.
+#[derive(Drop)]
+pub(crate) struct TimedCentre<'a> {
+    time: &'a Time,
+    /// How long the next look takes, in ms.
+    pub(crate) look_ms: u64,
+    has_started: bool,
+}
+
+impl Wire for TimedCentre<'_> {
+    ghost history = { λ _. None };
+
+    fn read(&mut self, buf: &mut [u8; 1024]) -> Got {
+        self.time.begin();
+        self.time.pass(self.look_ms);
+        self.look_ms = 0;
+        let control = if self.has_started { 0x43 } else { 0x07 };
+        self.has_started = true;
+        buf[..6].copy_from_slice(&[0x68, 4, control, 0, 0, 0]);
+        Got::Octets(6)
+    }
+
+    fn write(&mut self, _octets: &[u8]) -> bool {
+        self.time.begin();
+        true
+    }
+}
+
+/// A door, where a control centre waits at first.
+#[derive(Drop)]
+pub(crate) struct TimedDoor<'a> {
+    time: &'a Time,
+    has_visitor: bool,
+}
+
+impl<'a> TimedDoor<'a> {
+    pub(crate) fn new(time: &'a Time, has_visitor: bool) -> TimedDoor<'a> {
+        TimedDoor { time, has_visitor }
+    }
+}
+
+impl<'a> Door for TimedDoor<'a> {
+    type Wire = TimedCentre<'a>;
+
+    ghost visits = { λ _. None };
+
+    fn accept(&mut self) -> Option<TimedCentre<'a>> {
+        self.time.begin();
+        if !self.has_visitor {
+            return None;
+        }
+        self.has_visitor = false;
+        Some(TimedCentre {
+            time: self.time,
+            look_ms: 0,
+            has_started: false,
+        })
+    }
+}
+
+/// A clock that tells this time.
+#[derive(Drop)]
+pub(crate) struct TimedClock<'a>(pub(crate) &'a Time);
+
+impl Clock for TimedClock<'_> {
+    ghost moments = { λ _. None };
+
+    fn now_ms(&mut self) -> u64 {
+        self.0.begin();
+        self.0.now()
+    }
+}

@@ -1,0 +1,64 @@
+//! What moment an event bears, so that a stall of the gateway is no late answer of the line.
+ghost use Rattle.std.specs.Prelude.{◌≡◌};
+ghost use Rattle.live.specs.Timing.{moment_at, is_behind, heard_at, asked_at};
+
+/// How far the moment of what a control centre sends may be behind the clock, in ms.
+const LAG_MS: u64 = 50;
+
+/// A request that went out, in ms: the moment of its step, and the clock's once it was written.
+#[derive(Clone, Copy, Debug, PartialEq, Eq)]
+pub(crate) struct Request {
+    pub(crate) moment: u64,
+    pub(crate) written: u64,
+}
+
+/// What tells the moment of an event.
+#[derive(Clone, Copy, Debug, PartialEq, Eq)]
+pub(crate) struct Timing {
+    /// How long an answer is awaited, in ms.
+    pub(crate) answer_ms: u64,
+    /// The clock's moment before the latest look at the line, in ms.
+    pub(crate) heard: u64,
+    /// The latest request.
+    pub(crate) request: Option<Request>,
+}
+
+impl Timing {
+    /// The moment of an event that the clock tells now. It is the clock's, but as long as the line hasn't been looked at for
+    /// `answer_ms` after the latest request was written, it doesn't end that request's exchange.
+    pub(crate) fn moment(&self, now: u64) -> u64
+        ensures { result ≡ moment_at self.now now }
+    {
+        let Some(request) = self.request else {
+            return now;
+        };
+        if self.answer_ms <= self.heard.saturating_sub(request.written) {
+            return now;
+        }
+        if now.saturating_sub(request.moment) < self.answer_ms {
+            return now;
+        }
+        request.moment + self.answer_ms.saturating_sub(1)
+    }
+
+    /// That moment is too far behind the clock for what a control centre sends: a selection would last too long.
+    pub(crate) fn is_behind(&self, now: u64) -> bool
+        ensures { result ≡ is_behind self.now now }
+    {
+        LAG_MS < now.saturating_sub(self.moment(now))
+    }
+
+    /// A look at the line begins.
+    pub(crate) fn hear(&mut self, begun: u64)
+        ensures { self.new ≡ heard_at begun self.old }
+    {
+        self.heard = begun;
+    }
+
+    /// A request of this moment has been written.
+    pub(crate) fn ask(&mut self, moment: u64, written: u64)
+        ensures { self.new ≡ asked_at moment written self.old }
+    {
+        self.request = Some(Request { moment, written });
+    }
+}

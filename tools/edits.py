@@ -1,0 +1,179 @@
+#!/usr/bin/env python3
+"""Tells of each must-fail edit why the prover refuses it.
+
+    tools/edits.py [--log FOLDER] [--slot COMMAND] [CRATE | CRATE/EDIT ..]
+
+`rt must-fail` says that an edit is refused. That shows something of a contract only where the contract is what refuses it, and not
+the wording of a proof. So each edit is tried in a copy of the repository by `rt check`, and what that says is told in a word:
+
+    values   there are values at which a goal is false, and the prover names them
+    goal     a goal of the contract isn't proved, and no values are named (it seldom finds those that break an equation of lists)
+    proof    a proof written by hand no longer fits, and nothing else
+    names    a proof names what the edit took away, so the contract wasn't tried
+    law      the edit turns a definition together with the body: the bodies are proved, and the laws above them aren't
+    PROVED   it isn't refused
+
+An edit may have a harmless twin, a file of the same name in tools/twins/CRATE: an edit of the same shape that changes no answer. The
+twin is tried too, and is to be proved. One that is refused by a proof alone needs it.
+The last line is `N passed, M failed`: an edit fails that isn't refused, that is refused for names, that has a twin which isn't
+proved, that is refused by a proof alone and has no twin, or that turns a definition and is refused by more than laws. `--slot` stands before each `rt check`; `--log` keeps what each said.
+"""
+import argparse
+import os
+import re
+import shutil
+import subprocess
+import sys
+import tempfile
+
+TOP = os.path.dirname(os.path.dirname(os.path.abspath(__file__)))
+
+
+def libraries():
+    """The libraries that each crate names, by crates.txt."""
+    named = {}
+    with open(os.path.join(TOP, "crates.txt")) as file:
+        for line in file:
+            head, colon, tail = line.partition("#")[0].partition(":")
+            if colon:
+                named[head.split()[0]] = tail.split()
+    return named
+
+
+def below(crate, named):
+    """The crate and all crates of the repository that it stands on."""
+    found = [crate]
+    for it in found:
+        found += [name for name in named[it] if name in named and name not in found]
+    return found
+
+
+def copied(crate, room, named):
+    """A repository of the crate and what it stands on, with the work that earlier checks kept. Answers the crate's folder."""
+    wanted = below(crate, named)
+    with open(os.path.join(room, "crates.txt"), "w") as file:
+        for name in wanted:
+            file.write(f"{name}: {' '.join(named[name])}\n")
+    shutil.copy(os.path.join(TOP, "HANDLES"), room)
+    subprocess.run(["git", "init", "-q", room], check=True)
+    for name in wanted:
+        shutil.copytree(os.path.join(TOP, "crates", name), os.path.join(room, "crates", name))
+    # `rt check` notes edits that can't be applied, and none of these is of interest here.
+    shutil.rmtree(os.path.join(room, "crates", crate, "must-fail"), ignore_errors=True)
+    return os.path.join(room, "crates", crate)
+
+
+def pairs_of(path):
+    """The file, the old and the new text of each pair of an edit."""
+    pairs, file, old = [], None, None
+    with open(path) as text:
+        for line in text.read().split("\n"):
+            if line.startswith("file: "):
+                file = line[len("file: ") :].strip()
+            elif line.startswith("old: "):
+                old = line[len("old: ") :]
+            elif line.startswith("new:"):
+                pairs.append((file, old, re.sub(r"\A ", "", line[len("new:") :])))
+    return pairs
+
+
+def tried(edit, here, check):
+    """What the check says of the crate with this edit, and whether it proves it. The files are as before then."""
+    before = {}
+    try:
+        for file, old, new in pairs_of(edit):
+            path = os.path.join(here, file)
+            with open(path) as it:
+                text = it.read()
+            before.setdefault(path, text)
+            if text.count(old) != 1:
+                sys.exit(f"edits: {edit}: its old text is in {file} {text.count(old)} times")
+            with open(path, "w") as it:
+                it.write(text.replace(old, new))
+        return check()
+    finally:
+        for path, text in before.items():
+            with open(path, "w") as it:
+                it.write(text)
+
+
+def reason(said):
+    """Why a crate isn't proved, in a word, and the line that says it best."""
+    lines = said.split("\n")
+    refused = [line for line in lines if re.match(r"(\./)?proofs/\S+: error", line)]
+    names = [line for line in refused if re.search(r"has no field|is not in scope|has no `", line)]
+    goals = [line for line in lines if re.match(r"note: (\./)?src/\S+: it is not proved", line)]
+    values = [line for line in lines if re.search(r"allow values at which|may be false: the known facts|the goal fails,? at", line)]
+    for word, found in (("values", values), ("names", names), ("goal", goals), ("proof", refused)):
+        if found:
+            return word, found[0].strip()
+    return "other", next((line for line in lines if "error" in line), lines[-1])
+
+
+def laws_refused(said):
+    """The laws that aren't proved, where nothing else isn't: public functions with empty bodies, in modules of their own."""
+    unproved = re.findall(r"^fn (\S+): (?:not proved|no proof)", said, re.M)
+    return unproved if all(re.search(r"::(laws|refinement|runs)::", name) for name in unproved) else []
+
+
+def judged(edit, twin, attempt):
+    """The word of an edit, that of its twin, whether they are as they should be, and the line that says most."""
+    said, is_proved = attempt(edit)
+    word, line = ("PROVED", "") if is_proved else reason(said)
+    if any(file.startswith("specs/") for file, _, _ in pairs_of(edit)):
+        laws = laws_refused(said)
+        return ("law", "", True, ", ".join(laws)) if laws else (word, "", False, line)
+    if not os.path.isfile(twin):
+        return word, "", word in ("values", "goal"), line
+    is_harmless = attempt(twin)[1]
+    return word, "twin proved" if is_harmless else "TWIN REFUSED", is_harmless and word in ("values", "goal", "proof"), line
+
+
+def main():
+    words = argparse.ArgumentParser()
+    words.add_argument("--log")
+    words.add_argument("--slot", default="")
+    words.add_argument("wanted", nargs="*")
+    given = words.parse_args()
+    named = libraries()
+    command = [*given.slot.split(), "rt", "check", "--jobs", "1"]
+    passed = failed = 0
+    wanted = given.wanted or list(named)
+    for crate in dict.fromkeys(it.split("/")[0] for it in wanted):
+        folder = os.path.join(TOP, "crates", crate, "must-fail")
+        if not os.path.isdir(folder):
+            continue
+        with tempfile.TemporaryDirectory() as room:
+            here = copied(crate, room, named)
+
+            def check():
+                done = subprocess.run(
+                    command, cwd=here, stdin=subprocess.DEVNULL, stdout=subprocess.PIPE, stderr=subprocess.STDOUT, text=True
+                )
+                return done.stdout, done.returncode == 0
+
+            def attempt(edit):
+                said, is_proved = tried(edit, here, check)
+                if given.log:
+                    place = os.path.join(given.log, os.path.relpath(edit, TOP))
+                    os.makedirs(os.path.dirname(place), exist_ok=True)
+                    with open(place, "w") as file:
+                        file.write(said)
+                return said, is_proved
+
+            said, is_proved = check()
+            if not is_proved:
+                sys.exit(f"edits: {crate} itself isn't proved:\n{said[-1000:]}")
+            for edit in sorted(os.listdir(folder)):
+                if edit.endswith(".edit") and (crate in wanted or f"{crate}/{edit[: -len('.edit')]}" in wanted):
+                    twin = os.path.join(TOP, "tools", "twins", crate, edit)
+                    word, of_twin, is_good, line = judged(os.path.join(folder, edit), twin, attempt)
+                    passed, failed = passed + is_good, failed + (not is_good)
+                    mark = "" if is_good else "FAILED "
+                    print(f"{mark}{word:7}{of_twin:13} {crate}/{edit}: {line[:160]}", flush=True)
+    print(f"{passed} passed, {failed} failed")
+    sys.exit(1 if failed else 0)
+
+
+if __name__ == "__main__":
+    main()
