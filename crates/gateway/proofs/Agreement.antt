@@ -52,6 +52,7 @@ use Rattle.gateway.specs.Phases.{Phase, Fresh, Taking, Judged, Idle, Crowded, Ti
 use Rattle.session.specs.History as talk
 use Rattle.session.specs.History.{History, frame_due, has_timed_out}
 use Rattle.session.specs.Runs.{Call, Send, after_call}
+use Rattle.session.specs.Ends.{IsConfirmed}
 use Rattle.gateway.specs.Conversation.{KeepsTalk}
 use Rattle.gateway.specs.Agrees.{IsAt, Presently, Carries, Past, Talks, Agrees, Does, Tied, ArePlain, IsSpent, IsClear, IsUndue, IsQuiet, pending, pieces_of}
 use Rattle.gateway.proofs.Working.{answers_in, does_same, does_heard, does_cut, does_cut_again, does_own, asked_own, own_placed, heard_placed, heard_due, settled_due}
@@ -147,6 +148,16 @@ placed_on Taking log new h g on same k = λ o. same ∙ k (on o)
 placed_on Idle log new h g on same k = λ o. same ∙ k (on o)
 placed_on Timed log new h g on same k = λ o. same ∙ k (on o)
 placed_on Asked log new h g on same k = λ o. same ∙ k (on o)
+
+-- where a frame may go out each own answer found a place
+placed_in : (phase : Phase) (log : Log) (h : happened.History) → IsFlushing phase → IsPlaced phase log h → (present log).is_open ≡ true → is_overfull h ≡ false
+placed_in Fresh log h flushing placed on = placed on
+placed_in Taking log h flushing placed on = absurd flushing
+placed_in Judged log h flushing placed on = placed on
+placed_in Idle log h flushing placed on = placed on
+placed_in Crowded log h flushing placed on = absurd flushing
+placed_in Timed log h flushing placed on = placed on
+placed_in Asked log h flushing placed on = placed on
 
 -- where a connection has just ended nothing is overfull
 pub placed_cut : (phase : Phase) (log : Log) (h : happened.History) → IsPlaced phase log (happened.Ended ∷ h)
@@ -263,18 +274,18 @@ module _ (p : Setup) (s t : State) (log : Log) (unjudged asdu : List ℕ) (kind 
   data_room : room_in p data_log after_data ≡ room_in p log a.course
   data_room = room_more p (parts_of_all p.sizes (reports_in p log)) (came_frames a.course.talk) a.course.sent _ a.course.earlier (acknowledged_within p s log unjudged phase a)
 
-  data_talk : may_send s.session ≡ true → kind_of asdu ≡ kind → IsNextData p log asdu a.course → Fits (next_frame s.session asdu) → with_sent (next_frame s.session asdu) s.moment a.course ≡ after_data → Talks p (session.sent kind s.moment s.session) data_log after_data
-  data_talk may is next fits same =
+  data_talk : may_send s.session ≡ true → kind_of asdu ≡ kind → IsNextData p log asdu a.course → is_overfull (tasks_of p a.course.works).history ≡ false → Fits (next_frame s.session asdu) → with_sent (next_frame s.session asdu) s.moment a.course ≡ after_data → Talks p (session.sent kind s.moment s.session) data_log after_data
+  data_talk may is next placed fits same =
       subst (Talks p (session.sent kind s.moment s.session) data_log) same
-      (talk_out p s.session (session.sent kind s.moment s.session) log a.course s.moment s.moment (next_frame s.session asdu) (Send kind s.moment) a.talk fits a.clock next (sends s.session a.course.talk asdu kind s.moment may is) (a.here.so_far ++ unjudged, a.here.joined))
+      (talk_out p s.session (session.sent kind s.moment s.session) log a.course s.moment s.moment (next_frame s.session asdu) (Send kind s.moment) a.talk fits a.clock next placed (sends s.session a.course.talk asdu kind s.moment may is) (a.here.so_far ++ unjudged, a.here.joined))
 
-pub after_piece : (p : Setup) (s : State) (log : Log) (unjudged asdu : List ℕ) (rest : List (List ℕ)) (phase : Phase) → Agrees p s log unjudged phase → may_send s.session ≡ true → s.session.connected ≡ true → s.commands.answers ≡ [] → s.queue.unsent ≡ asdu ∷ rest → Fits (next_frame s.session asdu) →
+pub after_piece : (p : Setup) (s : State) (log : Log) (unjudged asdu : List ℕ) (rest : List (List ℕ)) (phase : Phase) → Agrees p s log unjudged phase → IsFlushing phase → IsConfirmed s.session → may_send s.session ≡ true → s.session.connected ≡ true → s.commands.answers ≡ [] → s.queue.unsent ≡ asdu ∷ rest → Fits (next_frame s.session asdu) →
     Agrees p (piece_sent s) (Went s.moment (TcpOut (spelling (next_frame s.session asdu))) ∷ log) unjudged phase
-after_piece p s log unjudged asdu rest phase a may on none unsent fits =
+after_piece p s log unjudged asdu rest phase a flushing ready may on none unsent fits =
     let f : Sent = record { ns = s.session.next_sent; nr = s.session.next_received; asdu = asdu } in
     let has : has_objects asdu ≡ true = first_whole (taken_objects p log) (parts_of_all p.sizes (reports_in p log)) a.course.earlier a.course.sent s.queue.unsent rest asdu unsent a.carries in
     let answers : (tasks_of p a.course.works).state.answers ≡ [] = sym (ap (λ (c : tasks.State). c.answers) a.stands.does.commands ∙ answers_in p phase (latest log) (room_in p log a.course) a.course.works) ∙ none in
-    let talk = data_talk p s (piece_sent s) log unjudged asdu FromQueue phase a.course.works a may (ap (λ b. if b then FromQueue else Own) has) (record { own = λ no. absurd (false≢true (sym no ∙ has)); none = λ some. answers; report = λ some. next_objects (taken_objects p log) (parts_of_all p.sizes (reports_in p log)) a.course.earlier a.course.sent s.queue.unsent rest asdu unsent a.carries }) fits (data_queue s asdu s.moment a.course has) in
+    let talk = data_talk p s (piece_sent s) log unjudged asdu FromQueue phase a.course.works a may (ap (λ b. if b then FromQueue else Own) has) (record { confirmed = sym (confirmed_by p s.session log a.course a.talk) ∙ ready; own = λ no. absurd (false≢true (sym no ∙ has)); none = λ some. answers; report = λ some. next_objects (taken_objects p log) (parts_of_all p.sizes (reports_in p log)) a.course.earlier a.course.sent s.queue.unsent rest asdu unsent a.carries }) (placed_in phase log _ flushing a.stands.placed (sym a.here.link ∙ on)) fits (data_queue s asdu s.moment a.course has) in
     let room = data_room p s (piece_sent s) log unjudged asdu FromQueue phase a.course.works a in
     record {
       k = a.k;
@@ -309,15 +320,15 @@ fewer_plain : (answers : List (List ℕ)) → ArePlain answers → ArePlain (dro
 fewer_plain [] h = tt
 fewer_plain (x ∷ xs) h = h.1
 
-pub after_own : (p : Setup) (s : State) (log : Log) (unjudged asdu : List ℕ) (phase : Phase) → Agrees p s log unjudged phase → may_send s.session ≡ true → s.session.connected ≡ true → tasks.first_answer s.commands.answers ≡ Some asdu → Fits (next_frame s.session asdu) →
+pub after_own : (p : Setup) (s : State) (log : Log) (unjudged asdu : List ℕ) (phase : Phase) → Agrees p s log unjudged phase → IsFlushing phase → IsConfirmed s.session → may_send s.session ≡ true → s.session.connected ≡ true → tasks.first_answer s.commands.answers ≡ Some asdu → Fits (next_frame s.session asdu) →
     Agrees p (own_sent s) (Went s.moment (TcpOut (spelling (next_frame s.session asdu))) ∷ log) unjudged phase
-after_own p s log unjudged asdu phase a may on first fits =
+after_own p s log unjudged asdu phase a flushing ready may on first fits =
     let f : Sent = record { ns = s.session.next_sent; nr = s.session.next_received; asdu = asdu } in
     let none : has_objects asdu ≡ false = first_plain s.commands.answers asdu first a.plain in
     let oldest : tasks.first_answer (tasks_of p a.course.works).state.answers ≡ Some asdu =
     ap tasks.first_answer (sym (ap (λ (c : tasks.State). c.answers) a.stands.does.commands ∙ answers_in p phase (latest log) (room_in p log a.course) a.course.works)) ∙ first in
     let w : Works = with_call SendOwn a.course.works in
-    let talk = data_talk p s (own_sent s) log unjudged asdu Own phase w a may (ap (λ b. if b then FromQueue else Own) none) (record { own = λ no. oldest; none = λ some. absurd (false≢true (sym none ∙ some)); report = λ some. absurd (false≢true (sym none ∙ some)) }) fits (data_own s asdu s.moment a.course none) in
+    let talk = data_talk p s (own_sent s) log unjudged asdu Own phase w a may (ap (λ b. if b then FromQueue else Own) none) (record { confirmed = sym (confirmed_by p s.session log a.course a.talk) ∙ ready; own = λ no. oldest; none = λ some. absurd (false≢true (sym none ∙ some)); report = λ some. absurd (false≢true (sym none ∙ some)) }) (placed_in phase log _ flushing a.stands.placed (sym a.here.link ∙ on)) fits (data_own s asdu s.moment a.course none) in
     let room = data_room p s (own_sent s) log unjudged asdu Own phase w a in
     record {
       k = a.k;
@@ -360,9 +371,9 @@ due_same (I ns nr asdu) moment c none = let no : data_frames (I ns nr asdu ∷ [
 due_same (S nr) moment c none = refl
 due_same (U u) moment c none = refl
 
-pub after_due : (p : Setup) (s : State) (t : Session) (log : Log) (unjudged : List ℕ) (f : Apdu) (phase : Phase) (a : Agrees p s log unjudged phase) → (talk.confirmation_of a.course.talk ≡ Some f) ⊎ (IsFlushed p log a.course × HasBegun log a.course) → s.session.connected ≡ true → Fits f → HasNoData f → GoesOut s.session t s.moment f → SameWindow s.session t →
+pub after_due : (p : Setup) (s : State) (t : Session) (log : Log) (unjudged : List ℕ) (f : Apdu) (phase : Phase) (a : Agrees p s log unjudged phase) → IsFlushing phase → (talk.confirmation_of a.course.talk ≡ Some f) ⊎ ((talk.confirmation_of a.course.talk ≡ None) × IsFlushed p log a.course × HasBegun log a.course) → s.session.connected ≡ true → Fits f → HasNoData f → GoesOut s.session t s.moment f → SameWindow s.session t →
     Agrees p (record s { session = t }) (Went s.moment (TcpOut (spelling f)) ∷ log) unjudged phase
-after_due p s t log unjudged f phase a next on fits none goes same = record {
+after_due p s t log unjudged f phase a flushing next on fits none goes same = record {
   k = same.same_k ∙ a.k;
   sizes = a.sizes;
   places = a.places;
@@ -384,7 +395,7 @@ after_due p s t log unjudged f phase a next on fits none goes same = record {
   where
     talk_due : Talks p t (Went s.moment (TcpOut (spelling f)) ∷ log) (due_course f s.moment a.course)
     talk_due = subst (Talks p t (Went s.moment (TcpOut (spelling f)) ∷ log)) (due_same f s.moment a.course none)
-        (talk_out p s.session t log a.course s.moment s.moment f goes.call a.talk fits a.clock (next_plain p log a.course f none next) (goes.made a.course.talk) (a.here.so_far ++ unjudged, a.here.joined))
+        (talk_out p s.session t log a.course s.moment s.moment f goes.call a.talk fits a.clock (next_plain p log a.course f none next) (placed_in phase log _ flushing a.stands.placed (sym a.here.link ∙ on)) (goes.made a.course.talk) (a.here.so_far ++ unjudged, a.here.joined))
 
 -- the works where a frame is taken, by whether its answer finds a place
 heard_stands : (p : Setup) (s : State) (log : Log) (f : Apdu) (c : Course) (kept : Bool) → has_place f s.moment s.commands ≡ kept → IsAt p log Taking s c → IsAt p log (after_frame kept) (framed f s) (with_frame p f s.moment c)

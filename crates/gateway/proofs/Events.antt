@@ -115,6 +115,7 @@ module _ (laws : LineLaws) (p : Setup) (s : State) (q : Primary) (log : Log) (a 
         a.talk.course_runs,
         record {
           all = all_taken log a.course a.here.so_far a.here.joined a.here.waits;
+          placed = a.stands.placed;
           due = a.stands.asks;
           request = x;
           next = same_next (Some x) next;

@@ -134,10 +134,10 @@ not_sent_all n os taken some next all =
     omega (arith, some_objects (length os) some, ap length next, length-take (length os) (drop n taken), length-drop n taken, all)
 
 by_due : AreUnique → (p : Setup) (log : Log) (c : Course) (f g : Apdu) → MayTake p log (latest log) f c →
-    (confirmation_of c.talk ≡ Some g) ⊎ (frame_due p.session.w p.session.t2 p.session.t3 (latest log) c.talk ≡ Some g) → (confirmation_of c.talk ≡ Some g) ⊎ (IsFlushed p log c × HasBegun log c) → ⊥
+    (confirmation_of c.talk ≡ Some g) ⊎ (frame_due p.session.w p.session.t2 p.session.t3 (latest log) c.talk ≡ Some g) → (confirmation_of c.talk ≡ Some g) ⊎ ((confirmation_of c.talk ≡ None) × IsFlushed p log c × HasBegun log c) → ⊥
 by_due u p log c f g may (inl e) next = let no : None ≡ Some g = sym may.rules.0.0.confirmed ∙ e in cc
 by_due u p log c f g may (inr due) (inl e) = let no : None ≡ Some g = sym may.rules.0.0.confirmed ∙ e in cc
-by_due u p log c f g may (inr due) (inr next) = elim may.undue [ inl first ↦ untouched first next.1 | inr none ↦ clash none ]
+by_due u p log c f g may (inr due) (inr next) = elim may.undue [ inl first ↦ untouched first next.2 | inr none ↦ clash none ]
   where
     clash : frame_due p.session.w p.session.t2 p.session.t3 (latest log) c.talk ≡ None → ⊥
     clash none = let no : None ≡ Some g = sym none ∙ due in cc

@@ -22,7 +22,7 @@ use Rattle.session.specs.declared.kinds.Close.TheVariants.{Timeout}
 use Rattle.session.specs.History.{confirmation_of, has_timed_out}
 use Rattle.session.specs.Runs.{Confirm, Pull}
 use Rattle.session.specs.Ends.{after_confirm, after_pull, IsConfirmed, IsInTime}
-use Rattle.gateway.specs.Agrees.{Agrees, Tracks, Awaits, Leaves, Rests, IsSpent, IsQuiet, StaysInTime, pending}
+use Rattle.gateway.specs.Agrees.{IsClear, Agrees, Tracks, Awaits, Leaves, Rests, IsSpent, IsQuiet, StaysInTime, pending}
 use Rattle.gateway.specs.Steps.{SendsPiece, SendsOwn, SendsData, MayClose}
 use Rattle.gateway.proofs.Tied.{SameWindow}
 use Rattle.gateway.proofs.Talking.{HasNoData, confirms, pulls, patient, all_taken, confirmed_by, late_by, confirm_t1, pull_t1}
@@ -46,11 +46,7 @@ pub told_leaves : (p : Setup) (result : Bool) (told : Option Log) (s : State) (p
 told_leaves p true told s phase h = told_faithful p told s [] phase h
 told_leaves p false told s phase h = h
 
--- handing this frame to TCP leads from one state to the other
-abbrev pub Sends : State → Apdu → State → Type 0
-Sends s f t = (p : Setup) (log : Log) (unjudged : List ℕ) (phase : Phase) → Agrees p s log unjudged phase → Agrees p t (Went s.moment (TcpOut (spelling f)) ∷ log) unjudged phase
-
--- the same in one phase
+-- in a phase handing this frame to TCP leads from one state to the other
 abbrev pub SendsIn : Setup → List ℕ → Phase → State → Apdu → State → Type 0
 SendsIn p unjudged phase s f t = (log : Log) → Agrees p s log unjudged phase → Agrees p t (Went s.moment (TcpOut (spelling f)) ∷ log) unjudged phase
 
@@ -67,13 +63,14 @@ open_of s may =
     let two = (and_parts (s.connected && s.started) (not s.stopping) running).0 in
     (and_parts s.connected s.started two).0
 
-pub sends_piece : (s : State) (f : Apdu) (t : State) → s.commands.answers ≡ [] → SendsPiece s f t → Sends s f t
-sends_piece s f t none h p log unjudged phase a = rw (h.after, h.frame) (after_piece p s log unjudged h.asdu h.rest phase a h.may (open_of s.session h.may) none h.first (subst Fits h.frame h.fits))
+pub sends_piece : (s : State) (f : Apdu) (t : State) → s.commands.answers ≡ [] → SendsPiece s f t → IsConfirmed s.session → (p : Setup) (unjudged : List ℕ) (phase : Phase) → IsFlushing phase → SendsIn p unjudged phase s f t
+sends_piece s f t none h ready p unjudged phase flushing log a =
+    rw (h.after, h.frame) (after_piece p s log unjudged h.asdu h.rest phase a flushing ready h.may (open_of s.session h.may) none h.first (subst Fits h.frame h.fits))
 
-pub sends_own : (s : State) (f : Apdu) (t : State) → SendsOwn s f t → Sends s f t
-sends_own s f t h p log unjudged phase a = rw (h.after, h.frame) (after_own p s log unjudged h.asdu phase a h.may (open_of s.session h.may) h.first (subst Fits h.frame h.fits))
+pub sends_own : (s : State) (f : Apdu) (t : State) → SendsOwn s f t → IsConfirmed s.session → (p : Setup) (unjudged : List ℕ) (phase : Phase) → IsFlushing phase → SendsIn p unjudged phase s f t
+sends_own s f t h ready p unjudged phase flushing log a = rw (h.after, h.frame) (after_own p s log unjudged h.asdu phase a flushing ready h.may (open_of s.session h.may) h.first (subst Fits h.frame h.fits))
 
-pub sends_data : (s : State) (f : Apdu) (t : State) → SendsData s f t → Sends s f t
+pub sends_data : (s : State) (f : Apdu) (t : State) → SendsData s f t → IsConfirmed s.session → (p : Setup) (unjudged : List ℕ) (phase : Phase) → IsFlushing phase → SendsIn p unjudged phase s f t
 sends_data s f t (inl h) = sends_own s f t h
 sends_data s f t (inr h) = sends_piece s f t h.0 h.1
 
@@ -137,16 +134,16 @@ pulled_leaves now s =
 
 -- a confirmation, or nothing else can be sent
 abbrev IsNextDue : Setup → List ℕ → Phase → State → Apdu → Type 0
-IsNextDue p unjudged phase s f = (log : Log) (a : Agrees p s log unjudged phase) → (confirmation_of a.course.talk ≡ Some f) ⊎ (IsFlushed p log a.course × HasBegun log a.course)
+IsNextDue p unjudged phase s f = (log : Log) (a : Agrees p s log unjudged phase) → (confirmation_of a.course.talk ≡ Some f) ⊎ ((confirmation_of a.course.talk ≡ None) × IsFlushed p log a.course × HasBegun log a.course)
 
-sends_due : (p : Setup) (unjudged : List ℕ) (phase : Phase) (s : State) (f : Apdu) (t : Session) → Fits f → IsNextDue p unjudged phase s f → GoesOut s.session t s.moment f → LeavesWindow s.session (Some f, t) → SendsIn p unjudged phase s f (record s { session = t })
-sends_due p unjudged phase s f t fits next goes h log a = after_due p s t log unjudged f phase a (next log a) h.sends.0 fits h.sends.1 goes h.same
+sends_due : (p : Setup) (unjudged : List ℕ) (phase : Phase) (s : State) (f : Apdu) (t : Session) → IsFlushing phase → Fits f → IsNextDue p unjudged phase s f → GoesOut s.session t s.moment f → LeavesWindow s.session (Some f, t) → SendsIn p unjudged phase s f (record s { session = t })
+sends_due p unjudged phase s f t flushing fits next goes h log a = after_due p s t log unjudged f phase a flushing (next log a) h.sends.0 fits h.sends.1 goes h.same
 
-pub sends_confirmation : (s t : State) (f : Apdu) → Fits f → ◌≡◌ {A = Option Apdu × Session} (Some f, t.session) (session.confirmed s.session) → t ≡ record s { session = t.session } → (p : Setup) (unjudged : List ℕ) (phase : Phase) → SendsIn p unjudged phase s f t
-sends_confirmation s t f fits e rest p unjudged phase log a = rw rest (sends_due p unjudged phase s f t.session fits (λ log a. inl (sym (confirmed_by p s.session log a.course a.talk) ∙ sym (ap (λ (d : Option Apdu × Session). d.0) e))) (record { call = Confirm s.moment; made = λ h. confirms s.session t.session h f s.moment (subst (LeavesWindow s.session) (sym e) (confirmed_leaves s.session)).sends.1 e }) (subst (LeavesWindow s.session) (sym e) (confirmed_leaves s.session)) log a)
+pub sends_confirmation : (s t : State) (f : Apdu) → Fits f → ◌≡◌ {A = Option Apdu × Session} (Some f, t.session) (session.confirmed s.session) → t ≡ record s { session = t.session } → (p : Setup) (unjudged : List ℕ) (phase : Phase) → IsFlushing phase → SendsIn p unjudged phase s f t
+sends_confirmation s t f fits e rest p unjudged phase flushing log a = rw rest (sends_due p unjudged phase s f t.session flushing fits (λ log a. inl (sym (confirmed_by p s.session log a.course a.talk) ∙ sym (ap (λ (d : Option Apdu × Session). d.0) e))) (record { call = Confirm s.moment; made = λ h. confirms s.session t.session h f s.moment (subst (LeavesWindow s.session) (sym e) (confirmed_leaves s.session)).sends.1 e }) (subst (LeavesWindow s.session) (sym e) (confirmed_leaves s.session)) log a)
 
-pub sends_pulled : (s t : State) (f : Apdu) → IsSpent s → Fits f → ◌≡◌ {A = Option Apdu × Session} (Some f, t.session) (session.pulled s.moment s.session) → t ≡ record s { session = t.session } → (p : Setup) (unjudged : List ℕ) (phase : Phase) → IsFlushing phase → SendsIn p unjudged phase s f t
-sends_pulled s t f spent fits e rest p unjudged phase flushing log a = rw rest (sends_due p unjudged phase s f t.session fits (λ log a. inr (flushed_by p s log unjudged phase a spent, begun_by p s log unjudged phase a flushing)) (record { call = Pull s.moment; made = λ h. pulls s.session t.session h f s.moment (subst (LeavesWindow s.session) (sym e) (pulled_leaves s.moment s.session)).sends.1 e }) (subst (LeavesWindow s.session) (sym e) (pulled_leaves s.moment s.session)) log a)
+pub sends_pulled : (s t : State) (f : Apdu) → IsClear s → Fits f → ◌≡◌ {A = Option Apdu × Session} (Some f, t.session) (session.pulled s.moment s.session) → t ≡ record s { session = t.session } → (p : Setup) (unjudged : List ℕ) (phase : Phase) → IsFlushing phase → SendsIn p unjudged phase s f t
+sends_pulled s t f clear fits e rest p unjudged phase flushing log a = rw rest (sends_due p unjudged phase s f t.session flushing fits (λ log a. inr (sym (confirmed_by p s.session log a.course a.talk) ∙ clear.confirmed, flushed_by p s log unjudged phase a clear.spent, begun_by p s log unjudged phase a flushing)) (record { call = Pull s.moment; made = λ h. pulls s.session t.session h f s.moment (subst (LeavesWindow s.session) (sym e) (pulled_leaves s.moment s.session)).sends.1 e }) (subst (LeavesWindow s.session) (sym e) (pulled_leaves s.moment s.session)) log a)
 
 -- where nothing is due, nothing changes
 pub no_confirmation : (s t : State) → ◌≡◌ {A = Option Apdu × Session} (None, t.session) (session.confirmed s.session) → t ≡ record s { session = t.session } → t ≡ s
@@ -304,6 +301,9 @@ pull_confirmed law s t is h = subst (λ (x : State). IsConfirmed x.session) (sym
 
 pub pull_spent : (s t : State) → t ≡ record s { session = after_pull s.moment s.session } → IsSpent s → IsSpent t
 pull_spent s t is spent = subst IsSpent (sym is) (pulled_spent (session.pulled s.moment s.session).0 s (record s { session = after_pull s.moment s.session }) refl refl spent)
+
+pub pull_clear : ((now : ℕ) (s : Session) → IsConfirmed s → IsConfirmed (after_pull now s)) → (s t : State) → t ≡ record s { session = after_pull s.moment s.session } → IsClear s → IsClear t
+pull_clear law s t is clear = record { confirmed = pull_confirmed law s t is clear.confirmed; spent = pull_spent s t is clear.spent }
 
 pub data_confirmed : ((kind : Kind) (now : ℕ) (s : Session) → may_send s ≡ true → IsConfirmed s → IsConfirmed (session.sent kind now s)) → (s t : State) (kind : Kind) → IsData s t kind → IsConfirmed s.session → IsConfirmed t.session
 data_confirmed law s t kind d h = subst IsConfirmed (sym d.session) (law kind s.moment s.session d.may h)

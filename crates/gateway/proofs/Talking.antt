@@ -103,7 +103,7 @@ plain (S nr) now h none = refl
 plain (U u) now h none = refl
 
 -- and it is next where it is a confirmation, or all has gone out
-pub next_plain : (p : Setup) (log : Log) (c : Course) (f : Apdu) → HasNoData f → (confirmation_of c.talk ≡ Some f) ⊎ (IsFlushed p log c × HasBegun log c) → IsNext p log f c
+pub next_plain : (p : Setup) (log : Log) (c : Course) (f : Apdu) → HasNoData f → (confirmation_of c.talk ≡ Some f) ⊎ ((confirmation_of c.talk ≡ None) × IsFlushed p log c × HasBegun log c) → IsNext p log f c
 next_plain p log c (I ns nr asdu) none h = let no : data_frames (I ns nr asdu ∷ []) ≡ [] = none [] in cc
 next_plain p log c (S nr) none h = h
 next_plain p log c (U u) none h = h
@@ -146,9 +146,9 @@ ruled p s t log c call now moment said k clock made =
     (subst (λ (r : Run). KeepsRules p.session r.history) (ap (after_call call) k.called ∙ made) (k.laws.rules p.session (call ∷ k.calls) k.timely.range))
 
 -- a frame goes out
-pub talk_out : (p : Setup) (s t : Session) (log : Log) (c : Course) (now moment : ℕ) (f : Apdu) (call : Call) (k : Talks p s log c) → Fits f → moment ≡ latest log → IsNext p log f c → after_call call (at s c.talk) ≡ at t (told_sent f moment c.talk) → Begins (present log) c →
+pub talk_out : (p : Setup) (s t : Session) (log : Log) (c : Course) (now moment : ℕ) (f : Apdu) (call : Call) (k : Talks p s log c) → Fits f → moment ≡ latest log → IsNext p log f c → is_overfull (tasks_of p c.works).history ≡ false → after_call call (at s c.talk) ≡ at t (told_sent f moment c.talk) → Begins (present log) c →
     Talks p t (Went now (TcpOut (spelling f)) ∷ log) (with_sent f moment c)
-talk_out p s t log c now moment f call k fits clock next made b = record {
+talk_out p s t log c now moment f call k fits clock next placed made b = record {
   timely = k.timely;
   laws = k.laws;
   command_laws = k.command_laws;
@@ -159,7 +159,7 @@ talk_out p s t log c now moment f call k fits clock next made b = record {
     c,
     with_sent f moment c,
     k.course_runs,
-    record { frame = f; fits = fits; spelled_so = refl; rules = ruled p s t log c call (latest log) moment (λ m. told_sent f m c.talk) k clock made; next = next; put = ap (λ m. with_sent f m c) clock },
+    record { frame = f; fits = fits; spelled_so = refl; rules = ruled p s t log c call (latest log) moment (λ m. told_sent f m c.talk) k clock made; next = next; placed = placed; put = ap (λ m. with_sent f m c) clock },
     record { frames = []; taken = refl; each = tt; rest = b.0; joined = b.1 ∙ ap (λ xs. spelled xs ++ b.0) (sym (same_came f moment c.talk)) },
   );
 }

@@ -140,8 +140,10 @@ more_sent frame sent = sent
 abbrev pub with_sent : Apdu → (now : ℕ) → Course → Course
 with_sent frame now c = record { talk = told_sent frame now c.talk; sent = more_sent frame c.sent; earlier = c.earlier; works = sent_works frame c.works }
 
--- An I frame bears the next of the objects taken, once no own answer waits; or it is the oldest own answer (profile).
+-- An I frame goes out once all confirmations are out. It bears the next of the objects taken, once no own answer waits; or it is the
+-- oldest own answer (5.3; profile).
 pub record IsNextData (p : Setup) (log : Log) (asdu : List ℕ) (c : Course) : Type 0 where
+  pub confirmed : confirmation_of c.talk ≡ None
   pub own : has_objects asdu ≡ false → first_answer (tasks_of p c.works).state.answers ≡ Some asdu
   pub none : has_objects asdu ≡ true → (tasks_of p c.works).state.answers ≡ []
   pub report : has_objects asdu ≡ true → objects asdu ≡ take (length (objects asdu)) (drop (sent_objects c) (taken_objects p log))
@@ -150,15 +152,16 @@ pub record IsNextData (p : Setup) (log : Log) (asdu : List ℕ) (c : Course) : T
 -- of the event; but for a confirmation (5.1, 5.3; profile).
 abbrev pub IsNext : Setup → Log → Apdu → Course → Type 0
 IsNext p log (I ns nr asdu) c = IsNextData p log asdu.items c
-IsNext p log frame c = (confirmation_of c.talk ≡ Some frame) ⊎ (IsFlushed p log c × HasBegun log c)
+IsNext p log frame c = (confirmation_of c.talk ≡ Some frame) ⊎ ((confirmation_of c.talk ≡ None) × IsFlushed p log c × HasBegun log c)
 
--- These octets go out: one frame, the next one, by the rules of 5.1 to 5.5.
+-- These octets go out: one frame, the next one, by the rules of 5.1 to 5.5; and none once an own answer found no place.
 pub record HandsOver (p : Setup) (log : Log) (octets : List ℕ) (now : ℕ) (before after : Course) : Type 0 where
   pub frame : Apdu
   pub fits : Fits frame
   pub spelled_so : octets ≡ spelling frame
   pub rules : KeepsRules p.session (told_sent frame now before.talk)
   pub next : IsNext p log frame before
+  pub placed : is_overfull (tasks_of p before.works).history ≡ false
   pub put : after ≡ with_sent frame now before
 
 -- The ends of connections
@@ -226,6 +229,7 @@ Comes p log at CutOff c d = d ≡ ended_course (present log).is_open (begun_work
 -- that goes out for the first time is the oldest that waits for its station.
 pub record SendsNext (p : Setup) (log : Log) (octets : List ℕ) (before after : Course) : Type 0 where
   pub all : HasTakenAll (present log) before.talk
+  pub placed : (present log).is_open ≡ true → is_overfull (tasks_of p before.works).history ≡ false
   pub due : before.works.is_due ≡ true
   pub request : Sending
   pub next : sending (ready_works p (latest log) before.works).line (room_in p log before) ≡ Some request

@@ -10,7 +10,7 @@ ghost use Rattle.gateway.specs.Ports.{input_of};
 ghost use Rattle.gateway.specs.Reports.{Setup};
 ghost use Rattle.gateway.specs.Traffic.{IsFaithful};
 ghost use Rattle.gateway.specs.State.{State, disconnected, connected};
-ghost use Rattle.gateway.specs.Agrees.{Tracks, Awaits, Meets, Leaves, Follows, HasCome, Rests, IsSpent, StaysInTime};
+ghost use Rattle.gateway.specs.Agrees.{IsClear, Tracks, Awaits, Meets, Leaves, Follows, HasCome, Rests, IsSpent, StaysInTime};
 ghost use Rattle.gateway.specs.Steps.{MayClose, HearsEvent, Begins};
 ghost use Rattle.gateway.specs.Phases.{Phase, Idle, Timed, Asked, IsFlushing};
 ghost use Rattle.gateway.specs.Judging.{Goes, IsOnward, faults_in};
@@ -49,7 +49,7 @@ impl Gateway {
     /// Sends the next confirmation, if one is due.
     fn send_confirmation<P: Port>(&mut self, port: &mut P) -> bool
         requires { P.failed port.old < u64.MAX }
-        ensures kept { (p : Setup) (unjudged : List ℕ) (phase : Phase) → Tracks p self.old (P.log port.old) unjudged phase → Leaves result p self.new (P.log port.new) unjudged phase }
+        ensures kept { (p : Setup) (unjudged : List ℕ) (phase : Phase) → IsFlushing phase → Tracks p self.old (P.log port.old) unjudged phase → Leaves result p self.new (P.log port.new) unjudged phase }
         ensures open { self.new.session.connected ≡ self.old.session.connected }
         ensures next { OnTrue result (self.new ≡ record self.old { session = after_confirm self.old.session }) }
         ensures events { events_told (P.log port.new) ≡ events_told (P.log port.old) }
@@ -65,7 +65,7 @@ impl Gateway {
     /// Sends the confirmations that are due: an S frame, STARTDT con or TESTFR con, and STOPDT con.
     fn send_confirmations<P: Port>(&mut self, port: &mut P) -> bool
         requires { P.failed port.old < u64.MAX }
-        ensures kept { (p : Setup) (unjudged : List ℕ) (phase : Phase) → Tracks p self.old (P.log port.old) unjudged phase → Leaves result p self.new (P.log port.new) unjudged phase }
+        ensures kept { (p : Setup) (unjudged : List ℕ) (phase : Phase) → IsFlushing phase → Tracks p self.old (P.log port.old) unjudged phase → Leaves result p self.new (P.log port.new) unjudged phase }
         ensures open { self.new.session.connected ≡ self.old.session.connected }
         ensures confirmed { OnTrue result (IsConfirmed self.new.session) }
         ensures in_time { OnTrue result (StaysInTime self.old self.new) }
@@ -86,7 +86,7 @@ impl Gateway {
     /// Sends own answers and reports while the window is open.
     fn send_data<P: Port>(&mut self, port: &mut P) -> bool
         requires { P.failed port.old < u64.MAX }
-        ensures kept { (p : Setup) (unjudged : List ℕ) (phase : Phase) → Tracks p self.old (P.log port.old) unjudged phase → Leaves result p self.new (P.log port.new) unjudged phase }
+        ensures kept { (p : Setup) (unjudged : List ℕ) (phase : Phase) → IsFlushing phase → IsConfirmed self.old.session → Tracks p self.old (P.log port.old) unjudged phase → Leaves result p self.new (P.log port.new) unjudged phase }
         ensures open { self.new.session.connected ≡ self.old.session.connected }
         ensures spent { OnTrue result (IsSpent self.new) }
         ensures confirmed { OnTrue result (IsConfirmed self.old.session → IsConfirmed self.new.session) }
@@ -107,7 +107,7 @@ impl Gateway {
     /// Sends the S frame, or else the TESTFR act, if one is due.
     fn send_due<P: Port>(&mut self, port: &mut P) -> bool
         requires { P.failed port.old < u64.MAX }
-        ensures kept { (p : Setup) (unjudged : List ℕ) (phase : Phase) → IsFlushing phase → IsSpent self.old → Tracks p self.old (P.log port.old) unjudged phase → Leaves result p self.new (P.log port.new) unjudged phase }
+        ensures kept { (p : Setup) (unjudged : List ℕ) (phase : Phase) → IsFlushing phase → IsClear self.old → Tracks p self.old (P.log port.old) unjudged phase → Leaves result p self.new (P.log port.new) unjudged phase }
         ensures open { self.new.session.connected ≡ self.old.session.connected }
         ensures next { OnTrue result (self.new ≡ record self.old { session = after_pull self.old.moment self.old.session }) }
         ensures events { events_told (P.log port.new) ≡ events_told (P.log port.old) }
@@ -123,7 +123,7 @@ impl Gateway {
     /// Sends the S frame and the TESTFR act that are due.
     fn send_dues<P: Port>(&mut self, port: &mut P) -> bool
         requires { P.failed port.old < u64.MAX }
-        ensures kept { (p : Setup) (unjudged : List ℕ) (phase : Phase) → IsFlushing phase → IsSpent self.old → Tracks p self.old (P.log port.old) unjudged phase → Leaves result p self.new (P.log port.new) unjudged phase }
+        ensures kept { (p : Setup) (unjudged : List ℕ) (phase : Phase) → IsFlushing phase → IsClear self.old → Tracks p self.old (P.log port.old) unjudged phase → Leaves result p self.new (P.log port.new) unjudged phase }
         ensures open { self.new.session.connected ≡ self.old.session.connected }
         ensures spent { OnTrue result (IsSpent self.old → IsSpent self.new) }
         ensures confirmed { OnTrue result (IsConfirmed self.old.session → IsConfirmed self.new.session) }

@@ -3,7 +3,8 @@ use Rattle.gateway.proofs.engine.Gateway.flush.Goals as goal
 
 pub returns-clause-kept : goal.returns-clause-kept
 returns-clause-kept g c = λ p unjudged phase flushing h.
-    c.send_dues.ensures.kept p unjudged phase flushing c.if-not-send_data.ensures.spent (c.if-not-send_data.ensures.kept p unjudged phase (c.if-not-send_confirmations.ensures.kept p unjudged phase h))
+    let confirmed = c.if-not-send_confirmations.ensures.confirmed in
+    c.send_dues.ensures.kept p unjudged phase flushing (record { confirmed = c.if-not-send_data.ensures.confirmed confirmed; spent = c.if-not-send_data.ensures.spent }) (c.if-not-send_data.ensures.kept p unjudged phase flushing confirmed (c.if-not-send_confirmations.ensures.kept p unjudged phase flushing h))
 
 pub returns-clause-in_time : goal.returns-clause-in_time
 returns-clause-in_time g c =

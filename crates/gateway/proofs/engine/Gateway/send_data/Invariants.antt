@@ -1,5 +1,5 @@
 use Rattle.std.proofs.Common.{◌≡◌, ℕ, ◌+◌, List, length}
-use Rattle.gateway.specs.Phases.{Phase}
+use Rattle.gateway.specs.Phases.{Phase, IsFlushing}
 use Rattle.gateway.specs.Reports.{Setup}
 use Rattle.session.specs.Ends.{IsConfirmed}
 use Rattle.gateway.specs.Agrees.{Tracks, StaysInTime}
@@ -8,7 +8,7 @@ use Rattle.gateway.proofs.engine.Gateway.send_data.Given as goal
 
 abbrev pub invariant-loop-apdu : goal.invariant-loop-apdu
 invariant-loop-apdu g l = record {
-  kept : (p : Setup) (unjudged : List ℕ) (phase : Phase) → Tracks p l.fn.self (g.P.Port.log l.fn.port) unjudged phase → Tracks p l.self (g.P.Port.log l.port) unjudged phase;
+  kept : (p : Setup) (unjudged : List ℕ) (phase : Phase) → IsFlushing phase → IsConfirmed l.fn.self.session → Tracks p l.fn.self (g.P.Port.log l.fn.port) unjudged phase → Tracks p l.self (g.P.Port.log l.port) unjudged phase;
   confirmed : IsConfirmed l.fn.self.session → IsConfirmed l.self.session;
   in_time : StaysInTime l.fn.self l.self;
   on : l.self.session.connected ≡ l.fn.self.session.connected;

@@ -1,9 +1,9 @@
-use Rattle.gateway.proofs.Put.{on_map, pull_in_time, pull_confirmed, pull_spent, stays_after}
+use Rattle.gateway.proofs.Put.{on_map, pull_in_time, pull_confirmed, pull_clear, stays_after}
 use Rattle.gateway.proofs.engine.Gateway.send_dues.Goals as goal
 
 pub returns-clause-kept : goal.returns-clause-kept
-returns-clause-kept g c = λ p unjudged phase flushing spent h.
-    c.send_due-2.ensures.kept p unjudged phase flushing (pull_spent c.args.self.now c.send_due.new.self c.if-not-send_due.ensures.next spent) (c.if-not-send_due.ensures.kept p unjudged phase flushing spent h)
+returns-clause-kept g c = λ p unjudged phase flushing clear h.
+    c.send_due-2.ensures.kept p unjudged phase flushing (pull_clear c.calls_come_to_an_end.ensures.confirmed_pull c.args.self.now c.send_due.new.self c.if-not-send_due.ensures.next clear) (c.if-not-send_due.ensures.kept p unjudged phase flushing clear h)
 
 pub returns-clause-confirmed : goal.returns-clause-confirmed
 returns-clause-confirmed g c =
