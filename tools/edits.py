@@ -57,7 +57,9 @@ def copied(crate, room, named):
     shutil.copy(os.path.join(TOP, "HANDLES"), room)
     subprocess.run(["git", "init", "-q", room], check=True)
     for name in wanted:
-        shutil.copytree(os.path.join(TOP, "crates", name), os.path.join(room, "crates", name))
+        # Of what a crate stands on only the built library is needed: the work kept beside it takes far more room.
+        without = shutil.ignore_patterns("incremental") if name != crate else None
+        shutil.copytree(os.path.join(TOP, "crates", name), os.path.join(room, "crates", name), ignore=without)
     # `rt check` notes edits that can't be applied, and none of these is of interest here.
     shutil.rmtree(os.path.join(room, "crates", crate, "must-fail"), ignore_errors=True)
     return os.path.join(room, "crates", crate)
