@@ -1,1 +1,5 @@
 pub mod RunLemmas
+pub mod Commands
+pub mod Kept
+pub mod Files
+pub mod Printing

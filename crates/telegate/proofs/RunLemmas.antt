@@ -26,7 +26,7 @@ use Rattle.gateway.specs.declared.runs.End.TheVariants.{Turns}
 use Rattle.settings.specs.Settings.{IsReadOfText}
 use Rattle.sim.specs.Scripts.{IsScriptOf}
 use Rattle.sim.specs.declared.directive.Directive.{Directive}
-use Rattle.telegate.specs.Answers.{IsMemory, IsRunOf, IsReplayed, IsSimulationOf, IsSimulatedBy}
+use Rattle.telegate.specs.Answers.{IsMemory, IsGood, IsChecked, IsRunOf, IsReplayed, IsSimulationOf, IsSimulatedBy}
 use Rattle.telegate.specs.declared.answer.Answer.{Answer}
 use Rattle.telegate.specs.declared.closing.Closing.{Closing}
 use Rattle.telegate.specs.declared.fault.Fault.{Fault}
@@ -70,8 +70,8 @@ all_came t entries over whole = by t.started t.left over whole
 
 -- the answer of a run that has come to its end
 pub closed : (settings : Settings) (entries : List Entry) (closing : Closing) (state : State) (log : Log) (text : List ℕ) (r : Result Answer Fault) → events_of log ≡ script_of entries → IsFaithful (setup_of settings) log → HasRested (setup_of settings) log → KeepsOrder log →
-    Delivers (setup_of settings) log → IsAccounted (setup_of settings) state log → text ≡ lines_of_actions log → MatchResult r (λ answer. (answer.text.items ≡ text ++ closing_lines closing.left closing.counts state) × (answer.status ≡ 0)) IsMemory → IsRunOf settings entries closing r
-closed settings entries closing state log text (Ok answer) events faithful rests ordered delivers accounts is h = record {
+    Delivers (setup_of settings) log → Follows (setup_of settings) state (Some log) → IsAccounted (setup_of settings) state log → text ≡ lines_of_actions log → MatchResult r (λ answer. (answer.text.items ≡ text ++ closing_lines closing.left closing.counts state) × (answer.status ≡ 0)) IsMemory → IsRunOf settings entries closing r
+closed settings entries closing state log text (Ok answer) events faithful rests ordered delivers follows accounts is h = record {
   log = log;
   events = events;
   faithful = faithful;
@@ -79,11 +79,12 @@ closed settings entries closing state log text (Ok answer) events faithful rests
   ordered = ordered;
   delivers = delivers;
   state = state;
+  follows = follows;
   accounts = accounts;
   text = h.0 ∙ ap (λ xs. xs ++ closing_lines closing.left closing.counts state) is;
   status = h.1;
 }
-closed settings entries closing state log text (Err e) events faithful rests ordered delivers accounts is h = h
+closed settings entries closing state log text (Err e) events faithful rests ordered delivers follows accounts is h = h
 
 -- the answer to the command, where its files were read
 pub replayed : (config trace : List ℕ) (closing : Closing) (settings : Settings) (entries : Vec Entry Global) (r : Result Answer Fault) → IsReadOfText config (Ok settings) → IsTraceOf trace (Ok entries) → IsRunOf settings entries.items closing r → IsReplayed config trace closing r
@@ -106,3 +107,14 @@ simulated config text settings script (Err (Script n)) read said run = absurd ru
 simulated config text settings script (Err Sizes) read said run = absurd run
 simulated config text settings script (Err Octets) read said run = absurd run
 simulated config text settings script (Err Device) read said run = absurd run
+
+-- the answer to settings that were read
+pub checked : (config : List ℕ) (settings : Settings) (r : Result Answer Fault) → IsReadOfText config (Ok settings) → IsGood r → IsChecked config r
+checked config settings (Ok answer) read told = record { settings = settings; read_config = read; told = told }
+checked config settings (Err NoMemory) read told = tt
+checked config settings (Err (Config why)) read told = absurd told
+checked config settings (Err (Trace n)) read told = absurd told
+checked config settings (Err (Script n)) read told = absurd told
+checked config settings (Err Sizes) read told = absurd told
+checked config settings (Err Octets) read told = absurd told
+checked config settings (Err Device) read told = absurd told

@@ -20,10 +20,11 @@ use Rattle.gateway.specs.Traffic.{IsFaithful, HasRested}
 use Rattle.delivery.specs.Delivery.{Delivers}
 use Rattle.gateway.specs.declared.entries.Entry.{Entry}
 use Rattle.sim.specs.Scripts.{IsScriptOf}
-use Rattle.sim.specs.Runs.{IsSimulated}
+use Rattle.sim.specs.Runs.{IsBegun, IsSimulated}
 use Rattle.sim.specs.declared.directive.Directive.{Directive}
 use Rattle.settings.specs.Settings.{IsReadOfText}
 use Rattle.gateway.specs.Accounts.{IsAccounted}
+use Rattle.gateway.specs.Agrees.{Follows}
 use Rattle.gateway.specs.Order.{KeepsOrder}
 use Rattle.gateway.specs.State.{State}
 use Rattle.telegate.specs.Closing.{closing_lines}
@@ -88,19 +89,24 @@ IsConfigFault config _ = ⊥
 abbrev pub IsReadConfig : List ℕ → Result Settings Fault → Type 0
 IsReadConfig config result = MatchResult result (λ c. IsReadOfText config (Ok c)) (IsConfigFault config)
 
--- settings that are read are told to be good
+-- it is told that settings are good
+pub record TellsGood (answer : Answer) : Type 0 where
+  pub text : answer.text.items ≡ codes "ok" ++ 10 ∷ []
+  pub status : answer.status ≡ 0
+
+-- of settings that are read
 pub record IsCheckAnswer (config : List ℕ) (answer : Answer) : Type 0 where
   pub settings : Settings
   pub read_config : IsReadOfText config (Ok settings)
-  pub text : answer.text.items ≡ codes "ok" ++ 10 ∷ []
-  pub status : answer.status ≡ 0
+  pub told : TellsGood answer
 
 abbrev pub IsChecked : List ℕ → Result Answer Fault → Type 0
 IsChecked config result = MatchResult result (IsCheckAnswer config) (IsConfigFault config)
 
 -- The lines of the actions of the log of a run over these entries, and those with which the run ends: the events of the log are a
 -- tick at moment 0 and the entries, the log keeps every promise of a gateway with these settings, and so delivers what the outstations
--- reported; and what is left and was counted is what the log shows.
+-- reported. What is left and was counted is that of a gateway whose state agrees with this log: of the reports that went out on the
+-- open connection the very ASDUs that aren't acknowledged, then as many pieces of the others as have places.
 pub record IsRun (settings : Settings) (entries : List Entry) (closing : Closing) (answer : Answer) : Type 0 where
   pub log : Log
   pub events : events_of log ≡ script_of entries
@@ -109,6 +115,7 @@ pub record IsRun (settings : Settings) (entries : List Entry) (closing : Closing
   pub ordered : KeepsOrder log
   pub delivers : Delivers (setup_of settings) log
   pub state : State
+  pub follows : Follows (setup_of settings) state (Some log)
   pub accounts : IsAccounted (setup_of settings) state log
   pub text : answer.text.items ≡ lines_of_actions log ++ closing_lines closing.left closing.counts state
   pub status : answer.status ≡ 0
@@ -124,6 +131,9 @@ pub record IsRunAnswer (config trace : List ℕ) (closing : Closing) (answer : A
 abbrev pub IsMemory : Fault → Type 0
 IsMemory NoMemory = Unit {0}
 IsMemory _ = ⊥
+
+abbrev pub IsGood : Result Answer Fault → Type 0
+IsGood result = MatchResult result TellsGood IsMemory
 
 abbrev pub IsRunOf : Settings → List Entry → Closing → Result Answer Fault → Type 0
 IsRunOf settings entries closing result = MatchResult result (IsRun settings entries closing) IsMemory
@@ -185,10 +195,13 @@ pub record IsStopped (job : Job) (old new : Option (List ℕ)) (exit : ℕ) : Ty
   pub printed : Keeps old new
   pub status : exit ≡ status_of fault
 
--- the output couldn't be written
-abbrev pub IsDeviceFailed : ℕ → Type 0
-IsDeviceFailed status = status ≡ 3
+-- the command has an answer, of whose text a beginning was appended to the output, which then failed
+pub record IsCutShort (job : Job) (old new : Option (List ℕ)) (exit : ℕ) : Type 0 where
+  pub answer : Answer
+  pub answered : IsAnsweredBy job (Ok answer)
+  pub printed : IsBegun old new (answer.text.items)
+  pub status : exit ≡ 3
 
 -- what a command does to the output, whose octets are these before and after, and its exit status
 abbrev pub Performs : Job → Option (List ℕ) → Option (List ℕ) → ℕ → Type 0
-Performs job old new status = IsDone job old new status ⊎ (IsStopped job old new status ⊎ IsDeviceFailed status)
+Performs job old new status = IsDone job old new status ⊎ (IsStopped job old new status ⊎ IsCutShort job old new status)

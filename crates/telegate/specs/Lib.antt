@@ -2,3 +2,5 @@ pub mod Closing
 pub mod Faults
 pub mod Answers
 pub mod Running
+pub mod CommandLine
+pub mod Shell

@@ -1,6 +1,5 @@
 //! The command that judges settings.
-ghost use Rattle.std.specs.Prelude.{◌≡◌};
-ghost use Rattle.telegate.specs.Answers.{IsChecked, IsReadConfig};
+ghost use Rattle.telegate.specs.Answers.{IsChecked, IsGood, IsReadConfig};
 
 use crate::answer::Answer;
 use crate::fault::{DONE, Fault};
@@ -12,7 +11,16 @@ use std::alloc::Global;
 pub(crate) fn check(alloc: Global, config: &[u8]) -> Result<Answer, Fault>
     ensures { IsChecked config.now result }
 {
-    let _settings = read_config(alloc, config)?;
+    match read_config(alloc, config) {
+        Ok(_settings) => good(alloc),
+        Err(fault) => Err(fault),
+    }
+}
+
+/// The answer to settings that are good.
+fn good(alloc: Global) -> Result<Answer, Fault>
+    ensures { IsGood result }
+{
     match String::from_str(alloc, "ok\n") {
         Ok(text) => Ok(Answer {
             text: text.into_bytes(),

@@ -1,4 +1,10 @@
 //! The command line.
+ghost use Rattle.std.specs.Prelude.{◌≡◌, IfOk, codes, map, option_map, string_bytes};
+ghost use Rattle.clap.specs.Words.{FailsBy, fault_of, found_of, first_of, rows_of, subcommand_of, subcommand_rows_of};
+ghost use Rattle.telegate.specs.CommandLine as line;
+ghost use Rattle.telegate.specs.CommandLine.{IsArgument, IsAsked, IsCommand, IsFlag, IsRequestOf};
+
+use crate::help;
 use clap::{Arg, ArgAction, ArgMatches, Command, Error};
 use std::alloc::{AllocError, Global};
 
@@ -34,21 +40,27 @@ pub(crate) enum Request<'a> {
     },
 }
 
-fn word<'a>(alloc: Global, name: &'a str, help: &'a str) -> Arg<'a> {
+fn word<'a>(alloc: Global, name: &'a str, help: &'a str) -> Arg<'a>
+    ensures { IsArgument (line.word name.entry.now) result }
+{
     Arg::new(alloc, name)
         .required(true)
         .action(ArgAction::Set)
         .help(help)
 }
 
-fn flag<'a>(alloc: Global, name: &'a str, help: &'a str) -> Arg<'a> {
+fn flag<'a>(alloc: Global, name: &'a str, help: &'a str) -> Arg<'a>
+    ensures { IsArgument (line.flag name.entry.now) result }
+{
     Arg::new(alloc, name)
         .long(name)
         .action(ArgAction::SetTrue)
         .help(help)
 }
 
-fn show101<'a>(alloc: Global) -> Result<Command<'a>, AllocError> {
+fn show101<'a>(alloc: Global) -> Result<Command<'a>, AllocError>
+    ensures { IfOk result (IsCommand line.show101) }
+{
     Command::new(alloc, "show101")
         .about("Shows the line frame at the front of octets")
         .arg(word(
@@ -59,21 +71,28 @@ fn show101<'a>(alloc: Global) -> Result<Command<'a>, AllocError> {
         .arg(word(alloc, "HEX", "1 to 1,024 octets in hexadecimal"))
 }
 
-fn show104<'a>(alloc: Global) -> Result<Command<'a>, AllocError> {
+fn show104<'a>(alloc: Global) -> Result<Command<'a>, AllocError>
+    ensures { IfOk result (IsCommand line.show104) }
+{
     Command::new(alloc, "show104")
         .about("Shows the APDU at the front of octets")
         .arg(word(alloc, "HEX", "1 to 1,024 octets in hexadecimal"))
 }
 
-fn check<'a>(alloc: Global) -> Result<Command<'a>, AllocError> {
+fn check<'a>(alloc: Global) -> Result<Command<'a>, AllocError>
+    ensures { IfOk result (IsCommand line.check) }
+{
     Command::new(alloc, "check")
         .about("Checks a file of settings")
         .arg(word(alloc, "CONFIG", "A file of settings"))
 }
 
-fn replay<'a>(alloc: Global) -> Result<Command<'a>, AllocError> {
+fn replay<'a>(alloc: Global) -> Result<Command<'a>, AllocError>
+    ensures { IfOk result (IsCommand line.replay) }
+{
     Command::new(alloc, "replay")
         .about("Runs the gateway over the events of a trace, and prints what it puts out")
+        .after_help(help::REPLAY)
         .arg(word(alloc, "CONFIG", "A file of settings"))?
         .arg(word(alloc, "TRACE", "A file of events, one a line"))?
         .arg(flag(
@@ -88,11 +107,14 @@ fn replay<'a>(alloc: Global) -> Result<Command<'a>, AllocError> {
         ))
 }
 
-fn sim<'a>(alloc: Global) -> Result<Command<'a>, AllocError> {
+fn sim<'a>(alloc: Global) -> Result<Command<'a>, AllocError>
+    ensures { IfOk result (IsCommand line.sim) }
+{
     Command::new(alloc, "sim")
         .about(
             "Runs the gateway over simulated stations and a simulated control centre, and prints what it puts out",
         )
+        .after_help(help::SIM)
         .arg(word(alloc, "CONFIG", "A file of settings"))?
         .arg(word(
             alloc,
@@ -101,9 +123,12 @@ fn sim<'a>(alloc: Global) -> Result<Command<'a>, AllocError> {
         ))
 }
 
-fn run<'a>(alloc: Global) -> Result<Command<'a>, AllocError> {
+fn run<'a>(alloc: Global) -> Result<Command<'a>, AllocError>
+    ensures { IfOk result (IsCommand line.run) }
+{
     Command::new(alloc, "run")
         .about("Runs the gateway between a line and a control centre, until the line fails")
+        .after_help(help::RUN)
         .arg(word(
             alloc,
             "CONFIG",
@@ -111,50 +136,129 @@ fn run<'a>(alloc: Global) -> Result<Command<'a>, AllocError> {
         ))
 }
 
-/// Reads the words, or gives the text that is to be printed in place of a run.
-pub(crate) fn parse<'a>(alloc: Global, words: &'a [String]) -> Result<ArgMatches<'a>, Error> {
+/// The program, of whose commands one has to be named.
+fn bare<'a>(alloc: Global) -> Command<'a>
+    ensures { IsCommand line.bare result }
+{
     Command::new(alloc, "telegate")
+        .version(help::VERSION)
         .about(
             "A telecontrol gateway from an IEC 60870-5-101 line to an IEC 60870-5-104 connection",
         )
+        .after_help(help::PROGRAM)
         .subcommand_required(true)
         .arg_required_else_help(true)
+}
+
+/// The program, with its commands.
+fn program<'a>(alloc: Global) -> Result<Command<'a>, AllocError>
+    ensures { IfOk result (IsCommand line.program) }
+{
+    bare(alloc)
         .subcommand(show101(alloc)?)?
         .subcommand(show104(alloc)?)?
         .subcommand(check(alloc)?)?
         .subcommand(replay(alloc)?)?
         .subcommand(sim(alloc)?)?
-        .subcommand(run(alloc)?)?
-        .try_get_matches_from(words)
+        .subcommand(run(alloc)?)
+}
+
+/// Reads the words, or gives the text that is to be printed in place of a run.
+pub(crate) fn parse<'a>(alloc: Global, words: &'a [String]) -> Result<ArgMatches<'a>, Error>
+    // What the words name is what this command line takes.
+    ensures named { IfOk result (λ m. subcommand_rows_of m ≡ subcommand_of line.program (map string_bytes words.entry.now)) }
+    // Where they ask for nothing, it is by the first of their faults, or by a question for help or the version.
+    ensures fails { FailsBy (fault_of line.program (map string_bytes words.entry.now)) result }
+{
+    program(alloc)?.try_get_matches_from(words)
+}
+
+/// The command that was named, and what was given for it.
+fn named<'m, 'a>(matches: &'m ArgMatches<'a>) -> Option<(&'a str, &'m ArgMatches<'a>)>
+    ensures { option_map (λ p. (p.0.now, rows_of (found_of p.1.now))) result ≡ subcommand_rows_of matches.now }
+{
+    matches.subcommand()
+}
+
+/// The word given under a name.
+fn given<'a>(matches: &ArgMatches<'a>, name: &str) -> Option<&'a str>
+    ensures { option_map (λ s. s.now) result ≡ first_of name.now (rows_of (found_of matches.now)) }
+{
+    matches.get_str(name)
+}
+
+/// Whether a flag is given.
+fn is_given(matches: &ArgMatches<'_>, name: &str) -> bool
+    ensures { IsFlag (rows_of (found_of matches.now)) name.now result }
+{
+    matches.get_flag(name)
+}
+
+fn show101_of<'a>(matches: &ArgMatches<'a>) -> Option<Request<'a>>
+    ensures { IsAsked (codes "show101") (rows_of (found_of matches.now)) result }
+{
+    Some(Request::Show101 {
+        sizes: given(matches, "SIZES")?,
+        hex: given(matches, "HEX")?,
+    })
+}
+
+fn show104_of<'a>(matches: &ArgMatches<'a>) -> Option<Request<'a>>
+    ensures { IsAsked (codes "show104") (rows_of (found_of matches.now)) result }
+{
+    Some(Request::Show104 {
+        hex: given(matches, "HEX")?,
+    })
+}
+
+fn check_of<'a>(matches: &ArgMatches<'a>) -> Option<Request<'a>>
+    ensures { IsAsked (codes "check") (rows_of (found_of matches.now)) result }
+{
+    Some(Request::Check {
+        config: given(matches, "CONFIG")?,
+    })
+}
+
+fn replay_of<'a>(matches: &ArgMatches<'a>) -> Option<Request<'a>>
+    ensures { IsAsked (codes "replay") (rows_of (found_of matches.now)) result }
+{
+    Some(Request::Replay {
+        config: given(matches, "CONFIG")?,
+        trace: given(matches, "TRACE")?,
+        left: is_given(matches, "left"),
+        counts: is_given(matches, "counts"),
+    })
+}
+
+fn sim_of<'a>(matches: &ArgMatches<'a>) -> Option<Request<'a>>
+    ensures { IsAsked (codes "sim") (rows_of (found_of matches.now)) result }
+{
+    Some(Request::Sim {
+        config: given(matches, "CONFIG")?,
+        script: given(matches, "SCRIPT")?,
+    })
+}
+
+fn run_of<'a>(matches: &ArgMatches<'a>) -> Option<Request<'a>>
+    ensures { IsAsked (codes "run") (rows_of (found_of matches.now)) result }
+{
+    Some(Request::Run {
+        config: given(matches, "CONFIG")?,
+    })
 }
 
 /// The request of the words.
-pub(crate) fn request_of<'a>(matches: &ArgMatches<'a>) -> Option<Request<'a>> {
-    let (name, matches) = matches.subcommand()?;
+pub(crate) fn request_of<'a>(matches: &ArgMatches<'a>) -> Option<Request<'a>>
+    ensures { IsRequestOf (subcommand_rows_of matches.now) result }
+{
+    let (name, matches) = named(matches)?;
     match name {
-        "show101" => Some(Request::Show101 {
-            sizes: matches.get_str("SIZES")?,
-            hex: matches.get_str("HEX")?,
-        }),
-        "show104" => Some(Request::Show104 {
-            hex: matches.get_str("HEX")?,
-        }),
-        "check" => Some(Request::Check {
-            config: matches.get_str("CONFIG")?,
-        }),
-        "replay" => Some(Request::Replay {
-            config: matches.get_str("CONFIG")?,
-            trace: matches.get_str("TRACE")?,
-            left: matches.get_flag("left"),
-            counts: matches.get_flag("counts"),
-        }),
-        "sim" => Some(Request::Sim {
-            config: matches.get_str("CONFIG")?,
-            script: matches.get_str("SCRIPT")?,
-        }),
-        "run" => Some(Request::Run {
-            config: matches.get_str("CONFIG")?,
-        }),
+        "show101" => show101_of(matches),
+        "show104" => show104_of(matches),
+        "check" => check_of(matches),
+        "replay" => replay_of(matches),
+        "sim" => sim_of(matches),
+        "run" => run_of(matches),
         _ => None,
     }
 }

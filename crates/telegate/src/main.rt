@@ -1,9 +1,14 @@
 //! `telegate`, a telecontrol gateway from an IEC 60870-5-101 line to an IEC 60870-5-104 connection: the program.
 //!
-//! `perform` does the work of one command (`Job`) over what its files hold; the rest of the crate reads the command
-//! line and the files. Proved of `perform`: what it appends to a writer that tells its octets is the text of the
-//! command's answer and nothing else, nothing where a text is refused, and the exit status is that of the answer or of
-//! the first fault. What a terminal or a file takes, and the lines of faults, are tested.
+//! `obey` does what a list of words asks for: it reads the files that they name, in their order, and hands their octets
+//! to `perform`, which does the work of one command (`Job`), or to the gateway's live run. Proved of `obey`, for every
+//! list of words and any host: the command is the one that the words name with what stands at each place, each file's
+//! octets go where its name stood, a file that can't be read ends it with 3 before anything is printed, `run` ends as the
+//! host's live run ended, and words that ask for nothing end with 2, or 0 where they ask for help or the version. Proved of
+//! `perform`: what it appends to a writer that tells its octets is the text of the command's answer and nothing else,
+//! nothing where a text is refused, and a beginning of the answer's text where the writer failed; the exit status is that
+//! of the answer or of the first fault. What the system's files, terminals and sockets do, and the lines of faults, are
+//! tested.
 #![tactic(auto)]
 
 mod answer;
@@ -11,22 +16,22 @@ mod check;
 mod closing;
 mod command_line;
 mod fault;
-mod files;
+mod help;
+mod host;
 mod job;
 mod performing;
 mod replay;
 mod running;
+mod shell;
 mod showing;
 mod simulating;
 #[cfg(test)]
 mod tests;
 
-use command_line::Request;
-use fault::{DONE, USAGE};
-use files::{device_failed, no_memory, read_file, read_files};
-use job::Job;
-use performing::{perform, tell};
-use running::run_live;
+use fault::{Fault, USAGE};
+use host::System;
+use performing::tell;
+use shell::obey;
 use std::io;
 use std::io::Write;
 use std::net::{Net, TcpListener, TcpStream};
@@ -39,86 +44,36 @@ fn main(rt: HostRuntime) -> ExitCode {
     ExitCode::from(run(&rt, &mut out, &mut err))
 }
 
-/// Runs the command of the process's words, and answers the exit status.
+/// Does what the process's words ask for, and answers the exit status.
 fn run<R, W: Write, E: Write>(rt: &R, out: &mut W, err: &mut E) -> u8
 where
-    R: Env
-        + Files
-        + Print
-        + Eprint
-        + AllocGlobal
-        + Clock
-        + Net<Listener = TcpListener, Stream = TcpStream>,
+    R: Env + Files + AllocGlobal + Clock + Net<Listener = TcpListener, Stream = TcpStream>,
 {
-    let words = match std::env::args(rt) {
-        Ok(words) => words,
-        Err(fault) if fault.kind() == io::ErrorKind::OutOfMemory => return no_memory(rt),
-        Err(_) => {
-            let _ = rt.eprintln("error: the words are not UTF-8");
-            return USAGE;
+    match words_of(rt) {
+        Ok(words) => obey(rt.alloc(), &System(rt), words.as_slice(), out, err),
+        Err(Unspoken::NoMemory) => tell(&Fault::NoMemory, err),
+        Err(Unspoken::NotText) => {
+            let _ = writeln!(err, "error: the words are not UTF-8");
+            USAGE
         }
-    };
-    let Ok(words) = words.collect::<Vec<String>>(rt.alloc()) else {
-        return no_memory(rt);
-    };
-    match command_line::parse(rt.alloc(), words.as_slice()) {
-        Ok(matches) => match command_line::request_of(&matches) {
-            Some(request) => respond(rt, &request, out, err),
-            None => USAGE,
-        },
-        Err(fault) if fault.kind() == clap::error::ErrorKind::OutOfMemory => no_memory(rt),
-        Err(fault) => match fault.print(rt) {
-            Ok(()) if fault.use_stderr() => USAGE,
-            Ok(()) => DONE,
-            Err(_) => device_failed(rt),
-        },
     }
 }
 
-/// Reads the files that a request names, in the order of the words, and performs it.
-fn respond<R, W: Write, E: Write>(rt: &R, request: &Request<'_>, out: &mut W, err: &mut E) -> u8
-where
-    R: Files + Eprint + AllocGlobal + Clock + Net<Listener = TcpListener, Stream = TcpStream>,
-{
-    match request {
-        Request::Show101 { sizes, hex } => {
-            perform(rt.alloc(), &Job::Show101(*sizes, *hex), out, err)
-        }
-        Request::Show104 { hex } => perform(rt.alloc(), &Job::Show104(*hex), out, err),
-        Request::Check { config } => match read_file(rt, *config) {
-            Ok(config) => perform(rt.alloc(), &Job::Check(config.as_slice()), out, err),
-            Err(status) => status,
+/// Why a process has no words.
+enum Unspoken {
+    /// They are not UTF-8.
+    NotText,
+    NoMemory,
+}
+
+/// The words of the process. The first is the program's name.
+fn words_of<R: Env + AllocGlobal>(rt: &R) -> Result<Vec<String>, Unspoken> {
+    match std::env::args(rt) {
+        Ok(words) => match words.collect::<Vec<String>>(rt.alloc()) {
+            Ok(words) => Ok(words),
+            Err(_) => Err(Unspoken::NoMemory),
         },
-        Request::Replay {
-            config,
-            trace,
-            left,
-            counts,
-        } => match read_files(rt, *config, *trace) {
-            Ok((config, trace)) => {
-                let job = Job::Replay {
-                    config: config.as_slice(),
-                    trace: trace.as_slice(),
-                    left: *left,
-                    counts: *counts,
-                };
-                perform(rt.alloc(), &job, out, err)
-            }
-            Err(status) => status,
-        },
-        Request::Sim { config, script } => match read_files(rt, *config, *script) {
-            Ok((config, script)) => {
-                let job = Job::Sim(config.as_slice(), script.as_slice());
-                perform(rt.alloc(), &job, out, err)
-            }
-            Err(status) => status,
-        },
-        Request::Run { config } => match read_file(rt, *config) {
-            Ok(config) => match run_live(rt, config.as_slice()) {
-                Ok(()) => DONE,
-                Err(fault) => tell(&fault, err),
-            },
-            Err(status) => status,
-        },
+        Err(fault) if fault.kind() == io::ErrorKind::OutOfMemory => Err(Unspoken::NoMemory),
+        Err(_) => Err(Unspoken::NotText),
     }
 }

@@ -1,6 +1,7 @@
 //! Commands done.
-ghost use Rattle.std.specs.Prelude.{◌≡◌, OnOk};
+ghost use Rattle.std.specs.Prelude.{◌≡◌, OnErr, OnOk};
 ghost use Rattle.std.specs.Io.KnownBytes.{Appends};
+ghost use Rattle.sim.specs.Runs.{IsBegun};
 ghost use Rattle.telegate.specs.Faults.{status_of};
 ghost use Rattle.telegate.specs.Answers.{Performs};
 
@@ -9,10 +10,11 @@ use crate::fault::Fault;
 use crate::job::Job;
 use std::alloc::Global;
 use std::io;
-use std::io::Write;
+use std::io::{ErrorKind, Write};
 
-/// Does a command: its answer goes to `out`, in one write, or the line of a fault to `err`. Answers the exit status: 0
-/// done, 1 a bad frame or a file with wrong content, 3 where the output can't be written, 4 where memory was refused.
+/// Does a command: its answer goes to `out`, or the line of a fault to `err`. Answers the exit status: 0 done, 1 a bad
+/// frame or a file with wrong content, 3 where the output can't be written (what was written is then a beginning of the
+/// answer's text), 4 where memory was refused.
 pub fn perform<W: Write, E: Write>(alloc: Global, job: &Job<'_>, out: &mut W, err: &mut E) -> u8
     ensures { Performs job.now (W.contents out.old) (W.contents out.new) result }
 {
@@ -25,12 +27,25 @@ pub fn perform<W: Write, E: Write>(alloc: Global, job: &Job<'_>, out: &mut W, er
     }
 }
 
-/// Writes a whole text.
+/// Writes a whole text. Where that fails, a beginning of it was written.
 fn print<W: Write>(text: &[u8], out: &mut W) -> io::Result<()>
-    ensures { OnOk result (Appends (W.contents out.old) (W.contents out.new) text.now) }
+    ensures all { OnOk result (Appends (W.contents out.old) (W.contents out.new) text.now) }
+    ensures begun { OnErr result (IsBegun (W.contents out.old) (W.contents out.new) text.now) }
 {
-    out.write_all(text)?;
-    out.flush()
+    let mut done = 0;
+    'writing: for _ in 0..u64::MAX {
+        if done == text.len() {
+            return out.flush();
+        }
+        match out.write(&text[done..]) {
+            Ok(0) => return Err(io::Error::from(ErrorKind::WriteZero)),
+            Ok(n) => done += n,
+            // A signal came first.
+            Err(fault) if fault.kind() == ErrorKind::Interrupted => {}
+            Err(fault) => return Err(fault),
+        }
+    }
+    Err(io::Error::from(ErrorKind::WriteZero))
 }
 
 /// Writes the line of a fault, as far as that can be done, and answers its exit status.

@@ -1,6 +1,6 @@
 //! The command that runs the gateway between a line and a control centre.
-ghost use Rattle.std.specs.Prelude.{◌<◌};
-ghost use Rattle.telegate.specs.Running.{IsReadLiveConfig, HasRun};
+ghost use Rattle.std.specs.Prelude.{◌≡◌, ◌<◌, [], OnOk, Some};
+ghost use Rattle.telegate.specs.Running.{IsReadLiveConfig, HasEnded, HasRun, HasRunFaithfully};
 
 use crate::fault::Fault;
 use gateway::{Config, End, Port, drive};
@@ -41,10 +41,15 @@ fn read_live(alloc: Global, config: &[u8]) -> Result<(Config, LiveSettings), Fau
 /// Runs the gateway over a port until its device fails, or has no more events, or all turns that can be counted are used up.
 fn serve<P: Port>(alloc: Global, config: &Config, port: &mut P) -> Result<(), Fault>
     requires { P.failed port.old < u64.MAX }
-    ensures { HasRun (P.failed port.old) (P.failed port.new) result }
+    ensures device { HasRun (P.failed port.old) (P.failed port.new) result }
+    // It ended well only after all of its events.
+    ensures over { OnOk result (HasEnded (P.ended port.new) (P.log port.old) (P.log port.new)) }
+    // What the log shows keeps every promise of a gateway with these settings.
+    ensures faithful { P.log port.old ≡ Some [] → HasRunFaithfully config.now (P.log port.new) result }
 {
     match drive(alloc, config, port, u64::MAX) {
-        Ok(End::Finished | End::Turns) => Ok(()),
+        Ok(End::Finished) => Ok(()),
+        Ok(End::Turns) => Ok(()),
         Ok(End::Device) => Err(Fault::Device),
         Err(_) => Err(Fault::NoMemory),
     }

@@ -13,6 +13,7 @@ mod selections;
 mod shows;
 mod simulations;
 mod texts;
+mod words;
 mod writers;
 
 use crate::job::Job;

@@ -1,6 +1,6 @@
 //! The lines with which a run ends: a line for each piece that no connection has acknowledged, and one with what was counted.
-use super::rows::{polls_and_window, reports};
-use super::{CONFIG_A, OPENED, OPENING, joined, prints};
+use super::rows::{polls_and_window, push_points, reports};
+use super::{CONFIG_A, OPENED, OPENING, joined, performed, prints, text};
 use crate::job::Job;
 use std::alloc::{AllocError, Global};
 use std::process::Abort;
@@ -129,5 +129,33 @@ fn a_run_ends_with_what_is_left_and_what_was_counted(rt: HostRuntime) -> Result<
         left.as_str(),
         "skipped 0 mirrors 0 lost 0 spoilt 0",
     )?;
+    Ok(())
+}
+
+/// A station whose object addresses have one octet.
+const CONFIG_SMALL: &str =
+    "[line]\nlink = 1\ncause = 1\nca = 1\nioa = 1\nqueue = 100\n[[station]]\naddress = 1\nca = 1\n";
+
+#[test]
+fn what_is_left_is_told_piece_by_piece(rt: HostRuntime) -> Result<(), Fail> {
+    let alloc = rt.alloc();
+    // A report of 124 points goes out in pieces of 60, 60 and 4, of which the first is acknowledged.
+    let mut trace = joined(alloc, OPENING, "50 S 68FEFE680801017C0301")?;
+    push_points(&mut trace, 1, 124, 1)?;
+    trace.push_str("D016\n60 R 680401000200\n")?;
+    let mut left = String::from_str(alloc, "left 013C03000100")?;
+    push_points(&mut left, 61, 60, 3)?;
+    left.push_str("\nleft 010403000100")?;
+    push_points(&mut left, 121, 4, 3)?;
+    left.push_str("\n")?;
+    let job = Job::Replay {
+        config: CONFIG_SMALL.as_bytes(),
+        trace: trace.as_bytes(),
+        left: true,
+        counts: false,
+    };
+    let done = performed(alloc, &job);
+    assert!(rt; text(done.out.as_slice()).ends_with(left.as_str()));
+    assert_eq!(rt; done.status, 0);
     Ok(())
 }

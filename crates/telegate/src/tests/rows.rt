@@ -195,7 +195,7 @@ fn a_connection_is_closed_by_what_it_sends(rt: HostRuntime) {
 }
 
 /// Appends single points at these addresses and the next ones, with object addresses of so many octets.
-fn push_points(
+pub(super) fn push_points(
     text: &mut String,
     first: u8,
     points: u8,

@@ -1,10 +1,6 @@
-use Rattle.std.proofs.Common.{ℕ, List, Option, Some, None, inl, inr, refl}
-use Rattle.std.specs.Io.KnownBytes.{Keeps}
+use Rattle.std.proofs.Common.{inl, inr, refl}
+use Rattle.telegate.proofs.Kept.{keeps_same}
 use Rattle.telegate.proofs.performing.perform.Goals as goal
-
-keeps_same : (known : Option (List ℕ)) → Keeps known known
-keeps_same None = tt
-keeps_same (Some octets) = refl
 
 pub returns-in-Ok-print : goal.returns-in-Ok-print
 returns-in-Ok-print g c =
@@ -12,9 +8,19 @@ returns-in-Ok-print g c =
     inl (record {
       answer = c.in-Ok.answer;
       answered = c.in-Ok.ensures;
-      printed = rw same at c.in-Ok-print.ensures;
+      printed = rw same at c.in-Ok-print.ensures.all;
       status = refl;
     })
+
+pub returns-in-Ok : goal.returns-in-Ok
+returns-in-Ok g c =
+    let same = c.as_slice.ensures.value in
+    inr (inr (record {
+      answer = c.in-Ok.answer;
+      answered = c.in-Ok.ensures;
+      printed = rw same at c.in-Err-print.ensures.begun;
+      status = c.tell.ensures;
+    }))
 
 pub returns : goal.returns
 returns g c =

@@ -18,7 +18,7 @@ returns-in-Finished c =
     let written : c.into_writer-text.result.items ≡ lines_of_actions new.log = search (rules, c.into_writer-text.ensures, c.in-Finished.ensures, c.new-port.ensures) in
     closed settings c.args.entries.items c.args.closing c.drive_on-end.new.gateway new.log c.into_writer-text.result.items c.close.result
     (all_came new c.args.entries.items over whole) faithful (c.in-Finished.ensures.rests p begun.0 begun.1) (c.steps_keep_their_order.ensures.settings settings new.log faithful)
-    (c.nothing_is_lost.ensures p new.log faithful) (c.in-Finished.ensures.accounts p begun.0 begun.1) written c.close.ensures
+    (c.nothing_is_lost.ensures p new.log faithful) (c.in-Finished.ensures.kept p begun.0 begun.1) (c.in-Finished.ensures.accounts p begun.0 begun.1) written c.close.ensures
 
 pub unreachable-requires : goal.unreachable-requires
 unreachable-requires c =

@@ -1,0 +1,43 @@
+-- Files that can't be read.
+use Rattle.std.proofs.Common.{◌≡◌, ℕ, List, [], ◌∷◌, Option, inl, inr, refl, sym, subst}
+use Rattle.std.specs.Prelude.{Result}
+use Rattle.std.specs.Borrow.{Bor}
+use Rattle.clap.specs.Words.{Text}
+use Rattle.telegate.specs.Shell.{IsUnread, IsNotRead, Responds, RunsFile, files_of, status_unread}
+use Rattle.telegate.specs.declared.command_line.Request.{Request}
+use Rattle.telegate.specs.declared.command_line.Request.TheVariants.{Run}
+use Rattle.telegate.specs.declared.fault.Fault.{Fault}
+use Rattle.telegate.specs.declared.host.Unread.{Unread}
+use Rattle.telegate.specs.declared.host.Unread.TheVariants.{Unreadable, NoMemory}
+use Rattle.telegate.proofs.Kept.{keeps_same}
+
+module _ (has : Text → List ℕ → Type 0) (lacks : Text → Type 0) where
+  -- one that can't be read is the first of a list that begins with it
+  pub unread_first : (file : Text) (exit : ℕ) → lacks file → exit ≡ 3 → IsNotRead has lacks (file ∷ []) exit
+  unread_first file exit none status = record { name = file; why = Unreadable; unread = inl (refl, none); status = status }
+
+  pub unread_for_memory : (file : Text) (exit : ℕ) → exit ≡ 4 → IsNotRead has lacks (file ∷ []) exit
+  unread_for_memory file exit status = record { name = file; why = NoMemory; unread = tt; status = status }
+
+  wider : (file : Text) (files : List Text) (name : Text) (why : Unread) → IsUnread has lacks (file ∷ []) name why → IsUnread has lacks (file ∷ files) name why
+  wider file files name Unreadable (inl first) = inl first
+  wider file files name Unreadable (inr later) = absurd later.1
+  wider file files name NoMemory unread = tt
+
+  pub first_of_more : (file : Text) (files : List Text) (exit : ℕ) → IsNotRead has lacks (file ∷ []) exit → IsNotRead has lacks (file ∷ files) exit
+  first_of_more file files exit h = record { name = h.name; why = h.why; unread = wider file files h.name h.why h.unread; status = h.status }
+
+  deeper : (file : Text) (octets : List ℕ) (files : List Text) (name : Text) (why : Unread) → has file octets → IsUnread has lacks files name why → IsUnread has lacks (file ∷ files) name why
+  deeper file octets files name Unreadable read unread = inr ((octets, read), unread)
+  deeper file octets files name NoMemory read unread = tt
+
+  pub later_of_more : (file : Text) (octets : List ℕ) (files : List Text) (exit : ℕ) → has file octets → IsNotRead has lacks files exit → IsNotRead has lacks (file ∷ files) exit
+  later_of_more file octets files exit read h = record { name = h.name; why = h.why; unread = deeper file octets files h.name h.why read h.unread; status = h.status }
+
+  module _ (ran : List ℕ → Result (Unit {0}) Fault → Type 0) where
+    -- a command whose files can't be read
+    pub unanswered : (request : Request) (files : List Text) (known : Option (List ℕ)) (exit : ℕ) → files_of request ≡ files → IsNotRead has lacks files exit → Responds has lacks ran request known known exit
+    unanswered request files known exit are h = inr (subst (λ (fs : List Text). IsNotRead has lacks fs exit) (sym are) h, keeps_same known)
+
+    pub has_run : (request : Request) (config : Bor Text) (known : Option (List ℕ)) (exit : ℕ) → request ≡ Run config → RunsFile has lacks ran config.now exit → Responds has lacks ran request known known exit
+    has_run request config known exit is h = subst (λ (r : Request). Responds has lacks ran r known known exit) (sym is) (elim h [ inl live ↦ inl (live, keeps_same known) | inr none ↦ inr (none, keeps_same known) ])

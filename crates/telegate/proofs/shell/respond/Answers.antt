@@ -1,0 +1,20 @@
+use Rattle.std.proofs.Common.{ap}
+use Rattle.telegate.specs.Shell.{files_of}
+use Rattle.telegate.proofs.Files.{has_run, unanswered}
+use Rattle.telegate.proofs.shell.respond.Goals as goal
+
+pub returns-in-Err : goal.returns-in-Err
+returns-in-Err g c =
+    unanswered (g.H.Host.has c.args.host.now) (g.H.Host.lacks c.args.host.now) (g.H.Host.ran c.args.host.now) c.args.request.now _ (g.W.Write.contents c.args.out.now) c.in-Err.status (ap files_of c.in-Check.is) c.in-Err.ensures.unread
+
+pub returns-in-Err-read_files : goal.returns-in-Err-read_files
+returns-in-Err-read_files g c =
+    unanswered (g.H.Host.has c.args.host.now) (g.H.Host.lacks c.args.host.now) (g.H.Host.ran c.args.host.now) c.args.request.now _ (g.W.Write.contents c.args.out.now) c.in-Err-read_files.status (ap files_of c.in-Replay.is) c.in-Err-read_files.ensures.unread
+
+pub returns-in-Err-read_files-2 : goal.returns-in-Err-read_files-2
+returns-in-Err-read_files-2 g c =
+    unanswered (g.H.Host.has c.args.host.now) (g.H.Host.lacks c.args.host.now) (g.H.Host.ran c.args.host.now) c.args.request.now _ (g.W.Write.contents c.args.out.now) c.in-Err-read_files-2.status (ap files_of c.in-Sim.is) c.in-Err-read_files-2.ensures.unread
+
+pub returns-in-Run : goal.returns-in-Run
+returns-in-Run g c =
+    has_run (g.H.Host.has c.args.host.now) (g.H.Host.lacks c.args.host.now) (g.H.Host.ran c.args.host.now) c.args.request.now c.in-Run.config (g.W.Write.contents c.args.out.now) c.run_file.result c.in-Run.is c.run_file.ensures

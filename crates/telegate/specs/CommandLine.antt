@@ -1,0 +1,97 @@
+-- The words of the command line (this gateway's own profile): `telegate COMMAND WORD.. [--FLAG..]`.
+use Rattle.std.specs.Prelude.{◌≡◌, Bool, true, false, List, [], ◌∷◌, Option, Some, None, MatchOption, codes}
+use Rattle.clap.specs.Words.{App, Rule, Row, Text, app_of, first_of, new_app, new_rule, one_of, rule_of, with_rule, with_subcommand}
+use Rattle.clap.specs.declared.builder.arg.Arg.{Arg}
+use Rattle.clap.specs.declared.builder.command.Command.{Command}
+use Rattle.clap.specs.declared.builder.command.Command.TheViews.{out-Command}
+use Rattle.clap.specs.declared.builder.action.ArgAction.TheVariants.{Set, SetTrue}
+use Rattle.telegate.specs.declared.command_line.Request.{Request}
+use Rattle.telegate.specs.declared.command_line.Request.TheVariants.{Show101, Show104, Check, Replay, Sim, Run}
+
+-- What the commands take
+
+-- a word that has to be given, at its place
+abbrev pub word : Text → Rule
+word name = record (new_rule name) { action = Some Set; required = true }
+
+-- `--name`, anywhere behind the command, at most once
+abbrev pub flag : Text → Rule
+flag name = record (new_rule name) { long = Some name; action = Some SetTrue }
+
+-- a command with these words and flags, in this order
+abbrev pub with_all : List Rule → App → App
+with_all [] command = command
+with_all (rule ∷ rules) command = with_all rules (with_rule command rule)
+
+abbrev pub command : Text → List Rule → App
+command name rules = with_all rules (new_app name)
+
+abbrev pub show101 : App
+show101 = command (codes "show101") (word (codes "SIZES") ∷ word (codes "HEX") ∷ [])
+
+abbrev pub show104 : App
+show104 = command (codes "show104") (word (codes "HEX") ∷ [])
+
+abbrev pub check : App
+check = command (codes "check") (word (codes "CONFIG") ∷ [])
+
+abbrev pub replay : App
+replay = command (codes "replay") (word (codes "CONFIG") ∷ word (codes "TRACE") ∷ flag (codes "left") ∷ flag (codes "counts") ∷ [])
+
+abbrev pub sim : App
+sim = command (codes "sim") (word (codes "CONFIG") ∷ word (codes "SCRIPT") ∷ [])
+
+abbrev pub run : App
+run = command (codes "run") (word (codes "CONFIG") ∷ [])
+
+-- the program, of whose commands one has to be named
+abbrev pub bare : App
+bare = record {
+  top = record ((new_app (codes "telegate")).top) { subcommand_required = true; arg_required_else_help = true; has_version = true };
+  subs = [];
+}
+
+-- with its commands
+abbrev pub with_commands : List App → App → App
+with_commands [] above = above
+with_commands (below ∷ commands) above = with_commands commands (with_subcommand above below.top)
+
+abbrev pub program : App
+program = with_commands (show101 ∷ show104 ∷ check ∷ replay ∷ sim ∷ run ∷ []) bare
+
+-- What the code builds is that
+
+abbrev pub IsArgument : Rule → Arg → Type 0
+IsArgument rule a = (rule_of a ≡ rule) × (a.global ≡ false)
+
+abbrev pub IsCommand : App → Command → Type 0
+IsCommand app c = (app_of c ≡ app) × ((out-Command c).has_globals ≡ false)
+
+-- What words ask for, by what stands under each name
+
+-- the word given under a name
+abbrev pub IsGiven : List Row → (name text : Text) → Type 0
+IsGiven rows name text = first_of name rows ≡ Some text
+
+-- whether a flag is given
+abbrev pub IsFlag : List Row → (name : Text) → Bool → Type 0
+IsFlag rows name flag = (one_of name rows ≡ None → flag ≡ false) × (one_of name rows ≡ Some (codes "true") → flag ≡ true) × (one_of name rows ≡ Some (codes "false") → flag ≡ false)
+
+-- the command that was named, with what was given for it, asks for this
+abbrev pub AsksFor : (name : Text) → List Row → Request → Type 0
+AsksFor name rows (Show101 sizes hex) = (name ≡ codes "show101") × IsGiven rows (codes "SIZES") sizes.now × IsGiven rows (codes "HEX") hex.now
+AsksFor name rows (Show104 hex) = (name ≡ codes "show104") × IsGiven rows (codes "HEX") hex.now
+AsksFor name rows (Check config) = (name ≡ codes "check") × IsGiven rows (codes "CONFIG") config.now
+AsksFor name rows (Replay config trace left counts) =
+    (name ≡ codes "replay") × IsGiven rows (codes "CONFIG") config.now × IsGiven rows (codes "TRACE") trace.now × IsFlag rows (codes "left") left × IsFlag rows (codes "counts") counts
+AsksFor name rows (Sim config script) = (name ≡ codes "sim") × IsGiven rows (codes "CONFIG") config.now × IsGiven rows (codes "SCRIPT") script.now
+AsksFor name rows (Run config) = (name ≡ codes "run") × IsGiven rows (codes "CONFIG") config.now
+
+-- the request, or none where none is asked for
+abbrev pub IsAsked : (name : Text) → List Row → Option Request → Type 0
+IsAsked name rows asked = MatchOption asked ((request : Request) → AsksFor name rows request → ⊥) (AsksFor name rows)
+
+-- the same of the command that the words name, if any
+abbrev pub IsRequestOf : Option (Text × List Row) → Option Request → Type 0
+IsRequestOf None asked = asked ≡ None
+IsRequestOf (Some (name, rows)) asked = IsAsked name rows asked

@@ -1,0 +1,126 @@
+-- What the program does with its words and with the files that they name (this gateway's own profile).
+use Rattle.std.specs.Prelude.{◌≡◌, ◌⊎◌, ℕ, List, [], ◌∷◌, ◌++◌, Option, Some, None, Result, Ok, Err, MatchResult, codes}
+use Rattle.std.specs.Io.KnownBytes.{Keeps}
+use Rattle.clap.specs.Words.{Text, HasKind, fault_of, kind_of, subcommand_of}
+use Rattle.clap.specs.declared.error.Error.{Error}
+use Rattle.clap.specs.declared.error.kind.ErrorKind.{ErrorKind}
+use Rattle.clap.specs.declared.error.kind.ErrorKind.TheVariants as kind
+use Rattle.telegate.specs.Answers.{Performs}
+use Rattle.telegate.specs.CommandLine.{IsRequestOf, program}
+use Rattle.telegate.specs.Faults.{status_of}
+use Rattle.telegate.specs.declared.command_line.Request.{Request}
+use Rattle.telegate.specs.declared.command_line.Request.TheVariants.{Show101, Show104, Check, Replay, Sim, Run}
+use Rattle.telegate.specs.declared.fault.Fault.{Fault}
+use Rattle.telegate.specs.declared.host.Unread.{Unread}
+use Rattle.telegate.specs.declared.host.Unread.TheVariants.{Unreadable, NoMemory}
+use Rattle.telegate.specs.declared.job.Job.{Job}
+use Rattle.telegate.specs.declared.job.Job.TheVariants as job
+
+-- Files
+
+-- the job of a request, with what its files have in place of their names
+abbrev pub IsJobOf : (has : Text → List ℕ → Type 0) → Request → Job → Type 0
+IsJobOf has (Show101 sizes hex) (job.Show101 s h) = (s.now ≡ sizes.now) × (h.now ≡ hex.now)
+IsJobOf has (Show104 hex) (job.Show104 h) = h.now ≡ hex.now
+IsJobOf has (Check config) (job.Check c) = has config.now c.now
+IsJobOf has (Replay config trace left counts) (job.Replay c t l n) = has config.now c.now × has trace.now t.now × (l ≡ left) × (n ≡ counts)
+IsJobOf has (Sim config script) (job.Sim c s) = has config.now c.now × has script.now s.now
+IsJobOf has _ _ = ⊥
+
+-- the names of a request's files, in the order of the words
+abbrev pub files_of : Request → List Text
+files_of (Show101 sizes hex) = []
+files_of (Show104 hex) = []
+files_of (Check config) = config.now ∷ []
+files_of (Replay config trace left counts) = config.now ∷ trace.now ∷ []
+files_of (Sim config script) = config.now ∷ script.now ∷ []
+files_of (Run config) = config.now ∷ []
+
+-- this is the first of the files that can't be read
+abbrev pub IsFirstUnread : (has : Text → List ℕ → Type 0) → (lacks : Text → Type 0) → List Text → Text → Type 0
+IsFirstUnread has lacks [] name = ⊥
+IsFirstUnread has lacks (file ∷ files) name = ((name ≡ file) × lacks file) ⊎ (((octets : List ℕ) × has file octets) × IsFirstUnread has lacks files name)
+
+abbrev pub unreadable_line : Text → List ℕ
+unreadable_line name = codes "cannot read " ++ name ++ 10 ∷ []
+
+abbrev pub status_unread : Unread → ℕ
+status_unread Unreadable = 3
+status_unread NoMemory = 4
+
+-- the files are read no further, and why
+abbrev pub IsUnread : (has : Text → List ℕ → Type 0) → (lacks : Text → Type 0) → List Text → Text → Unread → Type 0
+IsUnread has lacks files name Unreadable = IsFirstUnread has lacks files name
+IsUnread has lacks files name NoMemory = Unit {0}
+
+-- one of these files couldn't be read, and the exit status says why
+pub record IsNotRead (has : Text → List ℕ → Type 0) (lacks : Text → Type 0) (files : List Text) (exit : ℕ) : Type 0 where
+  pub name : Text
+  pub why : Unread
+  pub unread : IsUnread has lacks files name why
+  pub status : exit ≡ status_unread why
+
+-- Commands
+
+-- the command's job was done
+pub record IsJobDone (has : Text → List ℕ → Type 0) (request : Request) (old new : Option (List ℕ)) (exit : ℕ) : Type 0 where
+  pub job : Job
+  pub of : IsJobOf has request job
+  pub done : Performs job old new exit
+
+abbrev pub status_of_run : Result (Unit {0}) Fault → ℕ
+status_of_run (Ok done) = 0
+status_of_run (Err fault) = status_of fault
+
+-- The gateway ran live by the settings of a file, and the exit status says how that ended.
+pub record HasRunLive (has : Text → List ℕ → Type 0) (ran : List ℕ → Result (Unit {0}) Fault → Type 0) (config : Text) (exit : ℕ) : Type 0 where
+  pub octets : List ℕ
+  pub read : has config octets
+  pub ended : Result (Unit {0}) Fault
+  pub run : ran octets ended
+  pub status : exit ≡ status_of_run ended
+
+-- the same, or the file couldn't be read
+abbrev pub RunsFile : (has : Text → List ℕ → Type 0) → (lacks : Text → Type 0) → (ran : List ℕ → Result (Unit {0}) Fault → Type 0) → (config : Text) → (exit : ℕ) → Type 0
+RunsFile has lacks ran config exit = HasRunLive has ran config exit ⊎ IsNotRead has lacks (config ∷ []) exit
+
+-- what a command is to do where its files can be read; a live run prints nothing
+abbrev pub IsDone : (has : Text → List ℕ → Type 0) → (ran : List ℕ → Result (Unit {0}) Fault → Type 0) → Request → (old new : Option (List ℕ)) → (exit : ℕ) → Type 0
+IsDone has ran (Run config) old new exit = HasRunLive has ran config.now exit × Keeps old new
+IsDone has ran request old new exit = IsJobDone has request old new exit
+
+-- the command is done, or a file couldn't be read and nothing was printed
+abbrev pub Responds : (has : Text → List ℕ → Type 0) → (lacks : Text → Type 0) → (ran : List ℕ → Result (Unit {0}) Fault → Type 0) → Request → (old new : Option (List ℕ)) → (exit : ℕ) → Type 0
+Responds has lacks ran request old new exit = IsDone has ran request old new exit ⊎ (IsNotRead has lacks (files_of request) exit × Keeps old new)
+
+-- Words
+
+-- help and the version, 0; wrong words, 2; no memory, 4
+abbrev pub status_of_kind : ErrorKind → ℕ
+status_of_kind kind.OutOfMemory = 4
+status_of_kind kind.DisplayHelp = 0
+status_of_kind kind.DisplayVersion = 0
+status_of_kind _ = 2
+
+-- what the words gave in place of a command was told, or couldn't be written, 3
+abbrev pub IsTold : ErrorKind → (exit : ℕ) → Type 0
+IsTold kind exit = (exit ≡ status_of_kind kind) ⊎ (exit ≡ 3)
+
+-- the words ask for a command, and it is done
+pub record IsAskedAndDone (has : Text → List ℕ → Type 0) (lacks : Text → Type 0) (ran : List ℕ → Result (Unit {0}) Fault → Type 0) (words : List Text) (old new : Option (List ℕ)) (exit : ℕ) : Type 0 where
+  pub request : Request
+  pub asked : IsRequestOf (subcommand_of program words) (Some request)
+  pub done : Responds has lacks ran request old new exit
+
+-- the words are wrong, or ask for help or the version
+pub record IsUsage (words : List Text) (exit : ℕ) : Type 0 where
+  pub fault : Error
+  pub kind : HasKind (fault_of program words) fault
+  pub told : IsTold (kind_of fault) exit
+
+-- the words name no command with all that it needs, 2
+abbrev pub IsNoRequest : List Text → (exit : ℕ) → Type 0
+IsNoRequest words exit = IsRequestOf (subcommand_of program words) None × (exit ≡ 2)
+
+abbrev pub Obeys : (has : Text → List ℕ → Type 0) → (lacks : Text → Type 0) → (ran : List ℕ → Result (Unit {0}) Fault → Type 0) → (words : List Text) → (old new : Option (List ℕ)) → (exit : ℕ) → Type 0
+Obeys has lacks ran words old new exit = IsAskedAndDone has lacks ran words old new exit ⊎ (IsUsage words exit ⊎ IsNoRequest words exit)

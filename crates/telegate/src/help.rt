@@ -1,0 +1,42 @@
+//! The texts at the ends of help: what the files of a command hold, and the exit statuses.
+
+/// The number of this version, and the toolchain that its proofs are checked with.
+pub(crate) const VERSION: &str = "0.1.0 (rattle-kit-13b, logic dac8208d650f15bf)";
+
+pub(crate) const PROGRAM: &str = "\
+`telegate COMMAND --help` tells what the files of a command hold.
+Exit status: 0 done, 1 a bad frame or a file with wrong content, 2 usage, 3 a file or a device
+failed, 4 no memory. A fault is one line on standard error.";
+
+pub(crate) const REPLAY: &str = "\
+TRACE has one event a line; lines that are empty or begin with `#` are skipped. MS is a moment in
+milliseconds (1 to 15 digits), HEX is 1 to 1,024 octets, and one space stands between fields:
+  MS S HEX    octets come from the line
+  MS T        time passes
+  MS O        a control centre connects
+  MS R HEX    octets come from it
+  MS C        its connection is cut
+Printed, one action a line: `MS > S HEX` to the line, `MS > T HEX` to the control centre, and
+`MS > X CAUSE` where the gateway closes the connection.
+Exit status: 0 done, 1 wrong settings or trace, 2 usage, 3 a file or the output failed, 4 no memory";
+
+pub(crate) const SIM: &str = "\
+SCRIPT has lines of these forms, others empty or a comment `#`; a number has 1 to 9 digits:
+  turns N               how many events the run has (required, once)
+  ack N                 the control centre acknowledges each N I frames (1 to 32767; 1)
+  report S CLASS HEX    station S, from 1, has this ASDU of class 1 or 2
+  lose request N        the Nth request on the line isn't heard
+  lose answer N         the answer to it is lost
+  spoil answer N P      the octet at place P of that answer is changed
+  cut N                 at event N the connection is cut
+  send N HEX            at event N the control centre sends this ASDU (9 to 249 octets)
+Exit status: 0 done, 1 wrong settings or script, 2 usage, 3 a file or the output failed, 4 no memory";
+
+pub(crate) const RUN: &str = "\
+CONFIG has a table `live` with two keys:
+  line = \"tcp:HOST:PORT\"    a serial device server, or \"unix:PATH\"
+  listen = \"HOST:PORT\"      where control centres connect (the usual port is 2404)
+It prints nothing, and begins with an empty queue: what no control centre had acknowledged is lost
+with the process.
+Exit status: 1 wrong settings, 2 usage, 3 the line can't be reached or ended, or listening failed,
+4 no memory";

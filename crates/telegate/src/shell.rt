@@ -1,0 +1,155 @@
+//! What the program does with its words: the files that they name are read, and the command is done.
+ghost use Rattle.std.specs.Prelude.{◌≡◌, ◌∷◌, [], IfErr, IfOk, OnOk, map, string_bytes};
+ghost use Rattle.std.specs.Io.KnownBytes.{Appends};
+ghost use Rattle.clap.specs.Words.{kind_of};
+ghost use Rattle.telegate.specs.Shell.{IsNotRead, IsTold, Obeys, Responds, RunsFile, unreadable_line};
+
+use crate::command_line::{Request, parse, request_of};
+use crate::fault::{DEVICE_FAILED, DONE, Fault, USAGE};
+use crate::host::{Host, Unread};
+use crate::job::Job;
+use crate::performing::{perform, tell};
+use clap::Error;
+use clap::error::ErrorKind;
+use std::alloc::Global;
+use std::io;
+use std::io::Write;
+
+/// Does what the words of a process ask for, of which the first is the program's name. Answers the exit status: that of the
+/// command, or 2 where the words are wrong, and 0 for help and the version.
+pub(crate) fn obey<H: Host, W: Write, E: Write>(
+    alloc: Global,
+    host: &H,
+    words: &[String],
+    out: &mut W,
+    err: &mut E,
+) -> u8
+    ensures { Obeys (H.has host.now) (H.lacks host.now) (H.ran host.now) (map string_bytes words.now) (W.contents out.old) (W.contents out.new) result }
+{
+    match parse(alloc, words) {
+        Ok(matches) => match request_of(&matches) {
+            Some(request) => respond(alloc, host, &request, out, err),
+            None => USAGE,
+        },
+        Err(fault) => tell_usage(&fault, out, err),
+    }
+}
+
+/// Prints what the words gave in place of a command, and answers the exit status.
+fn tell_usage<W: Write, E: Write>(fault: &Error, out: &mut W, err: &mut E) -> u8
+    ensures { IsTold (kind_of fault.now) result }
+{
+    let (printed, status) = match fault.kind() {
+        ErrorKind::OutOfMemory => return tell(&Fault::NoMemory, err),
+        ErrorKind::DisplayHelp | ErrorKind::DisplayVersion => (show(fault, out), DONE),
+        _ => (show(fault, err), USAGE),
+    };
+    match printed {
+        Ok(()) => status,
+        Err(_) => tell(&Fault::Device, err),
+    }
+}
+
+fn show<W: Write>(fault: &Error, to: &mut W) -> io::Result<()> {
+    write!(to, "{fault}")?;
+    to.flush()
+}
+
+/// Reads the files that a request names, in the order of the words, and does the command.
+pub(crate) fn respond<H: Host, W: Write, E: Write>(
+    alloc: Global,
+    host: &H,
+    request: &Request<'_>,
+    out: &mut W,
+    err: &mut E,
+) -> u8
+    ensures { Responds (H.has host.now) (H.lacks host.now) (H.ran host.now) request.now (W.contents out.old) (W.contents out.new) result }
+{
+    match request {
+        Request::Show101 { sizes, hex } => perform(alloc, &Job::Show101(*sizes, *hex), out, err),
+        Request::Show104 { hex } => perform(alloc, &Job::Show104(*hex), out, err),
+        Request::Check { config } => match read_file(host, *config, err) {
+            Ok(config) => perform(alloc, &Job::Check(config.as_slice()), out, err),
+            Err(status) => status,
+        },
+        Request::Replay {
+            config,
+            trace,
+            left,
+            counts,
+        } => match read_files(host, *config, *trace, err) {
+            Ok((config, trace)) => {
+                let job = Job::Replay {
+                    config: config.as_slice(),
+                    trace: trace.as_slice(),
+                    left: *left,
+                    counts: *counts,
+                };
+                perform(alloc, &job, out, err)
+            }
+            Err(status) => status,
+        },
+        Request::Sim { config, script } => match read_files(host, *config, *script, err) {
+            Ok((config, script)) => {
+                let job = Job::Sim(config.as_slice(), script.as_slice());
+                perform(alloc, &job, out, err)
+            }
+            Err(status) => status,
+        },
+        Request::Run { config } => run_file(host, *config, err),
+    }
+}
+
+/// Runs the gateway live by the settings of a file, and answers the exit status.
+fn run_file<H: Host, E: Write>(host: &H, config: &str, err: &mut E) -> u8
+    ensures { RunsFile (H.has host.now) (H.lacks host.now) (H.ran host.now) config.now result }
+{
+    match read_file(host, config, err) {
+        Ok(config) => match host.run(config.as_slice()) {
+            Ok(()) => DONE,
+            Err(fault) => tell(&fault, err),
+        },
+        Err(status) => status,
+    }
+}
+
+/// The octets of two files, read in this order, or the exit status where one can't be read.
+fn read_files<H: Host, E: Write>(
+    host: &H,
+    first: &str,
+    second: &str,
+    err: &mut E,
+) -> Result<(Vec<u8>, Vec<u8>), u8>
+    ensures read { IfOk result (λ both. H.has host.now first.now both.0.items × H.has host.now second.now both.1.items) }
+    ensures unread { IfErr result (IsNotRead (H.has host.now) (H.lacks host.now) (first.now ∷ second.now ∷ [])) }
+{
+    match read_file(host, first, err) {
+        Ok(first) => match read_file(host, second, err) {
+            Ok(second) => Ok((first, second)),
+            Err(status) => Err(status),
+        },
+        Err(status) => Err(status),
+    }
+}
+
+/// The octets of a file, or the exit status where it can't be read, which is told then.
+fn read_file<H: Host, E: Write>(host: &H, name: &str, err: &mut E) -> Result<Vec<u8>, u8>
+    ensures read { IfOk result (λ octets. H.has host.now name.now octets.items) }
+    ensures unread { IfErr result (IsNotRead (H.has host.now) (H.lacks host.now) (name.now ∷ [])) }
+{
+    match host.read(name) {
+        Ok(octets) => Ok(octets),
+        Err(Unread::Unreadable) => {
+            let _ = tell_unreadable(name, err);
+            Err(DEVICE_FAILED)
+        }
+        Err(Unread::NoMemory) => Err(tell(&Fault::NoMemory, err)),
+    }
+}
+
+/// Writes the line of a file that can't be read.
+fn tell_unreadable<E: Write>(name: &str, err: &mut E) -> io::Result<()>
+    ensures { OnOk result (Appends (E.contents err.old) (E.contents err.new) (unreadable_line name.now)) }
+{
+    writeln!(err, "cannot read {name}")
+}

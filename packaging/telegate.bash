@@ -1,0 +1,18 @@
+# Completion of telegate for bash: source it, or put it into the completions folder.
+_telegate() {
+    local word=${COMP_WORDS[COMP_CWORD]} command=${COMP_WORDS[1]}
+    if [ "$COMP_CWORD" -eq 1 ]; then
+        COMPREPLY=($(compgen -W "show101 show104 check replay sim run help --help --version" -- "$word"))
+        return
+    fi
+    case $command in
+        replay) COMPREPLY=($(compgen -W "--left --counts --help" -- "$word")) ;;
+        show101 | show104 | check | sim | run) COMPREPLY=($(compgen -W "--help" -- "$word")) ;;
+        help) COMPREPLY=($(compgen -W "show101 show104 check replay sim run" -- "$word")) ;;
+    esac
+    case $command,$word in
+        *,-*) ;;
+        check,* | replay,* | sim,* | run,*) COMPREPLY=($(compgen -f -- "$word")) ;;
+    esac
+}
+complete -o filenames -F _telegate telegate
