@@ -1,5 +1,5 @@
 -- The commands confirmed are those that the primary learnt to be accepted.
-use Rattle.std.proofs.Common.{◌≡◌, ℕ, List, [], ◌∷◌, ◌++◌, map, Option, Some, None, refl, ap, sym, ◌∙◌, append_assoc}
+use Rattle.std.proofs.Common.{◌≡◌, ℕ, List, [], ◌∷◌, ◌++◌, map, Option, Some, None, refl, ap, sym, ◌∙◌}
 use Rattle.link.specs.declared.service.Service.{Service}
 use Rattle.link.specs.declared.service.Service.TheVariants.{Class1, Class2, Command}
 use Rattle.link.specs.declared.service.Asked.{Asked}
@@ -7,7 +7,6 @@ use Rattle.link.specs.declared.service.Asked.TheVariants.{Status, Reset, Counted
 use Rattle.link.specs.declared.answer.Answer.{Answer}
 use Rattle.link.specs.declared.answer.Answer.TheVariants as answer
 use Rattle.link.specs.Exchanges.{Exchange, answer_to}
-use Rattle.link.specs.Outstation.{Effect}
 use Rattle.link.specs.Delivery.{learnt, learnt_by, commands, first_sending, pending_by}
 use Rattle.delivery.specs.Commands.{LineStep, Begun, Confirmed, Busy, said_of, steps_at, steps_in, confirmed_by}
 use Rattle.delivery.proofs.Accepted.{commands-append}

@@ -1,6 +1,6 @@
 -- The definitions, computed on a line with one station: link address 1, common address 1, one octet each for link address, cause and
 -- common address, two for object addresses. All octets are written by hand.
-use Rattle.std.proofs.Common.{◌≡◌, ◌<◌, ℕ, true, false, List, [], ◌∷◌, ◌++◌, length, map, inl, inr, Option, Some, None, refl, ap, sym, ◌∙◌, subst, arith}
+use Rattle.std.proofs.Common.{◌≡◌, ℕ, true, false, List, [], ◌∷◌, map, inl, inr, Some, None, refl, arith}
 use Rattle.ft12.specs.declared.frame.LinkSize.TheVariants as sizes_of_link
 use Rattle.ft12.specs.declared.frame.Frame.TheVariants.{Single, Fixed}
 use Rattle.ft12.specs.Fronts.{front_of}
@@ -11,7 +11,6 @@ use Rattle.asdu.specs.declared.sizes.CauseSize.TheVariants as causes
 use Rattle.asdu.specs.declared.sizes.CaSize.TheVariants as cas
 use Rattle.asdu.specs.declared.sizes.IoaSize.TheVariants as ioas
 use Rattle.link.specs.declared.service.Asked.TheVariants.{Status}
-use Rattle.link.specs.Exchanges.{Exchange}
 use Rattle.link.specs.Outstation.{Turn, Accepted as Done}
 use Rattle.link.specs.Delivery.{Session}
 use Rattle.command.specs.History.{History, Judged, Sent, Accepted, Refused, Ended}

@@ -1,16 +1,15 @@
 -- The frames of a course: they fit, and where no connection is open there are none.
-use Rattle.std.proofs.Common.{◌≡◌, ℕ, Bool, true, false, List, [], ◌∷◌, ◌++◌, length, refl, ap, sym, subst, ◌∙◌, length-append, arith, if◌then◌else◌}
+use Rattle.std.proofs.Common.{◌≡◌, ℕ, Bool, true, false, List, [], ◌∷◌, ◌++◌, length, refl, ap, sym, ◌∙◌, length-append, arith, if◌then◌else◌}
 use Rattle.apci.specs.declared.apdu.Apdu.{Apdu}
 use Rattle.apci.specs.declared.apdu.Apdu.TheVariants.{I, S, U}
 use Rattle.apci.specs.Spelling.{spelling}
-
 use Rattle.session.specs.declared.kinds.Close.TheVariants.{Grammar, SendNumber, ReceiveNumber, Stopped, Timeout, OwnAnswers, Replaced}
 use Rattle.session.specs.History.{History}
 use Rattle.gateway.specs.Log.{Log, Came, Went, Opened, LineIn, TcpIn, CutOff, Ticked, LineOut, TcpOut, Closed, latest}
 use Rattle.gateway.specs.Streams.{spelled, AllFit}
 use Rattle.gateway.specs.Connections.{Channel, present}
 use Rattle.gateway.specs.Reports.{Setup}
-use Rattle.gateway.specs.Course.{Course, came_frames, with_frames, AreTaken, told_sent, Runs}
+use Rattle.gateway.specs.Course.{Course, came_frames, AreTaken, told_sent, Runs}
 
 -- No frame has no octets.
 

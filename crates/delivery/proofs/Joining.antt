@@ -24,7 +24,7 @@ use Rattle.gateway.specs.Connections.{present}
 use Rattle.gateway.specs.Reports.{Setup, address_at, sent_to, sending_in, exchanges_of}
 use Rattle.gateway.specs.Traffic.{ActsRightly}
 use Rattle.gateway.specs.Works.{Works, tasks_of, LearnsOf, begun_works, cut_works, ready_works, settled_works, unasked_works, done_works, asked_works, is_first_command, put_calls}
-use Rattle.gateway.specs.Course.{Course, came_frames, with_frames, with_sent, closed_course, with_works, IsLeft, SendsNext, room_in, Runs}
+use Rattle.gateway.specs.Course.{Course, with_frames, with_sent, closed_course, with_works, IsLeft, SendsNext, room_in, Runs}
 use Rattle.delivery.specs.Joined.{IsSetUp, mirrored_in, command_reports, AreValues}
 use Rattle.delivery.proofs.Waiting.{AnswersStay}
 use Rattle.delivery.proofs.History.{told_of, line_told, WaitsFit, one_fits}

@@ -44,11 +44,11 @@ pub fn the_course_is_the_logs()
     waiting_commands_stay();
 }
 
-/// Each command that is put on the line for the first time is the ASDU of one I frame that the log's
-/// connections received, in the line's sizes and with the station's own common address, in the order
-/// in which they came, each at most once. So is each command that an honest outstation accepted,
-/// whatever is lost, whatever times out, and however often the link is reset. (The connections of
-/// the course are those of the log: `IsFaithful`.)
+/// Each command that is put on the line for the first time is the ASDU of one I frame that the
+/// log's connections received, in the line's sizes and with the station's own common address, in
+/// the order in which they came, each at most once. So is each command that an honest outstation
+/// accepted, whatever is lost, whatever times out, and however often the link is reset. (The
+/// connections of the course are those of the log: `IsFaithful`.)
 pub fn each_command_is_given_once()
     ensures sent { (p : Setup) (log : Log) (i : ℕ) (f : IsFaithful p log) → IsSetUp p →
         AreCommandsOf p i (here_of f.course ∷ f.course.earlier)

@@ -14,12 +14,12 @@ ghost use Rattle.delivery.specs.Delivery.{before_sessions, sessions_of, IsIdle};
 use crate::commands::each_command_is_given_once;
 use link::{commands_are_accepted, each_service_acts_once, reports_are_learnt, sessions_are_known};
 
-/// Whatever serial frames are lost or refused by their check, whatever answers time out, however TCP
-/// is cut and reopened: where serial answers are neither late nor altered unseen and no link reset is
-/// caused, the monitor objects sent on each connection are a contiguous run, equal in all parts, of
-/// a merge of the outstations' reports, beginning at the first unacknowledged. Each command that is
-/// put on the line for the first time, and each that an honest outstation accepted, is one of the
-/// control centre's, given once.
+/// Whatever serial frames are lost or refused by their check, whatever answers time out, however
+/// TCP is cut and reopened: where serial answers are neither late nor altered unseen and no link
+/// reset is caused, the monitor objects sent on each connection are a contiguous run, equal in all
+/// parts, of a merge of the outstations' reports, beginning at the first unacknowledged. Each
+/// command that is put on the line for the first time, and each that an honest outstation accepted,
+/// is one of the control centre's, given once.
 pub fn nothing_is_lost()
     ensures { (p : Setup) (log : Log) → IsFaithful p log → Delivers p log }
 {
