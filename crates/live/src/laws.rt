@@ -11,20 +11,17 @@ ghost use Rattle.live.specs.declared.timing.Request.{Request};
 pub fn no_exchange_ends_unheard()
     ensures { (old new : Ends) (event : Next) (r : Request) → Turns old event new → new.timing.request ≡ Some r → 0 < new.timing.answer_ms →
         AtMoment event (λ moment. r.moment + new.timing.answer_ms ≤ moment → new.timing.answer_ms ≤ new.timing.heard - r.written) }
-{
-}
+{}
 
 /// An event that bears what a control centre sent bears a moment at most 50 ms before the one that the clock told last: no stall
 /// makes a selection longer than that.
 #[tactic(auto, using(crate::proofs::Law::in_time))]
 pub fn what_the_centre_sent_is_told_in_time()
     ensures { (old new : Ends) (event : Next) → Turns old event new → AtClock new.clock (λ now. AtBytes event (λ moment. now ≤ moment + 50)) }
-{
-}
+{}
 
 /// Looks at the ends leave the latest request and `answer_ms` as they were.
 pub fn looks_ask_nothing()
     ensures { (old new : Ends) (event : Next) → Turns old event new →
         (new.timing.request ≡ old.timing.request) × (new.timing.answer_ms ≡ old.timing.answer_ms) }
-{
-}
+{}

@@ -40,9 +40,7 @@ mod timed;
 mod timing;
 mod wires;
 
-pub use laws::{
-    looks_ask_nothing, no_exchange_ends_unheard, what_the_centre_sent_is_told_in_time,
-};
+pub use laws::{looks_ask_nothing, no_exchange_ends_unheard, what_the_centre_sent_is_told_in_time};
 pub use port::Live;
 pub use redial::{Dialler, Redialled};
 pub use sockets::{CentreListener, CentreSocket, LineDialler, LineSocket, SystemClock};

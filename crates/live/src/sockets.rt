@@ -7,14 +7,11 @@ ghost use Rattle.std.specs.Prelude.{None};
 use crate::redial::Dialler;
 use crate::stream::{drop_waiting, read_once, write_once, write_some};
 use crate::wires::{Clock, Door, Got, Wire};
-use std::io;
 use std::io::{Eprint, ErrorKind};
-use std::net::{
-    Net, OpenListener, OpenStream, SocketAddr, TcpListener, TcpStream, ToSocketAddrs,
-};
+use std::net::{Net, OpenListener, OpenStream, SocketAddr, TcpListener, TcpStream, ToSocketAddrs};
 use std::os::unix::net::UnixStream;
-use std::thread;
 use std::time::{Duration, Instant};
+use std::{io, thread};
 
 /// How long a look at the line waits, in ms. A system may round it up to some ms.
 const LOOK_MS: u64 = 1;

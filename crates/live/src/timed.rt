@@ -1,5 +1,5 @@
 //! Ends in memory in a time of their own, in which the gateway stalls wherever a test wants it to.
-ghost use Rattle.std.specs.Prelude.{None};
+ghost use Rattle.std.specs.Prelude.{None, ◌≤◌};
 
 use crate::wires::{Clock, Door, Got, Wire};
 use std::cell::Cell;
@@ -58,9 +58,8 @@ pub(crate) struct TimedLine<'a> {
     /// The control octet of the latest request, and when it came.
     control: u8,
     asked: u64,
-    /// Which pieces of its answer have been read.
-    has_first: bool,
-    has_second: bool,
+    /// How many octets of its answer have been read.
+    given: usize,
     pub(crate) requests: u32,
     /// How many requests were the one before again.
     pub(crate) repeats: u32,
@@ -76,19 +75,32 @@ impl<'a> TimedLine<'a> {
             write_ms: 0,
             control: 0,
             asked: 0,
-            has_first: true,
-            has_second: true,
+            given: 5,
             requests: 0,
             repeats: 0,
         }
     }
 
-    /// The control octet of the answer: to the request for the status, to the reset, to a poll.
-    fn answer(&self) -> u8 {
+    /// The answer to the latest request: to that for the status, to the reset, to a poll.
+    fn answer(&self) -> [u8; 5] {
         match self.control {
-            0x49 => 0x0B,
-            0x40 => 0x00,
-            _ => 0x09,
+            0x49 => [0x10, 0x0B, 0x01, 0x0C, 0x16],
+            0x40 => [0x10, 0x00, 0x01, 0x01, 0x16],
+            _ => [0x10, 0x09, 0x01, 0x0A, 0x16],
+        }
+    }
+
+    /// How many octets of it have come.
+    fn come(&self) -> usize
+        ensures { result ≤ 5 }
+    {
+        let passed = self.time.now().saturating_sub(self.asked);
+        if passed < self.answer_ms {
+            0
+        } else if passed < self.answer_ms.saturating_add(self.rest_ms) {
+            2
+        } else {
+            5
         }
     }
 }
@@ -100,31 +112,16 @@ impl Wire for TimedLine<'_> {
         self.time.begin();
         self.time.pass(self.look_ms);
         self.look_ms = 0;
-        let passed = self.time.now().saturating_sub(self.asked);
-        let is_second = !self.has_second && self.answer_ms.saturating_add(self.rest_ms) <= passed;
-        let answer = self.answer();
-        if is_second && self.has_first {
-            self.has_second = true;
-            buf[0] = 1;
-            buf[1] = answer + 1;
-            buf[2] = 0x16;
-            return Got::Octets(3);
-        }
-        if self.has_first || passed < self.answer_ms {
+        let come = self.come();
+        if come <= self.given {
             self.time.pass(1);
             return Got::Quiet;
         }
-        self.has_first = true;
-        buf[0] = 0x10;
-        buf[1] = answer;
-        if !is_second {
-            return Got::Octets(2);
-        }
-        self.has_second = true;
-        buf[2] = 1;
-        buf[3] = answer + 1;
-        buf[4] = 0x16;
-        Got::Octets(5)
+        let answer = self.answer();
+        let piece = &answer[self.given..come];
+        self.given = come;
+        buf[..piece.len()].copy_from_slice(piece);
+        Got::Octets(piece.len())
     }
 
     fn write(&mut self, octets: &[u8]) -> bool {
@@ -138,8 +135,7 @@ impl Wire for TimedLine<'_> {
         self.requests = self.requests.saturating_add(1);
         self.control = control;
         self.asked = self.time.now();
-        self.has_first = false;
-        self.has_second = false;
+        self.given = 0;
         true
     }
 }

@@ -1,6 +1,7 @@
 //! What a stall of the gateway does, over ends in a time of their own.
 use super::Live;
 use crate::configured::config;
+use crate::source::Source;
 use crate::timed::{Time, TimedClock, TimedDoor, TimedLine};
 use gateway::{Action, End, Gateway, Next, Port, drive_on};
 use std::alloc::Global;
@@ -41,10 +42,9 @@ fn before_any_request_the_moment_is_the_clocks(rt: HostRuntime) {
     assert!(rt; matches!(next(&rt, &mut port), Next::Bytes(5001, 6)));
 }
 
-/// A stall of 1.2 s at each place, with an answer after 170 ms, and with none.
+/// A stall of 1.2 s in the write of a request, which goes out after it: the exchange has its whole time from then on.
 #[test]
-fn a_stall_is_no_late_answer(rt: HostRuntime) {
-    // In the write of the request, which goes out after it: the exchange has its whole time from then on.
+fn a_stalled_request_has_its_whole_time(rt: HostRuntime) {
     let time = Time::new(0, 0);
     let mut port = ends(&time, 170, false);
     port.line.write_ms = 1200;
@@ -54,60 +54,59 @@ fn a_stall_is_no_late_answer(rt: HostRuntime) {
     assert!(rt; matches!(next(&rt, &mut port), Next::Line(999, 5)));
     ask(&rt, &mut port, 999);
     assert!(rt; matches!(next(&rt, &mut port), Next::Tick(1402)));
+}
 
-    // After it, as in a write to the control centre: the answer that waits is heard before anything else.
+/// The next two events after a request at 0, after which the gateway stalls for so long, and so long in its look at the line.
+fn after_stalls(rt: &impl Abort, answer_ms: u64, stall_ms: u64, look_ms: u64) -> (Next, Next) {
     let time = Time::new(0, 0);
-    let mut port = ends(&time, 170, true);
-    ask(&rt, &mut port, 0);
-    time.pass(1200);
-    assert!(rt; matches!(next(&rt, &mut port), Next::Line(1200, 5)));
-    assert!(rt; matches!(next(&rt, &mut port), Next::Open(1200)));
+    let mut port = ends(&time, answer_ms, true);
+    ask(rt, &mut port, 0);
+    time.pass(stall_ms);
+    port.line.look_ms = look_ms;
+    port.first = Source::Line;
+    let first = next(rt, &mut port);
+    (first, next(rt, &mut port))
+}
 
+#[test]
+fn a_stall_is_no_late_answer(rt: HostRuntime) {
+    // As in a write to the control centre: the answer that waits is heard before anything else.
+    let both = after_stalls(&rt, 170, 1200, 0);
+    assert!(rt; matches!(both, (Next::Line(1200, 5), Next::Open(1200))));
     // In the look at the line: its answer ends an exchange that still goes on.
-    let time = Time::new(0, 0);
-    let mut port = ends(&time, 170, false);
-    ask(&rt, &mut port, 0);
-    port.line.look_ms = 1200;
-    assert!(rt; matches!(next(&rt, &mut port), Next::Line(999, 5)));
-
+    let both = after_stalls(&rt, 170, 0, 1200);
+    assert!(rt; matches!(both, (Next::Line(999, 5), Next::Tick(1201))));
     // No answer comes: the exchange ends once the line has been looked at that late.
+    let both = after_stalls(&rt, 60000, 1200, 0);
+    assert!(rt; matches!(both, (Next::Tick(1201), Next::Open(_))));
+}
+
+/// The next event of a connected port after a request at 0, after which the gateway stalls for so long, and so long in its look at
+/// the connection.
+fn connected_after(rt: &impl Abort, stall_ms: u64, look_ms: u64) -> (Next, Next) {
     let time = Time::new(0, 0);
     let mut port = ends(&time, 60000, true);
-    ask(&rt, &mut port, 0);
-    time.pass(1200);
-    assert!(rt; matches!(next(&rt, &mut port), Next::Tick(1201)));
-    assert!(rt; matches!(next(&rt, &mut port), Next::Open(1201)));
+    assert!(rt; matches!(next(rt, &mut port), Next::Open(0)));
+    ask(rt, &mut port, 0);
+    time.pass(stall_ms);
+    if let Some(centre) = &mut port.connection {
+        centre.look_ms = look_ms;
+    }
+    let first = next(rt, &mut port);
+    (first, next(rt, &mut port))
 }
 
 #[test]
 fn a_stall_makes_no_selection_longer(rt: HostRuntime) {
-    // What the control centre sent in a stall after the looks bears the moment after it.
-    let time = Time::new(0, 0);
-    let mut port = ends(&time, 60000, true);
-    assert!(rt; matches!(next(&rt, &mut port), Next::Open(0)));
-    ask(&rt, &mut port, 0);
-    time.pass(2000);
-    assert!(rt; matches!(next(&rt, &mut port), Next::Tick(2001)));
-    assert!(rt; matches!(next(&rt, &mut port), Next::Bytes(2001, 6)));
-
+    // What the control centre sent in a stall before the looks bears the moment after it.
+    let both = connected_after(&rt, 2000, 0);
+    assert!(rt; matches!(both, (Next::Tick(2001), Next::Bytes(2001, 6))));
     // What it sent in a stall within its look, while the line isn't heard out, isn't taken.
-    let time = Time::new(0, 0);
-    let mut port = ends(&time, 60000, true);
-    assert!(rt; matches!(next(&rt, &mut port), Next::Open(0)));
-    ask(&rt, &mut port, 0);
-    if let Some(centre) = &mut port.connection {
-        centre.look_ms = 2000;
-    }
-    assert!(rt; matches!(next(&rt, &mut port), Next::Cut(999)));
-    assert!(rt; port.connection.is_none());
-
+    let both = connected_after(&rt, 0, 2000);
+    assert!(rt; matches!(both, (Next::Cut(999), Next::Tick(2001))));
     // Up to 50 ms behind the clock are let through.
-    let time = Time::new(0, 0);
-    let mut port = ends(&time, 60000, true);
-    assert!(rt; matches!(next(&rt, &mut port), Next::Open(0)));
-    ask(&rt, &mut port, 0);
-    time.pass(1049);
-    assert!(rt; matches!(next(&rt, &mut port), Next::Bytes(999, 6)));
+    let both = connected_after(&rt, 1049, 0);
+    assert!(rt; matches!(both, (Next::Bytes(999, 6), _)));
 }
 
 /// The gateway stalls before each so manieth call to an end, while the station answers in time: no request goes out twice.

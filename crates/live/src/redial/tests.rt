@@ -56,7 +56,11 @@ fn is_away(rt: &impl Abort, wire: &mut Wires<'_>, time: &Time, until: u64, tries
 #[test]
 fn it_is_tried_at_once_and_then_every_second(rt: HostRuntime) {
     let time = Time::new(0, 0);
-    let dialler = MemoryDialler { time: &time, failing_tries: 2, tries: 0 };
+    let dialler = MemoryDialler {
+        time: &time,
+        failing_tries: 2,
+        tries: 0,
+    };
     let mut wire = Redialled::new(dialler, TimedClock(&time));
     is_away(&rt, &mut wire, &time, 1000, 1);
     is_away(&rt, &mut wire, &time, 2000, 2);

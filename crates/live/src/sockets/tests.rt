@@ -1,8 +1,8 @@
 //! A gateway between a line and a control centre on the loopback, both served in this process.
 use super::{CentreListener, LineDialler, LineSocket, SystemClock};
-use crate::redial::Redialled;
 use crate::Live;
 use crate::configured::config;
+use crate::redial::Redialled;
 use crate::wires::{Door, Got, Wire};
 use gateway::{End, Gateway, Port, drive_on};
 use std::io::{Read, Write};
@@ -157,7 +157,10 @@ fn of_all_who_wait_the_last_one_stays(rt: HostRuntime) -> Result<(), Fail> {
     let mut last = started(&rt, address)?;
     let mut wire = door.accept().ok_or("a visitor")?;
     assert!(rt; door.accept().is_none());
-    assert!(rt; matches!(first.read(&mut [0; 1]), Ok(0) | Err(_)), "the first is shut");
+    assert!(rt;
+        matches!(first.read(&mut [0; 1]), Ok(0) | Err(_)),
+        "the first is shut"
+    );
     assert!(rt; wire.write(&[0x68, 4, 0x0B, 0, 0, 0]));
     hears(&rt, &mut last, &[0x68, 4, 0x0B, 0, 0, 0])?;
 
@@ -179,7 +182,10 @@ fn of_all_who_wait_the_last_one_stays(rt: HostRuntime) -> Result<(), Fail> {
 fn a_line_comes_back(rt: HostRuntime) -> Result<(), Fail> {
     let server = TcpListener::bind(&rt, "127.0.0.1:0")?;
     let place = format!(in rt.alloc(); "tcp:{}", server.local_addr()?)?;
-    let mut line = Redialled::new(LineDialler::new(&rt, place.as_str()), SystemClock::start(&rt)?);
+    let mut line = Redialled::new(
+        LineDialler::new(&rt, place.as_str()),
+        SystemClock::start(&rt)?,
+    );
     let mut buf = [0; 1024];
     assert!(rt; !line.write(&[0xE5]), "it is away");
     assert_eq!(rt; line.read(&mut buf), Got::Quiet);
