@@ -6,7 +6,7 @@ use Rattle.link.specs.Answers.{Frame, Single, Fixed, Data, Service, Class1, Clas
 use Rattle.link.specs.Exchanges.{Exchange, answer_to}
 use Rattle.link.specs.Procedure.{is_up, IsSteady, LinkSettings, Link, Down, Available, Next, Held, after_outcome, after_silence, after, missed_so_far, MaySend, KeepsFrameCountBit}
 use Rattle.link.specs.Outstation.{Effect, effects_of, Turn, all_done}
-use Rattle.link.specs.Delivery.{learnt_by, learnt, pending_by, pending_after, MayOwe, is_reset, Session, with_first, before_reset, sessions, IsSessionKnown, accepted_by, commands, command_of, is_busy_by, is_answered_busy, first_sending, sendings_not_busy, AcceptsSendings}
+use Rattle.link.specs.Delivery.{learnt_by, learnt, pending_by, pending_after, MayOwe, is_reset, Session, with_first, before_reset, sessions, IsSessionKnown, accepted_by, commands, command_of, is_busy_by, is_answered_busy, first_sending, sendings_not_busy, AcceptsSendings, is_command_pending, AcceptsAllSendings}
 use Rattle.link.proofs.Bit.{confirmed_reset}
 use Rattle.link.proofs.Sessions.{reset_learns, idle_down, reset_from_down}
 
@@ -316,6 +316,37 @@ pub all_accept : (station : ℕ) (ss : List Session) → AllByRecursion (λ (s :
     AllByRecursion (λ (s : Session). IsSessionKnown station s) ss → AllByRecursion (λ (s : Session). AcceptsSendings station s) ss
 all_accept station [] sent known = tt
 all_accept station (s ∷ ss) sent known = (accepts station s sent.0 known.0, all_accept station ss sent.1 known.1)
+
+-- All of it, where no command is pending.
+pub accepts_every : (station : ℕ) (session : Session) → SendingsLearnt station None session.exchanges → IsSessionKnown station session → AcceptsAllSendings station session
+accepts_every station session sent known = go (pending_after station None session.exchanges) known.may_owe sendings
+  where
+    done : commands (learnt station session.exchanges) ++ commands known.owed ≡ commands (all_done session.turns)
+    done = sym (commands-append (learnt station session.exchanges) known.owed) ∙ ap commands known.whole
+
+    sendings : sendings_not_busy station None session.exchanges
+        ≡ commands (learnt station session.exchanges) ++ pending_command (pending_after station None session.exchanges)
+    sendings = sym (drop_if (is_answered_busy station session.exchanges) _) ∙ sent
+
+    equal : (p : Option Service) → pending_command p ≡ commands known.owed →
+        sendings_not_busy station None session.exchanges ≡ commands (learnt station session.exchanges) ++ pending_command p →
+        sendings_not_busy station None session.exchanges ≡ commands (all_done session.turns)
+    equal p e s = s ∙ ap (λ (l : List (List ℕ)). commands (learnt station session.exchanges) ++ l) e ∙ done
+
+    go : (p : Option Service) → MayOwe p known.owed →
+        sendings_not_busy station None session.exchanges ≡ commands (learnt station session.exchanges) ++ pending_command p →
+        is_command_pending p ≡ false → sendings_not_busy station None session.exchanges ≡ commands (all_done session.turns)
+    go None owed s none = equal None (sym (ap commands owed)) s
+    go (Some Class1) (inl owed) s none = equal (Some Class1) (sym (ap commands owed)) s
+    go (Some Class1) (inr owed) s none = equal (Some Class1) (sym (ap commands owed.1)) s
+    go (Some Class2) (inl owed) s none = equal (Some Class2) (sym (ap commands owed)) s
+    go (Some Class2) (inr owed) s none = equal (Some Class2) (sym (ap commands owed.1)) s
+    go (Some (Command c)) owed s none = cc
+
+pub all_accept_every : (station : ℕ) (ss : List Session) → AllByRecursion (λ (s : Session). SendingsLearnt station None s.exchanges) ss →
+    AllByRecursion (λ (s : Session). IsSessionKnown station s) ss → AllByRecursion (λ (s : Session). AcceptsAllSendings station s) ss
+all_accept_every station [] sent known = tt
+all_accept_every station (s ∷ ss) sent known = (accepts_every station s sent.0 known.0, all_accept_every station ss sent.1 known.1)
 
 -- Under a steady link one session holds all.
 pub sendings_steady :

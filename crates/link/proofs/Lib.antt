@@ -28,3 +28,4 @@ pub mod Heeding
 pub mod Visiting
 pub mod VisitRuns
 pub mod Fairness
+pub mod Telltale

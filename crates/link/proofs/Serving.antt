@@ -13,7 +13,7 @@ fixed_says station control request answer secondary code =
     ∙ ap (λ (b : Bool). if b then code_answer request (control % 16) else None) (eq-eqb station station refl)
     ∙ code
 
-data_says : (station : ℕ) (request : Asked) (reports : List (List ℕ)) (asdu : List ℕ) (answer : Answer) → data_answer request asdu ≡ Some answer →
+pub data_says : (station : ℕ) (request : Asked) (reports : List (List ℕ)) (asdu : List ℕ) (answer : Answer) → data_answer request asdu ≡ Some answer →
     Says station request answer (data_frame (control_of 8 reports) station asdu)
 data_says station request [] asdu answer e = ap (λ (b : Bool). if (true && b) && true then data_answer request asdu else None) (eq-eqb station station refl) ∙ e
 data_says station request (r ∷ rs) asdu answer e = ap (λ (b : Bool). if (true && b) && true then data_answer request asdu else None) (eq-eqb station station refl) ∙ e
@@ -34,11 +34,11 @@ busy_says : (station : ℕ) (fcb : Bool) (asdu : List ℕ) (reports : List (List
 busy_says station fcb asdu [] = fixed_says station 1 (Counted fcb (Command asdu)) Busy refl refl
 busy_says station fcb asdu (r ∷ rs) = fixed_says station 33 (Counted fcb (Command asdu)) Busy refl refl
 
-none1_says : (station : ℕ) (fcb : Bool) (reports : List (List ℕ)) → Says station (Counted fcb Class1) NoData (short_of 9 station reports)
+pub none1_says : (station : ℕ) (fcb : Bool) (reports : List (List ℕ)) → Says station (Counted fcb Class1) NoData (short_of 9 station reports)
 none1_says station fcb [] = refl
 none1_says station fcb (r ∷ rs) = fixed_says station 41 (Counted fcb Class1) NoData refl refl
 
-none2_says : (station : ℕ) (fcb : Bool) (reports : List (List ℕ)) → Says station (Counted fcb Class2) NoData (short_of 9 station reports)
+pub none2_says : (station : ℕ) (fcb : Bool) (reports : List (List ℕ)) → Says station (Counted fcb Class2) NoData (short_of 9 station reports)
 none2_says station fcb [] = refl
 none2_says station fcb (r ∷ rs) = fixed_says station 41 (Counted fcb Class2) NoData refl refl
 

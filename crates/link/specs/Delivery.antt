@@ -161,6 +161,19 @@ abbrev pub AcceptsSendings : (station : ℕ) → Session → Type 0
 AcceptsSendings station session =
     IsAllOrButLast (sendings_not_busy station None session.exchanges) (commands (all_done session.turns))
 
+-- whether the pending service is a command
+abbrev pub is_command_pending : Option Service → Bool
+is_command_pending None = false
+is_command_pending (Some Class1) = false
+is_command_pending (Some Class2) = false
+is_command_pending (Some (Command asdu)) = true
+
+-- Where no command is pending in the end, the outstation accepted all of the session's commands that weren't answered busy.
+abbrev pub AcceptsAllSendings : (station : ℕ) → Session → Type 0
+AcceptsAllSendings station session =
+    is_command_pending (pending_after station None session.exchanges) ≡ false →
+    sendings_not_busy station None session.exchanges ≡ commands (all_done session.turns)
+
 -- In a session whose latest service is a poll that wasn't answered by a report or that there is none, a report may be lost: a gap.
 abbrev pub is_gap : Option Service → Bool
 is_gap None = false

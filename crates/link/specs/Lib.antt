@@ -17,3 +17,5 @@ pub mod Leave
 pub mod Offers
 pub mod Visits
 pub mod Waits
+pub mod Tidings
+pub mod Examples

@@ -9,11 +9,15 @@
 //! (`specs/Secondary.antt`). Above them stand laws, as public functions with no body:
 //! - over every list of calls the exchanges of the line keep the frame count bit of each station
 //!   ([`frame_count_bits_are_kept`], [`master_tells_the_log`]), no request goes out while one is outstanding
-//!   ([`requests_wait_their_turn`]), each station has its turn ([`each_station_has_its_turn`]), a command is sent for the first
-//!   time once, in order ([`commands_are_sent_in_order`]), what is offered waits until then ([`offers_wait`]), what the caller
-//!   is told is what the exchanges show ([`outcomes_are_answers`], [`outcomes_bear_the_reports`]), and those that closed with
-//!   octets but no answer are counted ([`spoilt_exchanges_are_counted`]);
-//! - a station runs as an outstation that hears each request to it ([`station_is_an_outstation`]);
+//!   ([`requests_wait_their_turn`]), each station has its turn ([`each_station_has_its_turn`]), a turn ends ([`turns_end`]) and
+//!   no station starves ([`no_station_starves`]), polls and commands go by ACD and DFC ([`flags_are_heeded`]), a command is sent
+//!   for the first time once, in order ([`commands_are_sent_in_order`]), what is offered waits until then ([`offers_wait`]), what
+//!   the caller is told is what the exchanges show ([`outcomes_are_answers`], [`outcomes_bear_the_reports`]), and those that
+//!   closed with octets but no answer are counted ([`spoilt_exchanges_are_counted`]);
+//! - a station runs as an outstation that hears each request to it ([`station_is_an_outstation`]), and its answers say what
+//!   waits there ([`station_tells_what_waits`]);
+//! - the tables of requests, answers and turns have worked examples ([`answers_by_example`], [`requests_by_example`],
+//!   [`turns_by_example`]);
 //! - and where the frame count bit is kept and an outstation's answers come in their exchange and unaltered, each service acts once
 //!   and its answer is taken once ([`each_service_acts_once`], [`sessions_are_known`], [`commands_are_accepted`],
 //!   [`reports_are_learnt`], [`silence_is_no_reset`]).
@@ -23,6 +27,7 @@ mod answer;
 mod asdu;
 mod asking;
 mod awaited;
+mod examples;
 mod flags;
 mod laws;
 mod leave;
@@ -44,13 +49,14 @@ mod visits;
 pub use answer::Answer;
 pub use asdu::Asdu;
 pub use asking::next_changes_nothing;
+pub use examples::{answers_by_example, requests_by_example, turns_by_example};
 pub use flags::flags_are_heeded;
 pub use laws::{
     master_tells_the_log, outcomes_bear_the_reports, requests_are_read_back,
     requests_wait_their_turn, services_need_a_station_that_is_up,
 };
 pub use leave::{polls_wait_for_leave, rests_mean};
-pub use life::station_is_an_outstation;
+pub use life::{station_is_an_outstation, station_tells_what_waits};
 pub use master::Master;
 pub use no_memory::NoMemory;
 pub use offers::offers_wait;

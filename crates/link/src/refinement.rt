@@ -1,11 +1,11 @@
 //! What the frame count bit is for: each service acts once at the outstation, and its answer is taken once.
-ghost use Rattle.std.specs.Prelude.{◌≡◌, ◌≢◌, ℕ, true, Some, List, None, flat_map};
+ghost use Rattle.std.specs.Prelude.{◌≡◌, ◌≢◌, ℕ, true, false, Some, List, None, flat_map};
 ghost use Rattle.std.specs.List.{AllByRecursion};
 ghost use Rattle.link.specs.Answers.{Unable};
 ghost use Rattle.link.specs.Exchanges.{Exchange, answer_to};
 ghost use Rattle.link.specs.Procedure.{LinkSettings, KeepsFrameCountBit, IsSteady, Down};
 ghost use Rattle.link.specs.Outstation.{Turn, all_done};
-ghost use Rattle.link.specs.Delivery.{learnt, IsHonest, IsKnown, IsSessionKnown, sessions, pending_after, IsAllOrButLast, IsLatestAnswered, reports, HasReports, AcceptsSendings, sendings_not_busy, commands};
+ghost use Rattle.link.specs.Delivery.{learnt, IsHonest, IsKnown, IsSessionKnown, sessions, pending_after, IsAllOrButLast, IsLatestAnswered, reports, HasReports, AcceptsSendings, AcceptsAllSendings, sendings_not_busy, is_command_pending, commands};
 
 /// In each session of the link an honest outstation has done what the primary learnt, and then at most what the session's last
 /// service asks for. What is learnt and done is learnt and done in the sessions.
@@ -34,7 +34,8 @@ pub fn each_service_acts_once()
         IsLatestAnswered station xs → learnt station xs ≡ all_done turns }
 {}
 
-/// The commands that an honest outstation accepted are the first sendings that weren't answered busy, or all of them but the last.
+/// The commands that an honest outstation accepted are the first sendings that weren't answered busy, or all of them but the last;
+/// and all of them where the latest service isn't a command without an outcome.
 pub fn commands_are_accepted()
     ensures each { (settings : LinkSettings) (station : ℕ) (xs : List Exchange) (turns : List Turn) →
         KeepsFrameCountBit settings station Down xs → IsHonest station xs turns →
@@ -42,6 +43,12 @@ pub fn commands_are_accepted()
     ensures steady { (settings : LinkSettings) (station : ℕ) (xs : List Exchange) (turns : List Turn) →
         KeepsFrameCountBit settings station Down xs → IsSteady settings station Down xs → IsHonest station xs turns →
         IsAllOrButLast (sendings_not_busy station None xs) (commands (all_done turns)) }
+    ensures each_all { (settings : LinkSettings) (station : ℕ) (xs : List Exchange) (turns : List Turn) →
+        KeepsFrameCountBit settings station Down xs → IsHonest station xs turns →
+        AllByRecursion (λ s. AcceptsAllSendings station s) (sessions station xs turns) }
+    ensures steady_all { (settings : LinkSettings) (station : ℕ) (xs : List Exchange) (turns : List Turn) →
+        KeepsFrameCountBit settings station Down xs → IsSteady settings station Down xs → IsHonest station xs turns →
+        is_command_pending (pending_after station None xs) ≡ false → sendings_not_busy station None xs ≡ commands (all_done turns) }
     ensures answered { (settings : LinkSettings) (station : ℕ) (xs : List Exchange) (turns : List Turn) →
         KeepsFrameCountBit settings station Down xs → IsSteady settings station Down xs → IsHonest station xs turns →
         IsLatestAnswered station xs → commands (learnt station xs) ≡ commands (all_done turns) }

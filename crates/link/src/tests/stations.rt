@@ -64,34 +64,33 @@ fn other_requests(rt: HostRuntime) {
     assert!(rt; is_fixed(&station.hear(&[0x10, 0x44, 0x01, 0x45, 0x16]), 0x0F));
 }
 
-/// Whether a command is accepted, or answered that the station is busy: the latter where memory is refused.
+/// A command is accepted. Where memory is refused it is answered that the station is busy, and the test fails.
 #[test]
-fn a_command_needs_memory(rt: HostRuntime) {
+fn a_command_needs_memory(rt: HostRuntime) -> Result<(), NoMemory> {
     let mut station = Station::new(rt.alloc(), LinkSize::One, 1);
     assert!(rt; is_single(&station.hear(&RESET)));
     let command = [
         0x68, 0x09, 0x09, 0x68, 0x73, 0x01, 0x2D, 0x01, 0x06, 0x01, 0x0A, 0x00, 0x01, 0xB4, 0x16,
     ];
     let answer = station.hear(&command);
-    if is_single(&answer) {
-        assert!(rt; station.accepted().len() == 1);
-        for asdu in station.accepted() {
-            assert!(rt; asdu.as_slice() == &command[6..13]);
-        }
-    } else {
+    if !is_single(&answer) {
         assert!(rt; is_fixed(&answer, 0x01));
         assert!(rt; station.accepted().is_empty());
+        return Err(NoMemory);
     }
+    assert!(rt; station.accepted().len() == 1);
+    for asdu in station.accepted() {
+        assert!(rt; asdu.as_slice() == &command[6..13]);
+    }
+    Ok(())
 }
 
-/// Where memory is refused a report changes nothing.
+/// A report waits, and ACD says so. Where memory is refused nothing changes, and the test fails.
 #[test]
-fn a_report_needs_memory(rt: HostRuntime) {
+fn a_report_needs_memory(rt: HostRuntime) -> Result<(), NoMemory> {
     let mut station = Station::new(rt.alloc(), LinkSize::One, 1);
-    let control = if station.report1(&[7]).is_ok() {
-        0x2B
-    } else {
-        0x0B
-    };
+    let reported = station.report1(&[7]);
+    let control = if reported.is_ok() { 0x2B } else { 0x0B };
     assert!(rt; is_fixed(&station.hear(&[0x10, 0x49, 0x01, 0x4A, 0x16]), control));
+    reported
 }

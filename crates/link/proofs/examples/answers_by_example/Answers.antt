@@ -1,0 +1,26 @@
+use Rattle.std.proofs.Common.{refl}
+use Rattle.link.proofs.examples.answers_by_example.Goals as goal
+
+pub returns-clause-status : goal.returns-clause-status
+returns-clause-status c = (refl, refl, refl, refl, refl, refl, refl)
+
+pub returns-clause-reset : goal.returns-clause-reset
+returns-clause-reset c = (refl, refl, refl, refl, refl, refl, refl)
+
+pub returns-clause-class1 : goal.returns-clause-class1
+returns-clause-class1 c = (refl, refl, refl, refl, refl, refl, refl, refl)
+
+pub returns-clause-class2 : goal.returns-clause-class2
+returns-clause-class2 c = (refl, refl, refl, refl, refl)
+
+pub returns-clause-command : goal.returns-clause-command
+returns-clause-command c = (refl, refl, refl, refl, refl, refl, refl)
+
+pub returns-clause-strangers : goal.returns-clause-strangers
+returns-clause-strangers c = (refl, refl, refl, refl, refl, refl)
+
+pub returns-clause-flags : goal.returns-clause-flags
+returns-clause-flags c = (refl, refl, refl, refl, refl)
+
+pub returns-clause-told : goal.returns-clause-told
+returns-clause-told c = (refl, refl, refl, refl, refl, refl, refl, refl)

@@ -1,0 +1,138 @@
+//! The tables by worked examples: what frames say in answer, what requests look like, and what turns begin with.
+ghost use Rattle.std.specs.Prelude.{◌≡◌, [], true, false, Some, None};
+ghost use Rattle.link.specs.Answers.{Single, Fixed, Status, Reset, Counted, Class1, Class2, Command, Ready, Confirmed, Busy, Report, NoData, Unable, answer_of};
+ghost use Rattle.link.specs.Examples.{octet, in_state};
+ghost use Rattle.link.specs.Flags.{clear, flags_in};
+ghost use Rattle.link.specs.Procedure.{Down, Available, Next, Held};
+ghost use Rattle.link.specs.Requests.{Foreign, Unknown, Asks, request_frame, reading_of};
+ghost use Rattle.link.specs.Secondary.{data_frame};
+ghost use Rattle.link.specs.Turns.{Starting, Commanding, Polling, Class1Polling, Over, wants, wanted};
+ghost use Rattle.link.specs.Primary.{outcome_by};
+ghost use Rattle.link.specs.declared.outcome.Outcome.TheVariants as outcome;
+
+/// What a secondary station's frames say in answer to each request (IEC 60870-5-2, 5.1: the functions of a secondary station;
+/// what `E5` stands for is this gateway's own profile).
+pub fn answers_by_example()
+    ensures status { (answer_of 1 Status (Fixed 0x0B 1) ≡ Some Ready)
+        × (answer_of 1 Status (Fixed 0x3B 1) ≡ Some Ready)
+        × (answer_of 1 Status (Fixed 0x0E 1) ≡ Some Unable)
+        × (answer_of 1 Status (Fixed 0x0F 1) ≡ Some Unable)
+        × (answer_of 1 Status (Fixed 0x00 1) ≡ None)
+        × (answer_of 1 Status Single ≡ None)
+        × (answer_of 1 Status (data_frame 0x08 1 octet) ≡ None) }
+    ensures reset { (answer_of 1 Reset (Fixed 0x00 1) ≡ Some Confirmed)
+        × (answer_of 1 Reset Single ≡ Some Confirmed)
+        × (answer_of 1 Reset (Fixed 0x01 1) ≡ None)
+        × (answer_of 1 Reset (Fixed 0x0B 1) ≡ None)
+        × (answer_of 1 Reset (Fixed 0x0E 1) ≡ None)
+        × (answer_of 1 Reset (Fixed 0x0F 1) ≡ None)
+        × (answer_of 1 Reset (data_frame 0x08 1 octet) ≡ None) }
+    ensures class1 { (answer_of 1 (Counted true Class1) (data_frame 0x28 1 octet) ≡ Some (Report octet))
+        × (answer_of 1 (Counted true Class1) (data_frame 0x00 1 octet) ≡ None)
+        × (answer_of 1 (Counted true Class1) (Fixed 0x09 1) ≡ Some NoData)
+        × (answer_of 1 (Counted true Class1) Single ≡ Some NoData)
+        × (answer_of 1 (Counted true Class1) (Fixed 0x0E 1) ≡ Some Unable)
+        × (answer_of 1 (Counted true Class1) (Fixed 0x0F 1) ≡ Some Unable)
+        × (answer_of 1 (Counted true Class1) (Fixed 0x00 1) ≡ None)
+        × (answer_of 1 (Counted true Class1) (Fixed 0x08 1) ≡ None) }
+    ensures class2 { (answer_of 1 (Counted false Class2) (data_frame 0x08 1 octet) ≡ Some (Report octet))
+        × (answer_of 1 (Counted false Class2) (Fixed 0x29 1) ≡ Some NoData)
+        × (answer_of 1 (Counted false Class2) Single ≡ Some NoData)
+        × (answer_of 1 (Counted false Class2) (Fixed 0x0F 1) ≡ Some Unable)
+        × (answer_of 1 (Counted false Class2) (Fixed 0x0B 1) ≡ None) }
+    ensures command { (answer_of 1 (Counted true (Command octet)) (Fixed 0x00 1) ≡ Some Confirmed)
+        × (answer_of 1 (Counted true (Command octet)) Single ≡ Some Confirmed)
+        × (answer_of 1 (Counted true (Command octet)) (Fixed 0x01 1) ≡ Some Busy)
+        × (answer_of 1 (Counted true (Command octet)) (Fixed 0x0E 1) ≡ Some Unable)
+        × (answer_of 1 (Counted true (Command octet)) (Fixed 0x0F 1) ≡ Some Unable)
+        × (answer_of 1 (Counted true (Command octet)) (Fixed 0x09 1) ≡ None)
+        × (answer_of 1 (Counted true (Command octet)) (data_frame 0x08 1 octet) ≡ None) }
+    ensures strangers { (answer_of 1 Status (Fixed 0x0B 2) ≡ None)
+        × (answer_of 1 Status (Fixed 0x4B 1) ≡ None)
+        × (answer_of 1 Reset (Fixed 0x00 2) ≡ None)
+        × (answer_of 1 Reset (Fixed 0x40 1) ≡ None)
+        × (answer_of 1 (Counted true Class1) (data_frame 0x08 2 octet) ≡ None)
+        × (answer_of 1 (Counted true Class1) (data_frame 0x48 1 octet) ≡ None) }
+    ensures flags { (flags_in (Fixed 0x29 1) ≡ record { acd = true; dfc = false })
+        × (flags_in (Fixed 0x11 1) ≡ record { acd = false; dfc = true })
+        × (flags_in (data_frame 0x38 1 octet) ≡ record { acd = true; dfc = true })
+        × (flags_in (Fixed 0x0F 1) ≡ clear)
+        × (flags_in Single ≡ clear) }
+    ensures told { (outcome_by 3 Reset Confirmed ≡ outcome.Started 3)
+        × (outcome_by 3 (Counted true (Command octet)) Confirmed ≡ outcome.Accepted 3)
+        × (outcome_by 3 (Counted true (Command octet)) Busy ≡ outcome.Busy 3)
+        × (outcome_by 3 (Counted true Class1) NoData ≡ outcome.Empty 3)
+        × (outcome_by 3 (Counted true Class1) (Report octet) ≡ outcome.Report 3 (record { items = octet }))
+        × (outcome_by 3 Status Ready ≡ outcome.None)
+        × (outcome_by 3 Status Unable ≡ outcome.Down 3)
+        × (outcome_by 3 (Counted false Class2) Unable ≡ outcome.Down 3) }
+{}
+
+/// What each request looks like, and what a frame asks for (IEC 60870-5-2, 5.1: PRM 1, and FCV 1 with the frame count bit for
+/// user data and requests for data).
+pub fn requests_by_example()
+    ensures frames { (request_frame 1 Status ≡ Fixed 0x49 1)
+        × (request_frame 1 Reset ≡ Fixed 0x40 1)
+        × (request_frame 1 (Counted true Class1) ≡ Fixed 0x7A 1)
+        × (request_frame 1 (Counted false Class1) ≡ Fixed 0x5A 1)
+        × (request_frame 1 (Counted true Class2) ≡ Fixed 0x7B 1)
+        × (request_frame 1 (Counted false Class2) ≡ Fixed 0x5B 1)
+        × (request_frame 1 (Counted true (Command octet)) ≡ data_frame 0x73 1 octet)
+        × (request_frame 1 (Counted false (Command octet)) ≡ data_frame 0x53 1 octet) }
+    ensures readings { (reading_of 1 (Fixed 0x49 1) ≡ Asks Status)
+        × (reading_of 1 (Fixed 0x69 1) ≡ Asks Status)
+        × (reading_of 1 (Fixed 0x40 1) ≡ Asks Reset)
+        × (reading_of 1 (Fixed 0x7A 1) ≡ Asks (Counted true Class1))
+        × (reading_of 1 (Fixed 0x5B 1) ≡ Asks (Counted false Class2))
+        × (reading_of 1 (data_frame 0x73 1 octet) ≡ Asks (Counted true (Command octet))) }
+    ensures strangers { (reading_of 1 (Fixed 0x49 2) ≡ Foreign)
+        × (reading_of 1 (Fixed 0x09 1) ≡ Foreign)
+        × (reading_of 1 Single ≡ Foreign)
+        × (reading_of 1 (data_frame 0x33 1 octet) ≡ Foreign) }
+    ensures others { (reading_of 1 (Fixed 0x4A 1) ≡ Unknown)
+        × (reading_of 1 (Fixed 0x44 1) ≡ Unknown)
+        × (reading_of 1 (Fixed 0x73 1) ≡ Unknown)
+        × (reading_of 1 (Fixed 0x59 1) ≡ Unknown)
+        × (reading_of 1 (data_frame 0x73 1 []) ≡ Unknown)
+        × (reading_of 1 (data_frame 0x44 1 octet) ≡ Unknown)
+        × (reading_of 1 (data_frame 0x7A 1 octet) ≡ Unknown) }
+{}
+
+/// What a turn has next, of a station in each state (this gateway's own profile), with `burst` 2: with leave to poll or without,
+/// and where an unanswered service is to be sent again at once or isn't.
+pub fn turns_by_example()
+    ensures starts { (wanted 2 false false (in_state Down false false None) Starting
+        ≡ wants Status Starting)
+        × (wanted 2 false false (in_state Available false false None) Starting
+        ≡ wants Reset Over)
+        × (wanted 2 true false (in_state Down true false (Some octet)) Over
+        ≡ None) }
+    ensures commands { (wanted 2 true false (in_state (Next true) true false (Some octet)) Starting
+        ≡ wants (Counted true (Command octet)) Polling)
+        × (wanted 2 true false (in_state (Next true) true true (Some octet)) Starting
+        ≡ wants (Counted true Class1) (Class1Polling 1))
+        × (wanted 2 false false (in_state (Next true) true true (Some octet)) Starting
+        ≡ None)
+        × (wanted 2 true false (in_state (Next true) true false (Some octet)) Polling
+        ≡ wants (Counted true Class1) (Class1Polling 1)) }
+    ensures polls { (wanted 2 true false (in_state (Next false) false false None) Polling
+        ≡ wants (Counted false Class2) (Class1Polling 0))
+        × (wanted 2 true false (in_state (Next true) true false None) (Class1Polling 1)
+        ≡ wants (Counted true Class1) (Class1Polling 2))
+        × (wanted 2 true false (in_state (Next true) true false None) (Class1Polling 2)
+        ≡ None)
+        × (wanted 2 true false (in_state (Next true) false false None) (Class1Polling 1)
+        ≡ None)
+        × (wanted 2 false false (in_state (Next true) true false None) Polling
+        ≡ None) }
+    ensures held { (wanted 2 true false (in_state (Held true Class1 4) false true (Some octet)) Starting
+        ≡ wants (Counted true Class1) Commanding)
+        × (wanted 2 false false (in_state (Held true Class1 4) false false None) Starting
+        ≡ None)
+        × (wanted 2 false false (in_state (Held true (Command octet) 4) false true None) Starting
+        ≡ wants (Counted true (Command octet)) Commanding)
+        × (wanted 2 false true (in_state (Held true Class2 1) false false None) (Class1Polling 0)
+        ≡ wants (Counted true Class2) (Class1Polling 0))
+        × (wanted 2 true false (in_state (Held true Class2 1) false false None) (Class1Polling 0)
+        ≡ None) }
+{}
