@@ -1,6 +1,6 @@
 -- What the control centre is sent, seen from the outstations: the end that the frame count bit (IEC
 -- 60870-5-2, unbalanced transmission procedures) and the window (IEC 60870-5-104, 5.1) serve.
-use Rattle.std.specs.Prelude.{◌≡◌, ℕ, ◌<◌, List, [], ◌∷◌, length, None}
+use Rattle.std.specs.Prelude.{◌≡◌, ℕ, ◌<◌, false, List, [], ◌∷◌, length, None}
 use Rattle.std.specs.List.{flat_map}
 use Rattle.asdu.specs.declared.sizes.Sizes.{Sizes}
 use Rattle.asdu.specs.InformationObjects.{InformationObject}
@@ -10,6 +10,7 @@ use Rattle.link.specs.Outstation.{Turn, all_done}
 use Rattle.link.specs.Delivery as outstation
 use Rattle.link.specs.Delivery.{Session, before_reset, sessions, learnt, reports, commands}
 use Rattle.link.specs.Delivery.{IsAllOrButLast, IsLatestAnswered, sendings_not_busy}
+use Rattle.link.specs.Delivery.{is_command_pending, pending_after}
 use Rattle.gateway.specs.Log.{Log}
 use Rattle.gateway.specs.Objects.{monitor_objects}
 use Rattle.gateway.specs.Reports.{Setup, address_at, exchanges_with, reports_in, taken_objects}
@@ -65,7 +66,8 @@ pub record IsIdle (station : ℕ) (session : Session) : Type 0 where
 -- What was taken from an outstation that took these turns is what it reported, or all but the last
 -- report; and all of it where its latest exchange was answered. The commands that it accepted are
 -- those put on the line for it (a repeat of an unanswered one not counted) that weren't answered
--- busy, in that order, or all but the last.
+-- busy, in that order, or all but the last; and all of them where the service without an outcome,
+-- if there is one, is no command.
 pub record IsRelayed (p : Setup) (log : Log) (i : ℕ) (turns : List Turn) : Type 0 where
   pub most : IsAllOrButLast (reports (all_done turns)) (reports_from p log i)
   pub all : IsLatestAnswered (address_at p.addresses i) (exchanges_with p i log) →
@@ -73,6 +75,10 @@ pub record IsRelayed (p : Setup) (log : Log) (i : ℕ) (turns : List Turn) : Typ
   pub downwards : IsAllOrButLast
       (sendings_not_busy (address_at p.addresses i) None (exchanges_with p i log))
       (commands (all_done turns))
+  pub downwards_all : is_command_pending
+      (pending_after (address_at p.addresses i) None (exchanges_with p i log)) ≡ false →
+      sendings_not_busy (address_at p.addresses i) None (exchanges_with p i log)
+      ≡ commands (all_done turns)
 
 -- Nothing is lost, and nothing taken twice: the monitor objects sent on each connection are a
 -- contiguous run of the objects taken, from the first that no earlier connection acknowledged; the

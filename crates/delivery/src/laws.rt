@@ -5,6 +5,7 @@ ghost use Rattle.link.specs.declared.answer.Answer.TheVariants.{Unable};
 ghost use Rattle.link.specs.Exchanges.{answer_to};
 ghost use Rattle.link.specs.Outstation.{Turn, all_done};
 ghost use Rattle.link.specs.Delivery.{learnt, reports, HasReports, AcceptsSendings};
+ghost use Rattle.link.specs.Delivery.{AcceptsAllSendings};
 ghost use Rattle.gateway.specs.Log.{Log};
 ghost use Rattle.gateway.specs.Reports.{Setup, address_at, exchanges_with};
 ghost use Rattle.gateway.specs.Traffic.{IsFaithful};
@@ -43,6 +44,10 @@ pub fn each_session_is_known()
     ensures commands { (p : Setup) (log : Log) (i : ℕ) (turns : List Turn) → IsFaithful p log →
         i < length p.addresses → IsHonest p log i turns →
         AllByRecursion (λ s. AcceptsSendings (address_at p.addresses i) s)
+        (sessions_of p log i turns) }
+    ensures all_commands { (p : Setup) (log : Log) (i : ℕ) (turns : List Turn) → IsFaithful p log →
+        i < length p.addresses → IsHonest p log i turns →
+        AllByRecursion (λ s. AcceptsAllSendings (address_at p.addresses i) s)
         (sessions_of p log i turns) }
     ensures done { (p : Setup) (log : Log) (i : ℕ) (turns : List Turn) → IsFaithful p log →
         i < length p.addresses → IsHonest p log i turns →

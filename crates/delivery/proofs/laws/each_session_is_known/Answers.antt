@@ -19,6 +19,10 @@ pub returns-clause-commands : goal.returns-clause-commands
 returns-clause-commands c = λ p log i turns f within honest.
     c.commands_are_accepted.ensures.each p.link (address_at p.addresses i) (exchanges_with p i log) turns (f.links i within) honest
 
+pub returns-clause-all_commands : goal.returns-clause-all_commands
+returns-clause-all_commands c = λ p log i turns f within honest.
+    c.commands_are_accepted.ensures.each_all p.link (address_at p.addresses i) (exchanges_with p i log) turns (f.links i within) honest
+
 pub returns-clause-done : goal.returns-clause-done
 returns-clause-done c = λ p log i turns f within honest.
     c.sessions_are_known.ensures.done_there p.link (address_at p.addresses i) (exchanges_with p i log) turns (f.links i within) honest

@@ -22,6 +22,7 @@ returns c = λ p log f. record {
         (c.each_service_acts_once.ensures.reports p.link (address_at p.addresses i) (exchanges_with p i log) turns (f.links i within) steady honest);
     all = λ latest. from_learnt p log i
         ∙ ap reports (c.each_service_acts_once.ensures.all p.link (address_at p.addresses i) (exchanges_with p i log) turns (f.links i within) steady honest latest);
+    downwards_all = c.commands_are_accepted.ensures.steady_all p.link (address_at p.addresses i) (exchanges_with p i log) turns (f.links i within) steady honest;
     downwards = c.commands_are_accepted.ensures.steady p.link (address_at p.addresses i) (exchanges_with p i log) turns (f.links i within) steady honest;
   };
   sent = λ set i. c.each_command_is_given_once.ensures.sent p log i f set;
