@@ -1,7 +1,6 @@
 -- The command line that the code builds, argument by argument.
-use Rattle.std.proofs.Common.{◌≡◌, ◌∙◌, ap, ap₂, false, ◌||◌}
-use Rattle.std.specs.Prelude.{Bool}
-use Rattle.clap.specs.Words.{AddsArg, AddsSubcommand, App, Rule, Shape, with_rule, with_subcommand}
+use Rattle.std.proofs.Common.{◌∙◌, ap, ap₂, ◌||◌}
+use Rattle.clap.specs.Words.{AddsArg, AddsSubcommand, App, Rule, with_rule, with_subcommand}
 use Rattle.clap.specs.declared.builder.arg.Arg.{Arg}
 use Rattle.clap.specs.declared.builder.command.Command.{Command}
 use Rattle.telegate.specs.CommandLine.{IsArgument, IsCommand}

@@ -3,7 +3,7 @@ use Rattle.std.proofs.Common.{◌≡◌, ℕ, List, [], ◌∷◌, Option, inl, 
 use Rattle.std.specs.Prelude.{Result}
 use Rattle.std.specs.Borrow.{Bor}
 use Rattle.clap.specs.Words.{Text}
-use Rattle.telegate.specs.Shell.{IsUnread, IsNotRead, Responds, RunsFile, files_of, status_unread}
+use Rattle.telegate.specs.Shell.{IsUnread, IsNotRead, Responds, RunsFile, files_of}
 use Rattle.telegate.specs.declared.command_line.Request.{Request}
 use Rattle.telegate.specs.declared.command_line.Request.TheVariants.{Run}
 use Rattle.telegate.specs.declared.fault.Fault.{Fault}

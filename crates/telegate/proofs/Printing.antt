@@ -1,8 +1,7 @@
 -- Writes of a text, one after another: what was written is a beginning of it.
-use Rattle.std.proofs.Common.{◌≡◌, ℕ, ◌+◌, ◌-◌, ◌≤◌, List, length, take, drop, Option, subst, sym, arith}
+use Rattle.std.proofs.Common.{◌≡◌, ℕ, ◌+◌, ◌-◌, List, length, take, drop, Option, subst, sym}
 use Rattle.std.specs.Prelude.{Result, Ok, Err}
 use Rattle.std.specs.Io.KnownBytes.{Appends, WriteAppends}
-use Rattle.std.proofs.lemmas.List.{length-take, length-drop}
 use Rattle.sim.proofs.TextLemmas.{written_more, kept_more}
 
 module _ {E : Type 0} where

@@ -63,7 +63,7 @@ struct Ended {
 }
 
 /// Does what the words behind the program's name ask for.
-fn ended(alloc: Global, words: &str) -> Result<Ended, AllocError> {
+fn obeyed(alloc: Global, words: &str) -> Result<Ended, AllocError> {
     let mut list = vec![in alloc; String::from_str(alloc, "telegate")?]?;
     for word in words.split_whitespace() {
         list.push(String::from_str(alloc, word)?)?;
@@ -116,7 +116,7 @@ static COMMANDS: [(&str, &str, &str, u8); 24] = [
 #[test]
 fn each_command_is_done(rt: HostRuntime) -> Result<(), Fail> {
     for (words, out, err, status) in &COMMANDS {
-        let ended = ended(rt.alloc(), *words)?;
+        let ended = obeyed(rt.alloc(), *words)?;
         assert_eq!(rt; text(ended.out.as_slice()), *out, "{words}");
         assert_eq!(rt; text(ended.err.as_slice()), *err, "{words}");
         assert_eq!(rt; ended.status, *status, "{words}");
@@ -209,7 +209,7 @@ static WRONG: [&str; 14] = [
 #[test]
 fn wrong_words_are_a_usage_fault(rt: HostRuntime) -> Result<(), Fail> {
     for words in &WRONG {
-        let ended = ended(rt.alloc(), *words)?;
+        let ended = obeyed(rt.alloc(), *words)?;
         assert_eq!(rt; text(ended.out.as_slice()), "", "{words}");
         assert!(rt;
             text(ended.err.as_slice()).contains("Usage: telegate"),
@@ -233,7 +233,7 @@ static QUESTIONS: [(&str, &str); 8] = [
 ];
 
 fn is_answered(rt: &impl Abort, alloc: Global, words: &str, end: &str) -> Result<(), AllocError> {
-    let ended = ended(alloc, words)?;
+    let ended = obeyed(alloc, words)?;
     let end = format!(in alloc; "{end}\n")?;
     assert!(rt;
         text(ended.out.as_slice()).ends_with(end.as_str()),

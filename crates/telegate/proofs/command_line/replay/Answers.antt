@@ -1,6 +1,6 @@
 use Rattle.std.proofs.lemmas.Result.{IfOk-weaker}
 use Rattle.std.proofs.Common.{rules}
-use Rattle.clap.specs.Words.{AddsArg, new_app, with_rule}
+use Rattle.clap.specs.Words.{AddsArg, new_app}
 use Rattle.std.specs.Prelude.{codes}
 use Rattle.telegate.specs.CommandLine.{IsCommand, word, flag}
 use Rattle.telegate.specs.CommandLine as line

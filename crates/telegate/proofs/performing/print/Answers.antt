@@ -1,4 +1,4 @@
-use Rattle.std.proofs.Common.{◌+◌, ◌≡◌, ℕ, refl, subst, arith, length, take, drop}
+use Rattle.std.proofs.Common.{◌+◌, ℕ, refl, arith}
 use Rattle.std.proofs.lemmas.List.{length-take, length-drop}
 use Rattle.sim.proofs.RunLemmas.{begun_so_far}
 use Rattle.telegate.proofs.Printing.{taken, not_taken}
