@@ -67,6 +67,8 @@ class Outstation(threading.Thread):
         self.chance, self.loss, self.delay = chance, loss, delay
         self.given = 0
         self.requests = self.repeats = 0
+        # The longest time from an answer to the next request, in s: a whole round of the gateway.
+        self.answered, self.longest = None, 0.0
         self.before, self.answer = None, b""
         self.stream = None
         self.is_idle = False
@@ -91,6 +93,8 @@ class Outstation(threading.Thread):
 
     def hear(self, stream, request):
         self.requests += 1
+        if self.answered:
+            self.longest = max(self.longest, time.time() - self.answered)
         if request == self.before:
             self.repeats += 1
         if not (request == self.before and request[1] & 0x10):
@@ -99,6 +103,9 @@ class Outstation(threading.Thread):
         time.sleep(self.delay + (0.15 if self.chance.random() < 0.05 else 0))
         if self.chance.random() >= self.loss:
             stream.sendall(self.answer)
+            self.answered = time.time()
+        else:
+            self.answered = None
 
     def answer_to(self, function):
         if function == 9:
@@ -165,13 +172,13 @@ def free_port():
 class Run:
     """The gateway between an outstation and the port where it listens."""
 
-    def __init__(self, program, station, words=(), **how):
+    def __init__(self, program, station, words=()):
         self.port = free_port()
         self.config = tempfile.NamedTemporaryFile("w", suffix=".toml")
         self.config.write(CONFIG.format(station.port, self.port))
         self.config.flush()
         station.start()
-        self.process = subprocess.Popen([program, "run", *words, self.config.name], stderr=subprocess.PIPE, **how)
+        self.process = subprocess.Popen([program, "run", *words, self.config.name], stderr=subprocess.PIPE)
 
     def stop(self, seconds):
         self.process.send_signal(signal.SIGSTOP)
@@ -263,7 +270,8 @@ def unread(program, seconds):
     if station.repeats:
         faults.append(f"{station.repeats} of {station.requests} requests repeated, though the line answered in time")
     run.end()
-    return faults, f"{visits} that never read, {station.given} reports, {station.repeats} repeats"
+    told = f"{visits} that never read, {station.given} reports, {station.repeats} repeats"
+    return faults, f"{told}; at most {station.longest * 1000:.0f} ms from an answer to the next request"
 
 
 def redialled(program, seconds):
@@ -323,9 +331,12 @@ def crowded(program, _seconds):
     run.end()
 
     station = Outstation(random.Random(5))
-    few = (9, 9)
-    run = Run(program, station, preexec_fn=lambda: resource.setrlimit(resource.RLIMIT_NOFILE, few))
-    time.sleep(0.5)
+    run = Run(program, station)
+    first_answer(run.port)
+    time.sleep(0.2)
+    # As many descriptors as are open: none is left for a connection.
+    limit = 1 + max(int(name) for name in os.listdir(f"/proc/{run.process.pid}/fd"))
+    resource.prlimit(run.process.pid, resource.RLIMIT_NOFILE, (limit, limit))
     crowd = [socket.create_connection(("127.0.0.1", run.port), timeout=5) for _ in range(20)]
     time.sleep(0.5)
     is_up = run.process.poll() is None
@@ -333,10 +344,10 @@ def crowded(program, _seconds):
         one.close()
     told = run.end()
     if not is_up:
-        faults.append("with few descriptors the run ended")
-    if told.count("connections can't be accepted") > 3:
-        faults.append("the same was said again and again")
-    return faults, f"{waited:.2f} s behind 400 others; with 9 descriptors said: {told.strip() or 'nothing'}"
+        faults.append("with no descriptor left the run ended")
+    if not 1 <= told.count("connections can't be accepted") <= 3:
+        faults.append("that connections can't be accepted wasn't said, or again and again")
+    return faults, f"{waited:.2f} s behind 400 others; with no descriptor left it said: {told.strip() or 'nothing'}"
 
 
 def main():
