@@ -5,7 +5,7 @@ ghost use Rattle.telegate.specs.declared.host.Unread.TheVariants as unread;
 
 use crate::fault::Fault;
 use crate::running::run_live;
-use std::io;
+use std::io::{self, Eprint};
 use std::net::{Net, TcpListener, TcpStream};
 use std::rt::{Clock, Files};
 
@@ -44,7 +44,7 @@ pub(crate) struct System<'r, R>(pub(crate) &'r R);
 
 impl<R> Host for System<'_, R>
 where
-    R: Files + AllocGlobal + Clock + Net<Listener = TcpListener, Stream = TcpStream>,
+    R: Files + AllocGlobal + Clock + Eprint + Net<Listener = TcpListener, Stream = TcpStream>,
 {
     ghost has = { λ _ _ _. Unit {0} };
 

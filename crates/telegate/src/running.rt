@@ -4,7 +4,7 @@ ghost use Rattle.telegate.specs.Running.{IsReadLiveConfig, HasEnded, HasRun, Has
 
 use crate::fault::Fault;
 use gateway::{Config, End, Port, drive};
-use live::{CentreListener, LineSocket, Live, SystemClock};
+use live::{CentreListener, Door, LineSocket, Live, SystemClock, Wire};
 use settings::{ConfigFault, LiveSettings, read_live_config};
 use std::alloc::Global;
 use std::io;
@@ -22,9 +22,24 @@ where
     let line = LineSocket::reach(rt, places.line.as_str()).map_err(device_fault)?;
     let door = CentreListener::listen(rt, places.listen.as_str()).map_err(device_fault)?;
     let clock = SystemClock::start(rt).map_err(device_fault)?;
-    let answer_ms = config.line().answer_ms;
-    let mut port = Live::new(line, door, clock, answer_ms);
-    serve(rt.alloc(), &config, &mut port)
+    serve_live(rt.alloc(), &config, line, door, clock)
+}
+
+/// Runs the gateway between a line and a door, by a clock.
+fn serve_live<L, D, C>(
+    alloc: Global,
+    config: &Config,
+    line: L,
+    door: D,
+    clock: C,
+) -> Result<(), Fault>
+where
+    L: Wire + Drop,
+    D: Door + Drop,
+    C: live::Clock + Drop,
+{
+    let mut port = Live::new(line, door, clock, config.line().answer_ms);
+    serve(alloc, config, &mut port)
 }
 
 /// The settings of a file for a live run.
