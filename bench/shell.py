@@ -5,7 +5,7 @@
 
 Every exit status, with what stands on standard output and on standard error; words that are no
 text; files that can't be read; outputs that fail; a live run that asks its line for its status,
-and ends with 3 where the line ends; the script ./telegate, also through a link and where nothing
+and ends with 3 where the line ends, or with --redial reaches it again; the script ./telegate, also through a link and where nothing
 is built; and the man page and the completions of packaging/, which name what `--help` names.
 Sockets are on the loopback, their ports are the system's choice, and each process has 20 seconds.
 A line is printed for what failed; the last line is `N passed, M failed`, and the exit status is 1
@@ -183,6 +183,41 @@ def live_runs(count, program, folder):
     count.judge("a live run that can't listen", is_right, done)
 
 
+def redialled_runs(count, program, folder):
+    """With --redial the line is reached again where it ends, and each time asked for its status."""
+    with socket.create_server(("127.0.0.1", 0)) as line:
+        line.settimeout(SECONDS)
+        place = "127.0.0.1:%d" % line.getsockname()[1]
+        with open(os.path.join(folder, "redial.toml"), "w") as file:
+            file.write(f'{CONFIG}[live]\nline = "tcp:{place}"\nlisten = "{free_place()}"\n')
+        run = subprocess.Popen(
+            [program, "run", "--redial", "redial.toml"],
+            cwd=folder,
+            stdin=subprocess.DEVNULL,
+            stdout=subprocess.PIPE,
+            stderr=subprocess.PIPE,
+        )
+        try:
+            for turn in ("first", "second", "third"):
+                wire, _ = line.accept()
+                with wire:
+                    wire.settimeout(SECONDS)
+                    heard = b""
+                    while len(heard) < 5:
+                        octets = wire.recv(64)
+                        if not octets:
+                            break
+                        heard += octets
+                is_right = heard[:5] == bytes.fromhex("1049014A16")
+                count.judge(f"a redialled line is asked, {turn} time", is_right, heard)
+            count.judge("a redialled run lives", run.poll() is None, run.poll())
+        except OSError as fault:
+            count.judge("a redialled run", False, fault)
+        finally:
+            run.kill()
+            run.communicate()
+
+
 def versions(count, program, folder):
     done = ran([program, "--version"], folder)
     told = text(done.stdout)
@@ -276,7 +311,7 @@ def main():
         for name, held in FILES.items():
             with open(os.path.join(folder, name), "w") as file:
                 file.write(held)
-        for judge in (words_and_files, failing_outputs, live_runs, versions, helps, scripts):
+        for judge in (words_and_files, failing_outputs, live_runs, redialled_runs, versions, helps, scripts):
             try:
                 judge(count, program, folder)
             except (OSError, subprocess.SubprocessError) as fault:

@@ -14,3 +14,4 @@ complete -c telegate -n "__fish_seen_subcommand_from check replay sim run" -F
 complete -c telegate -n "__fish_seen_subcommand_from $commands" -l help -s h -d "tells what it does"
 complete -c telegate -n "__fish_seen_subcommand_from replay" -l left -d "what was not acknowledged"
 complete -c telegate -n "__fish_seen_subcommand_from replay" -l counts -d "what was counted"
+complete -c telegate -n "__fish_seen_subcommand_from run" -l redial -d "reaches the line again"

@@ -16,7 +16,11 @@ if ((CURRENT == 2)); then
     return
 fi
 case $words[2] in
-    check | run) _arguments '--help[tells what the command does]' '2:settings:_files' ;;
+    check) _arguments '--help[tells what the command does]' '2:settings:_files' ;;
+    run)
+        _arguments '--redial[reaches the line again where it ends]' \
+            '--help[tells what the command does]' '2:settings:_files'
+        ;;
     replay)
         _arguments '--left[what was not acknowledged]' '--counts[what was counted]' \
             '--help[tells what the command does]' '2:settings:_files' '3:trace:_files'

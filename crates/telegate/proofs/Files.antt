@@ -1,6 +1,6 @@
 -- Files that can't be read.
 use Rattle.std.proofs.Common.{◌≡◌, ℕ, List, [], ◌∷◌, Option, inl, inr, refl, sym, subst}
-use Rattle.std.specs.Prelude.{Result}
+use Rattle.std.specs.Prelude.{Bool, Result}
 use Rattle.std.specs.Borrow.{Bor}
 use Rattle.clap.specs.Words.{Text}
 use Rattle.telegate.specs.Shell.{IsUnread, IsNotRead, Responds, RunsFile, files_of}
@@ -34,10 +34,10 @@ module _ (has : Text → List ℕ → Type 0) (lacks : Text → Type 0) where
   pub later_of_more : (file : Text) (octets : List ℕ) (files : List Text) (exit : ℕ) → has file octets → IsNotRead has lacks files exit → IsNotRead has lacks (file ∷ files) exit
   later_of_more file octets files exit read h = record { name = h.name; why = h.why; unread = deeper file octets files h.name h.why read h.unread; status = h.status }
 
-  module _ (ran : List ℕ → Result (Unit {0}) Fault → Type 0) where
+  module _ (ran : List ℕ → Bool → Result (Unit {0}) Fault → Type 0) where
     -- a command whose files can't be read
     pub unanswered : (request : Request) (files : List Text) (known : Option (List ℕ)) (exit : ℕ) → files_of request ≡ files → IsNotRead has lacks files exit → Responds has lacks ran request known known exit
     unanswered request files known exit are h = inr (subst (λ (fs : List Text). IsNotRead has lacks fs exit) (sym are) h, keeps_same known)
 
-    pub has_run : (request : Request) (config : Bor Text) (known : Option (List ℕ)) (exit : ℕ) → request ≡ Run config → RunsFile has lacks ran config.now exit → Responds has lacks ran request known known exit
-    has_run request config known exit is h = subst (λ (r : Request). Responds has lacks ran r known known exit) (sym is) (elim h [ inl live ↦ inl (live, keeps_same known) | inr none ↦ inr (none, keeps_same known) ])
+    pub has_run : (request : Request) (config : Bor Text) (redial : Bool) (known : Option (List ℕ)) (exit : ℕ) → request ≡ Run config redial → RunsFile has lacks ran config.now redial exit → Responds has lacks ran request known known exit
+    has_run request config redial known exit is h = subst (λ (r : Request). Responds has lacks ran r known known exit) (sym is) (elim h [ inl live ↦ inl (live, keeps_same known) | inr none ↦ inr (none, keeps_same known) ])

@@ -42,7 +42,7 @@ abbrev pub sim : App
 sim = command (codes "sim") (word (codes "CONFIG") ∷ word (codes "SCRIPT") ∷ [])
 
 abbrev pub run : App
-run = command (codes "run") (word (codes "CONFIG") ∷ [])
+run = command (codes "run") (word (codes "CONFIG") ∷ flag (codes "redial") ∷ [])
 
 -- the program, of whose commands one has to be named
 abbrev pub bare : App
@@ -85,7 +85,7 @@ AsksFor name rows (Check config) = (name ≡ codes "check") × IsGiven rows (cod
 AsksFor name rows (Replay config trace left counts) =
     (name ≡ codes "replay") × IsGiven rows (codes "CONFIG") config.now × IsGiven rows (codes "TRACE") trace.now × IsFlag rows (codes "left") left × IsFlag rows (codes "counts") counts
 AsksFor name rows (Sim config script) = (name ≡ codes "sim") × IsGiven rows (codes "CONFIG") config.now × IsGiven rows (codes "SCRIPT") script.now
-AsksFor name rows (Run config) = (name ≡ codes "run") × IsGiven rows (codes "CONFIG") config.now
+AsksFor name rows (Run config redial) = (name ≡ codes "run") × IsGiven rows (codes "CONFIG") config.now × IsFlag rows (codes "redial") redial
 
 -- the request, or none where none is asked for
 abbrev pub IsAsked : (name : Text) → List Row → Option Request → Type 0

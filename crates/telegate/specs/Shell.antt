@@ -1,5 +1,5 @@
 -- What the program does with its words and with the files that they name (this gateway's own profile).
-use Rattle.std.specs.Prelude.{◌≡◌, ◌⊎◌, ℕ, List, [], ◌∷◌, ◌++◌, Option, Some, None, Result, Ok, Err, codes}
+use Rattle.std.specs.Prelude.{◌≡◌, ◌⊎◌, ℕ, Bool, List, [], ◌∷◌, ◌++◌, Option, Some, None, Result, Ok, Err, codes}
 use Rattle.std.specs.Io.KnownBytes.{Keeps}
 use Rattle.clap.specs.Words.{Text, HasKind, fault_of, kind_of, subcommand_of}
 use Rattle.clap.specs.declared.error.Error.{Error}
@@ -34,7 +34,7 @@ files_of (Show104 hex) = []
 files_of (Check config) = config.now ∷ []
 files_of (Replay config trace left counts) = config.now ∷ trace.now ∷ []
 files_of (Sim config script) = config.now ∷ script.now ∷ []
-files_of (Run config) = config.now ∷ []
+files_of (Run config redial) = config.now ∷ []
 
 -- this is the first of the files that can't be read
 abbrev pub IsFirstUnread : (has : Text → List ℕ → Type 0) → (lacks : Text → Type 0) → List Text → Text → Type 0
@@ -73,24 +73,24 @@ status_of_run (Ok done) = 0
 status_of_run (Err fault) = status_of fault
 
 -- The gateway ran live by the settings of a file, and the exit status says how that ended.
-pub record HasRunLive (has : Text → List ℕ → Type 0) (ran : List ℕ → Result (Unit {0}) Fault → Type 0) (config : Text) (exit : ℕ) : Type 0 where
+pub record HasRunLive (has : Text → List ℕ → Type 0) (ran : List ℕ → Bool → Result (Unit {0}) Fault → Type 0) (config : Text) (redial : Bool) (exit : ℕ) : Type 0 where
   pub octets : List ℕ
   pub read : has config octets
   pub ended : Result (Unit {0}) Fault
-  pub run : ran octets ended
+  pub run : ran octets redial ended
   pub status : exit ≡ status_of_run ended
 
 -- the same, or the file couldn't be read
-abbrev pub RunsFile : (has : Text → List ℕ → Type 0) → (lacks : Text → Type 0) → (ran : List ℕ → Result (Unit {0}) Fault → Type 0) → (config : Text) → (exit : ℕ) → Type 0
-RunsFile has lacks ran config exit = HasRunLive has ran config exit ⊎ IsNotRead has lacks (config ∷ []) exit
+abbrev pub RunsFile : (has : Text → List ℕ → Type 0) → (lacks : Text → Type 0) → (ran : List ℕ → Bool → Result (Unit {0}) Fault → Type 0) → (config : Text) → (redial : Bool) → (exit : ℕ) → Type 0
+RunsFile has lacks ran config redial exit = HasRunLive has ran config redial exit ⊎ IsNotRead has lacks (config ∷ []) exit
 
 -- what a command is to do where its files can be read; a live run prints nothing
-abbrev pub IsDone : (has : Text → List ℕ → Type 0) → (ran : List ℕ → Result (Unit {0}) Fault → Type 0) → Request → (old new : Option (List ℕ)) → (exit : ℕ) → Type 0
-IsDone has ran (Run config) old new exit = HasRunLive has ran config.now exit × Keeps old new
+abbrev pub IsDone : (has : Text → List ℕ → Type 0) → (ran : List ℕ → Bool → Result (Unit {0}) Fault → Type 0) → Request → (old new : Option (List ℕ)) → (exit : ℕ) → Type 0
+IsDone has ran (Run config redial) old new exit = HasRunLive has ran config.now redial exit × Keeps old new
 IsDone has ran request old new exit = IsJobDone has request old new exit
 
 -- the command is done, or a file couldn't be read and nothing was printed
-abbrev pub Responds : (has : Text → List ℕ → Type 0) → (lacks : Text → Type 0) → (ran : List ℕ → Result (Unit {0}) Fault → Type 0) → Request → (old new : Option (List ℕ)) → (exit : ℕ) → Type 0
+abbrev pub Responds : (has : Text → List ℕ → Type 0) → (lacks : Text → Type 0) → (ran : List ℕ → Bool → Result (Unit {0}) Fault → Type 0) → Request → (old new : Option (List ℕ)) → (exit : ℕ) → Type 0
 Responds has lacks ran request old new exit = IsDone has ran request old new exit ⊎ (IsNotRead has lacks (files_of request) exit × Keeps old new)
 
 -- Words
@@ -107,7 +107,7 @@ abbrev pub IsTold : ErrorKind → (exit : ℕ) → Type 0
 IsTold kind exit = (exit ≡ status_of_kind kind) ⊎ (exit ≡ 3)
 
 -- the words ask for a command, and it is done
-pub record IsAskedAndDone (has : Text → List ℕ → Type 0) (lacks : Text → Type 0) (ran : List ℕ → Result (Unit {0}) Fault → Type 0) (words : List Text) (old new : Option (List ℕ)) (exit : ℕ) : Type 0 where
+pub record IsAskedAndDone (has : Text → List ℕ → Type 0) (lacks : Text → Type 0) (ran : List ℕ → Bool → Result (Unit {0}) Fault → Type 0) (words : List Text) (old new : Option (List ℕ)) (exit : ℕ) : Type 0 where
   pub request : Request
   pub asked : IsRequestOf (subcommand_of program words) (Some request)
   pub done : Responds has lacks ran request old new exit
@@ -122,5 +122,5 @@ pub record IsUsage (words : List Text) (exit : ℕ) : Type 0 where
 abbrev pub IsNoRequest : List Text → (exit : ℕ) → Type 0
 IsNoRequest words exit = IsRequestOf (subcommand_of program words) None × (exit ≡ 2)
 
-abbrev pub Obeys : (has : Text → List ℕ → Type 0) → (lacks : Text → Type 0) → (ran : List ℕ → Result (Unit {0}) Fault → Type 0) → (words : List Text) → (old new : Option (List ℕ)) → (exit : ℕ) → Type 0
+abbrev pub Obeys : (has : Text → List ℕ → Type 0) → (lacks : Text → Type 0) → (ran : List ℕ → Bool → Result (Unit {0}) Fault → Type 0) → (words : List Text) → (old new : Option (List ℕ)) → (exit : ℕ) → Type 0
 Obeys has lacks ran words old new exit = IsAskedAndDone has lacks ran words old new exit ⊎ (IsUsage words exit ⊎ IsNoRequest words exit)

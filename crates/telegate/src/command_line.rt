@@ -34,9 +34,10 @@ pub(crate) enum Request<'a> {
         config: &'a str,
         script: &'a str,
     },
-    /// The name of a file.
+    /// The name of a file, and whether a line that ends is reached again.
     Run {
         config: &'a str,
+        redial: bool,
     },
 }
 
@@ -127,12 +128,17 @@ fn run<'a>(alloc: Global) -> Result<Command<'a>, AllocError>
     ensures { IfOk result (IsCommand line.run) }
 {
     Command::new(alloc, "run")
-        .about("Runs the gateway between a line and a control centre, until the line fails")
+        .about("Runs the gateway between a line and a control centre, until the line ends")
         .after_help(help::RUN)
         .arg(word(
             alloc,
             "CONFIG",
             "A file of settings, whose table `live` says where the line is and where to listen",
+        ))?
+        .arg(flag(
+            alloc,
+            "redial",
+            "Reaches the line again where it ends, once a second, and goes on",
         ))
 }
 
@@ -244,6 +250,7 @@ fn run_of<'a>(matches: &ArgMatches<'a>) -> Option<Request<'a>>
 {
     Some(Request::Run {
         config: given(matches, "CONFIG")?,
+        redial: is_given(matches, "redial"),
     })
 }
 

@@ -37,6 +37,6 @@ CONFIG has a table `live` with two keys:
   line = \"tcp:HOST:PORT\"    a serial device server, or \"unix:PATH\"
   listen = \"HOST:PORT\"      where control centres connect (the usual port is 2404)
 It prints nothing, and begins with an empty queue: what no control centre had acknowledged is lost
-with the process.
+with the process. With --redial it lives on where the line ends or isn't there.
 Exit status: 1 wrong settings, 2 usage, 3 the line can't be reached or ended, or listening failed,
 4 no memory";

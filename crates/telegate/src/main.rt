@@ -33,7 +33,7 @@ use host::System;
 use performing::tell;
 use shell::obey;
 use std::io;
-use std::io::{Eprint, Write};
+use std::io::Write;
 use std::net::{Net, TcpListener, TcpStream};
 use std::process::ExitCode;
 use std::rt::{Clock, Env, Files};
@@ -47,7 +47,7 @@ fn main(rt: HostRuntime) -> ExitCode {
 /// Does what the process's words ask for, and answers the exit status.
 fn run<R, W: Write, E: Write>(rt: &R, out: &mut W, err: &mut E) -> u8
 where
-    R: Env + Files + AllocGlobal + Clock + Eprint + Net<Listener = TcpListener, Stream = TcpStream>,
+    R: Env + Files + Eprint + AllocGlobal + Clock + Net<Listener = TcpListener, Stream = TcpStream>,
 {
     match words_of(rt) {
         Ok(words) => obey(rt.alloc(), &System(rt), words.as_slice(), out, err),

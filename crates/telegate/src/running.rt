@@ -4,7 +4,7 @@ ghost use Rattle.telegate.specs.Running.{IsReadLiveConfig, HasEnded, HasRun, Has
 
 use crate::fault::Fault;
 use gateway::{Config, End, Port, drive};
-use live::{CentreListener, Door, LineSocket, Live, SystemClock, Wire};
+use live::{CentreListener, Door, LineDialler, LineSocket, Live, Redialled, SystemClock, Wire};
 use settings::{ConfigFault, LiveSettings, read_live_config};
 use std::alloc::Global;
 use std::io;
@@ -13,16 +13,37 @@ use std::net::{Net, TcpListener, TcpStream};
 use std::rt::Clock;
 
 /// Runs the gateway on the line and at the door that a file of settings names. The settings are judged first, then the line is
-/// reached, then the door is opened.
-pub(crate) fn run_live<R>(rt: &R, config: &[u8]) -> Result<(), Fault>
+/// reached, then the door is opened. With `redial` a line that isn't there, or ends, is reached again every second.
+pub(crate) fn run_live<R>(rt: &R, config: &[u8], redial: bool) -> Result<(), Fault>
 where
     R: Net<Listener = TcpListener, Stream = TcpStream> + Clock + Eprint + AllocGlobal,
 {
     let (config, places) = read_live(rt.alloc(), config)?;
+    if redial {
+        return run_redialled(rt, &config, &places);
+    }
     let line = LineSocket::reach(rt, places.line.as_str()).map_err(device_fault)?;
     let door = CentreListener::listen(rt, places.listen.as_str()).map_err(device_fault)?;
     let clock = SystemClock::start(rt).map_err(device_fault)?;
     serve_live(rt.alloc(), &config, line, door, clock)
+}
+
+/// The same on a line that is reached again where it ends. It is tried first once the gateway looks at it.
+fn run_redialled<R>(rt: &R, config: &Config, places: &LiveSettings) -> Result<(), Fault>
+where
+    R: Net<Listener = TcpListener, Stream = TcpStream> + Clock + Eprint + AllocGlobal,
+{
+    let tries = SystemClock::start(rt).map_err(device_fault)?;
+    let line = Redialled::new(LineDialler::new(rt, places.line.as_str()), tries);
+    let door = CentreListener::listen(rt, places.listen.as_str()).map_err(device_fault)?;
+    let clock = SystemClock::start(rt).map_err(device_fault)?;
+    let mut port = Live::new(line, door, clock, config.line().answer_ms);
+    let end = drive(rt.alloc(), config, &mut port, u64::MAX)?;
+    if end == End::Device {
+        Err(Fault::Device)
+    } else {
+        Ok(())
+    }
 }
 
 /// Runs the gateway between a line and a door, by a clock.

@@ -96,16 +96,16 @@ pub(crate) fn respond<H: Host, W: Write, E: Write>(
             }
             Err(status) => status,
         },
-        Request::Run { config } => run_file(host, *config, err),
+        Request::Run { config, redial } => run_file(host, *config, *redial, err),
     }
 }
 
 /// Runs the gateway live by the settings of a file, and answers the exit status.
-fn run_file<H: Host, E: Write>(host: &H, config: &str, err: &mut E) -> u8
-    ensures { RunsFile (H.has host.now) (H.lacks host.now) (H.ran host.now) config.now result }
+fn run_file<H: Host, E: Write>(host: &H, config: &str, redial: bool, err: &mut E) -> u8
+    ensures { RunsFile (H.has host.now) (H.lacks host.now) (H.ran host.now) config.now redial result }
 {
     match read_file(host, config, err) {
-        Ok(config) => match host.run(config.as_slice()) {
+        Ok(config) => match host.run(config.as_slice(), redial) {
             Ok(()) => DONE,
             Err(fault) => tell(&fault, err),
         },

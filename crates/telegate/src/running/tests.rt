@@ -12,7 +12,7 @@ const GATEWAY: &str =
 /// Why a live run with this table `live` stops.
 fn fault_of(rt: &HostRuntime, live: &str) -> Result<String, Fail> {
     let config = format!(in rt.alloc(); "{GATEWAY}{live}")?;
-    match run_live(rt, config.as_bytes()) {
+    match run_live(rt, config.as_bytes(), false) {
         Ok(()) => Ok(String::new(rt.alloc())),
         Err(fault) => Ok(format!(in rt.alloc(); "{fault}")?),
     }

@@ -31,7 +31,7 @@ impl Host for Shelf {
 
     ghost lacks = { λ _ _. Unit {0} };
 
-    ghost ran = { λ _ _ _. Unit {0} };
+    ghost ran = { λ _ _ _ _. Unit {0} };
 
     fn read(&self, name: &str) -> Result<Vec<u8>, Unread> {
         let octets = match name {
@@ -45,8 +45,10 @@ impl Host for Shelf {
         Vec::from_slice(self.alloc, octets.as_bytes()).map_err(|_| Unread::NoMemory)
     }
 
-    fn run(&self, config: &[u8]) -> Result<(), Fault> {
-        if config == CONFIG_A.as_bytes() {
+    fn run(&self, config: &[u8], redial: bool) -> Result<(), Fault> {
+        if redial {
+            Err(Fault::Octets)
+        } else if config == CONFIG_A.as_bytes() {
             Err(Fault::Sizes)
         } else {
             Ok(())
@@ -75,7 +77,7 @@ fn obeyed(alloc: Global, words: &str) -> Result<Ended, AllocError> {
 }
 
 /// Words, what they print, what stands on standard error, and the exit status.
-static COMMANDS: [(&str, &str, &str, u8); 24] = [
+static COMMANDS: [(&str, &str, &str, u8); 26] = [
     ("show101 1112 E5", "single\n", "", 0),
     ("show101 1112 E5E5", "single\nrest 1\n", "", 1),
     ("show101 E5 1112", "", "bad sizes\n", 1),
@@ -109,6 +111,9 @@ static COMMANDS: [(&str, &str, &str, u8); 24] = [
     // The host's live run was asked, with the octets of this file.
     ("run good.toml", "", "bad sizes\n", 1),
     ("run empty", "", "", 0),
+    // A line that is reached again.
+    ("run --redial good.toml", "", "bad octets\n", 1),
+    ("run good.toml --redial", "", "bad octets\n", 1),
     ("run nowhere", "", "cannot read nowhere\n", 3),
     ("run vast", "", "no memory\n", 4),
 ];
@@ -147,7 +152,7 @@ impl Host for Opened {
 
     ghost lacks = { λ _ _. Unit {0} };
 
-    ghost ran = { λ _ _ _. Unit {0} };
+    ghost ran = { λ _ _ _ _. Unit {0} };
 
     fn read(&self, name: &str) -> Result<Vec<u8>, Unread> {
         if name != "opened.trace" {
@@ -159,8 +164,8 @@ impl Host for Opened {
         }
     }
 
-    fn run(&self, config: &[u8]) -> Result<(), Fault> {
-        self.shelf.run(config)
+    fn run(&self, config: &[u8], redial: bool) -> Result<(), Fault> {
+        self.shelf.run(config, redial)
     }
 }
 

@@ -17,4 +17,4 @@ returns-in-Err-read_files-2 g c =
 
 pub returns-in-Run : goal.returns-in-Run
 returns-in-Run g c =
-    has_run (g.H.Host.has c.args.host.now) (g.H.Host.lacks c.args.host.now) (g.H.Host.ran c.args.host.now) c.args.request.now c.in-Run.config (g.W.Write.contents c.args.out.now) c.run_file.result c.in-Run.is c.run_file.ensures
+    has_run (g.H.Host.has c.args.host.now) (g.H.Host.lacks c.args.host.now) (g.H.Host.ran c.args.host.now) c.args.request.now c.in-Run.config c.in-Run.redial (g.W.Write.contents c.args.out.now) c.run_file.result c.in-Run.is c.run_file.ensures
