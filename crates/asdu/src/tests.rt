@@ -200,8 +200,8 @@ fn carries_every_type(rt: HostRuntime) {
             check_carried(&rt, kind, small.as_slice(), wide.as_slice());
         }
     }
-    // Eight of reports without and with a tag, the end of initialisation, and six of commands.
-    assert_eq!(rt; types, 23);
+    // Eight of reports without and with a tag, the end of initialisation, six of commands, and five of them with a tag.
+    assert_eq!(rt; types, 28);
 }
 
 fn check_carried<R: Abort>(rt: &R, kind: TypeId, small: &[u8], wide: &[u8]) {
