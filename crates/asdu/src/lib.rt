@@ -24,7 +24,10 @@ mod unit;
 mod writing;
 
 pub use header::Head;
-pub use laws::{objects_are_those_of_the_asdu, one_asdu_one_spelling};
+pub use laws::{
+    objects_are_those_of_the_asdu, one_asdu_one_spelling, pieces_are_as_large_as_can_be,
+    tagged_types_are_thirteen_above, worked_examples_hold,
+};
 pub use objects::{Object, Objects};
 pub use reading::{head, read};
 pub use sizes::{CaSize, CauseSize, IoaSize, Sizes};

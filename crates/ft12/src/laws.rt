@@ -1,11 +1,13 @@
 //! What holds of all frames and all octets. These functions do nothing: their clauses are the laws.
 
 ghost use Rattle.std.specs.Prelude.{◌≡◌, ◌<◌, ℕ, List, [], ◌++◌, length};
+ghost use Rattle.std.specs.List.{AllByRecursion};
 ghost use Rattle.ft12.specs.declared.frame.LinkSize.{LinkSize};
 ghost use Rattle.ft12.specs.declared.frame.Frame.{Frame};
 ghost use Rattle.ft12.specs.declared.frame.Why.{Why};
 ghost use Rattle.ft12.specs.declared.frame.Front.{Front};
 ghost use Rattle.ft12.specs.Fronts.{front_of};
+ghost use Rattle.ft12.specs.Examples.{IsSpelledSo, IsRefusedSo, spelling_examples, refusal_examples};
 ghost use Rattle.ft12.specs.Spelling.{IsLineFrame, Fits, spelling};
 ghost use Rattle.ft12.specs.Spoiling.{spoilt};
 ghost use Rattle.ft12.specs.Reading.{IsFront};
@@ -54,4 +56,11 @@ pub fn spoilt_lines_are_no_lines()
         IsLineFrame size g (spoilt place x ++ rest) → ⊥ }
     ensures neither { (size : LinkSize) (f g : Frame) (x rest more : List ℕ) (place : ℕ) → IsLineFrame size f x → place < length x →
         spoilt place x ++ rest ≡ spelling size g ++ more → ⊥ }
+{}
+
+/// Frames worked by hand from the standard have these octets and are read back from them, and octets
+/// that begin no frame are refused at these places, not before.
+pub fn worked_examples_hold()
+    ensures spellings { AllByRecursion IsSpelledSo spelling_examples }
+    ensures refusals { AllByRecursion IsRefusedSo refusal_examples }
 {}
