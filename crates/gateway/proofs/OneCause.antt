@@ -18,7 +18,7 @@ use Rattle.gateway.specs.Frames.{runs, i_frames, acknowledged_count, fault_of}
 use Rattle.gateway.specs.Streams.{spelled, IsRefused}
 use Rattle.gateway.specs.Connections.{present, ends, IsConnection, BeginsWithFault}
 use Rattle.gateway.specs.Reports.{Setup}
-use Rattle.gateway.specs.Works.{tasks_of, is_overfull}
+use Rattle.gateway.specs.Works.{is_overfull}
 use Rattle.gateway.specs.Course.{Course, here_of, came_frames, with_frames, kind_of, with_sent, closed_course, MayTake, StandsNext, IsLate, IsCause, Comes, Runs}
 use Rattle.gateway.specs.One.{AreOne}
 use Rattle.gateway.specs.Traffic.{HasCause}
@@ -153,7 +153,7 @@ both_at u p log a b c d r s h k (inr g) = stays p log d c g (cause_none u p log 
 
 -- what a cause is
 abbrev Kinds : Setup → Log → Close → Course → Type 0
-Kinds p log a c = ((a ≡ OwnAnswers) × (is_overfull (tasks_of p c.works).history ≡ true)) ⊎ (((a ≡ Timeout) × IsLate p log c) ⊎ StandsNext p log a c)
+Kinds p log a c = ((a ≡ OwnAnswers) × (is_overfull c.works.history ≡ true)) ⊎ (((a ≡ Timeout) × IsLate p log c) ⊎ StandsNext p log a c)
 
 kinds : (p : Setup) (log : Log) (a : Close) (c : Course) → ends a ≡ true → IsCause p log a c → Kinds p log a c
 kinds p log Grammar c e h = inr (inr h)
@@ -164,7 +164,7 @@ kinds p log Timeout c e h = inr (inl (refl, h))
 kinds p log OwnAnswers c e h = inl (refl, h)
 kinds p log Replaced c e h = cc
 
-placed_so : (p : Setup) (c : Course) → is_overfull (tasks_of p c.works).history ≡ true → is_overfull (tasks_of p c.works).history ≡ false → ⊥
+placed_so : (p : Setup) (c : Course) → is_overfull c.works.history ≡ true → is_overfull c.works.history ≡ false → ⊥
 placed_so p c full placed = let no : true ≡ false = sym full ∙ placed in cc
 
 late_and_next : AreUnique → (p : Setup) (log : Log) (b : Close) (c : Course) → IsLate p log c → StandsNext p log b c → ⊥

@@ -6,11 +6,14 @@ pub mod Log
 pub mod Ports
 pub mod Objects
 pub mod Reports
+pub mod Setups
 pub mod Polls
 pub mod Counting
 pub mod Streams
 pub mod Frames
 pub mod Connections
+pub mod Serial
+pub mod Centre
 pub mod Works
 pub mod Course
 pub mod One
@@ -30,4 +33,3 @@ pub mod Agrees
 pub mod Steps
 pub mod Judging
 pub mod Runs
-pub mod Setups

@@ -12,7 +12,7 @@ use Rattle.gateway.specs.Connections.{present, past, ends, is_replaced, AreConne
 use Rattle.gateway.specs.Reports.{Setup, address_at, taken_objects, KeepsLinks}
 use Rattle.link.specs.Leave.{is_poll_request}
 use Rattle.gateway.specs.Room.{AreConnectionsOf, HasRoom}
-use Rattle.gateway.specs.Works.{tasks_of, is_overfull}
+use Rattle.gateway.specs.Works.{is_overfull}
 use Rattle.gateway.specs.Course.{Course, here_of, HasSentAll, IsCause, Runs}
 use Rattle.gateway.specs.Conversation.{KeepsTimes, IsTalkAtRest}
 use Rattle.gateway.specs.Line.{IsWaiting, IsLineAtRest}
@@ -61,7 +61,7 @@ pub record IsAtRest (p : Setup) (log : Log) : Type 0 where
   pub course_runs : Runs p log course
   pub are : AreConnectionsOf log (here_of course) course.earlier
   pub settled : is_replaced log ≡ false
-  pub placed : (present log).is_open ≡ true → is_overfull (tasks_of p course.works).history ≡ false
+  pub placed : (present log).is_open ≡ true → is_overfull course.works.history ≡ false
   pub eager : (present log).is_open ≡ true → runs (here_of course).received_frames ≡ true →
       length (here_of course).sent_frames < acknowledged_count (here_of course).received_frames + p.session.k → HasSentAll p log course
   pub line : IsLineAtRest p log course (here_of course ∷ course.earlier)
