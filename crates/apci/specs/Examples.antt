@@ -44,21 +44,25 @@ spelling_examples =
     ∷ is_spelled (S 128) (0x68 ∷ 0x04 ∷ 0x01 ∷ 0x00 ∷ 0x00 ∷ 0x01 ∷ [])
     ∷ is_spelled (S 32767) (0x68 ∷ 0x04 ∷ 0x01 ∷ 0x00 ∷ 0xFE ∷ 0xFF ∷ [])
     -- N(S) before N(R) before the ASDU; the length counts what follows it
-    ∷ is_spelled (with_asdu 32767 1 nine_octets) (0x68 ∷ 0x0D ∷ 0xFE ∷ 0xFF ∷ 0x02 ∷ 0x00 ∷ nine_octets)
+    ∷ is_spelled (with_asdu 32767 1 nine_octets)
+    (0x68 ∷ 0x0D ∷ 0xFE ∷ 0xFF ∷ 0x02 ∷ 0x00 ∷ nine_octets)
     ∷ []
 
 -- ---- Formats
 
--- what an I format's octets are: bit 0 of the first control octet is 0, and the length has room for an ASDU (5)
+-- what an I format's octets are: bit 0 of the first control octet is 0, and the length has room for
+-- an ASDU (5)
 pub record IsInformation (octets : List ℕ) : Type 0 where
   pub start : slice_index octets 0 ≡ 0x68
   pub at_least : 13 ≤ slice_index octets 1
   pub at_most : slice_index octets 1 ≤ 253
   pub bit : slice_index octets 2 % 2 ≡ 0
 
--- The two lowest bits of the first control octet tell the format: 01 of an S format, 11 of a U format (5).
+-- The two lowest bits of the first control octet tell the format: 01 of an S format, 11 of a U
+-- format (5).
 pub record TellFormats : Type 0 where
-  pub information : (ns nr : ℕ) (asdu : ArrayVec ℕ) → Fits (I ns nr asdu) → IsInformation (spelling (I ns nr asdu))
+  pub information : (ns nr : ℕ) (asdu : ArrayVec ℕ) → Fits (I ns nr asdu) →
+      IsInformation (spelling (I ns nr asdu))
   pub supervisory : (nr : ℕ) → slice_index (spelling (S nr)) 2 % 4 ≡ 1
   pub unnumbered : (f : Uf) → slice_index (spelling (U f)) 2 % 4 ≡ 3
 
@@ -72,7 +76,8 @@ pub record Refused : Type 0 where
 
 -- octets, the place of the one that decides, and the place and refusal that are told
 abbrev pub is_refused : List ℕ → ℕ → ℕ → Why → Refused
-is_refused octets decides place why = record { octets = octets; decides = decides; place = place; why = why }
+is_refused octets decides place why =
+    record { octets = octets; decides = decides; place = place; why = why }
 
 abbrev pub IsRefusedSo : Refused → Type 0
 IsRefusedSo e = refusal e.octets e.decides ≡ (e.place, e.why)

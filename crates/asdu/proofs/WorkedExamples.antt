@@ -152,7 +152,7 @@ tagged CRcTa1 = refl
 tagged CSeTa1 = refl
 tagged CSeTb1 = refl
 
-above : (t : TypeId) → (row (tagged_type t)).code ≡ (if is_plain_command t then (row t).code + 13 else (row t).code)
+above : (t : TypeId) → (row (tagged_type t)).code ≡ (row t).code + (if is_plain_command t then 13 else 0)
 above MSpNa1 = refl
 above MDpNa1 = refl
 above MStNa1 = refl
@@ -182,7 +182,7 @@ above CRcTa1 = refl
 above CSeTa1 = refl
 above CSeTb1 = refl
 
-below : (t : TypeId) → (if is_tagged_command t then (row (untagged_type t)).code + 13 else (row (untagged_type t)).code) ≡ (row t).code
+below : (t : TypeId) → (row (untagged_type t)).code + (if is_tagged_command t then 13 else 0) ≡ (row t).code
 below MSpNa1 = refl
 below MDpNa1 = refl
 below MStNa1 = refl

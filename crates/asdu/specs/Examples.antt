@@ -1,5 +1,5 @@
--- ASDUs worked by hand from IEC 60870-5-101 (7.1 and 7.2) and IEC 60870-5-104 (7 and 8): their octets, what is
--- refused, how reports are cut, and which commands have a tag.
+-- ASDUs worked by hand from IEC 60870-5-101 (7.1 and 7.2) and IEC 60870-5-104 (7 and 8): their
+-- octets, what is refused, how reports are cut, and which commands have a tag.
 use Rattle.std.specs.Prelude.{◌≡◌, ℕ, suc, ◌+◌, Bool, true, false, ◌&&◌, nat_le, if◌then◌else◌, List, [], ◌∷◌, Option, Some, None, replicate}
 use Rattle.elements.specs.declared.types.TypeId.{TypeId}
 use Rattle.elements.specs.declared.types.TypeId.TheVariants.{MSpNa1, MMeNa1, MSpTb1, MEiNa1, CScNa1, CIcNa1}
@@ -40,7 +40,8 @@ pub record Worked : Type 0 where
 -- the ASDU has these octets, and its objects are read from them
 abbrev pub IsWorkedSo : Worked → Type 0
 IsWorkedSo e =
-    (spelled e.sizes e.value ≡ e.octets) × (refusal e.sizes e.octets ≡ None) × (objects_of e.sizes e.octets ≡ value_objects e.value)
+    (spelled e.sizes e.value ≡ e.octets) × (refusal e.sizes e.octets ≡ None)
+    × (objects_of e.sizes e.octets ≡ value_objects e.value)
 
 -- two single points with SQ 0, of cause 3 as a test
 abbrev pub points : Worked
@@ -67,9 +68,12 @@ measured = record {
     cause = 3;
     originator = 7;
     ca = 1;
-    infos = object 10 (0x00 ∷ 0x80 ∷ 0x00 ∷ []) None ∷ object 11 (0xFF ∷ 0xFF ∷ 0x80 ∷ []) None ∷ [];
+    infos =
+        object 10 (0x00 ∷ 0x80 ∷ 0x00 ∷ []) None ∷ object 11 (0xFF ∷ 0xFF ∷ 0x80 ∷ []) None ∷ [];
   };
-  octets = 0x09 ∷ 0x82 ∷ 0x03 ∷ 0x07 ∷ 0x01 ∷ 0x00 ∷ 0x0A ∷ 0x00 ∷ 0x00 ∷ 0x00 ∷ 0x80 ∷ 0x00 ∷ 0xFF ∷ 0xFF ∷ 0x80 ∷ [];
+  octets =
+      0x09 ∷ 0x82 ∷ 0x03 ∷ 0x07 ∷ 0x01 ∷ 0x00 ∷ 0x0A ∷ 0x00 ∷ 0x00 ∷ 0x00 ∷ 0x80 ∷ 0x00 ∷ 0xFF
+      ∷ 0xFF ∷ 0x80 ∷ [];
 }
 
 -- a single point with a tag, addresses low octet first
@@ -141,7 +145,8 @@ refusal_examples =
 
 -- ---- Reports
 
--- Monitor types are passed on, with any cause octet but 6C and EC, a negative 'unknown type' (this gateway's own profile).
+-- Monitor types are passed on, with any cause octet but 6C and EC, a negative 'unknown type' (this
+-- gateway's own profile).
 pub record PassedExamples : Type 0 where
   pub spontaneous : is_passed_on MSpNa1 0x03 ≡ true
   pub initialised : is_passed_on MEiNa1 0x04 ≡ true
@@ -152,7 +157,8 @@ pub record PassedExamples : Type 0 where
   pub command : is_passed_on CScNa1 0x07 ≡ false
   pub interrogation : is_passed_on CIcNa1 0x0A ≡ false
 
--- 49 totals from address 10 on with SQ 1 are two pieces, 124 single points with SQ 0 three, and one is one
+-- 49 totals from address 10 on with SQ 1 are two pieces, 124 single points with SQ 0 three, and one
+-- is one
 pub record PartExamples : Type 0 where
   pub totals : parts small (15 ∷ 0xB1 ∷ 3 ∷ 1 ∷ 10 ∷ replicate 245 0xFF) ≡ 2
   pub points : parts small (1 ∷ 124 ∷ 3 ∷ 1 ∷ replicate 248 0x01) ≡ 3
@@ -160,18 +166,23 @@ pub record PartExamples : Type 0 where
 
 -- so many objects fit the 249 octets of an ASDU and the seven bits of a number
 abbrev pub fits_piece : TypeId → Bool → ℕ → Bool
-fits_piece t sequence n = nat_le (header_len tcp + body_len t (ioa_len tcp.ioa) sequence n) 249 && nat_le n 127
+fits_piece t sequence n =
+    nat_le (header_len tcp + body_len t (ioa_len tcp.ioa) sequence n) 249 && nat_le n 127
 
 -- a piece has as many objects as fit: one more doesn't
 abbrev pub IsMost : TypeId → Bool → Type 0
 IsMost t sequence =
-    (fits_piece t sequence (piece_size t sequence) ≡ true) × (fits_piece t sequence (suc (piece_size t sequence)) ≡ false)
+    (fits_piece t sequence (piece_size t sequence) ≡ true)
+    × (fits_piece t sequence (suc (piece_size t sequence)) ≡ false)
 
 -- ---- Commands with a tag
 
 -- types 45 to 49 have their tagged form 13 above, 58 to 62; no other type has one
 pub record TagsByType : Type 0 where
   pub plain : (t : TypeId) → is_plain_command t ≡ (nat_le 45 (row t).code && nat_le (row t).code 49)
-  pub tagged : (t : TypeId) → is_tagged_command t ≡ (nat_le 58 (row t).code && nat_le (row t).code 62)
-  pub above : (t : TypeId) → (row (tagged_type t)).code ≡ (if is_plain_command t then (row t).code + 13 else (row t).code)
-  pub below : (t : TypeId) → (if is_tagged_command t then (row (untagged_type t)).code + 13 else (row (untagged_type t)).code) ≡ (row t).code
+  pub tagged : (t : TypeId) →
+      is_tagged_command t ≡ (nat_le 58 (row t).code && nat_le (row t).code 62)
+  pub above : (t : TypeId) →
+      (row (tagged_type t)).code ≡ (row t).code + (if is_plain_command t then 13 else 0)
+  pub below : (t : TypeId) →
+      (row (untagged_type t)).code + (if is_tagged_command t then 13 else 0) ≡ (row t).code

@@ -1,5 +1,5 @@
--- What the standard's own tables say of the types (IEC 60870-5-101, 7.2.1 and 7.3), and elements and
--- time tags worked by hand (7.2.6).
+-- What the standard's own tables say of the types (IEC 60870-5-101, 7.2.1 and 7.3), and elements
+-- and time tags worked by hand (7.2.6).
 use Rattle.std.specs.Prelude.{◌≡◌, ℕ, zero, suc, ℤ, pos, ◌-ℤ◌, Bool, false, ◌&&◌, ◌||◌, ◌==◌, nat_le, List, [], ◌∷◌, Option, Some, None, filter, map}
 use Rattle.elements.specs.Layouts.{short, word, long}
 use Rattle.elements.specs.Types.{row, type_of, value_shown}
@@ -11,8 +11,8 @@ use Rattle.elements.specs.declared.tag.Verdict.TheVariants.{Good, MarkedInvalid,
 
 -- ---- Types
 
--- Types 1 to 44 and 70 to 99 are process and system information in monitor direction; 45 to 69 and 100 to 109
--- are those in control direction (7.2.1.1).
+-- Types 1 to 44 and 70 to 99 are process and system information in monitor direction; 45 to 69 and
+-- 100 to 109 are those in control direction (7.2.1.1).
 abbrev pub is_monitor_type : ℕ → Bool
 is_monitor_type code = (nat_le 1 code && nat_le code 44) || (nat_le 70 code && nat_le code 99)
 
@@ -43,18 +43,24 @@ codes_of types = map (λ t. (row t).code) types
 pub record TypesAreTheStandards : Type 0 where
   pub monitor : (t : TypeId) → (row t).monitor ≡ is_monitor_type (row t).code
   pub tagged : (t : TypeId) → (row t).tagged ≡ is_type_with_tag (row t).code
-  -- single, double, step, bitstring, normalised, scaled, float, total: without and with a tag (7.3.1)
-  pub reports : codes_of (MSpNa1 ∷ MDpNa1 ∷ MStNa1 ∷ MBoNa1 ∷ MMeNa1 ∷ MMeNb1 ∷ MMeNc1 ∷ MItNa1 ∷ [])
+  -- single, double, step, bitstring, normalised, scaled, float, total: without and with a tag
+  -- (7.3.1)
+  pub reports : codes_of
+      (MSpNa1 ∷ MDpNa1 ∷ MStNa1 ∷ MBoNa1 ∷ MMeNa1 ∷ MMeNb1 ∷ MMeNc1 ∷ MItNa1 ∷ [])
       ≡ 1 ∷ 3 ∷ 5 ∷ 7 ∷ 9 ∷ 11 ∷ 13 ∷ 15 ∷ []
-  pub tagged_reports : codes_of (MSpTb1 ∷ MDpTb1 ∷ MStTb1 ∷ MBoTb1 ∷ MMeTd1 ∷ MMeTe1 ∷ MMeTf1 ∷ MItTb1 ∷ [])
+  pub tagged_reports : codes_of
+      (MSpTb1 ∷ MDpTb1 ∷ MStTb1 ∷ MBoTb1 ∷ MMeTd1 ∷ MMeTe1 ∷ MMeTf1 ∷ MItTb1 ∷ [])
       ≡ 30 ∷ 31 ∷ 32 ∷ 33 ∷ 34 ∷ 35 ∷ 36 ∷ 37 ∷ []
   -- single, double, step, set points normalised and scaled: without and with a tag (7.3.2)
-  pub commands : codes_of (CScNa1 ∷ CDcNa1 ∷ CRcNa1 ∷ CSeNa1 ∷ CSeNb1 ∷ []) ≡ 45 ∷ 46 ∷ 47 ∷ 48 ∷ 49 ∷ []
-  pub tagged_commands : codes_of (CScTa1 ∷ CDcTa1 ∷ CRcTa1 ∷ CSeTa1 ∷ CSeTb1 ∷ []) ≡ 58 ∷ 59 ∷ 60 ∷ 61 ∷ 62 ∷ []
+  pub commands : codes_of (CScNa1 ∷ CDcNa1 ∷ CRcNa1 ∷ CSeNa1 ∷ CSeNb1 ∷ [])
+      ≡ 45 ∷ 46 ∷ 47 ∷ 48 ∷ 49 ∷ []
+  pub tagged_commands : codes_of (CScTa1 ∷ CDcTa1 ∷ CRcTa1 ∷ CSeTa1 ∷ CSeTb1 ∷ [])
+      ≡ 58 ∷ 59 ∷ 60 ∷ 61 ∷ 62 ∷ []
   -- end of initialisation (7.3.3) and interrogation (7.3.4)
   pub system : codes_of (MEiNa1 ∷ CIcNa1 ∷ []) ≡ 70 ∷ 100 ∷ []
   -- SIQ, DIQ, COI, SCO, DCO, RCO and QOI have an octet (7.2.6.1, 2, 15 to 17, 21 and 22)
-  pub of_one_octet : octets_of_size 1 ≡ 1 ∷ 3 ∷ 30 ∷ 31 ∷ 45 ∷ 46 ∷ 47 ∷ 58 ∷ 59 ∷ 60 ∷ 70 ∷ 100 ∷ []
+  pub of_one_octet : octets_of_size 1
+      ≡ 1 ∷ 3 ∷ 30 ∷ 31 ∷ 45 ∷ 46 ∷ 47 ∷ 58 ∷ 59 ∷ 60 ∷ 70 ∷ 100 ∷ []
   -- VTI with QDS (7.2.6.3 and 5)
   pub of_two_octets : octets_of_size 2 ≡ 5 ∷ 32 ∷ []
   -- NVA and SVA with QDS, or with QOS (7.2.6.5 to 7 and 39)
@@ -81,7 +87,8 @@ shows kinds octets value = record { kinds = kinds; octets = octets; value = valu
 abbrev pub IsShownSo : Shown → Type 0
 IsShownSo e = map (λ t. value_shown t e.octets) e.kinds ≡ map (λ t. e.value) e.kinds
 
--- the values of elements in the standard's bits; quality, select and reserved bits are set and show nothing
+-- the values of elements in the standard's bits; quality, select and reserved bits are set and show
+-- nothing
 abbrev pub value_examples : List Shown
 value_examples =
     -- SPI in bit 0, DPI in bits 1 and 0
@@ -93,10 +100,13 @@ value_examples =
     ∷ shows (MStNa1 ∷ MStTb1 ∷ []) (0xBF ∷ 0xFF ∷ []) (pos 63)
     ∷ shows (MStNa1 ∷ MStTb1 ∷ []) (0x40 ∷ 0x00 ∷ []) (pos 0 -ℤ pos 64)
     -- bits, also those of a float
-    ∷ shows (MBoNa1 ∷ MBoTb1 ∷ MMeNc1 ∷ MMeTf1 ∷ []) (0x78 ∷ 0x56 ∷ 0x34 ∷ 0xF2 ∷ 0xFF ∷ []) (pos 0xF2345678)
+    ∷ shows (MBoNa1 ∷ MBoTb1 ∷ MMeNc1 ∷ MMeTf1 ∷ []) (0x78 ∷ 0x56 ∷ 0x34 ∷ 0xF2 ∷ 0xFF ∷ [])
+    (pos 0xF2345678)
     -- NVA and SVA of 16 bits, BCR of 32
-    ∷ shows (MMeNa1 ∷ MMeTd1 ∷ MMeNb1 ∷ MMeTe1 ∷ CSeNa1 ∷ CSeNb1 ∷ CSeTa1 ∷ CSeTb1 ∷ []) (0x02 ∷ 0x01 ∷ 0xFF ∷ []) (pos 258)
-    ∷ shows (MMeNa1 ∷ MMeTd1 ∷ MMeNb1 ∷ MMeTe1 ∷ CSeNa1 ∷ CSeNb1 ∷ CSeTa1 ∷ CSeTb1 ∷ []) (0x00 ∷ 0x80 ∷ 0x00 ∷ [])
+    ∷ shows (MMeNa1 ∷ MMeTd1 ∷ MMeNb1 ∷ MMeTe1 ∷ CSeNa1 ∷ CSeNb1 ∷ CSeTa1 ∷ CSeTb1 ∷ [])
+    (0x02 ∷ 0x01 ∷ 0xFF ∷ []) (pos 258)
+    ∷ shows (MMeNa1 ∷ MMeTd1 ∷ MMeNb1 ∷ MMeTe1 ∷ CSeNa1 ∷ CSeNb1 ∷ CSeTa1 ∷ CSeTb1 ∷ [])
+    (0x00 ∷ 0x80 ∷ 0x00 ∷ [])
     (pos 0 -ℤ pos 32768)
     ∷ shows (MItNa1 ∷ MItTb1 ∷ []) (0xFE ∷ 0xFF ∷ 0xFF ∷ 0xFF ∷ 0x1F ∷ []) (pos 0 -ℤ pos 2)
     -- a cause of initialisation in bits 6 to 0
@@ -121,7 +131,8 @@ IsJudgedSo e = verdict_of e.octets ≡ e.verdict
 
 abbrev pub tag_examples : List Judged
 tag_examples =
-    -- Thursday 2024-02-29 12:34:56.789 UTC; without a day of the week; with SU and all reserved bits set
+    -- Thursday 2024-02-29 12:34:56.789 UTC; without a day of the week; with SU and all reserved
+    -- bits set
     is_judged (0xD5 ∷ 0xDD ∷ 0x22 ∷ 0x0C ∷ 0x9D ∷ 0x02 ∷ 0x18 ∷ []) (Good 1709210096789)
     ∷ is_judged (0xD5 ∷ 0xDD ∷ 0x22 ∷ 0x0C ∷ 0x1D ∷ 0x02 ∷ 0x18 ∷ []) (Good 1709210096789)
     ∷ is_judged (0xD5 ∷ 0xDD ∷ 0x62 ∷ 0xEC ∷ 0x9D ∷ 0xF2 ∷ 0x98 ∷ []) (Good 1709210096789)
@@ -134,7 +145,8 @@ tag_examples =
     ∷ is_judged (0xD5 ∷ 0xDD ∷ 0xA2 ∷ 0x0C ∷ 0xBD ∷ 0x02 ∷ 0x17 ∷ []) NoSuchDay
     ∷ is_judged (0x00 ∷ 0x00 ∷ 0x00 ∷ 0x00 ∷ 0x1F ∷ 0x04 ∷ 0x18 ∷ []) NoSuchDay
     ∷ is_judged (0xD5 ∷ 0xDD ∷ 0xA2 ∷ 0x0C ∷ 0xBD ∷ 0x02 ∷ 0x18 ∷ []) WrongWeekday
-    -- 60000 ms, minute 60, hour 24, day 0, months 0 and 13, year 100, also where it is marked invalid
+    -- 60000 ms, minute 60, hour 24, day 0, months 0 and 13, year 100, also where it is marked
+    -- invalid
     ∷ is_judged (0x60 ∷ 0xEA ∷ 0xA2 ∷ 0x0C ∷ 0x9D ∷ 0x02 ∷ 0x18 ∷ []) OutOfRange
     ∷ is_judged (0xD5 ∷ 0xDD ∷ 0x3C ∷ 0x0C ∷ 0x9D ∷ 0x02 ∷ 0x18 ∷ []) OutOfRange
     ∷ is_judged (0xD5 ∷ 0xDD ∷ 0x22 ∷ 0x18 ∷ 0x9D ∷ 0x02 ∷ 0x18 ∷ []) OutOfRange

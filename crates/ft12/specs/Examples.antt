@@ -26,7 +26,9 @@ with_data c a body = Data c a (record { items = body })
 
 -- a frame, its octets and what is read of them
 abbrev pub IsSpelledSo : Spelled → Type 0
-IsSpelledSo e = (spelling e.size e.frame ≡ e.octets) × (front_of e.size (e.octets ++ 0x68 ∷ []) ≡ Whole e.frame (length e.octets))
+IsSpelledSo e =
+    (spelling e.size e.frame ≡ e.octets)
+    × (front_of e.size (e.octets ++ 0x68 ∷ []) ≡ Whole e.frame (length e.octets))
 
 abbrev pub spelling_examples : List Spelled
 spelling_examples =
@@ -39,7 +41,8 @@ spelling_examples =
     -- a sum past 255 counts modulo 256
     ∷ is_spelled_so One (Fixed 0xFF 0xFF) (0x10 ∷ 0xFF ∷ 0xFF ∷ 0xFE ∷ 0x16 ∷ [])
     -- no data: the length counts the control octet and the address
-    ∷ is_spelled_so One (with_data 8 1 []) (0x68 ∷ 0x02 ∷ 0x02 ∷ 0x68 ∷ 0x08 ∷ 0x01 ∷ 0x09 ∷ 0x16 ∷ [])
+    ∷ is_spelled_so One (with_data 8 1 [])
+    (0x68 ∷ 0x02 ∷ 0x02 ∷ 0x68 ∷ 0x08 ∷ 0x01 ∷ 0x09 ∷ 0x16 ∷ [])
     ∷ is_spelled_so Two (with_data 8 258 (0xFF ∷ []))
     (0x68 ∷ 0x04 ∷ 0x04 ∷ 0x68 ∷ 0x08 ∷ 0x02 ∷ 0x01 ∷ 0xFF ∷ 0x0A ∷ 0x16 ∷ [])
     -- data that are also start and end octets
@@ -60,11 +63,14 @@ pub record Spoilt : Type 0 where
   pub why : Why
 
 abbrev pub is_refused_at : ℕ → Why → LinkSize → List ℕ → Spoilt
-is_refused_at place why size octets = record { size = size; octets = octets; place = place; why = why }
+is_refused_at place why size octets =
+    record { size = size; octets = octets; place = place; why = why }
 
 -- The octets are refused at that place, for that; those before it still begin a frame.
 abbrev pub IsRefusedSo : Spoilt → Type 0
-IsRefusedSo e = (front_of e.size e.octets ≡ Never e.place e.why) × (front_of e.size (take e.place e.octets) ≡ More)
+IsRefusedSo e =
+    (front_of e.size e.octets ≡ Never e.place e.why)
+    × (front_of e.size (take e.place e.octets) ≡ More)
 
 abbrev pub refusal_examples : List Spoilt
 refusal_examples =
