@@ -35,7 +35,7 @@ accounted_at p s log a = record {
     all = carries_end (taken_objects p log) (parts_of_all p.sizes (reports_in p log)) a.course.earlier (here_of a.course) s.centre.session s.centre.queue.sent s.centre.queue.unsent a.here.tied a.carries
 
     counted : (log : Log) (a : Agrees p s log [] (resting log)) → s.serial.counts ≡ (done_in p log a.course).serial.counts
-    counted [] a = ap (λ (z : Serial). z.counts) a.stands.does ∙ sym (ap (λ b. (if b then unasked_works (latest []) (room_in p [] a.course) (ready_works (latest []) a.course.works) else a.course.works).serial.counts) a.stands.asks)
+    counted [] a = ap (λ (z : Serial). z.counts) a.stands.does ∙ sym (ap (λ b. (if b then unasked_works (latest []) (room_in p [] a.course) (ready_works (latest []) a.course.works) else a.course.works).serial.counts) a.stands.asks.0)
     counted (entry ∷ log) a = ap (λ (z : Serial). z.counts) a.stands.does
 
 untold : (old : Option Log) → tell old [] ≡ old

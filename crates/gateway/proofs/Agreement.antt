@@ -26,6 +26,7 @@ use Rattle.gateway.specs.Streams.{spelled, IsRefused}
 use Rattle.gateway.specs.Frames.{Sent, Connection, new_connection, data_frames, acknowledged_count, acknowledged_reports, reports_among, fault_of, objects_of_frames, IsNumberedFrom, IsInOrder, AreInOrder}
 use Rattle.gateway.specs.Connections.{is_replaced, Channel, no_channel, sending, ends, present, past, over, closed_by, IsBehind, BeginsWithFault, IsConnection, AreConnections}
 use Rattle.gateway.specs.Reports.{Setup, address_at, exchanges_of, exchanges_with, taken_objects, reports_in, parts_of_all}
+use Rattle.gateway.specs.Gaps.{gaps_told, gap_for}
 use Rattle.gateway.specs.Polls.{has_room}
 use Rattle.gateway.specs.Room.{IsFull}
 use Rattle.gateway.specs.Traffic.{replaces, IsAtRest, IsFaithful}
@@ -57,7 +58,7 @@ use Rattle.session.specs.Runs.{Call, Send, after_call}
 use Rattle.session.specs.Ends.{IsConfirmed}
 use Rattle.gateway.specs.Conversation.{KeepsTalk}
 use Rattle.gateway.specs.Agrees.{IsAt, Presently, Carries, Past, Talks, Agrees, Tied, ArePlain, IsSpent, IsClear, IsUndue, IsQuiet, pending, pieces_of}
-use Rattle.gateway.proofs.Working.{answers_in, own_serial, asked_own, own_placed, heard_placed}
+use Rattle.gateway.proofs.Working.{answers_in, gap_in, own_serial, asked_own, own_placed, heard_placed}
 use Rattle.gateway.proofs.Offering.{count_upto, offers_heard, offers_cut, heard_plain}
 use Rattle.gateway.proofs.Talking.{at, HasNoData, next_plain, sends, kept_talk, talk_out, talk_heard, talk_cut, all_taken, confirmed_by, may_by, due_by, late_by}
 use Rattle.gateway.proofs.Unconfirmed.{numbered_more}
@@ -300,6 +301,7 @@ after_piece p s log unjudged asdu rest phase a flushing ready may on none unsent
       course = data_course s asdu FromQueue s.moment a.course.works a.course;
       talk = talk;
       stands = record { does = same_does phase (latest log) _ _ a.course.works s.serial room a.stands.does; asks = same_asks phase (latest log) _ _ a.course.works room a.stands.asks; phase_is = phase_out phase log s.moment _ (sym a.here.link ∙ on) a.stands.phase_is; placed = placed_on phase log _ _ _ (λ o. o) refl a.stands.placed };
+      gaps = a.gaps;
       offers = a.offers;
       plain = a.plain;
       here = went_out s.centre (piece_sent s).centre (present log) unjudged (here_of a.course) (a.course.sent ++ f ∷ []) (next_frame s.centre.session asdu) a.here fits on refl refl
@@ -348,6 +350,7 @@ after_own p s log unjudged asdu phase a flushing ready may on first fits =
         phase_is = phase_out phase log s.moment _ (sym a.here.link ∙ on) a.stands.phase_is;
         placed = placed_on phase log _ _ _ (λ o. o) (own_placed a.course.works asdu oldest) a.stands.placed;
       };
+      gaps = a.gaps;
       offers = a.offers;
       plain = fewer_plain s.serial.commands.answers a.plain;
       here = went_out s.centre (own_sent s).centre (present log) unjudged (here_of a.course) (a.course.sent ++ f ∷ []) (next_frame s.centre.session asdu) a.here fits on refl refl
@@ -386,6 +389,7 @@ after_due p s t log unjudged f phase a flushing next on fits none goes same = re
   course = due_course f s.moment a.course;
   talk = talk_due;
   stands = record { does = a.stands.does; asks = a.stands.asks; phase_is = phase_out phase log s.moment _ (sym a.here.link ∙ on) a.stands.phase_is; placed = placed_on phase log _ _ _ (λ o. o) refl a.stands.placed };
+  gaps = a.gaps;
   offers = a.offers;
   plain = a.plain;
   here = went_out s.centre (with_session t s).centre (present log) unjudged (here_of a.course) a.course.sent f a.here fits on same.same_connected refl (a.here.sent ∙ sym (none a.here.put)) (omega arith)
@@ -435,6 +439,7 @@ after_heard p s log unjudged rest f a on ready undue past so fits whole passes f
       course = with_frame p f s.moment a.course;
       talk = talk_heard p s.centre.session log a.course s.moment f rest a.talk a.stands.phase_is a.clock on ready.confirmed fits passes (a.stands.placed (sym a.here.link ∙ on)) (flushed_by p s log unjudged Taking a ready.spent) (undue_by p s log unjudged Taking a undue) joined;
       stands = heard_stands p s log f a.course kept place a.stands;
+      gaps = a.gaps;
       offers = offers_heard a.talk.command_laws s.serial.line s.serial.line s.serial.commands (framed f s).serial.commands f s.moment refl refl a.offers;
       plain = heard_plain a.talk.command_laws f s.moment s.serial.commands fits a.plain;
       here = record {
@@ -475,6 +480,7 @@ with_so_far p s log unjudged rest so_far phase a waits joined left = record {
   course = a.course;
   talk = a.talk;
   stands = record { does = a.stands.does; asks = a.stands.asks; phase_is = a.stands.phase_is; placed = a.stands.placed };
+  gaps = a.gaps;
   offers = a.offers;
   plain = a.plain;
   here = record {
@@ -516,6 +522,7 @@ now_idle p s log a = record {
   course = a.course;
   talk = a.talk;
   stands = record { does = a.stands.does; asks = a.stands.asks; phase_is = tt; placed = a.stands.placed };
+  gaps = a.gaps;
   offers = a.offers;
   plain = a.plain;
   here = a.here;
@@ -537,6 +544,7 @@ now_taking p s log unjudged a = record {
   course = a.course;
   talk = a.talk;
   stands = record { does = a.stands.does; asks = a.stands.asks; phase_is = a.stands.phase_is; placed = a.stands.placed };
+  gaps = a.gaps;
   offers = a.offers;
   plain = a.plain;
   here = a.here;
@@ -803,6 +811,7 @@ after_close laws p s log unjudged cause phase fault a on last timely stands why 
         phase_is = closed_phase phase log s.moment cause timely;
         placed = placed_cut (after_closing phase) new _;
       };
+      gaps = a.gaps;
       offers = offers_cut laws s.serial.line (tasks.closed s.serial.commands);
       plain = tt;
       here = subst (λ octets. Presently (disconnected s).centre octets [] new_connection) (sym shut) (fresh (disconnected s).centre no_channel a.here.tied.small refl (λ h. refl) refl refl refl refl refl refl refl refl);
@@ -835,6 +844,7 @@ rested laws p s log a spent quiet = record {
   settled = a.settled;
   placed = a.stands.placed;
   eager = λ on started room. sent_all p s log [] Asked a (spent (can (is_running s.centre.session) (a.here.tied.running ∙ started) (omega (arith, room, a.here.tied.unconfirmed.count, a.k))));
+  gaps = λ i. sym (append-nil (gaps_told i log)) ∙ ap (λ g. gaps_told i log ++ gap_for i g) (sym all_told) ∙ a.gaps i;
   line = line_rests laws p s.serial.line log a.course (room_in p log a.course) a.line (none_left a.course.works.is_due refl) (here_of a.course ∷ a.course.earlier)
       (λ none. is_full p s log [] Asked a (no_room_means s.centre.queue (sym (same_room p s log [] Asked a) ∙ none))) served;
   talk = record {
@@ -854,6 +864,9 @@ rested laws p s log a spent quiet = record {
 
     room : Bool
     room = room_in p log a.course
+
+    all_told : s.serial.gap ≡ None
+    all_told = ap (λ (z : Serial). z.gap) a.stands.does ∙ gap_in Asked (latest log) room w ∙ a.stands.asks.2
 
     out_none : (o : Option Outstanding) → IsOut o → primary.sending_from w.serial.line o room ≡ None
     out_none None h = absurd h

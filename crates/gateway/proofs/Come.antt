@@ -9,12 +9,13 @@ use Rattle.asdu.specs.Sizes.{tcp}
 use Rattle.asdu.specs.InformationObjects.{InformationObject, monitor_objects_of}
 use Rattle.asdu.specs.Translation.{parts}
 use Rattle.ft12.specs.Fronts.{front_of}
-use Rattle.link.specs.Exchanges.{timed_current}
+use Rattle.link.specs.Exchanges.{heard_current, timed_current}
+use Rattle.link.specs.Gaps.{gaps_at}
 use Rattle.link.specs.Offers.{offered_at}
-use Rattle.link.specs.Primary.{Primary, received, received_outcome, timed_out, due_outcome, withdrawn}
+use Rattle.link.specs.Primary.{Primary, timed_out, withdrawn}
 use Rattle.link.specs.declared.outcome.Outcome.{Outcome}
 use Rattle.link.specs.declared.outcome.Outcome.TheVariants as outcome
-use Rattle.link.specs.Telling.{Tells, report_in}
+use Rattle.link.specs.Telling.{Tells, report_in, gap_in_outcome}
 use Rattle.session.specs.declared.kinds.Close.TheVariants.{Replaced}
 use Rattle.session.specs.Session as session
 use Rattle.session.specs.Session.{is_running as is_running_of}
@@ -26,6 +27,7 @@ use Rattle.command.specs.Calls.{Run, Busy, Mirror}
 use Rattle.events.specs.Queue as queue
 use Rattle.gateway.specs.Objects.{objects, has_objects, monitor_objects, parts_of}
 use Rattle.gateway.specs.Log.{Log, Input, LineIn, Opened, TcpIn, CutOff, Ticked, Came, Went, Closed, latest, last_moment}
+use Rattle.gateway.specs.Gaps.{gaps_of, gaps_told, gap_for}
 use Rattle.gateway.specs.Streams.{spelled}
 use Rattle.gateway.specs.Frames.{Sent, Connection, new_connection, runs, AreInOrder}
 use Rattle.gateway.specs.Connections.{is_replaced, Channel, no_channel, new_channel, receiving, present, past, AreConnections}
@@ -34,18 +36,18 @@ use Rattle.gateway.specs.Traffic.{HasRested, IsFaithful}
 use Rattle.gateway.specs.Serial as serial
 use Rattle.gateway.specs.Serial.{Serial, kept_until, refusals, mirrored, mirror_fits, heard, heard_outcome}
 use Rattle.gateway.specs.Centre.{Centre, pushed}
-use Rattle.gateway.specs.State.{State, with_serial, with_centre, at_moment, line_timed, disconnected, connected}
-use Rattle.gateway.specs.Works.{Works, is_overfull, told, is_command_report, IsPassedOn, mirrored_works, LearnsReport, accepted_works, given_up_works, refused_works, LearnsOf, octets_works, begun_works, ready_works, unasked_works, done_works}
+use Rattle.gateway.specs.State.{State, with_serial, at_moment, line_timed, disconnected, connected}
+use Rattle.gateway.specs.Works.{Works, is_overfull, told, is_command_report, mirrored_works, LearnsReport, accepted_works, given_up_works, refused_works, LearnsOf, octets_works, begun_works, ready_works, unasked_works, done_works}
 use Rattle.gateway.specs.Course.{Course, came_frames, here_of, room_in, TakesFrames, HasTakenAll, ended_course, opened_course, IsLeft, with_works, Comes, Runs}
-use Rattle.gateway.specs.Phases.{Idle, Taking, resting, IsPlaced, IsLeftIn, after_line}
+use Rattle.gateway.specs.Phases.{Idle, Taking, Asked, resting, IsPlaced, IsLeftIn, after_line}
 use Rattle.gateway.specs.LineLaws.{LineLaws}
-use Rattle.gateway.specs.CommandLaws.{CommandLaws}
+use Rattle.command.specs.CommandLaws.{CommandLaws}
 use Rattle.gateway.specs.Steps as steps
 use Rattle.gateway.specs.Steps.{Keeps, Mirrors, Learns, HearsEvent}
-use Rattle.gateway.specs.Agrees.{IsAt, Presently, Carries, Talks, Agrees, Tied, OffersWait, ArePlain}
+use Rattle.gateway.specs.Agrees.{IsAt, Presently, Carries, Talks, Agrees, GapsTold, OffersWait, ArePlain}
 use Rattle.gateway.proofs.Talking.{kept_talk, talk_on, talk_cut, talk_open, all_taken}
 use Rattle.gateway.proofs.Objects.{orders_grow, carries_more}
-use Rattle.gateway.proofs.Working.{kept_overfull, kept_placed, done_placed, kept_waiting, kept_plain}
+use Rattle.gateway.proofs.Working.{gap_in, kept_overfull, kept_placed, done_placed, kept_waiting, kept_plain}
 use Rattle.gateway.proofs.Reached.{IsReached, left_reached}
 use Rattle.gateway.proofs.Offering.{offers_stay, offers_cut, no_monitor}
 use Rattle.gateway.proofs.Agreement.{Ended, ended, fresh, stands_now, in_order}
@@ -56,12 +58,19 @@ abbrev pub left_of : Setup → Log → Course → Course
 left_of p log c = record { talk = c.talk; sent = c.sent; earlier = c.earlier; works = done_works (latest log) (room_in p log c) c.works }
 
 at_rest_works : (p : Setup) (s : State) (log : Log) (a : Agrees p s log [] (resting log)) → s.serial ≡ (left_of p log a.course).works.serial
-at_rest_works p s [] a = a.stands.does ∙ sym (ap (λ b. (if b then unasked_works 0 (room_in p [] a.course) (ready_works 0 a.course.works) else a.course.works).serial) a.stands.asks)
+at_rest_works p s [] a = a.stands.does ∙ sym (ap (λ b. (if b then unasked_works 0 (room_in p [] a.course) (ready_works 0 a.course.works) else a.course.works).serial) a.stands.asks.0)
 at_rest_works p s (entry ∷ log) a = a.stands.does
 
 is_left : (p : Setup) (s : State) (log : Log) (a : Agrees p s log [] (resting log)) → IsLeft p log a.course (left_of p log a.course)
-is_left p s [] a = record { none = λ due. let no : false ≡ true = sym a.stands.asks ∙ due in cc; is = refl }
-is_left p s (entry ∷ log) a = record { none = a.stands.asks.0; is = refl }
+is_left p s [] a = record { told = a.stands.asks.1; none = λ due. let no : false ≡ true = sym a.stands.asks.0 ∙ due in cc; is = refl }
+is_left p s (entry ∷ log) a = record { told = a.stands.asks.2; none = a.stands.asks.0; is = refl }
+
+-- no gap is left of the step before, and each is told
+none_left : (p : Setup) (s : State) (log : Log) (a : Agrees p s log [] (resting log)) → s.serial.gap ≡ None
+none_left p s log a = ap (λ (z : Serial). z.gap) (at_rest_works p s log a) ∙ gap_in Asked (latest log) (room_in p log a.course) a.course.works ∙ (is_left p s log a).told
+
+all_told : (p : Setup) (s : State) (log : Log) (a : Agrees p s log [] (resting log)) (i : ℕ) → gaps_told i log ≡ gaps_of p i log
+all_told p s log a i = sym (append-nil (gaps_told i log)) ∙ ap (λ g. gaps_told i log ++ gap_for i g) (sym (none_left p s log a)) ∙ a.gaps i
 
 -- What is learnt of an exchange
 
@@ -76,10 +85,11 @@ pub record Learnt (p : Setup) (at : ℕ) (is_running : Bool) (o : Outcome) (s t 
   pub due : z.is_due ≡ is_due
   pub full : fits ≡ false → is_overfull z.history ≡ true
   pub placed : fits ≡ true → is_overfull z.history ≡ is_overfull h
+  pub gap : (i : ℕ) → gap_for i t.serial.gap ≡ gap_in_outcome i o
   pub waiting : t.serial.commands.waiting ≡ s.serial.commands.waiting
   pub plain : ArePlain t.serial.commands.answers
 
-module _ (p : Setup) (at : ℕ) (s : State) (h : History) (is_due : Bool) (laws : CommandLaws) (clock : s.moment ≡ at) (sizes : s.sizes ≡ p.sizes) (reached : IsReached p (beside s h is_due)) (plain : ArePlain s.serial.commands.answers) where
+module _ (p : Setup) (at : ℕ) (s : State) (h : History) (is_due : Bool) (laws : CommandLaws) (clock : s.moment ≡ at) (sizes : s.sizes ≡ p.sizes) (reached : IsReached p (beside s h is_due)) (no_gap : s.serial.gap ≡ None) (plain : ArePlain s.serial.commands.answers) where
   abbrev w : Works
   w = beside s h is_due
 
@@ -88,14 +98,15 @@ module _ (p : Setup) (at : ℕ) (s : State) (h : History) (is_due : Bool) (laws 
 
   -- where all own answers, if any, found places
   learnt_all : (is_running : Bool) (o : Outcome) (t : State) (fits : Bool) (z : Works) → LearnsOf p at is_running o w z → t ≡ with_serial z.serial s → fits ≡ true → z.is_due ≡ is_due → is_overfull z.history ≡ is_overfull h →
-      z.serial.commands.waiting ≡ s.serial.commands.waiting → z.serial.commands.answers ≡ s.serial.commands.answers → IsLearnt is_running o t fits
-  learnt_all is_running o t fits z learns is all due placed waiting answers = record {
+      z.serial.commands.waiting ≡ s.serial.commands.waiting → z.serial.commands.answers ≡ s.serial.commands.answers → ((i : ℕ) → gap_for i z.serial.gap ≡ gap_in_outcome i o) → IsLearnt is_running o t fits
+  learnt_all is_running o t fits z learns is all due placed waiting answers gap = record {
     z = z;
     learns = learns;
     serial = ap (λ (x : State). x.serial) is;
     due = due;
     full = λ off. let no : false ≡ true = sym off ∙ all in cc;
     placed = λ on. placed;
+    gap = λ i. ap (λ (x : State). gap_for i x.serial.gap) is ∙ gap i;
     waiting = ap (λ (x : State). x.serial.commands.waiting) is ∙ waiting;
     plain = subst ArePlain (sym (ap (λ (x : State). x.serial.commands.answers) is ∙ answers)) plain;
   }
@@ -117,6 +128,7 @@ module _ (p : Setup) (at : ℕ) (s : State) (h : History) (is_due : Bool) (laws 
         due = refl;
         full = λ off. kept_overfull own c (told (Busy i) w) (sym e.1 ∙ off);
         placed = λ on. kept_placed own c (told (Busy i) w) (sym e.1 ∙ on);
+        gap = λ i. ap (λ (x : State). gap_for i x.serial.gap) e.0 ∙ ap (gap_for i) no_gap;
         waiting = ap (λ (x : State). x.serial.commands.waiting) e.0 ∙ kept_waiting own c;
         plain = subst ArePlain (sym (ap (λ (x : State). x.serial.commands.answers) e.0)) (kept_plain own c (refusal_plain i (refusal_of (line_of i s.serial.commands)) refl) plain);
       }
@@ -131,6 +143,7 @@ module _ (p : Setup) (at : ℕ) (s : State) (h : History) (is_due : Bool) (laws 
         due = refl;
         full = λ off. kept_overfull m.pieces c (told (Mirror m.v at) w) (sym m.all ∙ off);
         placed = λ on. kept_placed m.pieces c (told (Mirror m.v at) w) (sym m.all ∙ on);
+        gap = λ i. ap (λ (x : Serial). gap_for i x.gap) m.after ∙ ap (gap_for i) no_gap;
         waiting = ap (λ (x : Serial). x.commands.waiting) m.after ∙ kept_waiting m.pieces c ∙ laws.mirrored_waits m.v at s.serial.commands;
         plain = subst ArePlain (sym (ap (λ (x : Serial). x.commands.answers) m.after)) (kept_plain m.pieces c m.plain (subst ArePlain (sym (laws.mirrored_answers m.v at s.serial.commands)) plain));
       }
@@ -141,6 +154,7 @@ module _ (p : Setup) (at : ℕ) (s : State) (h : History) (is_due : Bool) (laws 
     due = refl;
     full = λ off. let no : false ≡ true = sym off ∙ m.all in cc;
     placed = λ on. refl;
+    gap = λ i. ap (λ (x : Serial). gap_for i x.gap) m.after ∙ ap (gap_for i) no_gap;
     waiting = ap (λ (x : Serial). x.commands.waiting) m.after ∙ laws.mirrored_waits m.v at s.serial.commands;
     plain = subst ArePlain (sym (ap (λ (x : Serial). x.commands.answers) m.after)) (subst ArePlain (sym (laws.mirrored_answers m.v at s.serial.commands)) plain);
   }
@@ -156,6 +170,7 @@ module _ (p : Setup) (at : ℕ) (s : State) (h : History) (is_due : Bool) (laws 
         due = refl;
         full = λ off. let no : false ≡ true = sym off ∙ e.1 in cc;
         placed = λ on. refl;
+        gap = λ i. ap (λ (x : Serial). gap_for i x.gap) same ∙ ap (gap_for i) no_gap;
         waiting = ap (λ (x : Serial). x.commands.waiting) same;
         plain = subst ArePlain (sym (ap (λ (x : Serial). x.commands.answers) same)) plain;
       }
@@ -171,12 +186,13 @@ module _ (p : Setup) (at : ℕ) (s : State) (h : History) (is_due : Bool) (laws 
   pub learnt : (is_running : Bool) (o : Outcome) (t : State) (fits : Bool) → is_running_of s.centre.session ≡ is_running → Learns s o fits t → IsLearnt is_running o t fits
   learnt is_running (outcome.Report station report) t fits runs e =
       learnt_of is_running station report t fits (is_command_report p.sizes report.items) runs refl (subst (λ z. steps.LearnsReport (is_command_report z report.items) s report.items fits t) sizes e)
-  learnt is_running (outcome.Accepted i) t fits runs e = learnt_all is_running (outcome.Accepted i) t fits (accepted_works i w) refl e.0 e.1 refl refl refl refl
+  learnt is_running (outcome.Accepted i) t fits runs e = learnt_all is_running (outcome.Accepted i) t fits (accepted_works i w) refl e.0 e.1 refl refl refl refl (λ k. ap (gap_for k) no_gap)
   learnt is_running (outcome.Busy i) t fits runs e = learnt_busy is_running i t fits e
-  learnt is_running (outcome.Down i) t fits runs e = learnt_all is_running (outcome.Down i) t fits (given_up_works i w) refl e.0 e.1 refl refl refl refl
-  learnt is_running outcome.None t fits runs e = learnt_all is_running outcome.None t fits w refl e.0 e.1 refl refl refl refl
-  learnt is_running (outcome.Started i) t fits runs e = learnt_all is_running (outcome.Started i) t fits w refl e.0 e.1 refl refl refl refl
-  learnt is_running (outcome.Empty i) t fits runs e = learnt_all is_running (outcome.Empty i) t fits w refl e.0 e.1 refl refl refl refl
+  learnt is_running (outcome.Down i) t fits runs e = learnt_all is_running (outcome.Down i) t fits (given_up_works i w) refl e.0 e.1 refl refl refl refl (λ k. ap (gap_for k) no_gap)
+  learnt is_running outcome.None t fits runs e = learnt_all is_running outcome.None t fits w refl e.0 e.1 refl refl refl refl (λ k. ap (gap_for k) no_gap)
+  learnt is_running (outcome.Started i) t fits runs e = learnt_all is_running (outcome.Started i) t fits w refl e.0 e.1 refl refl refl refl (λ k. ap (gap_for k) no_gap)
+  learnt is_running (outcome.StartedGap i k) t fits runs e = learnt_all is_running (outcome.StartedGap i k) t fits (record w { serial = serial.with_gap i k w.serial }) refl e.0 e.1 refl refl refl refl (λ j. refl)
+  learnt is_running (outcome.Empty i) t fits runs e = learnt_all is_running (outcome.Empty i) t fits w refl e.0 e.1 refl refl refl refl (λ k. ap (gap_for k) no_gap)
 
 -- The line's part of an event
 
@@ -241,6 +257,7 @@ kept p s t (outcome.Busy i) fits same h = kept_nothing p s t (serial.refused i s
 kept p s t (outcome.Down i) fits same h = kept_nothing p s t (serial.given_up i s.serial) refl h.0
 kept p s t outcome.None fits same h = kept_nothing p s t s.serial refl h.0
 kept p s t (outcome.Started i) fits same h = kept_nothing p s t s.serial refl h.0
+kept p s t (outcome.StartedGap i k) fits same h = kept_nothing p s t (serial.with_gap i k s.serial) refl h.0
 kept p s t (outcome.Empty i) fits same h = kept_nothing p s t s.serial refl h.0
 
 -- what the line's part of an event makes of the works
@@ -262,6 +279,7 @@ pub record Heard (p : Setup) (s t : State) (old : Log) (now : ℕ) (event : Inpu
   pub due : z.is_due ≡ true
   pub full : fits ≡ false → is_overfull z.history ≡ true
   pub placed : fits ≡ true → is_overfull z.history ≡ is_overfull left.works.history
+  pub gaps : GapsTold p (Came now event ∷ old) t.serial.gap
   pub offers : OffersWait t.serial.line t.serial.commands
   pub plain : ArePlain t.serial.commands.answers
   pub more : List InformationObject
@@ -301,7 +319,7 @@ heard_line laws p s t log now octets fits a b =
     let reached : IsReached p (beside first left.works.history left.works.is_due) =
     subst (λ (x : Serial). IsReached p (record left.works { serial = heard octets x })) (sym does) (left_reached p log a.course left a.talk.course_runs (is_left p s log a)) in
     let l : Learnt p at running o first b.middle fits left.works.history left.works.is_due =
-    learnt p at first left.works.history left.works.is_due a.talk.command_laws clock a.sizes reached a.plain running o b.middle fits a.here.tied.running b.hears in
+    learnt p at first left.works.history left.works.is_due a.talk.command_laws clock a.sizes reached (none_left p s log a) a.plain running o b.middle fits a.here.tied.running b.hears in
     let learns : LearnsOf p at running (heard_outcome octets left.works.serial) (octets_works octets left.works) l.z =
     subst (λ (x : Serial). LearnsOf p at running (heard_outcome octets x) (record left.works { serial = heard octets x }) l.z) does l.learns in
     let on = subst (λ m. LineGoesOn p (timed_out q m) log new (report_in o)) (sym clock) (after_octets laws p s.serial.line log now octets a.line) in
@@ -319,6 +337,9 @@ heard_line laws p s t log now octets fits a b =
       due = refl;
       full = l.full;
       placed = l.placed;
+      gaps = λ i. ap (λ g. gaps_told i log ++ g) (l.gap i) ∙ ap (λ gs. gs ++ gap_in_outcome i o) (all_told p s log a i)
+          ∙ sym (laws.gaps_due p.link.size p.addresses p.link.answer_ms at (record { ended = (exchanges_of p log).ended; current = heard_current octets (exchanges_of p log).current }) i
+          ∙ laws.gaps_octets p.link p.addresses s.serial.line (exchanges_of p log) octets i a.line);
       offers = offers_stay s.serial.line (timed_out b.middle.serial.line b.middle.moment) s.serial.commands b.middle.serial.commands
           (λ i. laws.timed_offers b.middle.serial.line b.middle.moment i ∙ ap (λ x. offered_at x i) k.line ∙ laws.heard_offers (front_of s.serial.line.settings.size) s.serial.line octets i) l.waiting a.offers;
       plain = l.plain;
@@ -357,6 +378,7 @@ only_time laws p s t log now event fits a other works is b =
       due = refl;
       full = λ off. let no : false ≡ true = sym off ∙ none.1 in cc;
       placed = λ on. refl;
+      gaps = λ i. a.gaps i ∙ sym (ap (gaps_at (front_of p.link.size) p.addresses i) is ∙ laws.gaps_due p.link.size p.addresses p.link.answer_ms at (exchanges_of p log) i);
       offers = offers_stay s.serial.line (timed_out s.serial.line first.moment) s.serial.commands s.serial.commands (λ i. laws.timed_offers s.serial.line first.moment i) refl a.offers;
       plain = a.plain;
       more = [];
@@ -452,6 +474,7 @@ come_other p s t log now event fits kept counts aside on rest a h =
       course = d;
       talk = talk;
       stands = other_stands p t new d kept h.does h.due (λ yes o. let was : (present log).is_open ≡ true = ap (λ (x : Channel). x.is_open) (sym aside.0) ∙ o in h.placed (counts yes was) ∙ placed_before p s log a was);
+      gaps = h.gaps;
       offers = h.offers;
       plain = h.plain;
       here = subst (λ x. Presently t.centre x [] (here_of a.course)) (sym aside.0) (goes_on p s t log now event left fits (present log) [] (here_of a.course) h a.here);
@@ -528,6 +551,7 @@ come_cut laws p s t log now fits rest a h =
       course = d;
       talk = talk;
       stands = record { does = ap serial.cut h.does; asks = h.due; phase_is = tt; placed = λ o. refl };
+      gaps = h.gaps;
       offers = offers_cut laws t.serial.line (tasks.closed t.serial.commands);
       plain = tt;
       here = fresh (disconnected t).centre no_channel (small laws p s t log now CutOff fits rest a h) refl (λ h. refl) refl refl refl refl refl refl refl refl;
@@ -577,6 +601,7 @@ module _ (laws : LineLaws) (p : Setup) (s t : State) (log : Log) (now : ℕ) (fi
     course = opened;
     talk = opened_talk;
     stands = record { does = opened_does; asks = h.due; phase_is = tt; placed = λ o. refl };
+    gaps = h.gaps;
     offers = offers_cut laws t.serial.line (tasks.closed t.serial.commands);
     plain = tt;
     here = opened_here;
@@ -607,6 +632,7 @@ module _ (laws : LineLaws) (p : Setup) (s t : State) (log : Log) (now : ℕ) (fi
         course = opened;
         talk = talk;
         stands = record { does = opened_does; asks = h.due; phase_is = tt; placed = λ o. refl };
+        gaps = h.gaps;
         offers = offers_cut laws t.serial.line (tasks.closed t.serial.commands);
         plain = tt;
         here = opened_here;
@@ -652,6 +678,7 @@ come_bytes p s t log now octets fits settled_fits rest a h =
       course = d;
       talk = talk_now;
       stands = record { does = h.does; asks = h.due; phase_is = tt; placed = λ o. h.placed settled_fits ∙ placed_before p s log a (sym (opens (present log)) ∙ o) };
+      gaps = h.gaps;
       offers = h.offers;
       plain = h.plain;
       here = subst (λ x. Presently t.centre x more (here_of d)) (sym (bytes_at s.centre.session.connected (present log) (sym a.here.link))) (record {

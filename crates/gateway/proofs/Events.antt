@@ -1,5 +1,5 @@
 -- The line's lemmas where a port may tell no log, in the form that answers cite.
-use Rattle.std.proofs.Common.{◌≡◌, ℕ, ◌≤◌, ◌+◌, Bool, true, false, not, List, [], ◌∷◌, ◌++◌, length, refl, ap, sym, ◌∙◌, subst, arith, inl, Option, Some, None, length-append}
+use Rattle.std.proofs.Common.{◌≡◌, ℕ, ◌≤◌, ◌+◌, ◌==◌, Bool, true, false, not, List, [], ◌∷◌, ◌++◌, length, refl, ap, sym, ◌∙◌, subst, arith, inl, Option, Some, None, length-append}
 use Rattle.std.specs.Prelude.{IfSome, if◌then◌else◌, option_map}
 use Rattle.std.specs.Bool.{OnTrue}
 use Rattle.std.proofs.lemmas.List.{append-nil}
@@ -19,25 +19,27 @@ use Rattle.command.specs.State.{octets_waiting}
 use Rattle.events.specs.Queue.{free_places}
 use Rattle.session.specs.Ends.{IsConfirmed}
 use Rattle.gateway.proofs.Talking.{kept_talk, talk_on, all_taken}
-use Rattle.gateway.specs.Log.{Log, LogEntry, events_of, Input, Opened, TcpIn, CutOff, Ticked, LineIn, Came, Went, LineOut, Closed, latest, tell}
+use Rattle.gateway.specs.Log.{Log, LogEntry, events_of, Input, Opened, TcpIn, CutOff, Ticked, LineIn, Came, Went, LineOut, Closed, GapOut, latest, tell}
 use Rattle.gateway.specs.Frames.{AreInOrder}
 use Rattle.gateway.specs.Connections.{Channel, receiving, received_before, present}
-use Rattle.gateway.specs.Reports.{Setup, exchanges_of, taken_objects, reports_in, parts_of_all}
+use Rattle.gateway.specs.Reports.{Setup, sending_in, exchanges_of, taken_objects, reports_in, parts_of_all}
 use Rattle.link.specs.Leave.{is_poll_request}
+use Rattle.gateway.specs.declared.gaps.Gap.{Gap}
+use Rattle.gateway.specs.Gaps.{gaps_told, gap_for, TellsGaps}
 use Rattle.gateway.specs.Polls.{has_room}
 use Rattle.gateway.specs.Serial as serial
 use Rattle.gateway.specs.Serial.{Serial, is_first_command, put_on_line}
 use Rattle.gateway.specs.Centre.{Centre}
-use Rattle.gateway.specs.Works.{Works, is_overfull, ready_works, unasked_works, asked_works}
-use Rattle.gateway.specs.Course.{Course, first_course, here_of, room_in, with_works, Comes, Runs}
+use Rattle.gateway.specs.Works.{Works, is_overfull, ready_works, gapless_works, unasked_works, asked_works}
+use Rattle.gateway.specs.Course.{Course, first_course, room_in, with_works, Comes, Runs}
 use Rattle.gateway.specs.Phases.{Phase, Fresh, Taking, Idle, Crowded, Timed, Asked, IsOut}
 use Rattle.gateway.specs.LineLaws.{LineLaws}
 use Rattle.gateway.specs.Traffic.{IsFaithful}
 use Rattle.gateway.specs.Runs.{events_told, MoreEvents}
 use Rattle.gateway.specs.State.{State, with_serial, at_moment, line_timed, settled, disconnected, connected, after_request as after_next}
 use Rattle.gateway.specs.Steps.{HearsEvent, Begins, MayClose}
-use Rattle.gateway.specs.Agrees.{Presently, Talks, Agrees, OffersWait, ArePlain, Tracks, Awaits, Leaves, Follows, HasCome, Rests, Carries, IsClear, IsUndue, IsSpent, pending}
-use Rattle.gateway.proofs.Working.{settled_placed, put_placed}
+use Rattle.gateway.specs.Agrees.{Talks, Agrees, OffersWait, ArePlain, Tracks, Awaits, Leaves, Follows, HasCome, Rests, Carries, IsClear, IsUndue, IsSpent, pending}
+use Rattle.gateway.proofs.Working.{gap_in, settled_without_gap, settled_placed, put_placed}
 use Rattle.gateway.proofs.Offering.{offers_stay, offers_made, offers_asked, offers_unasked}
 use Rattle.gateway.proofs.Agreement.{stands_now, stands_overfull, has_places, same_room, now_idle}
 use Rattle.gateway.proofs.Put.{told_faithful}
@@ -55,7 +57,7 @@ pub record IsReady (p : Setup) (s t : State) (told : Option Log) : Type 0 where
 abbrev pub asked_state : State → Option Sending → State
 asked_state s x = with_serial (serial.asked s.moment (has_room s.centre.queue) x (serial.offered s.serial)) s
 
-module _ (laws : LineLaws) (p : Setup) (s : State) (log : Log) (a : Agrees p s log [] Timed) (tells : Tells p.link p.addresses (serial.offered s.serial).line (exchanges_of p log)) where
+module _ (laws : LineLaws) (p : Setup) (s : State) (log : Log) (a : Agrees p s log [] Timed) (tells : Tells p.link p.addresses (serial.offered s.serial).line (exchanges_of p log)) (no_gap : s.serial.gap ≡ None) where
   abbrev at : ℕ
   at = latest log
 
@@ -67,6 +69,13 @@ module _ (laws : LineLaws) (p : Setup) (s : State) (log : Log) (a : Agrees p s l
 
   abbrev q : Primary
   q = (serial.offered s.serial).line
+
+  -- each gap is told
+  none_left : w.serial.gap ≡ None
+  none_left = sym (gap_in Timed at (room_in p log a.course) w) ∙ ap (λ (z : Serial). z.gap) (sym a.stands.does) ∙ no_gap
+
+  all_told : TellsGaps p log
+  all_told i = sym (append-nil (gaps_told i log)) ∙ ap (λ g. gaps_told i log ++ gap_for i g) (sym no_gap) ∙ a.gaps i
 
   -- what is offered
   same_ready : serial.offered s.serial ≡ ready.serial
@@ -123,6 +132,7 @@ module _ (laws : LineLaws) (p : Setup) (s : State) (log : Log) (a : Agrees p s l
           all = all_taken log a.course a.here.so_far a.here.joined a.here.waits;
           placed = a.stands.placed;
           due = a.stands.asks;
+          told = none_left;
           request = x;
           next = same_next (Some x) next;
           spelled_so = refl;
@@ -143,10 +153,11 @@ module _ (laws : LineLaws) (p : Setup) (s : State) (log : Log) (a : Agrees p s l
         talk = talk;
         stands = record {
           does = same_asked (Some x);
-          asks = (λ due. cc, λ none. subst (λ (z : Serial). IsOut z.line.outstanding) (same_asked (Some x)) (is_out x next));
+          asks = (λ due. cc, λ none. subst (λ (z : Serial). IsOut z.line.outstanding) (same_asked (Some x)) (is_out x next), gap_in Timed at (room_in p log a.course) w ∙ none_left);
           phase_is = tt;
           placed = λ o. put_placed (is_first_command ready.serial.line x) x.station ready ∙ settled_placed at w ∙ a.stands.placed o;
         };
+        gaps = λ i. a.gaps i ∙ sym (laws.gaps_next p.link.size p.addresses s.moment (sending_in p (octets_of p x)) (exchanges_of p log) i);
         offers = offers_asked laws a.talk.command_laws q s.serial.commands s.moment may x next (omega (arith, fits.station, tells.count)) offers;
         plain = subst ArePlain (sym (put_answers (is_first_command q x))) a.plain;
         here = a.here;
@@ -166,6 +177,7 @@ module _ (laws : LineLaws) (p : Setup) (s : State) (log : Log) (a : Agrees p s l
                 within = fits.station;
                 request = x.request;
                 spelled = refl;
+                told = all_told;
                 alone = λ z. laws.alone p.link p.addresses q (exchanges_of p log) may x z.exchange tells next z.latest_is z.waits;
                 room = λ polls. record {
                   course = a.course;
@@ -199,10 +211,11 @@ module _ (laws : LineLaws) (p : Setup) (s : State) (log : Log) (a : Agrees p s l
     talk = a.talk;
     stands = record {
       does = subst (λ b. (asked_state s None).serial ≡ (if b then unasked_works at (room_in p log a.course) ready else w).serial) (sym a.stands.asks) (same_asked None);
-      asks = (λ due. same_next None none, λ off. let no : false ≡ true = sym off ∙ a.stands.asks in cc);
+      asks = (λ due. same_next None none, λ off. let no : false ≡ true = sym off ∙ a.stands.asks in cc, none_left);
       phase_is = tt;
       placed = a.stands.placed;
     };
+    gaps = a.gaps;
     offers = offers_unasked laws q s.serial.commands s.moment (has_room s.centre.queue) none offers;
     plain = a.plain;
     here = a.here;
@@ -216,16 +229,16 @@ ready_state s r p told ready x = ap (λ (z : State). after_next z x) ready.is
 
 -- the same where a port may tell no log: s is the state before commands were offered, r the one after, t the one once asked
 
-pub asked_none : (laws : LineLaws) (p : Setup) (told : Option Log) (s r t : State) → IsReady p s r told → sending r.serial.line (has_room r.centre.queue) ≡ None → t ≡ after_next r None → Tracks p s told [] Timed → Tracks p t told [] Asked
-asked_none laws p None s r t made none is h = tt
-asked_none laws p (Some log) s r t made none is a =
+pub asked_none : (laws : LineLaws) (p : Setup) (told : Option Log) (s r t : State) → s.serial.gap ≡ None → IsReady p s r told → sending r.serial.line (has_room r.centre.queue) ≡ None → t ≡ after_next r None → Tracks p s told [] Timed → Tracks p t told [] Asked
+asked_none laws p None s r t no_gap made none is h = tt
+asked_none laws p (Some log) s r t no_gap made none is a =
     let same : t ≡ asked_state s None = is ∙ ready_state s r p (Some log) made None in
     let tells = subst (λ (z : State). Tells p.link p.addresses z.serial.line (exchanges_of p log)) made.is (made.tells (exchanges_of p log) a.line) in
-    subst (λ x. Agrees p x log [] Asked) (sym same) (none_asked laws p s log a tells (ap (λ (x : State). sending x.serial.line (has_room x.centre.queue)) (sym made.is) ∙ none))
+    subst (λ x. Agrees p x log [] Asked) (sym same) (none_asked laws p s log a tells no_gap (ap (λ (x : State). sending x.serial.line (has_room x.centre.queue)) (sym made.is) ∙ none))
 
-told_asked : (laws : LineLaws) (p : Setup) (told after : Option Log) (s r t : State) (x : Sending) (octets : List ℕ) (now : ℕ) → IsReady p s r told → sending r.serial.line (has_room r.centre.queue) ≡ Some x → (is_poll_request x.request ≡ true → 3 ≤ free_places r.centre.queue) → octets ≡ (request_of r.serial.line x).octets.items →
+told_asked : (laws : LineLaws) (p : Setup) (told after : Option Log) (s r t : State) (x : Sending) (octets : List ℕ) (now : ℕ) → s.serial.gap ≡ None → IsReady p s r told → sending r.serial.line (has_room r.centre.queue) ≡ Some x → (is_poll_request x.request ≡ true → 3 ≤ free_places r.centre.queue) → octets ≡ (request_of r.serial.line x).octets.items →
     now ≡ r.moment → t ≡ after_next r (Some x) → after ≡ tell told (Went now (LineOut octets) ∷ []) → Tracks p s told [] Timed → Tracks p t after [] Asked
-told_asked laws p told after s r t x octets now made next poll spelled same is e h =
+told_asked laws p told after s r t x octets now no_gap made next poll spelled same is e h =
     let moment : now ≡ s.moment = same ∙ ap (λ (x : State). x.moment) made.is in
     let state : t ≡ asked_state s (Some x) = is ∙ ready_state s r p told made (Some x) in
     rw (e, moment, state) (by_log told made h)
@@ -236,13 +249,13 @@ told_asked laws p told after s r t x octets now made next poll spelled same is e
         let tells : Tells p.link p.addresses r.serial.line (exchanges_of p log) = made.tells (exchanges_of p log) a.line in
         let written : octets ≡ octets_of p x = spelled ∙ laws.spelled p.link p.addresses r.serial.line (exchanges_of p log) x tells in
         subst (λ o. Agrees p (asked_state s (Some x)) (Went s.moment (LineOut o) ∷ log) [] Asked) (sym written)
-        (after_asked laws p s log a (subst (λ (z : State). Tells p.link p.addresses z.serial.line (exchanges_of p log)) made.is tells) x
+        (after_asked laws p s log a (subst (λ (z : State). Tells p.link p.addresses z.serial.line (exchanges_of p log)) made.is tells) no_gap x
         (ap (λ (z : State). sending z.serial.line (has_room z.centre.queue)) (sym made.is) ∙ next) (λ polls. subst (λ (z : State). 3 ≤ free_places z.centre.queue) made.is (poll polls)))
 
-pub asked_leaves : (laws : LineLaws) (result : Bool) (p : Setup) (told after : Option Log) (s r t : State) (x : Sending) (octets : List ℕ) (now : ℕ) → IsReady p s r told → sending r.serial.line (has_room r.centre.queue) ≡ Some x → (is_poll_request x.request ≡ true → 3 ≤ free_places r.centre.queue) → octets ≡ (request_of r.serial.line x).octets.items →
+pub asked_leaves : (laws : LineLaws) (result : Bool) (p : Setup) (told after : Option Log) (s r t : State) (x : Sending) (octets : List ℕ) (now : ℕ) → s.serial.gap ≡ None → IsReady p s r told → sending r.serial.line (has_room r.centre.queue) ≡ Some x → (is_poll_request x.request ≡ true → 3 ≤ free_places r.centre.queue) → octets ≡ (request_of r.serial.line x).octets.items →
     now ≡ r.moment → t ≡ after_next r (Some x) → after ≡ (if result then tell told (Went now (LineOut octets) ∷ []) else told) → Tracks p s told [] Timed → Leaves result p t after [] Asked
-asked_leaves laws true p told after s r t x octets now made next poll spelled same is e h = told_asked laws p told after s r t x octets now made next poll spelled same is e h
-asked_leaves laws false p told after s r t x octets now made next poll spelled same is e h = subst (λ l. IfSome l (IsFaithful p)) (sym e) (told_faithful p told s [] Timed h)
+asked_leaves laws true p told after s r t x octets now no_gap made next poll spelled same is e h = told_asked laws p told after s r t x octets now no_gap made next poll spelled same is e h
+asked_leaves laws false p told after s r t x octets now no_gap made next poll spelled same is e h = subst (λ l. IfSome l (IsFaithful p)) (sym e) (told_faithful p told s [] Timed h)
 
 -- what a request says of what is next
 pub next_is : (q : Primary) (o : Option Sending) (r : Request) → Some r ≡ option_map (request_of q) o → (x : Sending) × (o ≡ Some x) × (r ≡ request_of q x)
@@ -267,6 +280,7 @@ now_settled p s log a = record {
   course = a.course;
   talk = a.talk;
   stands = record { does = ap (λ m. serial.settled m s.serial) a.clock ∙ ap (serial.settled (latest log)) a.stands.does; asks = a.stands.asks; phase_is = tt; placed = a.stands.placed };
+  gaps = λ i. ap (λ g. gaps_told i log ++ gap_for i g) (same_gap s.serial.silent) ∙ a.gaps i;
   offers = offers_stay s.serial.line (settled s).serial.line s.serial.commands (settled s).serial.commands (λ k. ap (λ q. offered_at q k) (same_line s.serial.silent)) (same_waiting s.serial.silent) a.offers;
   plain = subst ArePlain (sym (same_answers s.serial.silent)) a.plain;
   here = a.here;
@@ -279,6 +293,10 @@ now_settled p s log a = record {
     same_line None = refl
     same_line (Some i) = refl
 
+    same_gap : (o : Option ℕ) → (serial.unless_silent o s.serial).gap ≡ s.serial.gap
+    same_gap None = refl
+    same_gap (Some i) = refl
+
     same_waiting : (o : Option ℕ) → (serial.unless_silent o s.serial).commands.waiting ≡ s.serial.commands.waiting
     same_waiting None = refl
     same_waiting (Some i) = refl
@@ -290,6 +308,77 @@ now_settled p s log a = record {
 pub told_settled : (p : Setup) (told : Option Log) (s t : State) → t ≡ settled s → Tracks p s told [] Idle → Tracks p t told [] Timed
 told_settled p None s t is h = tt
 told_settled p (Some log) s t is a = subst (λ x. Agrees p x log [] Timed) (sym is) (now_settled p s log a)
+
+-- A gap is told
+
+one_more : (b : Bool) (xs : List ℕ) (session : ℕ) → (if b then xs ++ session ∷ [] else xs) ≡ xs ++ (if b then session ∷ [] else [])
+one_more true xs session = refl
+one_more false xs session = sym (append-nil xs)
+
+module _ (p : Setup) (s : State) (log : Log) (a : Agrees p s log [] Timed) (gap : Gap) (some : s.serial.gap ≡ Some gap) where
+  abbrev gap_log : Log
+  gap_log = Went s.moment (GapOut gap.station gap.session) ∷ log
+
+  abbrev after_gap : Course
+  after_gap = with_works (gapless_works a.course.works) a.course
+
+  gap_runs : Runs p gap_log after_gap
+  gap_runs = (
+    a.course,
+    a.talk.course_runs,
+    record {
+      all = all_taken log a.course a.here.so_far a.here.joined a.here.waits;
+      due = a.stands.asks;
+      gap = sym (gap_in Timed (latest log) (room_in p log a.course) a.course.works) ∙ ap (λ (z : Serial). z.gap) (sym a.stands.does) ∙ some;
+      is = refl;
+    },
+  )
+
+  gap_talk : Talks p s.centre.session gap_log after_gap
+  gap_talk = talk_on p s.centre.session s.centre.session log gap_log a.course after_gap a.talk refl refl gap_runs
+
+  tells_gap : TellsGaps p gap_log
+  tells_gap i = one_more (gap.station == i) (gaps_told i log) gap.session ∙ ap (λ g. gaps_told i log ++ gap_for i g) (sym some) ∙ a.gaps i
+
+  pub gap_told : Agrees p (with_serial (serial.without_gap s.serial) s) gap_log [] Timed
+  gap_told = record {
+    k = a.k;
+    sizes = a.sizes;
+    places = a.places;
+    clock = a.clock;
+    settled = refl;
+    found = a.found;
+    line = a.line;
+    course = after_gap;
+    talk = gap_talk;
+    stands = record { does = ap serial.without_gap a.stands.does ∙ sym (settled_without_gap (latest log) a.course.works.serial); asks = a.stands.asks; phase_is = tt; placed = a.stands.placed };
+    gaps = λ i. append-nil (gaps_told i gap_log) ∙ tells_gap i;
+    offers = a.offers;
+    plain = a.plain;
+    here = a.here;
+    left = refl;
+    carries = a.carries;
+    before = record {
+      are = a.before.are;
+      orders = a.before.orders;
+      times = (kept_talk p _ _ _ gap_talk, a.before.times);
+      acts = (record { moment = a.clock; replaced = sym a.settled; may = tells_gap }, a.before.acts);
+      rests = a.before.rests;
+    };
+  }
+
+pub told_gap : (result : Bool) (p : Setup) (told after : Option Log) (s t : State) (gap : Gap) (now : ℕ) → s.serial.gap ≡ Some gap → now ≡ s.moment → t ≡ with_serial (serial.without_gap s.serial) s → after ≡ (if result then tell told (Went now (GapOut gap.station gap.session) ∷ []) else told) → Tracks p s told [] Timed →
+    Leaves result p t after [] Timed
+told_gap true p told after s t gap now some same is e h = rw (e, same, is) (by_log told h)
+  where
+    by_log : (told : Option Log) → Tracks p s told [] Timed → Tracks p (with_serial (serial.without_gap s.serial) s) (tell told (Went s.moment (GapOut gap.station gap.session) ∷ [])) [] Timed
+    by_log None h = tt
+    by_log (Some log) a = gap_told p s log a gap some
+told_gap false p told after s t gap now some same is e h = subst (λ l. IfSome l (IsFaithful p)) (sym e) (told_faithful p told s [] Timed h)
+
+-- where there is none nothing changes
+pub no_gap_told : (s t : State) → s.serial.gap ≡ None → t ≡ with_serial (serial.without_gap s.serial) s → t ≡ s
+no_gap_told s t none is = is ∙ ap (λ (g : Option Gap). let made : State = record s { serial = record s.serial { gap = g } } in made) (sym none)
 
 -- An event comes
 

@@ -13,7 +13,7 @@ use Rattle.session.specs.declared.kinds.Taken.TheVariants.{Nothing, Asdu, Close 
 use Rattle.session.specs.Session.{is_close}
 use Rattle.session.specs.History as talk
 use Rattle.session.specs.History.{History, reached, sent_frames, received_count, is_started, is_valid_receive_number, verdict_on}
-use Rattle.gateway.specs.Log.{Log, Input, LineIn, Opened, TcpIn, CutOff, Ticked, Came, Went, LineOut, TcpOut, Closed, latest}
+use Rattle.gateway.specs.Log.{Log, Input, LineIn, Opened, TcpIn, CutOff, Ticked, Came, Went, LineOut, TcpOut, Closed, GapOut, latest}
 use Rattle.gateway.specs.Frames.{runs, i_frames, acknowledged_count, fault_of}
 use Rattle.gateway.specs.Streams.{spelled, IsRefused}
 use Rattle.gateway.specs.Connections.{present, ends, IsConnection, BeginsWithFault}
@@ -96,6 +96,7 @@ counted : (p : Setup) (log : Log) (c : Course) → Runs p log c → IsCounted c
 counted p [] c r = subst IsCounted (sym r) refl
 counted p (Came now event ∷ log) c r = counted_come p log _ event r.1 c r.5 (subst IsCounted (sym r.4.is) (counted p log r.0 r.2))
 counted p (Went now (LineOut octets) ∷ log) c r = subst IsCounted (sym r.2.is) (counted p log r.0 r.1)
+counted p (Went now (GapOut station session) ∷ log) c r = subst IsCounted (sym r.2.is) (counted p log r.0 r.1)
 counted p (Went now (TcpOut octets) ∷ log) c r =
     subst IsCounted (sym r.4.taken) (counted_frames p r.4.frames (latest log) r.1 (subst IsCounted (sym r.3.put) (counted_sent r.3.frame (latest log) r.0 (counted p log r.0 r.2))))
 counted p (Went now (Closed cause) ∷ log) c r = subst IsCounted (sym r.2) (counted_closed p cause (present log).is_open (latest log) r.0 (counted p log r.0 r.1))

@@ -14,12 +14,12 @@ use Rattle.session.specs.Rules.{KeepsRules}
 use Rattle.session.specs.History.{confirmation_of, frame_due}
 use Rattle.command.specs.State.{first_answer}
 use Rattle.gateway.specs.Objects.{objects, has_objects}
-use Rattle.gateway.specs.Log.{Log, Input, LineIn, Opened, TcpIn, CutOff, Ticked, Came, Went, LineOut, TcpOut, Closed, latest}
+use Rattle.gateway.specs.Log.{Log, Input, LineIn, Opened, TcpIn, CutOff, Ticked, Came, Went, LineOut, TcpOut, Closed, GapOut, latest}
 use Rattle.gateway.specs.Streams.{spelled}
 use Rattle.gateway.specs.Frames.{Connection}
 use Rattle.gateway.specs.Connections.{no_channel, present, is_replaced, ends, IsConnection}
 use Rattle.gateway.specs.Reports.{Setup, taken_objects}
-use Rattle.gateway.specs.Works.{is_overfull, octets_works, begun_works, ready_works, done_works, asked_works}
+use Rattle.gateway.specs.Works.{is_overfull, begun_works, gapless_works, ready_works, done_works, asked_works}
 use Rattle.gateway.specs.Course.{Course, here_of, came_frames, with_frame, with_frames, with_works, told_sent, with_sent, room_in, closed_course, sent_objects, IsFlushed, IsUntouched, HasBegun, HasTakenAll, MayTake, AreTaken, TakesFrames, IsNext, HandsOver, IsCause, IsLeft, Comes, SendsNext, Runs}
 use Rattle.gateway.specs.One.{GoesOn, AreOne}
 use Rattle.gateway.specs.LineLaws.{LineLaws}
@@ -170,6 +170,7 @@ present_plain (Came now (TcpIn octets) ∷ log) = by_open (present log).is_open 
 present_plain (Came now CutOff ∷ log) = refl
 present_plain (Came now Ticked ∷ log) = present_plain log
 present_plain (Went now (LineOut octets) ∷ log) = present_plain log
+present_plain (Went now (GapOut station session) ∷ log) = present_plain log
 present_plain (Went now (TcpOut octets) ∷ log) = present_plain log
 present_plain (Went now (Closed cause) ∷ log) = by_cause (ends cause) (present_plain log)
   where
@@ -268,6 +269,9 @@ one_course laws p (Came now event ∷ log) c d h k =
 one_course laws p (Went now (LineOut octets) ∷ log) c d h k =
     let before : h.0 ≡ k.0 = all_one laws.unique p log h.0 k.0 h.2.all k.2.all (one_course laws p log h.0 k.0 h.1 k.1) in
     same_one p (Went now (LineOut octets) ∷ log) c d (sends_one p log octets h.0 k.0 c d before h.2 k.2)
+one_course laws p (Went now (GapOut station session) ∷ log) c d h k =
+    let before : h.0 ≡ k.0 = all_one laws.unique p log h.0 k.0 h.2.all k.2.all (one_course laws p log h.0 k.0 h.1 k.1) in
+    same_one p (Went now (GapOut station session) ∷ log) c d (h.2.is ∙ ap (λ (x : Course). with_works (gapless_works x.works) x) before ∙ sym k.2.is)
 one_course laws p (Went now (TcpOut octets) ∷ log) c d h k =
     let before : h.0 ≡ k.0 = settled_one p log h.0 k.0 (λ x. (y : Course) × HandsOver p log octets (latest log) x y) (λ x hand f may. hands_none laws.unique p log x hand.1.frame f hand.1.rules hand.1.next may) (h.1, h.3) (k.1, k.3) (one_course laws p log h.0 k.0 h.2 k.2) in
     let after : h.1 ≡ k.1 = hands_one laws.unique p log octets h.0 k.0 h.1 k.1 before h.3 k.3 in

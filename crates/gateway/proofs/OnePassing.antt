@@ -100,4 +100,5 @@ learns_one laws p at running (outcome.Busy station) w z y h k = h ∙ sym k
 learns_one laws p at running (outcome.Down station) w z y h k = h ∙ sym k
 learns_one laws p at running outcome.None w z y h k = h ∙ sym k
 learns_one laws p at running (outcome.Started station) w z y h k = h ∙ sym k
+learns_one laws p at running (outcome.StartedGap station session) w z y h k = h ∙ sym k
 learns_one laws p at running (outcome.Empty station) w z y h k = h ∙ sym k

@@ -14,9 +14,8 @@ use Rattle.session.specs.Rules.{KeepsRules}
 use Rattle.session.specs.Runs as session
 use Rattle.session.specs.declared.kinds.Close.{Close}
 use Rattle.session.specs.declared.kinds.Close.TheVariants.{Grammar, SendNumber, ReceiveNumber, Stopped, Timeout, OwnAnswers, Replaced}
-use Rattle.command.specs.Calls.{SendOwn}
 use Rattle.gateway.specs.Objects.{has_objects}
-use Rattle.gateway.specs.Log.{Log, LineIn, Opened, TcpIn, CutOff, Ticked, Output, LineOut, TcpOut, Closed, Came, Went, latest}
+use Rattle.gateway.specs.Log.{Log, LineIn, Opened, TcpIn, CutOff, Ticked, Output, LineOut, TcpOut, Closed, GapOut, Came, Went, latest}
 use Rattle.gateway.specs.Streams.{spelled, IsRefused}
 use Rattle.gateway.specs.Frames.{Connection}
 use Rattle.gateway.specs.Connections.{is_replaced, Channel, new_channel, present, BeginsWithFault, IsConnection}
@@ -58,6 +57,7 @@ none_due : (p : Setup) (log : Log) (c : Course) → Runs p log c → list_any is
 none_due p [] c r h = cc
 none_due p (Came now event ∷ log) c r h = cc
 none_due p (Went now (LineOut octets) ∷ log) c r h = ap (λ (d : Course). d.works.is_due) r.2.is
+none_due p (Went now (GapOut station session) ∷ log) c r h = ap (λ (d : Course). d.works.is_due) r.2.is ∙ none_due p log r.0 r.1 h
 none_due p (Went now (TcpOut octets) ∷ log) c r h =
     ap (λ (d : Course). d.works.is_due) r.4.taken ∙ frames_due p r.4.frames (latest log) r.1 ∙ ap (λ (d : Course). d.works.is_due) r.3.put ∙ sent_due r.3.frame r.0.works ∙ none_due p log r.0 r.2 h
 none_due p (Went now (Closed cause) ∷ log) c r h =
@@ -95,6 +95,14 @@ request_after p log now octets h = record {
       ∙ put_placed (is_first_command (ready_works (latest log) r.0.works).serial.line r.2.request) r.2.request.station (ready_works (latest log) r.0.works)
       ∙ settled_placed (latest log) r.0.works
       ∙ h.placed r.0 r.1;
+}
+
+gap_after : (p : Setup) (log : Log) (now station session : ℕ) → OnlyOpened p log → OnlyOpened p (Went now (GapOut station session) ∷ log)
+gap_after p log now station session h = record {
+  channel = h.channel;
+  settled = refl;
+  said = λ c r. ap (λ (d : Course). d.talk) r.2.is ∙ h.said r.0 r.1;
+  placed = λ c r. ap (λ (d : Course). is_overfull d.works.history) r.2.is ∙ h.placed r.0 r.1;
 }
 
 -- no octets hold no frames
@@ -207,10 +215,15 @@ still_unsaid : (p : Setup) (log : Log) (now : ℕ) (octets : List ℕ) → IsUns
 still_unsaid p log now octets (inl off) = inl off
 still_unsaid p log now octets (inr h) = inr (request_after p log now octets h)
 
+still_after_gap : (p : Setup) (log : Log) (now station session : ℕ) → IsUnsaid p log → IsUnsaid p (Went now (GapOut station session) ∷ log)
+still_after_gap p log now station session (inl off) = inl off
+still_after_gap p log now station session (inr h) = inr (gap_after p log now station session h)
+
 after_close : (p : Setup) (log : Log) → ActsRightly p log → KeepsOrder log → list_any is_close (step_actions log) ≡ true → IsUnsaid p log
 after_close p [] acts order h = absurd (cc)
 after_close p (Came now event ∷ log) acts order h = absurd (cc)
 after_close p (Went now (LineOut octets) ∷ log) acts order h = still_unsaid p log now octets (after_close p log acts.1 order.1 h)
+after_close p (Went now (GapOut station session) ∷ log) acts order h = still_after_gap p log now station session (after_close p log acts.1 order.1 h)
 after_close p (Went now (TcpOut octets) ∷ log) acts order h = let no : false ≡ true = sym order.0 ∙ h in absurd (cc)
 after_close p (Went now (Closed cause) ∷ log) acts order h = closed_now p log now cause acts.0.replaced
 
@@ -245,6 +258,8 @@ not_true false h = refl
 
 may_follow : (p : Setup) (log : Log) (now : ℕ) (action : Output) → 0 < p.session.w → 0 < p.session.t3 → KeepsTalk p (Went now action ∷ log) → GoesOut p log now action → ActsRightly p log → KeepsOrder log → MayFollow (step_actions log) action
 may_follow p log now (LineOut octets) some long k g acts order =
+    not_true (list_any is_request (step_actions log)) (λ h. let no : false ≡ true = sym (none_due p log k.runs.0 k.runs.1 h) ∙ k.runs.2.due in absurd (cc))
+may_follow p log now (GapOut station session) some long k g acts order =
     not_true (list_any is_request (step_actions log)) (λ h. let no : false ≡ true = sym (none_due p log k.runs.0 k.runs.1 h) ∙ k.runs.2.due in absurd (cc))
 may_follow p log now (TcpOut octets) some long k g acts order =
     not_true (list_any is_close (step_actions log)) (λ h. no_octets p log now octets some long (after_close p log acts order h) k g)

@@ -1,7 +1,6 @@
 -- Commands of a course are what calls of `command` made them, one after another.
 use Rattle.std.proofs.Common.{◌≡◌, ℕ, Bool, true, false, List, [], ◌∷◌, Option, Some, None, refl, ap, sym, ◌∙◌, subst}
 use Rattle.std.specs.Prelude.{if◌then◌else◌}
-use Rattle.std.proofs.lemmas.Bool.{false≢true}
 use Rattle.asdu.specs.Asdu.{AsduValue}
 use Rattle.apci.specs.declared.apdu.Apdu.{Apdu}
 use Rattle.apci.specs.declared.apdu.Apdu.TheVariants.{I, S, U}
@@ -14,20 +13,19 @@ use Rattle.command.specs.declared.waiting.Waiting.{Waiting}
 use Rattle.command.specs.State as tasks
 use Rattle.command.specs.State.{has_room, first_answer, oldest_for}
 use Rattle.command.specs.Judging.{judged}
-use Rattle.command.specs.Mirrors as mirrors
 use Rattle.command.specs.History.{Offered, History}
-use Rattle.command.specs.Calls.{Call, Judge, PutOnLine, Accept, Busy, Lose, Mirror, Own, SendOwn, Cut, Due, Run, run, after_call, after_answer, after_sending}
+use Rattle.command.specs.Calls.{Call, Judge, PutOnLine, Accept, Busy, Lose, Mirror, Own, SendOwn, Cut, Due, Run, after_call, after_answer, after_sending}
+use Rattle.command.specs.Laws.{IsRun}
 use Rattle.gateway.specs.Objects.{has_objects}
-use Rattle.gateway.specs.Log.{Log, LineIn, Opened, TcpIn, CutOff, Ticked, Came, Went, LineOut, TcpOut, Closed, latest}
+use Rattle.gateway.specs.Log.{Log, LineIn, Opened, TcpIn, CutOff, Ticked, Came, Went, LineOut, TcpOut, Closed, GapOut, latest}
 use Rattle.gateway.specs.Connections.{present}
 use Rattle.gateway.specs.Reports.{Setup}
 use Rattle.gateway.specs.Serial.{kept_until, listed, refusals, is_first_command, put_on_line, unless_silent}
-use Rattle.gateway.specs.Works.{Works, tasks_of, told_kept, is_command_report, told_mirror, mirrored_works, LearnsReport, LearnsOf, heard_works, sent_works, answered_works, told_silent, settled_works, ready_works, unasked_works, done_works, told_put, asked_works}
-use Rattle.gateway.specs.Course.{Course, with_frames, with_sent, IsNext, works_at, closed_course, IsLeft, room_in, Runs}
+use Rattle.gateway.specs.Works.{Works, tasks_of, told_kept, is_command_report, mirrored_works, LearnsReport, LearnsOf, heard_works, answered_works, told_silent, settled_works, ready_works, unasked_works, done_works, told_put, asked_works}
+use Rattle.gateway.specs.Course.{Course, with_frames, with_sent, IsNext, closed_course, IsLeft, room_in, Runs}
 
--- these calls lead to it
 abbrev pub IsCalled : Setup → Run → Type 0
-IsCalled p r = (calls : List Call) × (run p.stations p.sizes p.select_ms calls ≡ r)
+IsCalled p r = IsRun p.stations p.sizes p.select_ms r
 
 abbrev pub IsReached : Setup → Works → Type 0
 IsReached p w = IsCalled p (tasks_of w)
@@ -70,6 +68,7 @@ module _ (p : Setup) where
   learnt at running (outcome.Down station) w z learns h = subst (IsReached p) (sym learns) (one (Lose station) (tasks_of w) h)
   learnt at running outcome.None w z learns h = subst (IsReached p) (sym learns) h
   learnt at running (outcome.Started station) w z learns h = subst (IsReached p) (sym learns) h
+  learnt at running (outcome.StartedGap station session) w z learns h = subst (IsReached p) (sym learns) h
   learnt at running (outcome.Empty station) w z learns h = subst (IsReached p) (sym learns) h
 
   -- Frames
@@ -155,6 +154,7 @@ module _ (p : Setup) where
   reached (Came now CutOff ∷ log) c r = subst (λ (d : Course). IsReached p d.works) (sym r.5) (cut r.1.works (left log r.0 r.1 r.4 (reached log r.0 r.2)))
   reached (Went now (LineOut octets) ∷ log) c r =
       subst (λ (d : Course). IsReached p d.works) (sym r.2.is) (asked (latest log) (room_in p log r.0) r.2.request (ready_works (latest log) r.0.works) (settled (latest log) r.0.works (reached log r.0 r.1)))
+  reached (Went now (GapOut station session) ∷ log) c r = subst (λ (d : Course). IsReached p d.works) (sym r.2.is) (reached log r.0 r.1)
   reached (Went now (TcpOut octets) ∷ log) c r =
       subst (λ (d : Course). IsReached p d.works) (sym r.4.taken) (frames r.4.frames _ r.1 (subst (λ (d : Course). IsReached p d.works) (sym r.3.put) (sent log r.3.frame (latest log) r.0 r.3.next (reached log r.0 r.2))))
   reached (Went now (Closed cause) ∷ log) c r = subst (λ (d : Course). IsReached p d.works) (sym r.2) (closed cause (present log).is_open (latest log) r.0 (reached log r.0 r.1))

@@ -1,5 +1,5 @@
 -- What holds of the gateway's parts together.
-use Rattle.std.proofs.Common.{◌≡◌, ℕ, ◌<◌, ◌≤◌, Bool, true, false, not, List, ◌++◌, length, drop, inl, inr, refl, ap, sym, ◌∙◌, subst, arith, length-append, length-drop, Some}
+use Rattle.std.proofs.Common.{◌≡◌, ℕ, ◌<◌, ◌≤◌, Bool, true, false, not, ◌++◌, length, drop, inl, inr, refl, ap, sym, ◌∙◌, subst, arith, length-append, length-drop, Some}
 use Rattle.std.specs.Prelude.{IsTrue, ◌↔◌, ◌⊎◌}
 use Rattle.std.proofs.lemmas.Bool.{cases_lt, lt-ltb, le-ltb, false≢true}
 use Rattle.link.specs.Exchanges.{Sending}

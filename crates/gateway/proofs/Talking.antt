@@ -20,7 +20,7 @@ use Rattle.session.specs.History.{History, confirmation_of, frame_due, has_timed
 use Rattle.session.specs.Runs.{Settings, Call, Take, Send, Confirm, Pull, Open, Cut, Run, run, told, gone, may_take, after_call}
 use Rattle.session.specs.Rules.{KeepsRules}
 use Rattle.session.specs.Ends.{IsConfirmed, after_confirm, after_pull}
-use Rattle.gateway.specs.Log.{Log, LineIn, Opened, TcpIn, CutOff, Ticked, Came, Went, LineOut, TcpOut, Closed, latest}
+use Rattle.gateway.specs.Log.{Log, LineIn, Opened, TcpIn, CutOff, Ticked, Came, Went, LineOut, TcpOut, Closed, GapOut, latest}
 use Rattle.gateway.specs.Streams.{spelled}
 use Rattle.gateway.specs.Frames.{data_frames}
 use Rattle.gateway.specs.Connections.{Channel, present}
@@ -32,8 +32,8 @@ use Rattle.gateway.specs.Course.{Course, first_course, came_frames, kind_of, tol
 use Rattle.gateway.specs.Conversation.{KeepsCommands, KeepsTalk}
 use Rattle.gateway.proofs.Reached.{IsReached, reached}
 use Rattle.gateway.specs.Phases.{IsTaking}
-use Rattle.gateway.specs.CommandLaws.{CommandLaws}
-use Rattle.gateway.specs.SessionLaws.{SessionLaws}
+use Rattle.command.specs.CommandLaws.{CommandLaws}
+use Rattle.session.specs.SessionLaws.{SessionLaws}
 use Rattle.gateway.specs.Agrees.{Talks, IsTimely}
 
 -- A frame more is taken
@@ -72,6 +72,7 @@ runs_more laws p (Came now Ticked ∷ log) c f takes may k = absurd takes
 runs_more laws p (Went now (LineOut octets) ∷ log) c f takes may k = absurd takes
 runs_more laws p (Went now (TcpOut octets) ∷ log) c f takes may k = (k.0, k.1, k.2, k.3, taken_more p (Went now (TcpOut octets) ∷ log) _ k.1 c f may k.4)
 runs_more laws p (Went now (Closed cause) ∷ log) c f takes may k = absurd takes
+runs_more laws p (Went now (GapOut station session) ∷ log) c f takes may k = absurd takes
 
 -- The calls
 

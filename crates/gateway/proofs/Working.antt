@@ -1,10 +1,10 @@
 -- The works of the course, as the log goes on: what is kept of own answers, what a frame and the timers leave.
-use Rattle.std.proofs.Common.{◌≡◌, ℕ, ◌&&◌, Bool, true, false, List, [], ◌∷◌, ◌++◌, length, Option, Some, None, refl, ap, sym, ◌∙◌, subst}
+use Rattle.std.proofs.Common.{◌≡◌, ℕ, ◌&&◌, Bool, true, false, List, [], ◌∷◌, ◌++◌, Option, Some, None, refl, ap, sym, ◌∙◌, subst}
 use Rattle.std.specs.Prelude.{if◌then◌else◌}
 use Rattle.std.proofs.lemmas.Bool.{and_parts}
 use Rattle.apci.specs.declared.apdu.Apdu.{Apdu}
 use Rattle.apci.specs.declared.apdu.Apdu.TheVariants.{I, S, U}
-use Rattle.link.specs.Primary.{Primary, sending}
+use Rattle.link.specs.Primary.{sending}
 use Rattle.command.specs.declared.waiting.Waiting.{Waiting}
 use Rattle.command.specs.State as tasks
 use Rattle.command.specs.State.{has_room, first_answer, oldest_for}
@@ -12,7 +12,7 @@ use Rattle.command.specs.Judging.{judged}
 use Rattle.command.specs.History.{Offered, History}
 use Rattle.command.specs.Calls.{Judge, after_answer, after_sending}
 use Rattle.gateway.specs.Serial as serial
-use Rattle.gateway.specs.Serial.{Serial, kept_until, all_kept, listed, has_place, unless_silent, settled, answered}
+use Rattle.gateway.specs.Serial.{Serial, kept_until, all_kept, listed, has_place, unless_silent, settled, answered, without_gap}
 use Rattle.gateway.specs.Works.{Works, tasks_of, told, told_kept, is_overfull, heard_works, answered_works, told_silent, settled_works, ready_works, unasked_works, done_works, told_put}
 use Rattle.gateway.specs.Phases.{Phase, Fresh, Taking, Judged, Idle, Crowded, Timed, Asked, works_in, IsAsked}
 use Rattle.gateway.specs.Agrees.{ArePlain}
@@ -129,7 +129,7 @@ module _ (w : Works) (x : List ℕ) (first : first_answer w.serial.commands.answ
   asked_own Judged at room h = h
   asked_own Crowded at room h = h
   asked_own Timed at room h = h
-  asked_own Asked at room h = (λ due. ap (λ (s : Serial). sending (serial.offered s).line room) (settled_own at w.serial) ∙ h.0 due, h.1)
+  asked_own Asked at room h = (λ due. ap (λ (s : Serial). sending (serial.offered s).line room) (settled_own at w.serial) ∙ h.0 due, h.1, h.2)
 
 -- commands in a phase have the answers of the log's
 pub answers_in : (phase : Phase) (at : ℕ) (room : Bool) (w : Works) → (works_in phase at room w).serial.commands.answers ≡ w.serial.commands.answers
@@ -152,6 +152,38 @@ answers_in Asked at room w = by_due w.is_due
     by_due : (b : Bool) → (if b then unasked_works at room (ready_works at w) else w).serial.commands.answers ≡ w.serial.commands.answers
     by_due true = by_silent w.serial.silent
     by_due false = refl
+
+-- and the log's gap
+
+settled_gap : (at : ℕ) (s : Serial) → (settled at s).gap ≡ s.gap
+settled_gap at s = by_silent s.silent
+  where
+    by_silent : (o : Option ℕ) → (unless_silent o s).gap ≡ s.gap
+    by_silent None = refl
+    by_silent (Some i) = refl
+
+pub gap_in : (phase : Phase) (at : ℕ) (room : Bool) (w : Works) → (works_in phase at room w).serial.gap ≡ w.serial.gap
+gap_in Fresh at room w = refl
+gap_in Taking at room w = refl
+gap_in Idle at room w = refl
+gap_in Judged at room w = refl
+gap_in Crowded at room w = refl
+gap_in Timed at room w = settled_gap at w.serial
+gap_in Asked at room w = by_due w.is_due
+  where
+    by_due : (b : Bool) → (if b then unasked_works at room (ready_works at w) else w).serial.gap ≡ w.serial.gap
+    by_due true = settled_gap at w.serial
+    by_due false = refl
+
+pub settled_without_gap : (at : ℕ) (s : Serial) → settled at (without_gap s) ≡ without_gap (settled at s)
+settled_without_gap at s = by_silent s.silent
+  where
+    after : Serial → Serial
+    after t = record t { commands = tasks.timed at t.commands; silent = None }
+
+    by_silent : (o : Option ℕ) → after (unless_silent o (without_gap s)) ≡ without_gap (after (unless_silent o s))
+    by_silent None = refl
+    by_silent (Some i) = refl
 
 -- A request goes out
 

@@ -13,6 +13,8 @@ use Rattle.session.specs.Session.{Session, is_running, is_from_queue, may_send, 
 use Rattle.session.specs.Runs.{Settings, IsInRange, Call, run}
 use Rattle.session.specs.Ends.{IsConfirmed, IsInTime}
 use Rattle.session.specs.declared.kinds.Unacknowledged.{Unacknowledged}
+use Rattle.gateway.specs.declared.gaps.Gap.{Gap}
+use Rattle.gateway.specs.Gaps.{gaps_of, gaps_told, gap_for}
 use Rattle.gateway.specs.Objects.{objects, has_objects}
 use Rattle.gateway.specs.Log.{Log, Input, Came, latest}
 use Rattle.gateway.specs.Streams.{spelled, AllFit, AreFrames}
@@ -23,9 +25,9 @@ use Rattle.gateway.specs.Traffic.{ActsRightly, RestsBetweenSteps, HasRested, IsF
 use Rattle.gateway.specs.Course.{Course, here_of, room_in, Runs}
 use Rattle.gateway.specs.Conversation.{KeepsTimes}
 use Rattle.gateway.specs.Phases.{Phase, Taking, resting, IsPhase, works_in, IsAsked, IsPlaced, IsPast, IsLeftIn}
-use Rattle.gateway.specs.CommandLaws.{CommandLaws}
+use Rattle.command.specs.CommandLaws.{CommandLaws}
 use Rattle.gateway.specs.LineLaws.{LineLaws}
-use Rattle.gateway.specs.SessionLaws.{SessionLaws}
+use Rattle.session.specs.SessionLaws.{SessionLaws}
 use Rattle.gateway.specs.Centre.{Centre}
 use Rattle.gateway.specs.State.{State}
 
@@ -41,6 +43,10 @@ pub record IsAt (p : Setup) (log : Log) (phase : Phase) (s : State) (c : Course)
 -- what is offered to a station is the oldest command that waits for it
 abbrev pub OffersWait : Primary → tasks.State → Type 0
 OffersWait q s = (k : ℕ) (octets : List ℕ) → offered_at q k ≡ Some octets → octets_waiting k s ≡ Some octets
+
+-- what was told of gaps, and the one that is still to be told, are those of the exchanges
+abbrev pub GapsTold : Setup → Log → Option Gap → Type 0
+GapsTold p log gap = (station : ℕ) → gaps_told station log ++ gap_for station gap ≡ gaps_of p station log
 
 -- own answers have no objects of the queue's
 abbrev pub ArePlain : List (List ℕ) → Type 0
@@ -142,6 +148,7 @@ pub record Agrees (p : Setup) (s : State) (log : Log) (unjudged : List ℕ) (pha
   pub left : IsLeftIn phase log (pending s.centre.so_far) unjudged
   pub talk : Talks p s.centre.session log course
   pub stands : IsAt p log phase s course
+  pub gaps : GapsTold p log s.serial.gap
   pub offers : OffersWait s.serial.line s.serial.commands
   pub plain : ArePlain s.serial.commands.answers
   pub carries : Carries (taken_objects p log) (parts_of_all p.sizes (reports_in p log)) course.earlier course.sent s.centre.queue.unsent

@@ -21,13 +21,13 @@ use Rattle.session.specs.History.{History, is_started, still_unacknowledged, con
 use Rattle.session.specs.Rules.{KeepsRules}
 use Rattle.command.specs.State.{octets_waiting, first_answer}
 use Rattle.gateway.specs.Objects.{objects, has_objects}
-use Rattle.gateway.specs.Log.{Log, Input, LineIn, Opened, TcpIn, CutOff, Ticked, Came, Went, LineOut, TcpOut, Closed, latest}
+use Rattle.gateway.specs.Log.{Log, Input, LineIn, Opened, TcpIn, CutOff, Ticked, Came, Went, LineOut, TcpOut, Closed, GapOut, latest}
 use Rattle.gateway.specs.Streams.{spelled}
 use Rattle.gateway.specs.Frames.{Sent, Connection, runs, first_unacknowledged, monitor_objects_sent, acknowledged_reports}
 use Rattle.gateway.specs.Connections.{Channel, present, received_before, is_replaced, IsConnection}
 use Rattle.gateway.specs.Reports.{Setup, address_at, reports_in, parts_of_all, taken_objects}
 use Rattle.gateway.specs.Serial.{is_first_command, heard_outcome}
-use Rattle.gateway.specs.Works.{Works, first_works, is_overfull, LearnsOf, heard_works, sent_works, cut_works, octets_works, begun_works, settled_works, ready_works, asked_works, done_works}
+use Rattle.gateway.specs.Works.{Works, first_works, is_overfull, LearnsOf, heard_works, sent_works, cut_works, octets_works, begun_works, settled_works, ready_works, gapless_works, asked_works, done_works}
 
 pub record Course : Type 0 where
   -- what was said on the open connection: frames that came and frames that went out, each with its moment, the latest first
@@ -207,9 +207,10 @@ closed_course p cause is_open at c = ended_course is_open (works_at cause at c.w
 
 -- Steps
 
--- What the step before leaves when an event comes: its timers are done, and no request is left that may go out. A turn that has none
--- ends.
+-- What the step before leaves when an event comes: its timers are done, its gap is told, and no request is left that may go out. A turn
+-- that has none ends.
 pub record IsLeft (p : Setup) (log : Log) (before after : Course) : Type 0 where
+  pub told : before.works.serial.gap ≡ None
   pub none : before.works.is_due ≡ true → sending (ready_works (latest log) before.works).serial.line (room_in p log before) ≡ None
   pub is : after ≡ record { talk = before.talk; sent = before.sent; earlier = before.earlier; works = done_works (latest log) (room_in p log before) before.works }
 
@@ -226,12 +227,20 @@ Comes p log at Ticked c d = d ≡ with_works (begun_works at c.works) c
 Comes p log at Opened c d = d ≡ opened_course at (ended_course (present log).is_open (begun_works at c.works) c)
 Comes p log at CutOff c d = d ≡ ended_course (present log).is_open (begun_works at c.works) c
 
--- The octets are the request that is next, where the queue has the room that the log shows, once all that came is taken; and a command
+-- The gap of the session that the event's octets have ended is told, once all that came is taken and before the step's request.
+pub record TellsGap (log : Log) (station session : ℕ) (before after : Course) : Type 0 where
+  pub all : HasTakenAll (present log) before.talk
+  pub due : before.works.is_due ≡ true
+  pub gap : before.works.serial.gap ≡ Some (record { station = station; session = session })
+  pub is : after ≡ with_works (gapless_works before.works) before
+
+-- The octets are the request that is next, its gap told, where the queue has the room that the log shows, once all that came is taken; and a command
 -- that goes out for the first time is the oldest that waits for its station.
 pub record SendsNext (p : Setup) (log : Log) (octets : List ℕ) (before after : Course) : Type 0 where
   pub all : HasTakenAll (present log) before.talk
   pub placed : (present log).is_open ≡ true → is_overfull before.works.history ≡ false
   pub due : before.works.is_due ≡ true
+  pub told : before.works.serial.gap ≡ None
   pub request : Sending
   pub next : sending (ready_works (latest log) before.works).serial.line (room_in p log before) ≡ Some request
   pub spelled_so : octets ≡ line.spelling p.link.size (request_frame (address_at p.addresses request.station) request.request)
@@ -249,5 +258,6 @@ Runs p (Came now event ∷ log) c =
 Runs p (Went now (TcpOut octets) ∷ log) c =
     (before : Course) × (after : Course) × Runs p log before × HandsOver p log octets (latest log) before after × TakesFrames p (Went now (TcpOut octets) ∷ log) (latest log) after c
 Runs p (Went now (LineOut octets) ∷ log) c = (before : Course) × Runs p log before × SendsNext p log octets before c
+Runs p (Went now (GapOut station session) ∷ log) c = (before : Course) × Runs p log before × TellsGap log station session before c
 Runs p (Went now (Closed cause) ∷ log) c =
     (before : Course) × Runs p log before × (c ≡ closed_course p cause (present log).is_open (latest log) before) × IsCause p log cause before

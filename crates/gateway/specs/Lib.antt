@@ -6,6 +6,7 @@ pub mod Log
 pub mod Ports
 pub mod Objects
 pub mod Reports
+pub mod Gaps
 pub mod Setups
 pub mod Polls
 pub mod Counting
@@ -18,8 +19,6 @@ pub mod Works
 pub mod Course
 pub mod One
 pub mod Conversation
-pub mod SessionLaws
-pub mod CommandLaws
 pub mod Room
 pub mod Line
 pub mod LineLaws

@@ -43,10 +43,10 @@ abbrev pub IsOut : Option Outstanding → Type 0
 IsOut None = ⊥
 IsOut (Some o) = Unit {0}
 
--- Until the request is asked for it is due. Then it is out, or there was none that might go out.
+-- Until the request is asked for it is due. Then it is out, or there was none that might go out; and no gap is left to be told.
 abbrev pub IsAsked : Phase → (at : ℕ) → (room : Bool) → Works → Type 0
-IsAsked Asked at room w = (w.is_due ≡ true → sending (ready_works at w).serial.line room ≡ None) × (w.is_due ≡ false → IsOut w.serial.line.outstanding)
-IsAsked Fresh at room w = w.is_due ≡ false
+IsAsked Asked at room w = (w.is_due ≡ true → sending (ready_works at w).serial.line room ≡ None) × (w.is_due ≡ false → IsOut w.serial.line.outstanding) × (w.serial.gap ≡ None)
+IsAsked Fresh at room w = (w.is_due ≡ false) × (w.serial.gap ≡ None)
 IsAsked phase at room w = w.is_due ≡ true
 
 -- how far it is between two steps

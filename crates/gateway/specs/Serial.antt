@@ -19,7 +19,7 @@ use Rattle.command.specs.State.{has_room, line_of, refusal_of, is_used, oldest}
 use Rattle.command.specs.Judging as judging
 use Rattle.command.specs.Mirrors as mirrors
 use Rattle.gateway.specs.declared.counts.Tally.{Tally}
-use Rattle.gateway.specs.Log.{Input, LineIn}
+use Rattle.gateway.specs.declared.gaps.Gap.{Gap}
 use Rattle.gateway.specs.Counting.{nothing_counted, counted, one_mirrored, one_lost}
 use Rattle.gateway.specs.Reports.{Setup}
 
@@ -31,6 +31,8 @@ pub record Serial : Type 0 where
   pub counts : Tally
   -- the station whose link this step's silence took down, which commands are told of once the event is taken
   pub silent : Option ℕ
+  -- the gap of the session that the event's octets have ended, which is told before the step's request
+  pub gap : Option Gap
 
 abbrev pub first_serial : Setup → Serial
 first_serial p = record {
@@ -38,6 +40,7 @@ first_serial p = record {
   commands = tasks.new_state p.stations p.sizes p.select_ms;
   counts = nothing_counted;
   silent = None;
+  gap = None;
 }
 
 -- Own answers
@@ -90,6 +93,14 @@ mirrored at false v pieces s = record s { commands = mirrors.mirrored v at s.com
 abbrev pub mirror_fits : (at : ℕ) → (is_running : Bool) → AsduValue → (pieces : List (List ℕ)) → Serial → Bool
 mirror_fits at true v pieces s = all_kept pieces (mirrors.mirrored v at s.commands)
 mirror_fits at false v pieces s = true
+
+-- a session ended with a gap
+abbrev pub with_gap : (station session : ℕ) → Serial → Serial
+with_gap station session s = record s { gap = Some (record { station = station; session = session }) }
+
+-- its gap is told
+abbrev pub without_gap : Serial → Serial
+without_gap s = record s { gap = None }
 
 -- any other report is counted where it isn't passed on
 abbrev pub reported : Sizes → (report : List ℕ) → Serial → Serial

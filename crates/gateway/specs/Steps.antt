@@ -17,7 +17,7 @@ use Rattle.gateway.specs.Log.{Log, Input, LineIn}
 use Rattle.gateway.specs.Connections.{ends, present, closed_by, IsConnection}
 use Rattle.gateway.specs.Course.{here_of, IsCause}
 use Rattle.gateway.specs.Reports.{Setup}
-use Rattle.gateway.specs.Serial.{Serial, accepted, given_up, refused, refusal_fits, mirrored, mirror_fits, reported, answered, has_place, heard, heard_outcome}
+use Rattle.gateway.specs.Serial.{Serial, accepted, given_up, refused, refusal_fits, mirrored, mirror_fits, with_gap, reported, answered, has_place, heard, heard_outcome}
 use Rattle.gateway.specs.Centre.{Centre, pushed, next_frame, piece_sent, own_sent}
 use Rattle.gateway.specs.Works.{is_command_report, IsPassedOn}
 use Rattle.gateway.specs.State.{State, with_serial, with_centre, with_sides, at_moment, line_timed, received as frame_received, framed, disconnected}
@@ -53,6 +53,7 @@ Learns s (outcome.Report station asdu) fits t = LearnsReport (is_command_report 
 Learns s (outcome.Accepted station) fits t = (t ≡ with_serial (accepted station s.serial) s) × (fits ≡ true)
 Learns s (outcome.Busy station) fits t = (t ≡ with_serial (refused station s.serial) s) × (fits ≡ refusal_fits station s.serial)
 Learns s (outcome.Down station) fits t = (t ≡ with_serial (given_up station s.serial) s) × (fits ≡ true)
+Learns s (outcome.StartedGap station session) fits t = (t ≡ with_serial (with_gap station session s.serial) s) × (fits ≡ true)
 Learns s other fits t = (t ≡ s) × (fits ≡ true)
 
 -- octets of the line came, and what they bring is kept

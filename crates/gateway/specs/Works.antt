@@ -105,6 +105,7 @@ LearnsOf p at is_running (outcome.Report station asdu) w z = LearnsReport p at i
 LearnsOf p at is_running (outcome.Accepted station) w z = z ≡ accepted_works station w
 LearnsOf p at is_running (outcome.Busy station) w z = z ≡ refused_works station w
 LearnsOf p at is_running (outcome.Down station) w z = z ≡ given_up_works station w
+LearnsOf p at is_running (outcome.StartedGap station session) w z = z ≡ record w { serial = serial.with_gap station session w.serial }
 LearnsOf p at is_running other w z = z ≡ w
 
 -- A frame that came, and one that goes out
@@ -154,6 +155,10 @@ settled_works at w = record w { serial = serial.settled at w.serial; history = t
 -- all that comes before the step's request: commands are offered to the line
 abbrev pub ready_works : (at : ℕ) → Works → Works
 ready_works at w = let t : Works = settled_works at w in record t { serial = serial.offered t.serial }
+
+-- the gap is told
+abbrev pub gapless_works : Works → Works
+gapless_works w = record w { serial = serial.without_gap w.serial }
 
 abbrev pub told_put : (is_first : Bool) → (station : ℕ) → Works → History
 told_put true station w = told (PutOnLine station) w

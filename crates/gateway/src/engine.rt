@@ -18,14 +18,14 @@ use self::centre::CentreSide;
 use self::serial::SerialSide;
 use crate::config::Config;
 use crate::counts::{Counts, Tally};
-use crate::laws::{command_is_told, line_is_told, session_is_told};
+use crate::laws::line_is_told;
 use crate::settings::{LineSettings, Silence};
 use apci::{Apdu, Assembler};
 use asdu::Sizes;
-use command::{Commands, StationInfo};
+use command::{Commands, StationInfo, commands_keep_the_rules};
 use events::{Events, Kept};
 use link::{LinkSettings, Master, master_tells_the_log};
-use session::Session;
+use session::{Session, session_keeps_the_standard};
 use std::alloc::Global;
 use std::marker::Model;
 use thiserror::Error;
@@ -162,6 +162,7 @@ fn serial_side(alloc: Global, config: &Config) -> Result<SerialSide, NoMemory>
             lost: 0,
         },
         silent: None,
+        gap: None,
     })
 }
 
@@ -186,8 +187,8 @@ impl Gateway {
     {
         master_tells_the_log();
         line_is_told();
-        session_is_told();
-        command_is_told();
+        session_keeps_the_standard();
+        commands_keep_the_rules();
         let _stations = config.stations();
         let gateway = Gateway::at_first(alloc, config)?;
         Ok(gateway)

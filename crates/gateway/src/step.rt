@@ -381,9 +381,34 @@ impl Gateway {
         }
     }
 
-    /// Puts out the line's next request, if there is one.
-    fn ask<P: Port>(&mut self, port: &mut P) -> bool
+    /// Tells the gap of the session that the step's octets have ended, if there is one.
+    fn tell_gap<P: Port>(&mut self, port: &mut P) -> bool
         requires { P.failed port.old < u64.MAX }
+        ensures kept { (p : Setup) → Tracks p self.old (P.log port.old) [] Timed →
+            Leaves result p self.new (P.log port.new) [] Timed }
+        ensures told { self.new.serial.gap ≡ None }
+        ensures session { self.new.centre.session ≡ self.old.centre.session }
+        ensures moment { self.new.moment ≡ self.old.moment }
+        ensures events { events_told (P.log port.new) ≡ events_told (P.log port.old) }
+        ensures script { P.script port.new ≡ P.script port.old }
+        ensures cause { P.failed port.new ≡ P.failed port.old + (if result then 0 else 1) }
+    {
+        match self.take_gap() {
+            None => true,
+            Some(gap) => port.put(
+                self.moment(),
+                &Action::Gap {
+                    station: gap.station,
+                    session: gap.session,
+                },
+            ),
+        }
+    }
+
+    /// Puts out the line's next request, if there is one, once each gap is told.
+    fn ask<P: Port>(&mut self, port: &mut P) -> bool
+        requires ready { P.failed port.old < u64.MAX }
+        requires told { self.old.serial.gap ≡ None }
         ensures kept { (p : Setup) → Tracks p self.old (P.log port.old) [] Timed → Leaves result p self.new (P.log port.new) [] Asked }
         ensures session { self.new.centre.session ≡ self.old.centre.session }
         ensures moment { self.new.moment ≡ self.old.moment }
@@ -419,6 +444,9 @@ impl Gateway {
         }
         self.settle();
         if !self.watch(port) {
+            return false;
+        }
+        if !self.tell_gap(port) {
             return false;
         }
         if !self.ask(port) {

@@ -17,7 +17,7 @@ ghost use Rattle.session.specs.Session.{may_send};
 ghost use Rattle.gateway.specs.Polls.{has_room};
 ghost use Rattle.gateway.specs.Counting.{is_answer_type, one_skipped, one_mirrored, one_lost};
 ghost use Rattle.gateway.specs.Serial.{kept_until, all_kept, listed, refused, refusal_fits};
-ghost use Rattle.gateway.specs.Serial.{heard, heard_outcome, accepted, given_up, timed, settled};
+ghost use Rattle.gateway.specs.Serial.{heard, heard_outcome, accepted, given_up, with_gap, without_gap, timed, settled};
 ghost use Rattle.gateway.specs.Serial.{cut, offered_by, offered, asked};
 ghost use Rattle.gateway.specs.State.{line_timed, settled as after_timers, after_request};
 ghost use Rattle.gateway.specs.State.{with_serial};
@@ -27,6 +27,7 @@ ghost use Rattle.gateway.specs.Works.{is_command_report};
 use super::Gateway;
 use super::centre::CentreSide;
 use crate::counts::Tally;
+use crate::gaps::Gap;
 use apci::Apdu;
 use asdu::{Asdu, Piece, read, translate};
 use command::{Act, Commands};
@@ -45,6 +46,8 @@ pub(crate) struct SerialSide {
     pub(crate) counts: Tally,
     /// The station whose link the step's silence took down.
     pub(crate) silent: Option<usize>,
+    /// The gap that is still to be told.
+    pub(crate) gap: Option<Gap>,
 }
 
 impl Model for SerialSide {
@@ -57,6 +60,7 @@ impl Model for SerialSide {
       commands = a.commands;
       counts = a.counts;
       silent = a.silent;
+      gap = a.gap;
     } };
 }
 
@@ -137,6 +141,13 @@ impl SerialSide {
         self.commands.accepted(station);
     }
 
+    /// A session of the station's link ended with a gap.
+    fn note_gap(&mut self, station: usize, session: u64)
+        ensures { self.new ≡ with_gap station session self.old }
+    {
+        self.gap = Some(Gap { station, session });
+    }
+
     /// One more report that isn't passed on.
     fn skip(&mut self)
         ensures { self.new ≡ record self.old { counts = one_skipped self.old.counts } }
@@ -203,6 +214,14 @@ impl SerialSide {
         }
         self.silent = None;
         self.commands.due(moment);
+    }
+
+    /// The gap that is still to be told, if there is one.
+    fn take_gap(&mut self) -> Option<Gap>
+        ensures gap { result ≡ self.old.gap }
+        ensures state { self.new ≡ without_gap self.old }
+    {
+        self.gap.take()
     }
 
     /// Commands that were never put on the line are taken back, and selections and own answers go.
@@ -331,6 +350,10 @@ impl Gateway {
                 self.serial.give_up(*station);
                 true
             }
+            Outcome::StartedGap(station, session) => {
+                self.serial.note_gap(*station, *session);
+                true
+            }
             Outcome::None => true,
             Outcome::Started(_) => true,
             Outcome::Empty(_) => true,
@@ -375,6 +398,14 @@ impl Gateway {
         ensures { self.new ≡ after_timers self.old }
     {
         self.serial.settle(self.moment);
+    }
+
+    /// The gap that is still to be told, if there is one: it is told now.
+    pub(crate) fn take_gap(&mut self) -> Option<Gap>
+        ensures gap { result ≡ self.old.serial.gap }
+        ensures state { self.new ≡ with_serial (without_gap self.old.serial) self.old }
+    {
+        self.serial.take_gap()
     }
 
     /// Offers to each station the oldest command that waits for it.

@@ -1,4 +1,4 @@
-use Rattle.std.proofs.Common.{◌≡◌, ◌≤◌, true, Some, subst, inl, inr}
+use Rattle.std.proofs.Common.{◌≡◌, ◌≤◌, true, Some, subst}
 use Rattle.link.specs.Exchanges.{Sending}
 use Rattle.link.specs.Primary.{sending}
 use Rattle.link.specs.Leave.{is_poll_request}

@@ -11,7 +11,7 @@ use Rattle.gateway.proofs.engine.serial.SerialSide.mirror.Goals as goal
 pub returns-then-runs : goal.returns-then-runs
 returns-then-runs c =
     let a = c.self.inside in
-    let s : Serial = record { line = a.line; commands = a.commands; counts = a.counts; silent = a.silent } in
+    let s : Serial = record { line = a.line; commands = a.commands; counts = a.counts; silent = a.silent; gap = a.gap } in
     let asdu = c.args.asdu.now in
     let v : AsduValue = value_of asdu in
     let ps = c.translate-pieces.result.items in
@@ -27,7 +27,7 @@ returns-then-runs c =
 pub returns : goal.returns
 returns c =
     let a = c.self.inside in
-    let s : Serial = record { line = a.line; commands = a.commands; counts = a.counts; silent = a.silent } in
+    let s : Serial = record { line = a.line; commands = a.commands; counts = a.counts; silent = a.silent; gap = a.gap } in
     let asdu = c.args.asdu.now in
     let v : AsduValue = value_of asdu in
     let ps = c.translate-pieces.result.items in
