@@ -6,12 +6,15 @@ ghost use Rattle.gateway.specs.Log.{Log};
 ghost use Rattle.gateway.specs.Reports.{Setup};
 ghost use Rattle.gateway.specs.Connections.{Channel, present, ends, IsConnection};
 ghost use Rattle.gateway.specs.Course.{Course, HasTakenAll, Runs};
+ghost use Rattle.gateway.specs.Conversation.{KeepsCommands};
 ghost use Rattle.gateway.specs.One.{AreOne};
+ghost use Rattle.gateway.specs.Works.{tasks_of};
 ghost use Rattle.gateway.specs.Traffic.{HasCause};
 ghost use Rattle.gateway.specs.LineLaws.{LineLaws};
 
 use apci::{one_front, spellings_cancel};
 use asdu::{objects_are_those_of_the_asdu, one_asdu_one_spelling};
+use command::commands_keep_the_rules;
 use link::{
     gaps_are_told, master_tells_the_log, next_changes_nothing, offers_wait,
     outcomes_bear_the_reports, requests_are_read_back, requests_wait_their_turn, rests_mean,
@@ -49,6 +52,15 @@ pub fn one_cause()
     one_asdu_one_spelling();
     objects_are_those_of_the_asdu();
     line_is_told();
+}
+
+/// What became of commands in a course keeps the rules: each went to the line in turn and once, and
+/// each was answered as the first rule that applies has it.
+pub fn courses_keep_commands()
+    ensures { (p : Setup) (log : Log) (c : Course) → Runs p log c →
+        KeepsCommands p (tasks_of c.works) }
+{
+    commands_keep_the_rules();
 }
 
 /// What holds of the line's primary station and the exchanges of its log.

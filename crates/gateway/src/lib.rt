@@ -35,7 +35,7 @@ pub use config::Config;
 pub use counts::Counts;
 pub use engine::{Gateway, NoMemory};
 pub use entries::{Entry, Told};
-pub use laws::{one_cause, one_course, one_reading};
+pub use laws::{courses_keep_commands, one_cause, one_course, one_reading};
 pub use ordering::steps_keep_their_order;
 pub use ports::{Action, Event, Next, Port};
 pub use runs::{End, drive, drive_on};
