@@ -29,7 +29,7 @@ use Rattle.gateway.specs.LineLaws.{LineLaws}
 use Rattle.gateway.specs.Reports.{Setup, address_at, exchanges_of, taken_objects}
 use Rattle.gateway.specs.Works.{is_overfull}
 use Rattle.gateway.specs.Course.{Course, first_course, came_frames, kind_of, told_sent, with_frame, with_sent, IsFlushed, IsUntouched, HasBegun, MayTake, TakesFrames, HasTakenAll, IsNext, Runs}
-use Rattle.gateway.specs.Conversation.{KeepsTalk}
+use Rattle.gateway.specs.Conversation.{KeepsRulesSoFar}
 use Rattle.gateway.proofs.Reached.{kept_commands}
 use Rattle.gateway.specs.Phases.{IsTaking}
 use Rattle.command.specs.CommandLaws.{CommandLaws}
@@ -123,7 +123,7 @@ same_came (I ns nr asdu) now h = refl
 same_came (S nr) now h = refl
 same_came (U u) now h = refl
 
-pub kept_talk : (p : Setup) (s : Session) (log : Log) (c : Course) → Talks p s log c → KeepsTalk p log
+pub kept_talk : (p : Setup) (s : Session) (log : Log) (c : Course) → Talks p s log c → KeepsRulesSoFar p log
 kept_talk p s log c k = record {
   course = c;
   runs = k.course_runs;

@@ -20,21 +20,27 @@ use link::{
     outcomes_bear_the_reports, requests_are_read_back, requests_wait_their_turn, rests_mean,
 };
 
-/// The octets of a connection have one reading: its frames, and what closes it, if anything does; but for a connection that was
-/// closed for want of a place for an own answer, whose octets alone don't tell at which frame: of a log `one_course` tells it.
+/// The octets of a connection have one reading: its frames, and what closes it, if anything does;
+/// but for a connection that was closed for want of a place for an own answer, whose octets alone
+/// don't tell at which frame: of a log `one_course` tells it.
 pub fn one_reading()
-    ensures { (octets : Channel) (c d : Connection) (fault other : Option Close) → octets.overfull ≡ false → IsConnection octets c fault → IsConnection octets d other → (c ≡ d) × (fault ≡ other) }
+    ensures { (octets : Channel) (c d : Connection) (fault other : Option Close) →
+        octets.overfull ≡ false → IsConnection octets c fault → IsConnection octets d other →
+        (c ≡ d) × (fault ≡ other) }
 {
     one_front();
     spellings_cancel();
 }
 
-/// A log has one course: of two courses one goes on from the other by frames of the latest event's octets, and where all whole frames
-/// that came are taken, as after each step, they are the same. So each promise about a log speaks of the same connections, the same
-/// history, and the same works of the line and of commands.
+/// A log has one course: of two courses one goes on from the other by frames of the latest event's
+/// octets, and where all whole frames that came are taken, as after each step, they are the same.
+/// So each promise about a log speaks of the same connections, the same history, and the same works
+/// of the line and of commands.
 pub fn one_course()
-    ensures so_far { (p : Setup) (log : Log) (c d : Course) → Runs p log c → Runs p log d → AreOne p log c d }
-    ensures whole { (p : Setup) (log : Log) (c d : Course) → Runs p log c → Runs p log d → HasTakenAll (present log) c.talk → HasTakenAll (present log) d.talk → c ≡ d }
+    ensures so_far { (p : Setup) (log : Log) (c d : Course) → Runs p log c → Runs p log d →
+        AreOne p log c d }
+    ensures whole { (p : Setup) (log : Log) (c d : Course) → Runs p log c → Runs p log d →
+        HasTakenAll (present log) c.talk → HasTakenAll (present log) d.talk → c ≡ d }
 {
     one_front();
     spellings_cancel();
@@ -43,9 +49,11 @@ pub fn one_course()
     line_is_told();
 }
 
-/// Of a log at most one cause to close the connection stands: so the one that is told is the first in the order of a step.
+/// Of a log at most one cause to close the connection stands: so the one that is told is the first
+/// in the order of a step.
 pub fn one_cause()
-    ensures { (p : Setup) (log : Log) (a b : Close) → ends a ≡ true → ends b ≡ true → HasCause p a log → HasCause p b log → a ≡ b }
+    ensures { (p : Setup) (log : Log) (a b : Close) → ends a ≡ true → ends b ≡ true →
+        HasCause p a log → HasCause p b log → a ≡ b }
 {
     one_front();
     spellings_cancel();
