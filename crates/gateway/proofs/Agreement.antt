@@ -66,7 +66,7 @@ use Rattle.gateway.proofs.Tied.{tied_taken, tied_piece, tied_own, sent_more, Sam
 use Rattle.gateway.proofs.Frames.{pass_grows, taken_stays, nothing_waits}
 use Rattle.gateway.proofs.Objects.{next_objects, carries_piece, carries_own, carries_end, first_whole, run_now, split_reports}
 use Rattle.gateway.proofs.Sound.{no_room_means}
-use Rattle.gateway.specs.LineLaws.{LineLaws}
+use Rattle.link.specs.LineLaws.{LineLaws}
 use Rattle.gateway.proofs.Stations.{keeps_links, line_rests}
 
 pub in_order : (objs : List InformationObject) (parts : ℕ) (c : Connection) (earlier : List Connection) (unsent : List (List ℕ)) → IsNumberedFrom 0 c.sent_frames → Carries objs parts earlier c.sent_frames unsent → IsInOrder objs c earlier

@@ -40,7 +40,7 @@ use Rattle.gateway.specs.State.{State, with_serial, at_moment, line_timed, disco
 use Rattle.gateway.specs.Works.{Works, is_overfull, told, is_command_report, mirrored_works, LearnsReport, accepted_works, given_up_works, refused_works, LearnsOf, octets_works, begun_works, ready_works, unasked_works, done_works}
 use Rattle.gateway.specs.Course.{Course, came_frames, here_of, room_in, TakesFrames, HasTakenAll, ended_course, opened_course, IsLeft, with_works, Comes, Runs}
 use Rattle.gateway.specs.Phases.{Idle, Taking, Asked, resting, IsPlaced, IsLeftIn, after_line}
-use Rattle.gateway.specs.LineLaws.{LineLaws}
+use Rattle.link.specs.LineLaws.{LineLaws}
 use Rattle.command.specs.CommandLaws.{CommandLaws}
 use Rattle.gateway.specs.Steps as steps
 use Rattle.gateway.specs.Steps.{Keeps, Mirrors, Learns, HearsEvent}
@@ -338,8 +338,8 @@ heard_line laws p s t log now octets fits a b =
       full = l.full;
       placed = l.placed;
       gaps = λ i. ap (λ g. gaps_told i log ++ g) (l.gap i) ∙ ap (λ gs. gs ++ gap_in_outcome i o) (all_told p s log a i)
-          ∙ sym (laws.gaps_due p.link.size p.addresses p.link.answer_ms at (record { ended = (exchanges_of p log).ended; current = heard_current octets (exchanges_of p log).current }) i
-          ∙ laws.gaps_octets p.link p.addresses s.serial.line (exchanges_of p log) octets i a.line);
+          ∙ sym (laws.due_gaps p.link.size p.addresses p.link.answer_ms at (record { ended = (exchanges_of p log).ended; current = heard_current octets (exchanges_of p log).current }) i
+          ∙ laws.octets_gap p.link p.addresses s.serial.line (exchanges_of p log) octets i a.line);
       offers = offers_stay s.serial.line (timed_out b.middle.serial.line b.middle.moment) s.serial.commands b.middle.serial.commands
           (λ i. laws.timed_offers b.middle.serial.line b.middle.moment i ∙ ap (λ x. offered_at x i) k.line ∙ laws.heard_offers (front_of s.serial.line.settings.size) s.serial.line octets i) l.waiting a.offers;
       plain = l.plain;
@@ -378,7 +378,7 @@ only_time laws p s t log now event fits a other works is b =
       due = refl;
       full = λ off. let no : false ≡ true = sym off ∙ none.1 in cc;
       placed = λ on. refl;
-      gaps = λ i. a.gaps i ∙ sym (ap (gaps_at (front_of p.link.size) p.addresses i) is ∙ laws.gaps_due p.link.size p.addresses p.link.answer_ms at (exchanges_of p log) i);
+      gaps = λ i. a.gaps i ∙ sym (ap (gaps_at (front_of p.link.size) p.addresses i) is ∙ laws.due_gaps p.link.size p.addresses p.link.answer_ms at (exchanges_of p log) i);
       offers = offers_stay s.serial.line (timed_out s.serial.line first.moment) s.serial.commands s.serial.commands (λ i. laws.timed_offers s.serial.line first.moment i) refl a.offers;
       plain = a.plain;
       more = [];

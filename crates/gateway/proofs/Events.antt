@@ -33,7 +33,7 @@ use Rattle.gateway.specs.Centre.{Centre}
 use Rattle.gateway.specs.Works.{Works, is_overfull, ready_works, gapless_works, unasked_works, asked_works}
 use Rattle.gateway.specs.Course.{Course, first_course, room_in, with_works, Comes, Runs}
 use Rattle.gateway.specs.Phases.{Phase, Fresh, Taking, Idle, Crowded, Timed, Asked, IsOut}
-use Rattle.gateway.specs.LineLaws.{LineLaws}
+use Rattle.link.specs.LineLaws.{LineLaws}
 use Rattle.gateway.specs.Traffic.{IsFaithful}
 use Rattle.gateway.specs.Runs.{events_told, MoreEvents}
 use Rattle.gateway.specs.State.{State, with_serial, at_moment, line_timed, settled, disconnected, connected, after_request as after_next}
@@ -157,7 +157,7 @@ module _ (laws : LineLaws) (p : Setup) (s : State) (log : Log) (a : Agrees p s l
           phase_is = tt;
           placed = λ o. put_placed (is_first_command ready.serial.line x) x.station ready ∙ settled_placed at w ∙ a.stands.placed o;
         };
-        gaps = λ i. a.gaps i ∙ sym (laws.gaps_next p.link.size p.addresses s.moment (sending_in p (octets_of p x)) (exchanges_of p log) i);
+        gaps = λ i. a.gaps i ∙ sym (laws.next_gaps p.link.size p.addresses s.moment (sending_in p (octets_of p x)) (exchanges_of p log) i);
         offers = offers_asked laws a.talk.command_laws q s.serial.commands s.moment may x next (omega (arith, fits.station, tells.count)) offers;
         plain = subst ArePlain (sym (put_answers (is_first_command q x))) a.plain;
         here = a.here;

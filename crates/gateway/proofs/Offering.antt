@@ -17,7 +17,7 @@ use Rattle.command.specs.State as tasks
 use Rattle.command.specs.State.{octets_waiting, oldest}
 use Rattle.command.specs.Judging.{judged}
 use Rattle.gateway.specs.Serial.{listed, heard_commands, offered_by, offered_upto, is_first_command, put_on_line}
-use Rattle.gateway.specs.LineLaws.{LineLaws}
+use Rattle.link.specs.LineLaws.{LineLaws}
 use Rattle.command.specs.CommandLaws.{CommandLaws}
 use Rattle.gateway.specs.Objects.{has_objects}
 use Rattle.gateway.specs.Agrees.{OffersWait, ArePlain}

@@ -22,7 +22,7 @@ use Rattle.gateway.specs.Reports.{Setup, taken_objects}
 use Rattle.gateway.specs.Works.{is_overfull, begun_works, gapless_works, ready_works, done_works, asked_works}
 use Rattle.gateway.specs.Course.{Course, here_of, came_frames, with_frame, with_frames, with_works, told_sent, with_sent, room_in, closed_course, sent_objects, IsFlushed, IsUntouched, HasBegun, HasTakenAll, MayTake, AreTaken, TakesFrames, IsNext, HandsOver, IsCause, IsLeft, Comes, SendsNext, Runs}
 use Rattle.gateway.specs.One.{GoesOn, AreOne}
-use Rattle.gateway.specs.LineLaws.{LineLaws}
+use Rattle.link.specs.LineLaws.{LineLaws}
 use Rattle.gateway.proofs.Unique.{AreUnique, whole_front, never_more, one_reading}
 use Rattle.gateway.proofs.Order.{no_frames}
 use Rattle.gateway.proofs.Talking.{may_at}

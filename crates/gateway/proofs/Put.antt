@@ -13,7 +13,7 @@ use Rattle.gateway.specs.Log.{Log, events_of, Went, Output, TcpOut, Closed, tell
 use Rattle.gateway.specs.Reports.{Setup}
 use Rattle.gateway.specs.Traffic.{IsFaithful}
 use Rattle.gateway.specs.Runs.{events_told}
-use Rattle.gateway.specs.LineLaws.{LineLaws}
+use Rattle.link.specs.LineLaws.{LineLaws}
 use Rattle.session.specs.declared.kinds.Kind.{Kind}
 use Rattle.session.specs.declared.kinds.Kind.TheVariants.{Queue as FromQueue, Own}
 use Rattle.gateway.specs.State.{State, with_centre, with_sides, with_session, disconnected}

@@ -24,7 +24,7 @@ use Rattle.gateway.specs.Reports.{Setup, address_at, AreFound, sent_to, sending_
 use Rattle.gateway.specs.Course.{Course}
 use Rattle.gateway.specs.Room.{IsFull}
 use Rattle.gateway.specs.Line.{IsWaiting, IsServed, done_in, LacksOnlyRoom, IsLineAtRest}
-use Rattle.gateway.specs.LineLaws.{LineLaws}
+use Rattle.link.specs.LineLaws.{LineLaws}
 
 -- the exchanges keep the procedure
 pub keeps_links : (p : Setup) (q : Primary) (log : Log) → Tells p.link p.addresses q (exchanges_of p log) → KeepsLinks p log

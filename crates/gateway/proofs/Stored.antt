@@ -26,7 +26,7 @@ use Rattle.gateway.specs.Connections.{no_channel}
 use Rattle.gateway.specs.Reports.{Setup, address_at, index_of, AreFound}
 use Rattle.session.specs.SessionLaws.{SessionLaws}
 use Rattle.command.specs.CommandLaws.{CommandLaws}
-use Rattle.gateway.specs.LineLaws.{LineLaws}
+use Rattle.link.specs.LineLaws.{LineLaws}
 use Rattle.gateway.specs.Course.{first_course}
 use Rattle.gateway.specs.Phases.{Fresh}
 use Rattle.link.specs.Turns.{station_at}

@@ -26,7 +26,7 @@ use Rattle.gateway.specs.Course.{Course, here_of, room_in, Runs}
 use Rattle.gateway.specs.Conversation.{KeepsRulesThroughout}
 use Rattle.gateway.specs.Phases.{Phase, Taking, resting, IsPhase, works_in, IsAsked, IsPlaced, IsPast, IsLeftIn}
 use Rattle.command.specs.CommandLaws.{CommandLaws}
-use Rattle.gateway.specs.LineLaws.{LineLaws}
+use Rattle.link.specs.LineLaws.{LineLaws}
 use Rattle.session.specs.SessionLaws.{SessionLaws}
 use Rattle.gateway.specs.Centre.{Centre}
 use Rattle.gateway.specs.State.{State}

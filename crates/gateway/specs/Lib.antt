@@ -21,7 +21,6 @@ pub mod One
 pub mod Conversation
 pub mod Room
 pub mod Line
-pub mod LineLaws
 pub mod Traffic
 pub mod Order
 pub mod State

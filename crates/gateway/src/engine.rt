@@ -18,13 +18,12 @@ use self::centre::CentreSide;
 use self::serial::SerialSide;
 use crate::config::Config;
 use crate::counts::{Counts, Tally};
-use crate::laws::line_is_told;
 use crate::settings::{LineSettings, Silence};
 use apci::{Apdu, Assembler};
 use asdu::Sizes;
 use command::{Commands, StationInfo, commands_keep_the_rules};
 use events::{Events, Kept};
-use link::{LinkSettings, Master, master_tells_the_log};
+use link::{LinkSettings, Master, line_keeps_the_procedures, master_tells_the_log};
 use session::{Session, session_keeps_the_standard};
 use std::alloc::Global;
 use std::marker::Model;
@@ -186,7 +185,7 @@ impl Gateway {
         ensures begins { IfOk result (λ s. Follows (setup_of config.now) s (Some [])) }
     {
         master_tells_the_log();
-        line_is_told();
+        line_keeps_the_procedures();
         session_keeps_the_standard();
         commands_keep_the_rules();
         let _stations = config.stations();

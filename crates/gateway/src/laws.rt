@@ -10,15 +10,11 @@ ghost use Rattle.gateway.specs.Conversation.{KeepsCommands};
 ghost use Rattle.gateway.specs.One.{AreOne};
 ghost use Rattle.gateway.specs.Works.{tasks_of};
 ghost use Rattle.gateway.specs.Traffic.{HasCause};
-ghost use Rattle.gateway.specs.LineLaws.{LineLaws};
 
 use apci::{one_front, spellings_cancel};
 use asdu::{objects_are_those_of_the_asdu, one_asdu_one_spelling};
 use command::commands_keep_the_rules;
-use link::{
-    gaps_are_told, master_tells_the_log, next_changes_nothing, offers_wait,
-    outcomes_bear_the_reports, requests_are_read_back, requests_wait_their_turn, rests_mean,
-};
+use link::line_keeps_the_procedures;
 
 /// The octets of a connection have one reading: its frames, and what closes it, if anything does;
 /// but for a connection that was closed for want of a place for an own answer, whose octets alone
@@ -46,7 +42,7 @@ pub fn one_course()
     spellings_cancel();
     one_asdu_one_spelling();
     objects_are_those_of_the_asdu();
-    line_is_told();
+    line_keeps_the_procedures();
 }
 
 /// Of a log at most one cause to close the connection stands: so the one that is told is the first
@@ -59,7 +55,7 @@ pub fn one_cause()
     spellings_cancel();
     one_asdu_one_spelling();
     objects_are_those_of_the_asdu();
-    line_is_told();
+    line_keeps_the_procedures();
 }
 
 /// What became of commands in a course keeps the rules: each went to the line in turn and once, and
@@ -69,18 +65,4 @@ pub fn courses_keep_commands()
         KeepsCommands p (tasks_of c.works) }
 {
     commands_keep_the_rules();
-}
-
-/// What holds of the line's primary station and the exchanges of its log.
-pub(crate) fn line_is_told()
-    ensures { LineLaws }
-{
-    master_tells_the_log();
-    outcomes_bear_the_reports();
-    requests_wait_their_turn();
-    requests_are_read_back();
-    rests_mean();
-    next_changes_nothing();
-    offers_wait();
-    gaps_are_told();
 }

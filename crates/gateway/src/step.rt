@@ -17,9 +17,9 @@ ghost use Rattle.gateway.specs.Judging.{Goes, IsOnward, faults_in};
 ghost use Rattle.gateway.specs.Runs.{Puts, faults_unless};
 
 use crate::engine::{Found, Gateway};
-use crate::laws::line_is_told;
 use crate::ports::{Action, Event, Port};
 use apci::{Apdu, ApduRef, encode};
+use link::line_keeps_the_procedures;
 use session::{Close, calls_come_to_an_end};
 
 /// What an APDU leads to.
@@ -176,7 +176,7 @@ impl Gateway {
         ensures closed { OnTrue result (self.new ≡ disconnected self.old) }
         ensures puts { Puts P.log P.script P.failed port.old port.new (faults_unless result) }
     {
-        line_is_told();
+        line_keeps_the_procedures();
         let went = port.put(self.moment(), &Action::Close(cause));
         if went {
             self.disconnect();
@@ -273,7 +273,7 @@ impl Gateway {
         if self.is_open() {
             return self.replace(port);
         }
-        line_is_told();
+        line_keeps_the_procedures();
         self.renew();
         true
     }
@@ -287,7 +287,7 @@ impl Gateway {
             Leaves result p self.new (P.log port.new) [] Idle }
         ensures puts { Puts P.log P.script P.failed port.old port.new (faults_unless result) }
     {
-        line_is_told();
+        line_keeps_the_procedures();
         if !port.put(self.moment(), &Action::Close(Close::Replaced)) {
             return false;
         }
@@ -325,7 +325,7 @@ impl Gateway {
             Leaves result p self.new (P.log port.new) [] Idle }
         ensures puts { Puts P.log P.script P.failed port.old port.new (faults_unless result) }
     {
-        line_is_told();
+        line_keeps_the_procedures();
         match event {
             Event::Line(octets) => self.end_line(octets, fits, port),
             Event::Open => self.begin(port),
@@ -347,7 +347,7 @@ impl Gateway {
             Leaves result p self.new (P.log port.new) [] Idle }
         ensures puts { Puts P.log P.script P.failed port.old port.new (faults_unless result) }
     {
-        line_is_told();
+        line_keeps_the_procedures();
         if fits {
             return true;
         }
@@ -417,7 +417,7 @@ impl Gateway {
         ensures moment { self.new.moment ≡ self.old.moment }
         ensures puts { Puts P.log P.script P.failed port.old port.new (faults_unless result) }
     {
-        line_is_told();
+        line_keeps_the_procedures();
         self.offer_all();
         let Some(request) = self.next_request() else {
             return true;
@@ -441,7 +441,7 @@ impl Gateway {
             IfSome (P.log port.new) (IsFaithful p) }
         ensures puts { Puts P.log P.script P.failed port.old port.new (faults_unless result) }
     {
-        line_is_told();
+        line_keeps_the_procedures();
         self.advance_to(now);
         let fits = self.hear_event(event);
         self.time();

@@ -9,12 +9,12 @@ returns-in-Open-clause-kept g c = λ p s now b h. c.begin.ensures.kept p s now c
 
 pub returns-in-Bytes-clause-kept : goal.returns-in-Bytes-clause-kept
 returns-in-Bytes-clause-kept g c = λ p s now b h.
-    c.take_bytes.ensures.kept p (told_bytes c.args.self.now.centre.session.connected p _ s c.args.self.now now c.in-Bytes.octets.now c.args.fits c.line_is_told.ensures (rw c.in-Bytes.is at b) Rattle.std.proofs.Common.refl (rw c.in-Bytes.is at h))
+    c.take_bytes.ensures.kept p (told_bytes c.args.self.now.centre.session.connected p _ s c.args.self.now now c.in-Bytes.octets.now c.args.fits c.line_keeps_the_procedures.ensures (rw c.in-Bytes.is at b) Rattle.std.proofs.Common.refl (rw c.in-Bytes.is at h))
 
 pub returns-in-Cut-clause-kept : goal.returns-in-Cut-clause-kept
 returns-in-Cut-clause-kept g c = λ p s now b h.
-    told_cut p _ s c.args.self.now c.disconnect.new.self now c.args.fits c.line_is_told.ensures (rw c.in-Cut.is at b) c.disconnect.ensures (rw c.in-Cut.is at h)
+    told_cut p _ s c.args.self.now c.disconnect.new.self now c.args.fits c.line_keeps_the_procedures.ensures (rw c.in-Cut.is at b) c.disconnect.ensures (rw c.in-Cut.is at h)
 
 pub returns-in-Tick-clause-kept : goal.returns-in-Tick-clause-kept
 returns-in-Tick-clause-kept g c = λ p s now b h.
-    told_tick p _ s c.args.self.now now c.args.fits c.line_is_told.ensures (rw c.in-Tick.is at b) (rw c.in-Tick.is at h)
+    told_tick p _ s c.args.self.now now c.args.fits c.line_keeps_the_procedures.ensures (rw c.in-Tick.is at b) (rw c.in-Tick.is at h)
