@@ -33,6 +33,8 @@ mod reading;
 mod script;
 mod sim;
 mod simulation;
+mod tallies;
+mod tally;
 mod text;
 
 pub use directive::{Class, Directive, Fate};
@@ -41,6 +43,7 @@ pub use reading::read_script;
 pub use script::Script;
 pub use sim::Sim;
 pub use simulation::{SimFault, simulate};
+pub use tally::Tally;
 pub use traces::TextFault;
 
 #[cfg(test)]
