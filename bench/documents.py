@@ -6,9 +6,10 @@
 Each block of docs/*.md and packaging/*.md that begins with ```console is run: after `$ ` a command of `telegate`, then what it
 prints (standard output, then standard error), then `(status N)` where its exit status isn't 0. The crates in the table of
 docs/ARCHITECTURE.md are those of crates.txt, each below the crates that it stands on. Lines of README.md and of the documents have at most
-100 columns, README.md has at most 900 words and no sentence of 30 words or more, and each file that they name is there. Printed is
-a line for each case that failed, then `N passed, M failed`; the exit status is 1 where one failed. The program is the one that
-./build makes.
+100 columns, README.md has at most 900 words and no sentence of 30 words or more, and each file that they name is there. The repository
+stands alone: no line of a document, of an example or of a crate cites a demand by a letter and a number. Lines of src/ and specs/ have at
+most 100 columns, but for imports and attributes, in each crate that isn't named in WIDE. Printed is a line for each case that failed, then `N passed, M
+failed`; the exit status is 1 where one failed. The program is the one that ./build makes.
 """
 import argparse
 import glob
@@ -24,6 +25,11 @@ WORDS = 900
 SENTENCE = 30
 # What a sentence names as a file: a path with one of these endings, or in one of these folders.
 NAMED = re.compile(r"`?(?<![\w/])((?:bench|crates|docs|examples|packaging|tools|specs|src|\.ci)/[\w./*-]*\w|[\w-]+\.(?:md|txt|py))`?")
+
+# What cites a demand of another paper: a capital letter with a number, or a section or row of a paper that isn't here.
+CITED = re.compile(r"\b[DTRWPQ]\d{1,2}\b|\b(?:our|the|this) papers?\b|\brow \d+\b|\b0[1-4]-[a-z]+\.md\b")
+# Crates with lines of src/ or specs/ that are still too long.
+WIDE = {"apci", "asdu", "command", "elements", "events", "ft12", "gateway", "link", "live", "session", "sim", "telegate", "traces"}
 
 
 def read(name):
@@ -101,6 +107,29 @@ def judge_readme(judge, text):
             judge.case(count < SENTENCE, f"README.md: {count} words in: {sentence.strip()}")
 
 
+def judge_alone(judge, name, text):
+    """No line cites a demand of a paper that isn't part of the repository."""
+    for number, line in enumerate(text.splitlines(), 1):
+        if CITED.search(line):
+            judge.case(False, f"{name}:{number} cites {CITED.search(line)[0]}")
+
+
+def is_one_line(line):
+    """An import or an attribute, which the formatter keeps in one line."""
+    return re.match(r"\s*((pub |ghost |pub ghost )?use |#\[)", line) is not None
+
+
+def judge_sources(judge):
+    """What people read of the crates: its lines are short, and cite no paper."""
+    for crate in sorted(os.listdir(os.path.join(TOP, "crates"))):
+        wide = []
+        for name in sorted(glob.glob(f"crates/{crate}/src/**/*.rt", root_dir=TOP, recursive=True) + glob.glob(f"crates/{crate}/specs/**/*.antt", root_dir=TOP, recursive=True)):
+            text = read(name)
+            judge_alone(judge, name, text)
+            wide += [f"{name}:{number}" for number, line in enumerate(text.splitlines(), 1) if len(line) > COLUMNS and not is_one_line(line)]
+        judge.case(not wide or crate in WIDE, f"{crate}: more than {COLUMNS} columns in {len(wide)} lines, the first {wide[:1]}")
+
+
 def judge_names(judge, name, text):
     """Each file that a document names is there: from the top, beside the document, or in some crate."""
     bare = re.sub(r"^```.*?^```$", "", text, flags=re.M | re.S)
@@ -120,6 +149,10 @@ def main():
         judge_layout(judge, name, text)
         judge_commands(judge, program, name, text)
         judge_names(judge, name, text)
+        judge_alone(judge, name, text)
+    for name in sorted(glob.glob("examples/**/*.*", root_dir=TOP, recursive=True)):
+        judge_alone(judge, name, read(name))
+    judge_sources(judge)
     judge_crates(judge, texts["docs/ARCHITECTURE.md"])
     judge_readme(judge, texts["README.md"])
     print(f"{judge.passed} passed, {judge.failed} failed")

@@ -17,10 +17,13 @@ An edit may have a harmless twin, a file of the same name in tools/twins/CRATE: 
 twin is tried too, and is to be proved. One that is refused by a proof alone needs it.
 The last line is `N passed, M failed`: an edit fails that isn't refused, that is refused for names, that has a twin which isn't
 proved, that is refused by a proof alone and has no twin, or that turns a definition and is refused by more than laws. `--slot` stands before each `rt check`; `--log` keeps what each said.
+Beside each edit stand the processor seconds that its check took, and for each crate first those of a check of what is unchanged: that part
+each edit pays for loading.
 """
 import argparse
 import os
 import re
+import resource
 import shutil
 import subprocess
 import sys
@@ -99,6 +102,12 @@ def tried(edit, here, check):
                 it.write(text)
 
 
+def seconds():
+    """The processor seconds of all checks so far."""
+    used = resource.getrusage(resource.RUSAGE_CHILDREN)
+    return used.ru_utime + used.ru_stime
+
+
 def reason(said):
     """Why a crate isn't proved, in a word, and the line that says it best."""
     lines = said.split("\n")
@@ -166,13 +175,17 @@ def main():
             said, is_proved = check()
             if not is_proved:
                 sys.exit(f"edits: {crate} itself isn't proved:\n{said[-1000:]}")
+            before = seconds()
+            check()
+            print(f"{seconds() - before:4.0f} s {crate} unchanged", flush=True)
             for edit in sorted(os.listdir(folder)):
                 if edit.endswith(".edit") and (crate in wanted or f"{crate}/{edit[: -len('.edit')]}" in wanted):
                     twin = os.path.join(TOP, "tools", "twins", crate, edit)
+                    before = seconds()
                     word, of_twin, is_good, line = judged(os.path.join(folder, edit), twin, attempt)
                     passed, failed = passed + is_good, failed + (not is_good)
                     mark = "" if is_good else "FAILED "
-                    print(f"{mark}{word:7}{of_twin:13} {crate}/{edit}: {line[:160]}", flush=True)
+                    print(f"{seconds() - before:4.0f} s {mark}{word:7}{of_twin:13} {crate}/{edit}: {line[:160]}", flush=True)
     print(f"{passed} passed, {failed} failed")
     sys.exit(1 if failed else 0)
 

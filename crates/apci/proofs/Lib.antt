@@ -3,3 +3,4 @@ pub mod Fronts
 pub mod Exact
 pub mod Stream
 pub mod EachOctet
+pub mod WorkedExamples

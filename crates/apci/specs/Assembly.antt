@@ -5,24 +5,30 @@ use Rattle.apci.specs.declared.assembling.Heard.{Heard}
 use Rattle.apci.specs.declared.assembling.Heard.TheVariants as heard
 use Rattle.apci.specs.Reading.{IsFront, IsDecidedAt}
 
--- What contracts see of an assembler: the octets since the last APDU (none where it is deaf), and how many octets it
--- has looked at.
+-- What contracts see of an assembler: the octets since the last APDU (none where it is deaf), and
+-- how many octets it has looked at.
 pub record Assembly : Type 0 where
   pub so_far : Option (List ℕ)
   pub looked : ℕ
 
--- What is heard of a piece after the octets so far is what stands at the front of both joined. n octets of the piece are taken.
+-- What is heard of a piece after the octets so far is what stands at the front of both joined. n
+-- octets of the piece are taken.
 abbrev pub Hears : List ℕ → List ℕ → ℕ → Heard → Option (List ℕ) → Type 0
-Hears so_far piece n (heard.Apdu a) after = IsFront (so_far ++ piece) (front.Whole a (length so_far + n)) × (after ≡ Some [])
-Hears so_far piece n heard.More after = IsFront (so_far ++ piece) front.More × (n ≡ length piece) × (after ≡ Some (so_far ++ piece))
-Hears so_far piece n (heard.Never place why) after = IsFront (so_far ++ piece) (front.Never place why) × (n ≡ length piece) × (after ≡ None)
+Hears so_far piece n (heard.Apdu a) after =
+    IsFront (so_far ++ piece) (front.Whole a (length so_far + n)) × (after ≡ Some [])
+Hears so_far piece n heard.More after =
+    IsFront (so_far ++ piece) front.More × (n ≡ length piece) × (after ≡ Some (so_far ++ piece))
+Hears so_far piece n (heard.Never place why) after =
+    IsFront (so_far ++ piece) (front.Never place why) × (n ≡ length piece) × (after ≡ None)
 Hears so_far piece n heard.Deaf after = ⊥
 
--- How often octets were looked at, where n octets of the piece were taken: each once. Where they begin no APDU, the last
--- one looked at is the one that decides it; those behind it aren't looked at. The count saturates.
+-- How often octets were looked at, where n octets of the piece were taken: each once. Where they
+-- begin no APDU, the last one looked at is the one that decides it; those behind it aren't looked
+-- at. The count saturates.
 abbrev pub HasLooked : List ℕ → List ℕ → ℕ → ℕ → Heard → ℕ → Type 0
 HasLooked so_far piece before n (heard.Apdu a) after = after ≡ min (2 ^ 64 - 1) (before + n)
 HasLooked so_far piece before n heard.More after = after ≡ min (2 ^ 64 - 1) (before + n)
 HasLooked so_far piece before n (heard.Never place why) after =
-    (decides : ℕ) × IsDecidedAt (so_far ++ piece) decides × (after ≡ min (2 ^ 64 - 1) (before + (decides + 1 - length so_far)))
+    (decides : ℕ) × IsDecidedAt (so_far ++ piece) decides
+    × (after ≡ min (2 ^ 64 - 1) (before + (decides + 1 - length so_far)))
 HasLooked so_far piece before n heard.Deaf after = ⊥

@@ -1,4 +1,5 @@
--- The format that a first control octet names (IEC 60870-5-104, 5): its two lowest bits, and of a U format all.
+-- The format that a first control octet names (IEC 60870-5-104, 5): its two lowest bits, and of a U
+-- format all.
 use Rattle.std.specs.Prelude.{◌≡◌, ℕ, ◌%◌, None}
 use Rattle.apci.specs.declared.control.Format.{Format}
 use Rattle.apci.specs.declared.control.Format.TheVariants as format

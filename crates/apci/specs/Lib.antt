@@ -4,3 +4,4 @@ pub mod Borrowed
 pub mod Assembly
 pub mod Control
 pub mod Progress
+pub mod Examples

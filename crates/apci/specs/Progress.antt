@@ -41,7 +41,8 @@ IsState (state.Control len) asdu = (asdu ≡ []) × (4 ≤ len) × (len ≤ 253)
 IsState (state.ISecond len low) asdu = (asdu ≡ []) × IsLong len × IsLow low
 IsState (state.IThird len ns) asdu = (asdu ≡ []) × IsLong len × (ns < 2 ^ 15)
 IsState (state.IFourth len ns low) asdu = (asdu ≡ []) × IsLong len × (ns < 2 ^ 15) × IsLow low
-IsState (state.Asdu len ns nr) asdu = IsLong len × (ns < 2 ^ 15) × (nr < 2 ^ 15) × All IsOctet asdu × (length asdu + 4 < len)
+IsState (state.Asdu len ns nr) asdu =
+    IsLong len × (ns < 2 ^ 15) × (nr < 2 ^ 15) × All IsOctet asdu × (length asdu + 4 < len)
 IsState (state.SFourth low) asdu = (asdu ≡ []) × IsLow low
 IsState state.Start asdu = asdu ≡ []
 IsState state.Length asdu = asdu ≡ []
@@ -54,8 +55,12 @@ IsState (state.UFourth f) asdu = asdu ≡ []
 -- What one more octet gives: the octets with it, the ASDU so far, the octet, the state before it.
 abbrev pub Gives : List ℕ → List ℕ → ℕ → State → Step → Type 0
 Gives octets asdu o old (step.Goes new) = (so_far new asdu ≡ Some octets) × IsState new asdu
-Gives octets asdu o old step.Keeps = (so_far old (asdu ++ o ∷ []) ≡ Some octets) × IsState old (asdu ++ o ∷ []) × (length asdu < 249)
-Gives octets asdu o old (step.I ns nr) = IsFront octets (Whole (apdu.I ns nr (record { items = asdu ++ o ∷ [] })) (length octets)) × (length asdu < 249)
-Gives octets asdu o old (step.S nr) = IsFront octets (Whole (apdu.S nr) (length octets)) × (asdu ≡ [])
+Gives octets asdu o old step.Keeps =
+    (so_far old (asdu ++ o ∷ []) ≡ Some octets) × IsState old (asdu ++ o ∷ []) × (length asdu < 249)
+Gives octets asdu o old (step.I ns nr) =
+    IsFront octets (Whole (apdu.I ns nr (record { items = asdu ++ o ∷ [] })) (length octets))
+    × (length asdu < 249)
+Gives octets asdu o old (step.S nr) =
+    IsFront octets (Whole (apdu.S nr) (length octets)) × (asdu ≡ [])
 Gives octets asdu o old (step.U f) = IsFront octets (Whole (apdu.U f) (length octets)) × (asdu ≡ [])
 Gives octets asdu o old (step.Never place why) = IsFront octets (Never place why)

@@ -1,4 +1,5 @@
--- APDUs as octets (IEC 60870-5-104, 5: the start octet, the length and the four control octets of each format).
+-- APDUs as octets (IEC 60870-5-104, 5: the start octet, the length and the four control octets of
+-- each format).
 use Rattle.std.specs.Prelude.{◌≡◌, ℕ, ◌*◌, ◌/◌, ◌%◌, ◌^◌, ◌<◌, ◌≤◌, List, [], ◌∷◌, ◌++◌, length, All}
 use Rattle.apci.specs.declared.apdu.Uf.{Uf}
 use Rattle.apci.specs.declared.apdu.Uf.TheVariants.{StartAct, StartCon, StopAct, StopCon, TestAct, TestCon}
@@ -33,7 +34,9 @@ IsOctet n = n < 256
 
 -- the APDUs that have a spelling: the length goes up to 253, and an ASDU has at least 9 octets
 abbrev pub Fits : Apdu → Type 0
-Fits (I ns nr asdu) = (ns < 2 ^ 15) × (nr < 2 ^ 15) × All IsOctet asdu.items × (9 ≤ length asdu.items) × (length asdu.items ≤ 249)
+Fits (I ns nr asdu) =
+    (ns < 2 ^ 15) × (nr < 2 ^ 15) × All IsOctet asdu.items × (9 ≤ length asdu.items)
+    × (length asdu.items ≤ 249)
 Fits (S nr) = nr < 2 ^ 15
 Fits (U f) = Unit {0}
 

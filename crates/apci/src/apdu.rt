@@ -4,7 +4,8 @@ ghost use Rattle.std.specs.Prelude.{◌≡◌};
 
 use arrayvec::ArrayVec;
 
-/// What a U format says (IEC 60870-5-104, 5.2 and 5.3). Each has an activation and its confirmation.
+/// What a U format says (IEC 60870-5-104, 5.2 and 5.3). Each has an activation and its
+/// confirmation.
 #[derive(Clone, Copy, Debug, PartialEq, Eq)]
 pub enum Uf {
     /// STARTDT act: data transfer is to start.

@@ -26,7 +26,8 @@ pub enum Heard {
     Deaf,
 }
 
-/// Which octet of an APDU is due, with what the octets before it said. The octets of an ASDU stand apart.
+/// Which octet of an APDU is due, with what the octets before it said. The octets of an ASDU stand
+/// apart.
 #[derive(Clone, Copy)]
 enum State {
     /// None: octets before began no APDU.
@@ -107,7 +108,8 @@ fn control_step(len: u8, octet: u8) -> Step
 /// What the next octet gives.
 fn stepped(state: State, asdu: &[u8], octet: u8) -> Step
     requires { IsState state asdu.now }
-    ensures { IfSome (so_far state asdu.now) (λ octets. Gives (octets ++ octet ∷ []) asdu.now octet state result) }
+    ensures { IfSome (so_far state asdu.now) (λ octets.
+        Gives (octets ++ octet ∷ []) asdu.now octet state result) }
 {
     match state {
         State::Deaf => Step::Goes(State::Deaf),
@@ -150,8 +152,8 @@ fn stepped(state: State, asdu: &[u8], octet: u8) -> Step
 
 /// Makes APDUs out of pieces of a stream.
 ///
-/// It keeps the fields so far, and no octet but those of an ASDU. Contracts see the octets since the last APDU, or
-/// none where it is deaf, and how many octets it has looked at.
+/// It keeps the fields so far, and no octet but those of an ASDU. Contracts see the octets since
+/// the last APDU, or none where it is deaf, and how many octets it has looked at.
 #[derive(Drop)]
 pub struct Assembler {
     state: State,
@@ -213,8 +215,9 @@ impl Assembler {
         self.looked
     }
 
-    /// Takes octets of a piece, up to the last one of an APDU, and says how many and what was heard. It takes them all
-    /// where no APDU ends in the piece. After a refusal it takes and drops all octets until `clear`.
+    /// Takes octets of a piece, up to the last one of an APDU, and says how many and what was
+    /// heard. It takes them all where no APDU ends in the piece. After a refusal it takes and drops
+    /// all octets until `clear`.
     pub fn feed(&mut self, piece: &[u8]) -> (usize, Heard)
         ensures listening { IfSome self.old.so_far (λ so_far.
             Hears so_far piece.now result.0 result.1 self.new.so_far) }

@@ -5,6 +5,8 @@ ghost use Rattle.apci.specs.declared.apdu.Apdu.{Apdu};
 ghost use Rattle.apci.specs.declared.apdu.Front.{Front};
 ghost use Rattle.apci.specs.Spelling.{IsApdu, spelling};
 ghost use Rattle.apci.specs.Reading.{IsFront};
+ghost use Rattle.std.specs.List.{AllByRecursion};
+ghost use Rattle.apci.specs.Examples.{IsSpelledSo, TellFormats, IsRefusedSo, spelling_examples, refusal_examples};
 
 /// Each APDU has one spelling.
 pub fn one_spelling()
@@ -13,7 +15,8 @@ pub fn one_spelling()
 
 /// No spelling begins another, and no two APDUs have the same.
 pub fn no_spelling_begins_another()
-    ensures { (a b : Apdu) (x rest : List ℕ) → IsApdu a x → IsApdu b (x ++ rest) → (a ≡ b) × (rest ≡ []) }
+    ensures { (a b : Apdu) (x rest : List ℕ) → IsApdu a x → IsApdu b (x ++ rest) →
+        (a ≡ b) × (rest ≡ []) }
 {}
 
 /// Octets have one front.
@@ -24,4 +27,17 @@ pub fn one_front()
 /// Octets that begin with the spellings of two APDUs begin with one APDU, and go on alike.
 pub fn spellings_cancel()
     ensures { (a b : Apdu) (x y : List ℕ) → spelling a ++ x ≡ spelling b ++ y → (a ≡ b) × (x ≡ y) }
+{}
+
+/// The first control octet tells the format by its two lowest bits (IEC 60870-5-104, 5), and the
+/// length of an I format has room for an ASDU.
+pub fn formats_are_told_apart()
+    ensures { TellFormats }
+{}
+
+/// APDUs worked by hand from the standard have these octets, and octets that begin none are refused
+/// for this.
+pub fn worked_examples_hold()
+    ensures spellings { AllByRecursion IsSpelledSo spelling_examples }
+    ensures refusals { AllByRecursion IsRefusedSo refusal_examples }
 {}

@@ -25,51 +25,47 @@ const FUNCTIONS: [(Uf, u8); 6] = [
 ];
 
 #[test]
-fn functions(rt: HostRuntime) {
+fn apdus_of_each_format(rt: HostRuntime) {
     for (function, control) in FUNCTIONS {
         let octets = [0x68, 0x04, control, 0x00, 0x00, 0x00];
         let apdu = Apdu::U(function);
-        assert_eq!(rt; encode(&apdu).as_slice(), octets.as_slice());
-        assert_eq!(rt; front(&octets), Front::Whole(apdu, 6));
+        assert!(rt;
+            encode(&apdu).as_slice() == octets.as_slice() && front(&octets) == Front::Whole(apdu, 6)
+        );
     }
-}
-
-#[test]
-fn reports_and_acknowledgements(rt: HostRuntime) {
     let report = ApduRef::I {
         ns: 0,
         nr: 0,
         asdu: &REPORT[6..],
     };
-    assert_eq!(rt; front_ref(&REPORT), FrontRef::Whole(report, 21));
-    assert_eq!(rt; encode(&report.to_apdu()).as_slice(), REPORT.as_slice());
-    assert_eq!(rt; front_ref(&ACKNOWLEDGE[..3]), FrontRef::More);
-    let more = [0x68, 0x04, 0x01, 0x00, 0x02, 0x00, 0xE5];
-    assert_eq!(rt; front_ref(&more), FrontRef::Whole(ApduRef::S { nr: 1 }, 6));
-    assert_eq!(rt; front(&more), Front::Whole(Apdu::S { nr: 1 }, 6));
-    assert_eq!(rt;
-        encode(&Apdu::S { nr: 1 }).as_slice(),
-        ACKNOWLEDGE.as_slice()
+    assert!(rt;
+        front_ref(&REPORT) == FrontRef::Whole(report, 21)
+            && encode(&report.to_apdu()).as_slice() == REPORT.as_slice()
     );
-}
-
-#[test]
-fn counters_run_modulo_32768(rt: HostRuntime) {
+    let more = [0x68, 0x04, 0x01, 0x00, 0x02, 0x00, 0xE5];
+    assert!(rt;
+        front_ref(&ACKNOWLEDGE[..3]) == FrontRef::More
+            && front_ref(&more) == FrontRef::Whole(ApduRef::S { nr: 1 }, 6)
+            && front(&more) == Front::Whole(Apdu::S { nr: 1 }, 6)
+            && encode(&Apdu::S { nr: 1 }).as_slice() == ACKNOWLEDGE.as_slice()
+    );
+    // Counters run modulo 32768.
     let asdu = &LAST_NUMBER[6..];
     let last = ApduRef::I {
         ns: 32767,
         nr: 0,
         asdu,
     };
-    assert_eq!(rt; front_ref(&LAST_NUMBER), FrontRef::Whole(last, 15));
-    assert_eq!(rt; encode(&last.to_apdu()).as_slice(), LAST_NUMBER.as_slice());
+    assert!(rt;
+        front_ref(&LAST_NUMBER) == FrontRef::Whole(last, 15)
+            && encode(&last.to_apdu()).as_slice() == LAST_NUMBER.as_slice()
+    );
     let next = ApduRef::I {
         ns: 0,
         nr: 32767,
         asdu,
     };
-    let next = encode(&next.to_apdu());
-    assert_eq!(rt; &next[2..6], [0x00, 0x00, 0xFE, 0xFF].as_slice());
+    assert!(rt; encode(&next.to_apdu())[2..6] == [0x00, 0x00, 0xFE, 0xFF]);
 }
 
 #[test]
@@ -98,19 +94,18 @@ fn refusals_in_their_order(rt: HostRuntime) {
         (&[0x68, 0x04, 0x43, 0x01, 0x01, 0x01], 3, Why::Control),
     ];
     for (octets, place, why) in refused {
-        assert_eq!(rt; front(octets), Front::Never(place, why));
-        assert_eq!(rt; front_ref(octets), FrontRef::Never(place, why));
         let mut assembler = Assembler::new();
-        assert_eq!(rt;
-            assembler.feed(octets),
-            (octets.len(), Heard::Never(place, why))
+        assert!(rt;
+            front(octets) == Front::Never(place, why)
+                && front_ref(octets) == FrontRef::Never(place, why)
+                && assembler.feed(octets) == (octets.len(), Heard::Never(place, why))
         );
     }
     // A length from 5 to 12 is judged with the octet after it.
     for len in 4u8..=253 {
-        assert_eq!(rt; front(&[0x68, len]), Front::More);
+        assert!(rt; front(&[0x68, len]) == Front::More);
     }
-    assert_eq!(rt; front(&[]), Front::More);
+    assert!(rt; front(&[]) == Front::More);
 }
 
 /// What is heard where `front` answers this.
@@ -222,7 +217,8 @@ fn long_report() -> [u8; 252] {
     octets
 }
 
-/// Whether octets that are cut in two here are heard as `front` finds them, each looked at at most once.
+/// Whether octets that are cut in two here are heard as `front` finds them, each looked at at most
+/// once.
 fn is_heard_alike(octets: &[u8], cut: usize) -> bool
     requires { cut ≤ length octets.now }
 {
@@ -256,64 +252,80 @@ fn every_cut_is_heard_alike(rt: HostRuntime) {
     }
 }
 
+/// Whether each octet, one after another, is heard as `front` finds those that came.
+fn is_heard_octet_by_octet(octets: &[u8]) -> bool {
+    let mut assembler = Assembler::new();
+    for (i, octet) in octets.iter().enumerate() {
+        let (taken, heard) = assembler.feed(&[*octet]);
+        let goes_on = heard == Heard::More;
+        if taken != 1 || heard != heard_from(front(&octets[..i + 1])) {
+            return false;
+        }
+        if !goes_on {
+            break;
+        }
+    }
+    true
+}
+
 #[test]
 fn one_pass_hears_what_reading_again_hears(rt: HostRuntime) {
     for place in 0..REPORT.len() {
         for octet in 0u8..=255 {
             let mut octets = REPORT;
             octets[place] = octet;
-            let mut assembler = Assembler::new();
-            for (i, octet) in octets.iter().enumerate() {
-                let (taken, heard) = assembler.feed(&[*octet]);
-                assert_eq!(rt; taken, 1);
-                let goes_on = heard == Heard::More;
-                assert_eq!(rt; heard, heard_from(front(&octets[..i + 1])));
-                if !goes_on {
-                    break;
-                }
-            }
+            assert!(rt; is_heard_octet_by_octet(&octets));
         }
     }
 }
 
+/// A call of an assembler.
+#[derive(Drop)]
+enum Step<'a> {
+    /// A piece, and what is to be answered.
+    Feed(&'a [u8], (usize, Heard)),
+    Clear,
+    /// How many octets it has looked at by then.
+    Looked(u64),
+}
+
+/// Whether each call, in their order, answers what it is to.
+fn answers(assembler: &mut Assembler, steps: &[Step]) -> bool {
+    steps.iter().all(|step| match step {
+        Step::Feed(piece, expected) => assembler.feed(piece) == *expected,
+        Step::Clear => {
+            assembler.clear();
+            true
+        }
+        Step::Looked(count) => assembler.looked() == *count,
+    })
+}
+
 #[test]
-fn octets_after_an_apdu_are_left(rt: HostRuntime) {
-    let mut assembler = Assembler::new();
-    assert_eq!(rt; assembler.feed(&[0x68, 0x04, 0x43]), (3, Heard::More));
+fn what_is_left_and_what_is_dropped(rt: HostRuntime) {
     let piece = [0x00, 0x00, 0x00, 0x68, 0x00];
-    assert_eq!(rt;
-        assembler.feed(&piece),
-        (3, Heard::Apdu(Apdu::U(Uf::TestAct)))
-    );
-    assert_eq!(rt;
-        assembler.feed(&piece[3..]),
-        (2, Heard::Never(1, Why::Length))
-    );
-    assert_eq!(rt; assembler.feed(&ACKNOWLEDGE), (6, Heard::Deaf));
-    assembler.clear();
-    assert_eq!(rt;
-        assembler.feed(&ACKNOWLEDGE),
-        (6, Heard::Apdu(Apdu::S { nr: 1 }))
-    );
-    assert_eq!(rt; assembler.looked(), 14);
-}
-
-#[test]
-fn half_an_asdu_is_forgotten(rt: HostRuntime) {
+    let steps = [
+        Step::Feed(&[0x68, 0x04, 0x43], (3, Heard::More)),
+        // Octets after an APDU are left.
+        Step::Feed(&piece, (3, Heard::Apdu(Apdu::U(Uf::TestAct)))),
+        Step::Feed(&piece[3..], (2, Heard::Never(1, Why::Length))),
+        // It is deaf until it is cleared.
+        Step::Feed(&ACKNOWLEDGE, (6, Heard::Deaf)),
+        Step::Clear,
+        Step::Feed(&ACKNOWLEDGE, (6, Heard::Apdu(Apdu::S { nr: 1 }))),
+        Step::Looked(14),
+        // Half an ASDU is forgotten.
+        Step::Feed(&REPORT[..12], (12, Heard::More)),
+        Step::Clear,
+        Step::Feed(&REPORT, (21, heard_from(front(&REPORT)))),
+        Step::Feed(&[0x00], (1, Heard::Never(0, Why::Start))),
+        Step::Looked(48),
+    ];
     let mut assembler = Assembler::new();
-    assert_eq!(rt; assembler.feed(&REPORT[..12]), (12, Heard::More));
-    assembler.clear();
-    let (taken, heard) = assembler.feed(&REPORT);
-    assert_eq!(rt; taken, 21);
-    assert_eq!(rt; heard, heard_from(front(&REPORT)));
-}
-
-#[test]
-fn a_flood_is_heard_once(rt: HostRuntime) {
-    let mut assembler = Assembler::new();
-    assert_eq!(rt; assembler.feed(&[0x00]), (1, Heard::Never(0, Why::Start)));
-    for _ in 1..100_000u32 {
-        assert_eq!(rt; assembler.feed(&[0x00]), (1, Heard::Deaf));
+    assert!(rt; answers(&mut assembler, &steps));
+    // A flood is taken, and not looked at.
+    for _ in 0..10_000u32 {
+        assert!(rt; assembler.feed(&[0x00]) == (1, Heard::Deaf));
     }
-    assert_eq!(rt; assembler.looked(), 1);
+    assert!(rt; assembler.looked() == 48);
 }

@@ -22,7 +22,8 @@ fn push_counter(out: &mut ArrayVec<u8, LONGEST>, n: u16)
     out.push((n / 128) as u8);
 }
 
-/// The octets of an APDU, at most 255. It asks for counters below 32768 and an ASDU of 9 to 249 octets.
+/// The octets of an APDU, at most 255. It asks for counters below 32768 and an ASDU of 9 to 249
+/// octets.
 pub fn encode(apdu: &Apdu) -> ArrayVec<u8, LONGEST>
     requires { Fits apdu.now }
     ensures { result.items ≡ spelling apdu.now }

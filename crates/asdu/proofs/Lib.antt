@@ -10,3 +10,4 @@ pub mod Spelling
 pub mod Splits
 pub mod Steps
 pub mod Tags
+pub mod WorkedExamples

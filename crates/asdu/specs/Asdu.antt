@@ -12,15 +12,16 @@ use Rattle.asdu.specs.declared.sizes.Sizes.{Sizes}
 
 -- ---- Values
 
--- An information object within its ASDU: its address, the octets of its element, and those of its time tag,
--- if it has one (7.2.5, 7.2.6).
+-- An information object within its ASDU: its address, the octets of its element, and those of its
+-- time tag, if it has one (7.2.5, 7.2.6).
 pub record Info : Type 0 where
   pub address : ℕ
   pub element : List ℕ
   pub tag : Option (List ℕ)
 
--- What stands in an ASDU. The cause is the whole octet, with test and P/N (7.2.3). The originator is 0 where
--- the cause has one octet. `sequence` is SQ (7.2.2): the objects have successive addresses.
+-- What stands in an ASDU. The cause is the whole octet, with test and P/N (7.2.3). The originator
+-- is 0 where the cause has one octet. `sequence` is SQ (7.2.2): the objects have successive
+-- addresses.
 pub record AsduValue : Type 0 where
   pub kind : TypeId
   pub sequence : Bool
@@ -50,8 +51,8 @@ content i = i.element ++ tag_octets i.tag
 abbrev pub located : ℕ → Info → List ℕ
 located w i = little_bytes w i.address ++ content i
 
--- The objects (7.2.2.1): with SQ 0 each has its address, with SQ 1 the first address stands before all the
--- contents.
+-- The objects (7.2.2.1): with SQ 0 each has its address, with SQ 1 the first address stands before
+-- all the contents.
 abbrev pub body : ℕ → Bool → List Info → List ℕ
 body w false is = flat_map (located w) is
 body w true [] = []
@@ -66,14 +67,17 @@ abbrev pub originator_octets : CauseSize → ℕ → List ℕ
 originator_octets causes.One o = []
 originator_octets causes.Two o = o ∷ []
 
--- the data unit identifier (7.1): type, variable structure qualifier, cause, originator, common address
+-- the data unit identifier (7.1): type, variable structure qualifier, cause, originator, common
+-- address
 abbrev pub header : Sizes → TypeId → Bool → ℕ → ℕ → ℕ → ℕ → List ℕ
 header s t sequence n cause originator ca =
-    (row t).code ∷ vsq sequence n ∷ cause ∷ (originator_octets s.cause originator ++ little_bytes (ca_len s.ca) ca)
+    (row t).code ∷ vsq sequence n ∷ cause
+    ∷ (originator_octets s.cause originator ++ little_bytes (ca_len s.ca) ca)
 
 abbrev pub spelled : Sizes → AsduValue → List ℕ
 spelled s u =
-    header s u.kind u.sequence (length u.infos) u.cause u.originator u.ca ++ body (ioa_len s.ioa) u.sequence u.infos
+    header s u.kind u.sequence (length u.infos) u.cause u.originator u.ca
+    ++ body (ioa_len s.ioa) u.sequence u.infos
 
 -- ---- What fits the sizes
 
@@ -106,8 +110,8 @@ abbrev pub IsOriginator : CauseSize → ℕ → Type 0
 IsOriginator causes.One o = o ≡ 0
 IsOriginator causes.Two o = o < 256
 
--- An ASDU that has a spelling in these sizes: 1 to 127 objects, numbers that fit, and with SQ 1 successive
--- addresses that all fit. SQ 1 goes with every type (this gateway's own profile).
+-- An ASDU that has a spelling in these sizes: 1 to 127 objects, numbers that fit, and with SQ 1
+-- successive addresses that all fit. SQ 1 goes with every type (this gateway's own profile).
 pub record FitsSizes (s : Sizes) (u : AsduValue) : Type 0 where
   pub some : 1 ≤ length u.infos
   pub most : length u.infos ≤ 127

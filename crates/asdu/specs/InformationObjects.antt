@@ -1,4 +1,5 @@
--- The information objects of an ASDU, each with what its ASDU says of it (IEC 60870-5-101, 7.2 and 7.3).
+-- The information objects of an ASDU, each with what its ASDU says of it (IEC 60870-5-101, 7.2 and
+-- 7.3).
 use Rattle.std.specs.Prelude.{ℕ, Bool, not, ◌&&◌, ◌==◌, if◌then◌else◌, List, [], map, slice_index, Option, Some, None, false}
 use Rattle.elements.specs.declared.types.TypeId.{TypeId}
 use Rattle.elements.specs.Types.{row, type_of}
@@ -7,8 +8,8 @@ use Rattle.asdu.specs.Asdu.{AsduValue, Info}
 use Rattle.asdu.specs.Fields.{value_at}
 use Rattle.asdu.specs.Refusals.{is_read}
 
--- type, cause octet, originator (0 where the cause has one octet), common address, object address, element
--- octets, and tag octets or none
+-- type, cause octet, originator (0 where the cause has one octet), common address, object address,
+-- element octets, and tag octets or none
 pub record InformationObject : Type 0 where
   pub kind : TypeId
   pub cause : ℕ
@@ -41,9 +42,10 @@ typed_objects s (Some t) xs = value_objects (value_at s t xs)
 unfoldable pub objects_of : Sizes → List ℕ → List InformationObject
 objects_of s xs = if is_read s xs then typed_objects s (type_of (slice_index xs 0)) xs else []
 
--- Whether reports of this type and cause octet are passed on to the control centre: those of monitor types,
--- save with 'unknown type' and P/N set, with the test bit or without (6C, EC). This gateway's own profile: no
--- monitor type goes down to a station, so no station has a reason to send them.
+-- Whether reports of this type and cause octet are passed on to the control centre: those of
+-- monitor types, save with 'unknown type' and P/N set, with the test bit or without (6C, EC). This
+-- gateway's own profile: no monitor type goes down to a station, so no station has a reason to send
+-- them.
 abbrev pub is_passed_on : TypeId → ℕ → Bool
 is_passed_on t cause = (row t).monitor && not (cause == 108) && not (cause == 236)
 

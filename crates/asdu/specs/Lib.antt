@@ -1,4 +1,5 @@
 pub mod Asdu
+pub mod Examples
 pub mod Fields
 pub mod InformationObjects
 pub mod Objects

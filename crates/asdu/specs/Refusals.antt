@@ -12,13 +12,16 @@ abbrev pub body_len : TypeId → ℕ → Bool → ℕ → ℕ
 body_len t w false n = n * (w + content_len t)
 body_len t w true n = w + n * content_len t
 
--- of octets of type t: 3 no object, 4 a length that type, SQ, number and sizes don't give, 5 with SQ 1 a last
--- address past the address size
+-- of octets of type t: 3 no object, 4 a length that type, SQ, number and sizes don't give, 5 with
+-- SQ 1 a last address past the address size
 abbrev pub body_refusal : Sizes → TypeId → List ℕ → Option ℕ
 body_refusal s t xs =
     if number_at xs == 0 then Some 3
-    else (if not (length xs == header_len s + body_len t (ioa_len s.ioa) (is_sequence xs) (number_at xs)) then Some 4
-    else (if is_sequence xs && nat_lt (256 ^ ioa_len s.ioa) (first_address s xs + number_at xs) then Some 5
+    else (if not (length xs
+    == header_len s + body_len t (ioa_len s.ioa) (is_sequence xs) (number_at xs))
+    then Some 4
+    else (if is_sequence xs && nat_lt (256 ^ ioa_len s.ioa) (first_address s xs + number_at xs)
+    then Some 5
     else None))
 
 -- 2 a type that isn't known

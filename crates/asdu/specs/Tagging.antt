@@ -1,4 +1,5 @@
--- Commands with and without a time tag (IEC 60870-5-104, 8: types 58 to 62 are types 45 to 49 with CP56Time2a behind the element).
+-- Commands with and without a time tag (IEC 60870-5-104, 8: types 58 to 62 are types 45 to 49 with
+-- CP56Time2a behind the element).
 use Rattle.std.specs.Prelude.{ℕ, Bool, true, false, List, map, None, Some}
 use Rattle.elements.specs.declared.types.TypeId.{TypeId}
 use Rattle.elements.specs.declared.types.TypeId.TheVariants.{CScNa1, CDcNa1, CRcNa1, CSeNa1, CSeNb1, CScTa1, CDcTa1, CRcTa1, CSeTa1, CSeTb1}

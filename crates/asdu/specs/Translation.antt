@@ -1,5 +1,6 @@
--- The ASDUs of IEC 60870-5-104 that a report of the line is cut into. Their sizes and the 249 octets of an
--- ASDU are the standard's (60870-5-104, 5.1 and 7); how a longer report is cut is this gateway's own profile.
+-- The ASDUs of IEC 60870-5-104 that a report of the line is cut into. Their sizes and the 249
+-- octets of an ASDU are the standard's (60870-5-104, 5.1 and 7); how a longer report is cut is this
+-- gateway's own profile.
 use Rattle.std.specs.Prelude.{◌≡◌, ℕ, ◌+◌, ◌/◌, ◌≤◌, min, Bool, true, false, if◌then◌else◌, List, [], ◌∷◌, length, slice_index, Option, Some, None, ⊤}
 use Rattle.std.specs.Int.{div_ceil}
 use Rattle.elements.specs.declared.types.TypeId.{TypeId}
@@ -11,8 +12,8 @@ use Rattle.asdu.specs.Fields.{number_at, is_sequence}
 use Rattle.asdu.specs.Refusals.{is_read}
 use Rattle.asdu.specs.Writing.{with_infos}
 
--- The most objects of a piece, whose header has 6 octets and whose addresses have 3: with SQ 0 each object has
--- its address, with SQ 1 only the first.
+-- The most objects of a piece, whose header has 6 octets and whose addresses have 3: with SQ 0 each
+-- object has its address, with SQ 1 only the first.
 abbrev pub piece_size : TypeId → Bool → ℕ
 piece_size t false = 243 / (3 + content_len t)
 piece_size t true = min 127 (240 / content_len t)
@@ -21,11 +22,13 @@ abbrev pub typed_parts : Option TypeId → List ℕ → ℕ
 typed_parts None xs = 0
 typed_parts (Some t) xs = div_ceil (number_at xs) (piece_size t (is_sequence xs))
 
--- how many pieces a report is cut into: its objects divided by the piece size, rounded up; 0 of no ASDU
+-- how many pieces a report is cut into: its objects divided by the piece size, rounded up; 0 of no
+-- ASDU
 unfoldable pub parts : Sizes → List ℕ → ℕ
 parts s xs = if is_read s xs then typed_parts (type_of (slice_index xs 0)) xs else 0
 
--- the octets are a piece of the ASDU: an ASDU of at most 249 octets with its header and some of its objects
+-- the octets are a piece of the ASDU: an ASDU of at most 249 octets with its header and some of its
+-- objects
 pub record IsPiece (v : AsduValue) (xs : List ℕ) : Type 0 where
   pub infos : List Info
   pub spells : IsAsdu tcp (with_infos v infos) xs

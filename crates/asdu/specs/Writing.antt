@@ -17,7 +17,8 @@ abbrev pub carried_originator : CauseSize → ℕ → ℕ
 carried_originator causes.One o = 0
 carried_originator causes.Two o = o
 
--- the ASDU in other sizes: numbers keep their value, and there is no originator where the cause has one octet
+-- the ASDU in other sizes: numbers keep their value, and there is no originator where the cause has
+-- one octet
 abbrev pub carried : Sizes → AsduValue → AsduValue
 carried s v = record v { originator = carried_originator s.cause v.originator }
 

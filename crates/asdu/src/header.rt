@@ -1,7 +1,7 @@
 //! The header of an ASDU.
 
-/// The header (the data unit identifier of IEC 60870-5-101, 7.1) and the first object address of an ASDU, as its
-/// octets have them. Nothing is judged yet: the octets after them may be no ASDU.
+/// The header (the data unit identifier of IEC 60870-5-101, 7.1) and the first object address of an
+/// ASDU, as its octets have them. Nothing is judged yet: the octets after them may be no ASDU.
 #[derive(Clone, Copy, Debug, PartialEq, Eq)]
 pub struct Head {
     /// The type identification.

@@ -1,26 +1,59 @@
-//! Laws of the relation between an ASDU and its octets, for callers to lean on. Each is called for its contract.
-ghost use Rattle.std.specs.Prelude.{◌≡◌, ◌≤◌, ℕ, List, [], length, true, false};
+//! Laws of the relation between an ASDU and its octets, for callers to lean on. Each is called for
+//! its contract.
+ghost use Rattle.std.specs.Prelude.{◌≡◌, ◌≤◌, ℕ, Bool, List, [], length, true, false};
 ghost use Rattle.std.specs.Int.{div_ceil};
+ghost use Rattle.std.specs.List.{AllByRecursion};
 ghost use Rattle.elements.specs.Octets.{AreOctets};
 ghost use Rattle.asdu.specs.declared.sizes.Sizes.{Sizes};
 ghost use Rattle.asdu.specs.Asdu.{AsduValue, IsAsdu, IsNoAsdu};
 ghost use Rattle.asdu.specs.Refusals.{is_read};
 ghost use Rattle.asdu.specs.InformationObjects.{value_objects, objects_of, monitor_objects_of, is_passed_on, only_if};
 ghost use Rattle.asdu.specs.Translation.{parts, piece_size};
+ghost use Rattle.elements.specs.declared.types.TypeId.{TypeId};
+ghost use Rattle.asdu.specs.Examples.{IsWorkedSo, IsRefusedSo, PassedExamples, PartExamples, IsMost, TagsByType, octet_examples, refusal_examples};
 
 /// In given sizes octets are one ASDU at most, and an ASDU has one spelling.
 pub fn one_asdu_one_spelling()
-    ensures one_asdu { (s : Sizes) (u v : AsduValue) (xs : List ℕ) → IsAsdu s u xs → IsAsdu s v xs → u ≡ v }
-    ensures one_spelling { (s : Sizes) (u : AsduValue) (xs ys : List ℕ) → IsAsdu s u xs → IsAsdu s u ys → xs ≡ ys }
+    ensures one_asdu { (s : Sizes) (u v : AsduValue) (xs : List ℕ) → IsAsdu s u xs → IsAsdu s v xs →
+        u ≡ v }
+    ensures one_spelling { (s : Sizes) (u : AsduValue) (xs ys : List ℕ) → IsAsdu s u xs →
+        IsAsdu s u ys → xs ≡ ys }
 {}
 
-/// Whether octets are read, their objects, those that are passed on, and the number of pieces are those of the ASDU
-/// that the octets are; where they are none, nothing is read, and there is no object and no piece.
+/// Whether octets are read, their objects, those that are passed on, and the number of pieces are
+/// those of the ASDU that the octets are; where they are none, nothing is read, and there is no
+/// object and no piece.
 pub fn objects_are_those_of_the_asdu()
     ensures read { (s : Sizes) (u : AsduValue) (xs : List ℕ) → IsAsdu s u xs → is_read s xs ≡ true }
-    ensures objects { (s : Sizes) (u : AsduValue) (xs : List ℕ) → IsAsdu s u xs → objects_of s xs ≡ value_objects u }
-    ensures monitor_objects { (s : Sizes) (u : AsduValue) (xs : List ℕ) → IsAsdu s u xs → monitor_objects_of s xs ≡ only_if (is_passed_on u.kind u.cause) (value_objects u) }
-    ensures pieces { (s : Sizes) (u : AsduValue) (xs : List ℕ) → IsAsdu s u xs → parts s xs ≡ div_ceil (length u.infos) (piece_size u.kind u.sequence) }
-    ensures not_read { (s : Sizes) (xs : List ℕ) → AreOctets xs → IsNoAsdu s xs → is_read s xs ≡ false }
-    ensures nothing { (s : Sizes) (xs : List ℕ) → is_read s xs ≡ false → (objects_of s xs ≡ []) × (monitor_objects_of s xs ≡ []) × (parts s xs ≡ 0) }
+    ensures objects { (s : Sizes) (u : AsduValue) (xs : List ℕ) → IsAsdu s u xs →
+        objects_of s xs ≡ value_objects u }
+    ensures monitor_objects { (s : Sizes) (u : AsduValue) (xs : List ℕ) → IsAsdu s u xs →
+        monitor_objects_of s xs ≡ only_if (is_passed_on u.kind u.cause) (value_objects u) }
+    ensures pieces { (s : Sizes) (u : AsduValue) (xs : List ℕ) → IsAsdu s u xs →
+        parts s xs ≡ div_ceil (length u.infos) (piece_size u.kind u.sequence) }
+    ensures not_read { (s : Sizes) (xs : List ℕ) → AreOctets xs → IsNoAsdu s xs →
+        is_read s xs ≡ false }
+    ensures nothing { (s : Sizes) (xs : List ℕ) → is_read s xs ≡ false →
+        (objects_of s xs ≡ []) × (monitor_objects_of s xs ≡ []) × (parts s xs ≡ 0) }
+{}
+
+/// ASDUs worked by hand from the standard: their octets and objects, what is refused and why, which
+/// reports are passed on, and into how many pieces they are cut.
+pub fn worked_examples_hold()
+    ensures octets { AllByRecursion IsWorkedSo octet_examples }
+    ensures refusals { AllByRecursion IsRefusedSo refusal_examples }
+    ensures passed { PassedExamples }
+    ensures parts { PartExamples }
+{}
+
+/// Of each type a piece has as many objects as fit the 249 octets of an ASDU of IEC 60870-5-104 and
+/// a number of seven bits.
+pub fn pieces_are_as_large_as_can_be()
+    ensures { (t : TypeId) (sequence : Bool) → IsMost t sequence }
+{}
+
+/// Commands with a time tag are types 58 to 62, each 13 above the same command without one (IEC
+/// 60870-5-104, 8).
+pub fn tagged_types_are_thirteen_above()
+    ensures { TagsByType }
 {}

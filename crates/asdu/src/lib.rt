@@ -1,14 +1,16 @@
-//! Application service data units (ASDUs) of IEC 60870-5-101, 7.1 and 7.2, and IEC 60870-5-104, 7: reading them in
-//! given sizes, going over their information objects, and writing them in other sizes.
+//! Application service data units (ASDUs) of IEC 60870-5-101, 7.1 and 7.2, and IEC 60870-5-104, 7:
+//! reading them in given sizes, going over their information objects, and writing them in other
+//! sizes.
 //!
-//! `read` answers an `Asdu`, borrowed from its octets; `Asdu::objects` goes over its objects, borrowed too; `translate`
-//! cuts a report of a serial line into ASDUs of a connection, and `write` spells an ASDU in other sizes. Nothing here
-//! takes memory. The crate knows no frames and no links, and judges neither causes, values nor time tags.
+//! `read` answers an `Asdu`, borrowed from its octets; `Asdu::objects` goes over its objects,
+//! borrowed too; `translate` cuts a report of a serial line into ASDUs of a connection, and `write`
+//! spells an ASDU in other sizes. Nothing here takes memory. The crate knows no frames and no
+//! links, and judges neither causes, values nor time tags.
 //!
-//! What its public calls carry: `read` accepts exactly the octets that are an ASDU (`IsAsdu`), and else names the first
-//! fault. The objects of the pieces of `translate`, joined, are the objects of the source, in all their parts, and
-//! so are those that are passed on; there are at most three pieces, as many as `parts` says. What `write` makes is the
-//! same ASDU in the other sizes.
+//! What its public calls carry: `read` accepts exactly the octets that are an ASDU (`IsAsdu`), and
+//! else names the first fault. The objects of the pieces of `translate`, joined, are the objects of
+//! the source, in all their parts, and so are those that are passed on; there are at most three
+//! pieces, as many as `parts` says. What `write` makes is the same ASDU in the other sizes.
 #![tactic(auto)]
 
 mod header;
@@ -24,7 +26,10 @@ mod unit;
 mod writing;
 
 pub use header::Head;
-pub use laws::{objects_are_those_of_the_asdu, one_asdu_one_spelling};
+pub use laws::{
+    objects_are_those_of_the_asdu, one_asdu_one_spelling, pieces_are_as_large_as_can_be,
+    tagged_types_are_thirteen_above, worked_examples_hold,
+};
 pub use objects::{Object, Objects};
 pub use reading::{head, read};
 pub use sizes::{CaSize, CauseSize, IoaSize, Sizes};

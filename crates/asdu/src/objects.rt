@@ -80,7 +80,8 @@ impl<'a> Objects<'a> {
         ensures first_left { result.0.left ≡ number }
         ensures others_left { result.1.left + number ≡ self.entry.left }
         ensures kinds { (result.0.kind ≡ self.entry.kind) × (result.1.kind ≡ self.entry.kind) }
-        ensures modes { (is_some result.0.next_address ≡ is_some self.entry.next_address) × (is_some result.1.next_address ≡ is_some self.entry.next_address) }
+        ensures modes { (is_some result.0.next_address ≡ is_some self.entry.next_address)
+            × (is_some result.1.next_address ≡ is_some self.entry.next_address) }
     {
         let (next_address, octets) = self.place_of(number);
         let first = Objects {
@@ -104,8 +105,10 @@ impl<'a> Objects<'a> {
     fn place_of(self, number: usize) -> (Option<u32>, usize)
         requires { number ≤ self.left }
         ensures address { result.0 ≡ address_after number self.entry.next_address }
-        ensures place { result.1 ≡ rest_len self.entry.kind (ioa_len self.entry.ioa) self.entry.next_address number }
-        ensures enough { rest_len self.entry.kind (ioa_len self.entry.ioa) result.0 (self.entry.left - number) + result.1 ≤ length self.entry.octets.now }
+        ensures place { result.1
+            ≡ rest_len self.entry.kind (ioa_len self.entry.ioa) self.entry.next_address number }
+        ensures enough { rest_len self.entry.kind (ioa_len self.entry.ioa) result.0
+            (self.entry.left - number) + result.1 ≤ length self.entry.octets.now }
         ensures in_range { ForSome result.0 (λ a. a + (self.entry.left - number) ≤ 2 ^ 24) }
     {
         let content = content_octets(self.kind);
@@ -150,7 +153,8 @@ fn split_content<'a>(kind: TypeId, octets: &'a [u8]) -> (&'a [u8], Option<&'a [u
     requires { content_len kind ≤ length octets.now }
     ensures element { result.0.now ≡ take (row kind).size octets.now }
     ensures sized { length result.0.now ≡ (row kind).size }
-    ensures tag { option_copied result.1 ≡ tag_at (row kind).tagged (drop (row kind).size octets.now) }
+    ensures tag { option_copied result.1
+        ≡ tag_at (row kind).tagged (drop (row kind).size octets.now) }
     ensures tagged { ForSome result.1 (λ tag. length tag.now ≡ 7) }
     ensures rest { result.2.now ≡ drop (content_len kind) octets.now }
 {

@@ -11,7 +11,8 @@ use crate::objects::content_octets;
 use crate::{Asdu, CauseSize, Head, IoaSize, Refused, Sizes};
 use elements::{TypeId, kind};
 
-/// Reads the header and the first object address, and judges neither; None where the octets are too short for both.
+/// Reads the header and the first object address, and judges neither; None where the octets are too
+/// short for both.
 pub fn head(sizes: Sizes, octets: &[u8]) -> Option<Head>
     ensures some { IsSome result ↔ (header_len sizes + ioa_len sizes.ioa ≤ length octets.now) }
     ensures value { IfSome result (IsHeadOf sizes octets.now) }
@@ -34,19 +35,22 @@ pub fn head(sizes: Sizes, octets: &[u8]) -> Option<Head>
     })
 }
 
-/// Reads an ASDU, which takes all of the octets, in the sizes given (IEC 60870-5-101, 7.1 and 7.2). The types are those
-/// of `TypeId`, each with SQ 0 or 1; `Refused` says why octets are none.
+/// Reads an ASDU, which takes all of the octets, in the sizes given (IEC 60870-5-101, 7.1 and 7.2).
+/// The types are those of `TypeId`, each with SQ 0 or 1; `Refused` says why octets are none.
 pub fn read(sizes: Sizes, octets: &[u8]) -> Result<Asdu<'_>, Refused>
     ensures source { IfOk result (λ asdu. (asdu.sizes ≡ sizes) × (asdu.octets.now ≡ octets.now)) }
     // What is read is the ASDU that the octets are.
     ensures found { IfOk result (λ asdu. IsAsdu sizes (value_of asdu) octets.now) }
     // Where the octets are an ASDU, it is read.
-    ensures only { (v : AsduValue) → IsAsdu sizes v octets.now → IsOkAnd result (λ asdu. value_of asdu ≡ v) }
+    ensures only { (v : AsduValue) → IsAsdu sizes v octets.now →
+        IsOkAnd result (λ asdu. value_of asdu ≡ v) }
     // The first fault that applies.
     ensures refused { IfErr result (λ why. refusal sizes octets.now ≡ Some why.0) }
     ensures is_read { is_ok result ≡ is_read sizes octets.now }
-    ensures objects { IfOk result (λ asdu. objects_of sizes octets.now ≡ value_objects (value_of asdu)) }
-    ensures nothing { IfErr result (λ _. (objects_of sizes octets.now ≡ []) × (monitor_objects_of sizes octets.now ≡ [])) }
+    ensures objects { IfOk result (λ asdu.
+        objects_of sizes octets.now ≡ value_objects (value_of asdu)) }
+    ensures nothing { IfErr result (λ _.
+        (objects_of sizes octets.now ≡ []) × (monitor_objects_of sizes octets.now ≡ [])) }
 {
     check(sizes, octets)
 }

@@ -1,5 +1,5 @@
-//! The sizes of the numbers in an ASDU, which a line's settings choose (IEC 60870-5-101, 7.1) and IEC 60870-5-104, 7.1,
-//! fixes.
+//! The sizes of the numbers in an ASDU, which a line's settings choose (IEC 60870-5-101, 7.1) and
+//! IEC 60870-5-104, 7.1, fixes.
 ghost use Rattle.std.specs.Prelude.{◌≡◌, ◌≤◌, ◌<◌, ◌^◌, length};
 ghost use Rattle.byteorder.specs.Endian.{little_number};
 ghost use Rattle.asdu.specs.Sizes.{cause_len, ca_len, ioa_len, header_len};

@@ -36,8 +36,8 @@ pub fn is_plain_command(kind: TypeId) -> bool
     )
 }
 
-/// A command with a time tag (types 58 to 62, one object) as the same command without it (types 45 to 49), in its own
-/// sizes: its addresses, value and qualifier stay (IEC 60870-5-104, 8).
+/// A command with a time tag (types 58 to 62, one object) as the same command without it (types 45
+/// to 49), in its own sizes: its addresses, value and qualifier stay (IEC 60870-5-104, 8).
 pub fn untag(asdu: &Asdu) -> ArrayVec<u8, 253>
     requires kind { names_tagged_command asdu.now.kind ≡ true }
     requires one { number_at asdu.now.octets.now ≡ 1 }
@@ -50,8 +50,8 @@ pub fn untag(asdu: &Asdu) -> ArrayVec<u8, 253>
     out
 }
 
-/// A command (types 45 to 49, one object, in the sizes of a connection) as the same command with this time tag (types 58
-/// to 62): its addresses, value and qualifier stay (IEC 60870-5-104, 8).
+/// A command (types 45 to 49, one object, in the sizes of a connection) as the same command with
+/// this time tag (types 58 to 62): its addresses, value and qualifier stay (IEC 60870-5-104, 8).
 pub fn retag(asdu: &Asdu, tag: &Cp56) -> ArrayVec<u8, 249>
     requires kind { names_plain_command asdu.now.kind ≡ true }
     requires one { number_at asdu.now.octets.now ≡ 1 }
@@ -76,5 +76,6 @@ fn octets_of(tag: Cp56) -> [u8; 7]
 
 /// A command without a tag that is given one and loses it again is the same command.
 pub fn retagged_commands_come_back()
-    ensures { (s : Sizes) (tag : List ℕ) (v : AsduValue) → FitsSizes s v → names_plain_command v.kind ≡ true → untagged (tagged tag v) ≡ v }
+    ensures { (s : Sizes) (tag : List ℕ) (v : AsduValue) → FitsSizes s v →
+        names_plain_command v.kind ≡ true → untagged (tagged tag v) ≡ v }
 {}

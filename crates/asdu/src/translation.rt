@@ -19,20 +19,25 @@ pub type Piece = ArrayVec<u8, 249>;
 /// The pieces of one report.
 pub type Pieces = ArrayVec<Piece, 3>;
 
-/// A report of a serial line, of at most 253 octets, as ASDUs of a connection (`Sizes::TCP`). Numbers keep their value,
-/// SQ is kept, and the originator is 0 where the source's cause has one octet. Each piece has as many objects as fit 249
-/// octets, at most 127, and the last one what is left; with SQ 1 a piece begins at its own first address.
+/// A report of a serial line, of at most 253 octets, as ASDUs of a connection (`Sizes::TCP`).
+/// Numbers keep their value, SQ is kept, and the originator is 0 where the source's cause has one
+/// octet. Each piece has as many objects as fit 249 octets, at most 127, and the last one what is
+/// left; with SQ 1 a piece begins at its own first address.
 pub fn translate(asdu: &Asdu) -> Pieces
     requires { length asdu.now.octets.now ≤ 253 }
     // The objects of the pieces are the source's.
-    ensures joined { flat_map (λ p. objects_of tcp p.items) result.items ≡ objects_of asdu.now.sizes asdu.now.octets.now }
+    ensures joined { flat_map (λ p. objects_of tcp p.items) result.items
+        ≡ objects_of asdu.now.sizes asdu.now.octets.now }
     // So are those that are passed on.
-    ensures monitored { flat_map (λ p. monitor_objects_of tcp p.items) result.items ≡ monitor_objects_of asdu.now.sizes asdu.now.octets.now }
+    ensures monitored { flat_map (λ p. monitor_objects_of tcp p.items) result.items
+        ≡ monitor_objects_of asdu.now.sizes asdu.now.octets.now }
     // Each piece of a report that is passed on has some of them.
-    ensures some_monitored { is_passed_on asdu.now.kind (value_of asdu.now).cause ≡ true → AllByRecursion (λ p. 1 ≤ length (monitor_objects_of tcp p.items)) result.items }
+    ensures some_monitored { is_passed_on asdu.now.kind (value_of asdu.now).cause ≡ true →
+        AllByRecursion (λ p. 1 ≤ length (monitor_objects_of tcp p.items)) result.items }
     // Each piece has the source's header and some of its objects.
     ensures pieces { AllByRecursion (λ p. IsPiece (value_of asdu.now) p.items) result.items }
-    ensures lengths { AllByRecursion (λ p. (9 ≤ length p.items) × (length p.items ≤ 249)) result.items }
+    ensures lengths { AllByRecursion (λ p.
+        (9 ≤ length p.items) × (length p.items ≤ 249)) result.items }
     // All but the last are as large as can be.
     ensures full { AllButLast (λ p. IsFull (value_of asdu.now) p.items) result.items }
     ensures number { array_vec_len result ≡ parts asdu.now.sizes asdu.now.octets.now }

@@ -22,9 +22,9 @@ pub struct Asdu<'a> {
     pub ghost named: { type_of (slice_index octets.now 0) ≡ Some kind },
 }
 
-/// Why octets are no ASDU, the first that applies: 1 too short for a header and an object address, 2 a type that isn't
-/// known, 3 number 0, 4 a length that type, SQ, number and sizes don't give, 5 with SQ 1 a last address past the
-/// address size.
+/// Why octets are no ASDU, the first that applies: 1 too short for a header and an object address,
+/// 2 a type that isn't known, 3 number 0, 4 a length that type, SQ, number and sizes don't give, 5
+/// with SQ 1 a last address past the address size.
 #[derive(Clone, Copy, Debug, PartialEq, Eq)]
 pub struct Refused(pub u8);
 
@@ -75,11 +75,12 @@ impl<'a> Asdu<'a> {
         self.head().ca
     }
 
-    /// Whether its objects are passed on to the control centre: those of monitor types, save with the cause octets `6C`
-    /// and `EC` (a negative 'unknown type', which no report is).
+    /// Whether its objects are passed on to the control centre: those of monitor types, save with
+    /// the cause octets `6C` and `EC` (a negative 'unknown type', which no report is).
     pub fn is_passed_on(&self) -> bool
         ensures value { result ≡ is_passed_on self.now.kind (value_of self.now).cause }
-        ensures passed { result ≡ true → 1 ≤ length (monitor_objects_of self.now.sizes self.now.octets.now) }
+        ensures passed { result ≡ true →
+            1 ≤ length (monitor_objects_of self.now.sizes self.now.octets.now) }
         ensures kept { result ≡ false → monitor_objects_of self.now.sizes self.now.octets.now ≡ [] }
     {
         is_report(self.kind, self.cause())
@@ -121,8 +122,12 @@ impl<'a> Asdu<'a> {
     /// The octets after the header.
     fn body(&self) -> &'a [u8]
         ensures value { result.now ≡ drop (header_len self.now.sizes) self.now.octets.now }
-        ensures whole { length result.now ≡ body_len self.now.kind (ioa_len self.now.sizes.ioa) (is_sequence self.now.octets.now) (number_at self.now.octets.now) }
-        ensures last { is_sequence self.now.octets.now ≡ true → first_address self.now.sizes self.now.octets.now + number_at self.now.octets.now ≤ 256 ^ ioa_len self.now.sizes.ioa }
+        ensures whole { length result.now
+            ≡ body_len self.now.kind (ioa_len self.now.sizes.ioa) (is_sequence self.now.octets.now)
+            (number_at self.now.octets.now) }
+        ensures last { is_sequence self.now.octets.now ≡ true →
+            first_address self.now.sizes self.now.octets.now
+            + number_at self.now.octets.now ≤ 256 ^ ioa_len self.now.sizes.ioa }
     {
         &self.octets[self.sizes.header()..]
     }

@@ -15,10 +15,12 @@ use crate::reading::body_octets;
 use crate::{Asdu, CaSize, CauseSize, IoaSize, Object, Objects, Sizes};
 use arrayvec::ArrayVec;
 
-/// The same ASDU in other sizes, without its originator where the cause has one octet; in its own sizes its own octets.
+/// The same ASDU in other sizes, without its originator where the cause has one octet; in its own
+/// sizes its own octets.
 pub fn write(sizes: Sizes, asdu: &Asdu) -> ArrayVec<u8, 253>
     requires ca { (value_of asdu.now).ca < 256 ^ ca_len sizes.ca }
-    requires addresses { AllByRecursion (λ i. i.address < 256 ^ ioa_len sizes.ioa) (value_of asdu.now).infos }
+    requires addresses { AllByRecursion (λ i.
+        i.address < 256 ^ ioa_len sizes.ioa) (value_of asdu.now).infos }
     requires room { length (spelled sizes (carried sizes (value_of asdu.now))) ≤ 253 }
     ensures written { IsAsdu sizes (carried sizes (value_of asdu.now)) result.items }
     ensures again { asdu.now.sizes ≡ sizes → result.items ≡ asdu.now.octets.now }
@@ -26,12 +28,14 @@ pub fn write(sizes: Sizes, asdu: &Asdu) -> ArrayVec<u8, 253>
     spell(sizes, asdu, asdu.objects())
 }
 
-/// Whether `write` has a spelling for it: its common address and its object addresses fit the sizes, and its octets are at
-/// most 253.
+/// Whether `write` has a spelling for it: its common address and its object addresses fit the
+/// sizes, and its octets are at most 253.
 pub fn can_write(sizes: Sizes, asdu: &Asdu) -> bool
     ensures ca { result ≡ true → (value_of asdu.now).ca < 256 ^ ca_len sizes.ca }
-    ensures addresses { result ≡ true → AllByRecursion (λ i. i.address < 256 ^ ioa_len sizes.ioa) (value_of asdu.now).infos }
-    ensures room { result ≡ true → length (spelled sizes (carried sizes (value_of asdu.now))) ≤ 253 }
+    ensures addresses { result ≡ true →
+        AllByRecursion (λ i. i.address < 256 ^ ioa_len sizes.ioa) (value_of asdu.now).infos }
+    ensures room { result ≡ true →
+        length (spelled sizes (carried sizes (value_of asdu.now))) ≤ 253 }
     ensures always { CanBeWritten sizes (value_of asdu.now) → result ≡ true }
 {
     u32::from(asdu.ca()) < sizes.ca.limit()
@@ -41,15 +45,18 @@ pub fn can_write(sizes: Sizes, asdu: &Asdu) -> bool
 
 /// How many octets it has in these sizes.
 fn octets_in(sizes: Sizes, asdu: &Asdu) -> usize
-    ensures { AllByRecursion (λ i. i.address < 256 ^ ioa_len sizes.ioa) (value_of asdu.now).infos → result ≡ length (spelled sizes (carried sizes (value_of asdu.now))) }
+    ensures { AllByRecursion (λ i. i.address < 256 ^ ioa_len sizes.ioa) (value_of asdu.now).infos →
+        result ≡ length (spelled sizes (carried sizes (value_of asdu.now))) }
 {
     sizes.header() + body_octets(asdu.kind, sizes.ioa, asdu.is_sequence(), asdu.number())
 }
 
 /// Whether all addresses are below the limit.
 fn addresses_fit(limit: u32, objects: Objects) -> bool
-    ensures yes { result ≡ true → AllByRecursion (λ i. i.address < limit) (infos_left objects.entry) }
-    ensures no { AllByRecursion (λ i. i.address < limit) (infos_left objects.entry) → result ≡ true }
+    ensures yes { result ≡ true →
+        AllByRecursion (λ i. i.address < limit) (infos_left objects.entry) }
+    ensures no { AllByRecursion (λ i. i.address < limit) (infos_left objects.entry) →
+        result ≡ true }
 {
     for object in objects {
         if object.address >= limit {
@@ -67,8 +74,11 @@ pub(crate) fn spell<const N: usize>(sizes: Sizes, asdu: &Asdu, chunk: Objects) -
     requires most { chunk.left ≤ 127 }
     requires ca { (value_of asdu.now).ca < 256 ^ ca_len sizes.ca }
     requires infos { AllByRecursion (IsInfo asdu.now.kind (ioa_len sizes.ioa)) (infos_left chunk) }
-    requires room { header_len sizes + body_len asdu.now.kind (ioa_len sizes.ioa) (is_sequence asdu.now.octets.now) chunk.left ≤ N }
-    ensures spells { IsAsdu sizes (with_infos (carried sizes (value_of asdu.now)) (infos_left chunk.entry)) result.items }
+    requires room { header_len sizes
+        + body_len asdu.now.kind (ioa_len sizes.ioa)
+        (is_sequence asdu.now.octets.now) chunk.left ≤ N }
+    ensures spells { IsAsdu sizes
+        (with_infos (carried sizes (value_of asdu.now)) (infos_left chunk.entry)) result.items }
     ensures fits { array_vec_len result ≤ N }
 {
     let mut out = ArrayVec::new();
@@ -90,7 +100,8 @@ fn append_header<const N: usize>(
 )
     requires most { number ≤ 127 }
     requires room { array_vec_len out.old + header_len sizes ≤ N }
-    ensures { out.new.items ≡ out.old.items ++ header_of sizes (carried sizes (value_of asdu.now)) number }
+    ensures { out.new.items
+        ≡ out.old.items ++ header_of sizes (carried sizes (value_of asdu.now)) number }
 {
     let head = asdu.head();
     append(
@@ -146,8 +157,10 @@ fn append_object<const N: usize>(
     object: Object,
     sequence: bool,
 )
-    requires { array_vec_len out.old + length (spelled_info (ioa_len size) sequence (info_of object)) ≤ N }
-    ensures { out.new.items ≡ out.old.items ++ spelled_info (ioa_len size) sequence (info_of object.entry) }
+    requires { array_vec_len out.old
+        + length (spelled_info (ioa_len size) sequence (info_of object)) ≤ N }
+    ensures { out.new.items
+        ≡ out.old.items ++ spelled_info (ioa_len size) sequence (info_of object.entry) }
 {
     if !sequence {
         append_address(out, size, object.address);

@@ -52,9 +52,13 @@ after_call SendOwn r = after_answer (first_answer r.state.answers) r
 after_call Cut r = record { state = state.closed r.state; history = Ended ∷ r.history }
 after_call (Due now) r = record { state = state.timed now r.state; history = r.history }
 
+-- `new`, before any call
+abbrev pub first_run : List StationInfo → Sizes → ℕ → Run
+first_run stations sizes select_ms = record { state = state.new_state stations sizes select_ms; history = [] }
+
 -- the calls, one after another, the newest first, from `new` on
 abbrev pub run : List StationInfo → Sizes → ℕ → List Call → Run
-run stations sizes select_ms [] = record { state = state.new_state stations sizes select_ms; history = [] }
+run stations sizes select_ms [] = first_run stations sizes select_ms
 run stations sizes select_ms (call ∷ earlier) = after_call call (run stations sizes select_ms earlier)
 
 -- ---- moments

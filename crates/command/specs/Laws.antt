@@ -1,10 +1,10 @@
 -- What holds after every list of calls.
-use Rattle.std.specs.Prelude.{ℕ, ◌≤◌, List, ◌∷◌}
+use Rattle.std.specs.Prelude.{◌≡◌, ℕ, ◌≤◌, List, ◌∷◌}
 use Rattle.asdu.specs.declared.sizes.Sizes.{Sizes}
 use Rattle.command.specs.declared.station.StationInfo.{StationInfo}
 use Rattle.command.specs.State.{State}
 use Rattle.command.specs.History.{History}
-use Rattle.command.specs.Calls.{Call, Due, run, latest, NeverFall}
+use Rattle.command.specs.Calls.{Call, Due, Run, run, latest, NeverFall}
 
 abbrev pub AfterEachRun : (List StationInfo → Sizes → ℕ → State → History → Type 0) → Type 0
 AfterEachRun P = (stations : List StationInfo) (sizes : Sizes) (select_ms : ℕ) (calls : List Call) →
@@ -19,3 +19,11 @@ AtEachMoment P = (stations : List StationInfo) (sizes : Sizes) (select_ms : ℕ)
 abbrev pub AfterEachDue : (List StationInfo → Sizes → ℕ → ℕ → State → History → Type 0) → Type 0
 AfterEachDue P = (stations : List StationInfo) (sizes : Sizes) (select_ms : ℕ) (calls : List Call) (now : ℕ) → NeverFall (Due now ∷ calls) →
     P stations sizes select_ms now (run stations sizes select_ms (Due now ∷ calls)).state (run stations sizes select_ms (Due now ∷ calls)).history
+
+-- some list of calls leaves this state and history
+abbrev pub IsRun : List StationInfo → Sizes → ℕ → Run → Type 0
+IsRun stations sizes select_ms r = (calls : List Call) × (run stations sizes select_ms calls ≡ r)
+
+abbrev pub OfEachRun : (List StationInfo → Sizes → ℕ → State → History → Type 0) → Type 0
+OfEachRun P = (stations : List StationInfo) (sizes : Sizes) (select_ms : ℕ) (r : Run) →
+    IsRun stations sizes select_ms r → P stations sizes select_ms r.state r.history

@@ -12,4 +12,5 @@ pub mod Selections
 pub mod Calls
 pub mod Rules
 pub mod Laws
+pub mod CommandLaws
 pub mod Examples

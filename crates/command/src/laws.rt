@@ -18,6 +18,7 @@ ghost use Rattle.command.specs.History.{ForwardsCommands, next_octets, ExecutesA
 ghost use Rattle.command.specs.Selections.{AreDistinct, IsStanding, IsInTime};
 ghost use Rattle.command.specs.Examples.{OctetExamples, IsRight, WaitsSo, rule_examples, selection_examples, line_examples};
 ghost use Rattle.command.specs.Laws.{AfterEachRun, AtEachMoment, AfterEachDue};
+ghost use Rattle.command.specs.CommandLaws.{CommandLaws, RunLaws};
 
 /// The answer to an ASDU is the one that the first rule that applies gives; where none applies it
 /// is forwarded.
@@ -108,4 +109,11 @@ pub fn worked_examples_hold()
     ensures rules { AllByRecursion IsRight rule_examples }
     ensures selections { AllByRecursion IsRight selection_examples }
     ensures line { AllByRecursion WaitsSo line_examples }
+{}
+
+/// What crates above use of these laws, in one record; and the same of a state and a history that
+/// calls leave, for those that keep no calls.
+pub fn commands_keep_the_rules()
+    ensures calls { CommandLaws }
+    ensures runs { RunLaws }
 {}

@@ -5,7 +5,6 @@ use Rattle.command.specs.History.{History, ForwardsCommands, GivesOwnAnswers}
 use Rattle.gateway.specs.Log.{Log}
 use Rattle.gateway.specs.Reports.{Setup, address_at, exchanges_with}
 use Rattle.gateway.specs.Traffic.{IsFaithful}
-use Rattle.gateway.specs.Works.{tasks_of}
 use Rattle.gateway.specs.Course.{here_of}
 use Rattle.delivery.specs.Merges.{IsSublist}
 use Rattle.delivery.specs.Commands.{first_sendings, forwarded_in, asdus_judged, IsCommandTo, on_line_of, AreCommandsOf}
@@ -14,11 +13,11 @@ use Rattle.delivery.proofs.Sublists.{sub_of_sub, all_of_sub, IsImage, sub_of_map
 use Rattle.delivery.proofs.Given.{AreGiven, sent_are_given, given_judged, given_commands}
 
 pub of_the_centre : (p : Setup) (log : Log) (i : ℕ) (f : IsFaithful p log) → IsJoined p log f.course →
-    ForwardsCommands p.sizes p.stations p.select_ms (tasks_of p f.course.works).history → GivesOwnAnswers p.sizes p.stations p.select_ms (tasks_of p f.course.works).history →
+    ForwardsCommands p.sizes p.stations p.select_ms f.course.works.history → GivesOwnAnswers p.sizes p.stations p.select_ms f.course.works.history →
     (done : List (List ℕ)) → IsSublist done (first_sendings (address_at p.addresses i) None (exchanges_with p i log)) → AreCommandsOf p i (here_of f.course ∷ f.course.earlier) done
 of_the_centre p log i f joined forwards gives done some =
-    let h : History = (tasks_of p f.course.works).history in
-    let sent : AreGiven p i (tasks_of p f.course.works).history = sent_are_given p i (tasks_of p f.course.works).history forwards in
+    let h : History = f.course.works.history in
+    let sent : AreGiven p i f.course.works.history = sent_are_given p i f.course.works.history forwards in
     let image : IsImage (on_line_of p i) done sent.given = sub_of_map (on_line_of p i) done sent.given (subst (IsSublist done) (sym (joined.sent i) ∙ sent.is) some) in
     let came : IsSublist image.left (forwarded_in p i h) = sub_of_sub image.left sent.given (forwarded_in p i h) image.part sent.some in
     record {

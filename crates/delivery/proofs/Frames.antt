@@ -5,7 +5,7 @@ use Rattle.apci.specs.declared.apdu.Apdu.TheVariants.{I, S, U}
 use Rattle.apci.specs.Spelling.{spelling}
 use Rattle.session.specs.declared.kinds.Close.TheVariants.{Grammar, SendNumber, ReceiveNumber, Stopped, Timeout, OwnAnswers, Replaced}
 use Rattle.session.specs.History.{History}
-use Rattle.gateway.specs.Log.{Log, Came, Went, Opened, LineIn, TcpIn, CutOff, Ticked, LineOut, TcpOut, Closed, latest}
+use Rattle.gateway.specs.Log.{Log, Came, Went, Opened, LineIn, TcpIn, CutOff, Ticked, LineOut, TcpOut, Closed, GapOut, latest}
 use Rattle.gateway.specs.Streams.{spelled, AllFit}
 use Rattle.gateway.specs.Connections.{Channel, present}
 use Rattle.gateway.specs.Reports.{Setup}
@@ -35,6 +35,7 @@ none_received (Came now (TcpIn octets) ∷ log) h = go (present log).is_open ref
 none_received (Came now (LineIn octets) ∷ log) h = none_received log h
 none_received (Came now Ticked ∷ log) h = none_received log h
 none_received (Went now (LineOut octets) ∷ log) h = none_received log h
+none_received (Went now (GapOut station session) ∷ log) h = none_received log h
 none_received (Went now (TcpOut octets) ∷ log) h = none_received log h
 none_received (Went now (Closed Grammar) ∷ log) h = refl
 none_received (Went now (Closed SendNumber) ∷ log) h = refl
@@ -65,6 +66,7 @@ none_came p (Came now (LineIn octets) ∷ log) c r closed =
     ap (λ (x : Course). came_frames x.talk) r.5.2 ∙ ap (λ (x : Course). came_frames x.talk) r.4.is ∙ none_came p log r.0 r.2 closed
 none_came p (Came now Ticked ∷ log) c r closed = ap (λ (x : Course). came_frames x.talk) r.5 ∙ ap (λ (x : Course). came_frames x.talk) r.4.is ∙ none_came p log r.0 r.2 closed
 none_came p (Went now (LineOut octets) ∷ log) c r closed = ap (λ (x : Course). came_frames x.talk) r.2.is ∙ none_came p log r.0 r.1 closed
+none_came p (Went now (GapOut station session) ∷ log) c r closed = ap (λ (x : Course). came_frames x.talk) r.2.is ∙ none_came p log r.0 r.1 closed
 none_came p (Went now (TcpOut octets) ∷ log) c r closed = taken_none (Went now (TcpOut octets) ∷ log) (came_frames c.talk) r.4.rest closed r.4.joined
 none_came p (Went now (Closed Grammar) ∷ log) c r closed = ap (λ (x : Course). came_frames x.talk) r.2
 none_came p (Went now (Closed SendNumber) ∷ log) c r closed = ap (λ (x : Course). came_frames x.talk) r.2

@@ -1,21 +1,15 @@
--- What the calls of the course leave of the history of commands.
+-- What the works of the course tell of commands.
 use Rattle.std.proofs.Common.{◌≡◌, ℕ, Bool, true, false, List, [], ◌∷◌, Option, Some, None, refl, ◌∙◌, if◌then◌else◌}
 use Rattle.command.specs.State.{State, has_room, offered, first_answer}
 use Rattle.command.specs.Judging.{judged}
 use Rattle.command.specs.History.{Judged, GivenUp, Offered, Answered, Ended, History}
-use Rattle.command.specs.Calls.{Call, Judge, Own, SendOwn, Run, run, after_answer}
+use Rattle.command.specs.Calls.{Call, Judge, Own, SendOwn, Run, after_call, after_answer}
 use Rattle.gateway.specs.Reports.{Setup}
-use Rattle.gateway.specs.Works.{keep_calls, listed, judged_calls}
+use Rattle.gateway.specs.Serial.{kept_until, listed}
+use Rattle.gateway.specs.Works.{Works, tasks_of, told, told_kept, told_judged}
 use Rattle.delivery.specs.Commands.{LineStep, last_sent, steps_told, sent_to, asdus_judged}
 use Rattle.delivery.specs.Joined.{mirrored_in}
 use Rattle.delivery.proofs.Waiting.{AllFitLine, AnswersStay, IsFitCall, call_fits}
-
--- after these calls
-abbrev pub run_of : Setup → List Call → Run
-run_of p calls = run p.stations p.sizes p.select_ms calls
-
-abbrev pub told_of : Setup → List Call → History
-told_of p calls = (run_of p calls).history
 
 -- A reading of a history that own answers, ends of connections and given up commands leave as it is
 pub record Ignores {X : Type 0} (F : History → X) : Type 0 where
@@ -42,41 +36,43 @@ mirrors_ignore = record { kept = λ octets is_kept h. refl; answered = λ octets
 pub judged_ignore : Ignores asdus_judged
 judged_ignore = record { kept = λ octets is_kept h. refl; answered = λ octets h. refl; ended = λ h. refl; given_up = λ j was h. refl }
 
-pub keeping : {X : Type 0} (F : History → X) → Ignores F → (p : Setup) (xs : List (List ℕ)) (s : State) (calls : List Call) → F (told_of p (keep_calls xs s calls)) ≡ F (told_of p calls)
-keeping {X} F i p [] s calls = refl
-keeping {X} F i p (x ∷ xs) s calls = go (has_room s) (keeping F i p xs (offered x s) (Own x ∷ calls))
+pub keeping : {X : Type 0} (F : History → X) → Ignores F → (xs : List (List ℕ)) (s : State) (h : History) → F (told_kept xs s h) ≡ F h
+keeping {X} F i [] s h = refl
+keeping {X} F i (x ∷ xs) s h = go (has_room s) (keeping F i xs (offered x s) (Offered x (has_room s) ∷ h))
   where
-    one : F (told_of p (Own x ∷ calls)) ≡ F (told_of p calls)
-    one = i.kept x (has_room (run_of p calls).state) (told_of p calls)
+    one : F (Offered x (has_room s) ∷ h) ≡ F h
+    one = i.kept x (has_room s) h
 
-    go : (b : Bool) → F (told_of p (keep_calls xs (offered x s) (Own x ∷ calls))) ≡ F (told_of p (Own x ∷ calls)) →
-        F (told_of p (if b then keep_calls xs (offered x s) (Own x ∷ calls) else Own x ∷ calls)) ≡ F (told_of p calls)
+    go : (b : Bool) → F (told_kept xs (offered x s) (Offered x (has_room s) ∷ h)) ≡ F (Offered x (has_room s) ∷ h) →
+        F (if b then told_kept xs (offered x s) (Offered x (has_room s) ∷ h) else Offered x (has_room s) ∷ h) ≡ F h
     go true ih = ih ∙ one
     go false ih = one
 
-pub sending_own : {X : Type 0} (F : History → X) → Ignores F → (p : Setup) (calls : List Call) → F (told_of p (SendOwn ∷ calls)) ≡ F (told_of p calls)
-sending_own {X} F i p calls = go (first_answer (run_of p calls).state.answers)
+pub sending_own : {X : Type 0} (F : History → X) → Ignores F → (w : Works) → F (told SendOwn w) ≡ F w.history
+sending_own {X} F i w = go (first_answer w.serial.commands.answers)
   where
-    go : (o : Option (List ℕ)) → F (after_answer o (run_of p calls)).history ≡ F (told_of p calls)
+    go : (o : Option (List ℕ)) → F (after_answer o (tasks_of w)).history ≡ F w.history
     go None = refl
-    go (Some octets) = i.answered octets (told_of p calls)
+    go (Some octets) = i.answered octets w.history
 
-pub judging : {X : Type 0} (F : History → X) → Ignores F → (p : Setup) (xs : List ℕ) (now : ℕ) (calls : List Call) →
-    F (told_of p (judged_calls xs now (run_of p calls).state calls)) ≡ F (Judged now xs (judged xs now (run_of p calls).state).0 ∷ told_of p calls)
-judging {X} F i p xs now calls = keeping F i p (listed (judged xs now (run_of p calls).state).0) (judged xs now (run_of p calls).state).1 (Judge xs now ∷ calls)
+pub judging : {X : Type 0} (F : History → X) → Ignores F → (xs : List ℕ) (now : ℕ) (w : Works) → F (told_judged xs now w) ≡ F (Judged now xs (judged xs now w.serial.commands).0 ∷ w.history)
+judging {X} F i xs now w = keeping F i (listed (judged xs now w.serial.commands).0) (judged xs now w.serial.commands).1 (told (Judge xs now) w)
 
 -- What waits fits the line.
 
-abbrev pub WaitsFit : Setup → List Call → Type 0
-WaitsFit p calls = AllFitLine p.link.size (run_of p calls).state.waiting
+abbrev pub WaitsFit : Setup → State → Type 0
+WaitsFit p s = AllFitLine p.link.size s.waiting
 
-pub one_fits : (stay : AnswersStay) (p : Setup) (call : Call) (calls : List Call) → IsFitCall call → WaitsFit p calls → WaitsFit p (call ∷ calls)
-one_fits stay p call calls h k = call_fits stay p.link.size call (run_of p calls) h k
+pub one_fits : (stay : AnswersStay) (p : Setup) (call : Call) (r : Run) → IsFitCall call → WaitsFit p r.state → WaitsFit p (after_call call r).state
+one_fits stay p call r h k = call_fits stay p.link.size call r h k
 
-pub kept_fit : (stay : AnswersStay) (p : Setup) (xs : List (List ℕ)) (s : State) (calls : List Call) → WaitsFit p calls → WaitsFit p (keep_calls xs s calls)
-kept_fit stay p [] s calls h = h
-kept_fit stay p (x ∷ xs) s calls h = go (has_room s) (kept_fit stay p xs (offered x s) (Own x ∷ calls) (one_fits stay p (Own x) calls tt h))
+pub kept_fit : (stay : AnswersStay) (p : Setup) (xs : List (List ℕ)) (s : State) → WaitsFit p s → WaitsFit p (kept_until xs s)
+kept_fit stay p [] s h = h
+kept_fit stay p (x ∷ xs) s h = go (has_room s) (kept_fit stay p xs (offered x s) one)
   where
-    go : (b : Bool) → WaitsFit p (keep_calls xs (offered x s) (Own x ∷ calls)) → WaitsFit p (if b then keep_calls xs (offered x s) (Own x ∷ calls) else Own x ∷ calls)
+    one : WaitsFit p (offered x s)
+    one = one_fits stay p (Own x) (record { state = s; history = [] }) tt h
+
+    go : (b : Bool) → WaitsFit p (kept_until xs (offered x s)) → WaitsFit p (if b then kept_until xs (offered x s) else offered x s)
     go true ih = ih
-    go false ih = one_fits stay p (Own x) calls tt h
+    go false ih = one

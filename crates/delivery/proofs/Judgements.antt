@@ -1,20 +1,18 @@
 -- What the course judged are the ASDUs of the I frames that came.
 use Rattle.std.proofs.Common.{◌≡◌, ℕ, Bool, true, false, List, [], ◌∷◌, ◌++◌, refl, ap, sym, subst, ◌∙◌, append_assoc, if◌then◌else◌}
 use Rattle.std.proofs.lemmas.List.{append-nil}
-use Rattle.ft12.specs.Fronts.{front_of}
 use Rattle.apci.specs.declared.apdu.Apdu.{Apdu}
 use Rattle.apci.specs.declared.apdu.Apdu.TheVariants.{I, S, U}
-use Rattle.link.specs.Primary.{received_outcome}
 use Rattle.session.specs.declared.kinds.Close.{Close}
 use Rattle.session.specs.declared.kinds.Close.TheVariants.{Grammar, SendNumber, ReceiveNumber, Stopped, Timeout, OwnAnswers, Replaced}
-use Rattle.gateway.specs.Log.{Log, Came, Went, Opened, LineIn, TcpIn, CutOff, Ticked, LineOut, TcpOut, Closed, latest}
+use Rattle.gateway.specs.Log.{Log, Came, Went, Opened, LineIn, TcpIn, CutOff, Ticked, LineOut, TcpOut, Closed, GapOut, latest}
 use Rattle.gateway.specs.Connections.{present}
 use Rattle.gateway.specs.Reports.{Setup}
-use Rattle.gateway.specs.Works.{Works, begun_works, ready_works, unasked_works, done_works, is_first_command}
+use Rattle.gateway.specs.Serial.{heard_outcome, is_first_command}
+use Rattle.gateway.specs.Works.{Works, octets_works, begun_works, ready_works, unasked_works, done_works}
 use Rattle.gateway.specs.Course.{Course, came_frames, here_of, with_frames, with_sent, ended_course, closed_course, works_at, with_works, IsLeft, room_in, Runs}
 use Rattle.delivery.specs.Commands.{asdus_in, asdus_received, asdus_judged}
 use Rattle.delivery.proofs.Waiting.{AnswersStay}
-use Rattle.delivery.proofs.History.{told_of}
 use Rattle.delivery.proofs.Works.{learnt_of, judged_by, heard_judged, sent_judged, settled_judged, put_judged}
 use Rattle.delivery.proofs.Frames.{told_came, none_came}
 
@@ -25,7 +23,7 @@ asdus_more (U u) older = sym (append-nil (asdus_in older))
 
 module _ (stay : AnswersStay) (p : Setup) where
   abbrev judged_in : Works → List (List ℕ)
-  judged_in w = asdus_judged (told_of p w.calls)
+  judged_in w = asdus_judged w.history
 
   abbrev IsJudged : Course → Type 0
   IsJudged c = judged_in c.works ≡ asdus_received c.earlier ++ asdus_in (came_frames c.talk)
@@ -33,13 +31,13 @@ module _ (stay : AnswersStay) (p : Setup) where
   frames_judged : (frames : List Apdu) (now : ℕ) (c : Course) → IsJudged c → IsJudged (with_frames p frames now c)
   frames_judged [] now c h = h
   frames_judged (frame ∷ frames) now c h =
-      heard_judged p frame now (with_frames p frames now c).works
+      heard_judged frame now (with_frames p frames now c).works
       ∙ ap (λ (l : List (List ℕ)). l ++ judged_by frame) (frames_judged frames now c h)
       ∙ append_assoc (asdus_received (with_frames p frames now c).earlier) (asdus_in (came_frames (with_frames p frames now c).talk)) (judged_by frame)
       ∙ ap (λ (l : List (List ℕ)). asdus_received (with_frames p frames now c).earlier ++ l) (sym (asdus_more frame (came_frames (with_frames p frames now c).talk)))
 
   sent_is_judged : (frame : Apdu) (now : ℕ) (c : Course) → IsJudged c → IsJudged (with_sent frame now c)
-  sent_is_judged frame now c h = sent_judged p frame c.works ∙ h ∙ ap (λ (fs : List Apdu). asdus_received c.earlier ++ asdus_in fs) (sym (told_came frame now c.talk))
+  sent_is_judged frame now c h = sent_judged frame c.works ∙ h ∙ ap (λ (fs : List Apdu). asdus_received c.earlier ++ asdus_in fs) (sym (told_came frame now c.talk))
 
   ended_judged : (is_open : Bool) (w : Works) (c : Course) → (is_open ≡ false → came_frames c.talk ≡ []) → judged_in w ≡ judged_in c.works → IsJudged c → IsJudged (ended_course is_open w c)
   ended_judged true w c none same h = same ∙ h ∙ sym (append-nil (asdus_received (here_of c ∷ c.earlier)))
@@ -50,15 +48,15 @@ module _ (stay : AnswersStay) (p : Setup) where
   closed_judged SendNumber is_open at c none h = ended_judged is_open c.works c none refl h
   closed_judged ReceiveNumber is_open at c none h = ended_judged is_open c.works c none refl h
   closed_judged Stopped is_open at c none h = ended_judged is_open c.works c none refl h
-  closed_judged Timeout is_open at c none h = ended_judged is_open (works_at p Timeout at c.works) c none (settled_judged p at c.works) h
+  closed_judged Timeout is_open at c none h = ended_judged is_open (works_at Timeout at c.works) c none (settled_judged at c.works) h
   closed_judged OwnAnswers is_open at c none h = ended_judged is_open c.works c none refl h
   closed_judged Replaced is_open at c none h = h
 
-  done_judged : (at : ℕ) (room : Bool) (w : Works) → judged_in (done_works p at room w) ≡ judged_in w
+  done_judged : (at : ℕ) (room : Bool) (w : Works) → judged_in (done_works at room w) ≡ judged_in w
   done_judged at room w = go w.is_due
     where
-      go : (b : Bool) → judged_in (if b then unasked_works at room (ready_works p at w) else w) ≡ judged_in w
-      go true = settled_judged p at w
+      go : (b : Bool) → judged_in (if b then unasked_works at room (ready_works at w) else w) ≡ judged_in w
+      go true = settled_judged at w
       go false = refl
 
   left_judged : (log : Log) (before after : Course) → IsLeft p log before after → IsJudged before → IsJudged after
@@ -69,21 +67,22 @@ module _ (stay : AnswersStay) (p : Setup) where
   judged_all (Came now (LineIn octets) ∷ log) c r =
       let left : IsJudged r.1 = left_judged log r.0 r.1 r.4 (judged_all log r.0 r.2) in
       let at : ℕ = latest (Came now (LineIn octets) ∷ log) in
-      let learnt = learnt_of stay p at _ (received_outcome (front_of r.1.works.line.settings.size) r.1.works.line octets) (begun_works (LineIn octets) at r.1.works) r.5.0 r.5.1 in
+      let learnt = learnt_of stay p at _ (heard_outcome octets r.1.works.serial) (octets_works octets r.1.works) r.5.0 r.5.1 in
       subst IsJudged (sym r.5.2) (learnt.judged ∙ left)
   judged_all (Came now (TcpIn octets) ∷ log) c r =
       let at : ℕ = latest (Came now (TcpIn octets) ∷ log) in
-      subst IsJudged (sym r.5.taken) (frames_judged r.5.frames at (with_works (begun_works (TcpIn octets) at r.1.works) r.1) (left_judged log r.0 r.1 r.4 (judged_all log r.0 r.2)))
+      subst IsJudged (sym r.5.taken) (frames_judged r.5.frames at (with_works (begun_works at r.1.works) r.1) (left_judged log r.0 r.1 r.4 (judged_all log r.0 r.2)))
   judged_all (Came now Ticked ∷ log) c r = subst IsJudged (sym r.5) (left_judged log r.0 r.1 r.4 (judged_all log r.0 r.2))
   judged_all (Came now Opened ∷ log) c r =
-      subst IsJudged (sym r.5) (ended_judged (present log).is_open (begun_works Opened (latest (Came now Opened ∷ log)) r.1.works) r.1
+      subst IsJudged (sym r.5) (ended_judged (present log).is_open (begun_works (latest (Came now Opened ∷ log)) r.1.works) r.1
       (λ closed. ap (λ (x : Course). came_frames x.talk) r.4.is ∙ none_came p log r.0 r.2 closed) refl (left_judged log r.0 r.1 r.4 (judged_all log r.0 r.2)))
   judged_all (Came now CutOff ∷ log) c r =
-      subst IsJudged (sym r.5) (ended_judged (present log).is_open (begun_works CutOff (latest (Came now CutOff ∷ log)) r.1.works) r.1
+      subst IsJudged (sym r.5) (ended_judged (present log).is_open (begun_works (latest (Came now CutOff ∷ log)) r.1.works) r.1
       (λ closed. ap (λ (x : Course). came_frames x.talk) r.4.is ∙ none_came p log r.0 r.2 closed) refl (left_judged log r.0 r.1 r.4 (judged_all log r.0 r.2)))
   judged_all (Went now (LineOut octets) ∷ log) c r =
-      let ready : Works = ready_works p (latest log) r.0.works in
-      subst IsJudged (sym r.2.is) (put_judged p (is_first_command ready.line r.2.request) r.2.request.station ready.calls ∙ settled_judged p (latest log) r.0.works ∙ judged_all log r.0 r.1)
+      let ready : Works = ready_works (latest log) r.0.works in
+      subst IsJudged (sym r.2.is) (put_judged (is_first_command ready.serial.line r.2.request) r.2.request.station ready ∙ settled_judged (latest log) r.0.works ∙ judged_all log r.0 r.1)
+  judged_all (Went now (GapOut station session) ∷ log) c r = subst IsJudged (sym r.2.is) (judged_all log r.0 r.1)
   judged_all (Went now (TcpOut octets) ∷ log) c r =
       subst IsJudged (sym r.4.taken) (frames_judged r.4.frames (latest log) r.1 (subst IsJudged (sym r.3.put) (sent_is_judged r.3.frame (latest log) r.0 (judged_all log r.0 r.2))))
   judged_all (Went now (Closed cause) ∷ log) c r =

@@ -19,18 +19,19 @@ use Rattle.link.specs.Primary.{Primary, is_command}
 use Rattle.link.specs.declared.settings.LinkSettings.{LinkSettings}
 use Rattle.link.specs.Telling.{Tells, report_in}
 use Rattle.command.specs.declared.waiting.Waiting.{Waiting}
-use Rattle.command.specs.State.{State, octets_waiting, oldest, oldest_for, line_of, refusal_of}
+use Rattle.command.specs.State.{State, octets_waiting, oldest, oldest_for, put_out, given_up}
+use Rattle.command.specs.Mirrors.{mirrored}
 use Rattle.command.specs.Judging.{judged}
 use Rattle.command.specs.History.{History, Sent}
-use Rattle.command.specs.Calls.{Call, Judge, PutOnLine, Accept, Busy, Lose, Mirror, SendOwn, Due, after_sending}
+use Rattle.command.specs.Calls.{Judge, PutOnLine, Accept, Busy, Lose, Mirror, after_sending}
 use Rattle.gateway.specs.Objects.{has_objects}
 use Rattle.gateway.specs.Reports.{Setup}
-use Rattle.gateway.specs.Works.{Works, LearnsOf, LearnsReport, is_command_report, mirrored_works, refused_works, given_up_works, with_call, listed, heard_works, sent_works, unless_silent, settled_works, offered_by, offered_upto, put_calls}
-use Rattle.gateway.specs.Counting.{counted}
+use Rattle.gateway.specs.Serial.{refusals, reported, with_gap, listed, unless_silent, offered_by, offered_upto, put_on_line}
+use Rattle.gateway.specs.Works.{Works, tasks_of, told, LearnsOf, LearnsReport, is_command_report, mirrored_works, accepted_works, refused_works, given_up_works, heard_works, answered_works, sent_works, told_silent, settled_works, told_put}
 use Rattle.delivery.specs.Commands.{asdus_judged}
 use Rattle.delivery.specs.Joined.{mirrored_in, command_reports, AreValues}
 use Rattle.delivery.proofs.Waiting.{AnswersStay, AllFitLine, oldest_fits}
-use Rattle.delivery.proofs.History.{told_of, run_of, line_told, line_ignores, mirrors_ignore, judged_ignore, keeping, sending_own, judging, WaitsFit, one_fits, kept_fit}
+use Rattle.delivery.proofs.History.{line_told, line_ignores, mirrors_ignore, judged_ignore, keeping, sending_own, judging, WaitsFit, one_fits, kept_fit}
 use Rattle.delivery.proofs.Exchanging.{told_by, told_asked}
 use Rattle.delivery.proofs.Line.{LinkLaws}
 
@@ -55,54 +56,63 @@ values_more sizes (x ∷ vs) (y ∷ rs) v r h k = (h.0, values_more sizes vs rs 
 -- What is learnt of an answer
 
 pub record IsLearnt (p : Setup) (o : Outcome) (w z : Works) : Type 0 where
-  pub line : z.line ≡ w.line
-  pub told : (k : ℕ) → line_told k (told_of p z.calls) ≡ line_told k (told_by o (told_of p w.calls))
-  pub fits : WaitsFit p w.calls → WaitsFit p z.calls
-  pub mirrors : (rs : List (ℕ × List ℕ)) → AreValues p.sizes (mirrored_in (told_of p w.calls)) (command_reports p.sizes rs) → AreValues p.sizes (mirrored_in (told_of p z.calls)) (command_reports p.sizes (rs ++ report_in o))
-  pub judged : asdus_judged (told_of p z.calls) ≡ asdus_judged (told_of p w.calls)
+  pub line : z.serial.line ≡ w.serial.line
+  pub told : (k : ℕ) → line_told k z.history ≡ line_told k (told_by o w.history)
+  pub fits : WaitsFit p w.serial.commands → WaitsFit p z.serial.commands
+  pub mirrors : (rs : List (ℕ × List ℕ)) → AreValues p.sizes (mirrored_in w.history) (command_reports p.sizes rs) → AreValues p.sizes (mirrored_in z.history) (command_reports p.sizes (rs ++ report_in o))
+  pub judged : asdus_judged z.history ≡ asdus_judged w.history
 
 no_report : (sizes : Sizes) (vs : List AsduValue) (rs : List (ℕ × List ℕ)) → AreValues sizes vs (command_reports sizes rs) → AreValues sizes vs (command_reports sizes (rs ++ []))
 no_report sizes vs rs h = subst (λ (l : List (ℕ × List ℕ)). AreValues sizes vs (command_reports sizes l)) (sym (append-nil rs)) h
 
 same_learnt : (p : Setup) (o : Outcome) (w z : Works) → report_in o ≡ [] → ((h : History) → told_by o h ≡ h) → z ≡ w → IsLearnt p o w z
 same_learnt p o w z none quiet is = record {
-  line = ap (λ (x : Works). x.line) is;
-  told = λ k. ap (λ (x : Works). line_told k (told_of p x.calls)) is ∙ ap (λ (h : History). line_told k h) (sym (quiet (told_of p w.calls)));
-  fits = λ f. subst (λ (x : Works). WaitsFit p x.calls) (sym is) f;
-  mirrors = λ rs h. subst (λ (x : Works). AreValues p.sizes (mirrored_in (told_of p x.calls)) (command_reports p.sizes (rs ++ report_in o))) (sym is)
-      (subst (λ (l : List (ℕ × List ℕ)). AreValues p.sizes (mirrored_in (told_of p w.calls)) (command_reports p.sizes (rs ++ l))) (sym none) (no_report p.sizes (mirrored_in (told_of p w.calls)) rs h));
-  judged = ap (λ (x : Works). asdus_judged (told_of p x.calls)) is;
+  line = ap (λ (x : Works). x.serial.line) is;
+  told = λ k. ap (λ (x : Works). line_told k x.history) is ∙ ap (λ (h : History). line_told k h) (sym (quiet w.history));
+  fits = λ f. subst (λ (x : Works). WaitsFit p x.serial.commands) (sym is) f;
+  mirrors = λ rs h. subst (λ (x : Works). AreValues p.sizes (mirrored_in x.history) (command_reports p.sizes (rs ++ report_in o))) (sym is)
+      (subst (λ (l : List (ℕ × List ℕ)). AreValues p.sizes (mirrored_in w.history) (command_reports p.sizes (rs ++ l))) (sym none) (no_report p.sizes (mirrored_in w.history) rs h));
+  judged = ap (λ (x : Works). asdus_judged x.history) is;
 }
 
-accepted_learnt : (stay : AnswersStay) (p : Setup) (station : ℕ) (w : Works) → IsLearnt p (outcome.Accepted station) w (with_call (Accept station) w)
-accepted_learnt stay p station w = record {
+gap_learnt : (p : Setup) (station session : ℕ) (w : Works) → IsLearnt p (outcome.StartedGap station session) w (record w { serial = with_gap station session w.serial })
+gap_learnt p station session w = record {
   line = refl;
   told = λ k. refl;
-  fits = λ f. one_fits stay p (Accept station) w.calls tt f;
-  mirrors = λ rs h. no_report p.sizes (mirrored_in (told_of p w.calls)) rs h;
+  fits = λ f. f;
+  mirrors = λ rs h. no_report p.sizes (mirrored_in w.history) rs h;
   judged = refl;
 }
 
-busy_learnt : (stay : AnswersStay) (p : Setup) (station : ℕ) (w : Works) → IsLearnt p (outcome.Busy station) w (refused_works p station w)
+accepted_learnt : (stay : AnswersStay) (p : Setup) (station : ℕ) (w : Works) → IsLearnt p (outcome.Accepted station) w (accepted_works station w)
+accepted_learnt stay p station w = record {
+  line = refl;
+  told = λ k. refl;
+  fits = λ f. one_fits stay p (Accept station) (tasks_of w) tt f;
+  mirrors = λ rs h. no_report p.sizes (mirrored_in w.history) rs h;
+  judged = refl;
+}
+
+busy_learnt : (stay : AnswersStay) (p : Setup) (station : ℕ) (w : Works) → IsLearnt p (outcome.Busy station) w (refused_works station w)
 busy_learnt stay p station w =
-    let calls : List Call = Busy station ∷ w.calls in
-    let s : State = (run_of p (Busy station ∷ w.calls)).state in
-    let own : List (List ℕ) = listed (refusal_of (line_of station (run_of p w.calls).state)) in
+    let s : State = given_up station w.serial.commands in
+    let own : List (List ℕ) = refusals station w.serial in
+    let h : History = told (Busy station) w in
     record {
       line = refl;
-      told = λ k. keeping (line_told k) (line_ignores k) p own s calls;
-      fits = λ f. kept_fit stay p own s calls (one_fits stay p (Busy station) w.calls tt f);
-      mirrors = λ rs h. subst (λ (vs : List AsduValue). AreValues p.sizes vs (command_reports p.sizes (rs ++ []))) (sym (keeping mirrored_in mirrors_ignore p own s calls))
-          (no_report p.sizes (mirrored_in (told_of p w.calls)) rs h);
-      judged = keeping asdus_judged judged_ignore p own s calls;
+      told = λ k. keeping (line_told k) (line_ignores k) own s h;
+      fits = λ f. kept_fit stay p own s (one_fits stay p (Busy station) (tasks_of w) tt f);
+      mirrors = λ rs h. subst (λ (vs : List AsduValue). AreValues p.sizes vs (command_reports p.sizes (rs ++ []))) (sym (keeping mirrored_in mirrors_ignore own s h))
+          (no_report p.sizes (mirrored_in w.history) rs h);
+      judged = keeping asdus_judged judged_ignore own s h;
     }
 
-down_learnt : (stay : AnswersStay) (p : Setup) (station : ℕ) (w : Works) → IsLearnt p (outcome.Down station) w (given_up_works p station w)
+down_learnt : (stay : AnswersStay) (p : Setup) (station : ℕ) (w : Works) → IsLearnt p (outcome.Down station) w (given_up_works station w)
 down_learnt stay p station w = record {
   line = refl;
   told = λ k. refl;
-  fits = λ f. one_fits stay p (Lose station) w.calls tt f;
-  mirrors = λ rs h. no_report p.sizes (mirrored_in (told_of p w.calls)) rs h;
+  fits = λ f. one_fits stay p (Lose station) (tasks_of w) tt f;
+  mirrors = λ rs h. no_report p.sizes (mirrored_in w.history) rs h;
   judged = refl;
 }
 
@@ -110,37 +120,37 @@ module _ (stay : AnswersStay) (p : Setup) (at : ℕ) (station : ℕ) (asdu : Arr
   abbrev said : Outcome
   said = outcome.Report station asdu
 
-  plain_report : is_command_report p.sizes asdu.items ≡ false → IsLearnt p said w (record w { counts = counted p.sizes asdu.items w.counts })
+  plain_report : is_command_report p.sizes asdu.items ≡ false → IsLearnt p said w (record w { serial = reported p.sizes asdu.items w.serial })
   plain_report other = record {
     line = refl;
     told = λ k. refl;
     fits = λ f. f;
-    mirrors = λ rs h. subst (λ (l : List (List ℕ)). AreValues p.sizes (mirrored_in (told_of p w.calls)) l)
+    mirrors = λ rs h. subst (λ (l : List (List ℕ)). AreValues p.sizes (mirrored_in w.history) l)
         (sym (reports_more p.sizes rs (station, asdu.items) ∙ ap (λ (b : Bool). command_reports p.sizes rs ++ (if b then asdu.items ∷ [] else [])) other ∙ append-nil (command_reports p.sizes rs))) h;
     judged = refl;
   }
 
   more_mirrored : (v : AsduValue) (rs : List (ℕ × List ℕ)) → is_command_report p.sizes asdu.items ≡ true → IsAsdu p.sizes v asdu.items →
-      AreValues p.sizes (mirrored_in (told_of p w.calls)) (command_reports p.sizes rs) → AreValues p.sizes (mirrored_in (told_of p (Mirror v at ∷ w.calls))) (command_reports p.sizes (rs ++ (station, asdu.items) ∷ []))
-  more_mirrored v rs command value h = subst (λ (l : List (List ℕ)). AreValues p.sizes (mirrored_in (told_of p w.calls) ++ v ∷ []) l)
+      AreValues p.sizes (mirrored_in w.history) (command_reports p.sizes rs) → AreValues p.sizes (mirrored_in (told (Mirror v at) w)) (command_reports p.sizes (rs ++ (station, asdu.items) ∷ []))
+  more_mirrored v rs command value h = subst (λ (l : List (List ℕ)). AreValues p.sizes (mirrored_in w.history ++ v ∷ []) l)
       (sym (reports_more p.sizes rs (station, asdu.items) ∙ ap (λ (b : Bool). command_reports p.sizes rs ++ (if b then asdu.items ∷ [] else [])) command))
-      (values_more p.sizes (mirrored_in (told_of p w.calls)) (command_reports p.sizes rs) v asdu.items h value)
+      (values_more p.sizes (mirrored_in w.history) (command_reports p.sizes rs) v asdu.items h value)
 
-  command_report : (running : Bool) (v : AsduValue) (pieces : List (List ℕ)) → is_command_report p.sizes asdu.items ≡ true → IsAsdu p.sizes v asdu.items → IsLearnt p said w (mirrored_works p at running v pieces w)
+  command_report : (running : Bool) (v : AsduValue) (pieces : List (List ℕ)) → is_command_report p.sizes asdu.items ≡ true → IsAsdu p.sizes v asdu.items → IsLearnt p said w (mirrored_works at running v pieces w)
   command_report true v pieces command value =
-      let calls : List Call = Mirror v at ∷ w.calls in
-      let s : State = (run_of p (Mirror v at ∷ w.calls)).state in
+      let s : State = mirrored v at w.serial.commands in
+      let h : History = told (Mirror v at) w in
       record {
         line = refl;
-        told = λ k. keeping (line_told k) (line_ignores k) p pieces s calls;
-        fits = λ f. kept_fit stay p pieces s calls (one_fits stay p (Mirror v at) w.calls tt f);
-        mirrors = λ rs h. subst (λ (vs : List AsduValue). AreValues p.sizes vs (command_reports p.sizes (rs ++ (station, asdu.items) ∷ []))) (sym (keeping mirrored_in mirrors_ignore p pieces s calls)) (more_mirrored v rs command value h);
-        judged = keeping asdus_judged judged_ignore p pieces s calls;
+        told = λ k. keeping (line_told k) (line_ignores k) pieces s h;
+        fits = λ f. kept_fit stay p pieces s (one_fits stay p (Mirror v at) (tasks_of w) tt f);
+        mirrors = λ rs h. subst (λ (vs : List AsduValue). AreValues p.sizes vs (command_reports p.sizes (rs ++ (station, asdu.items) ∷ []))) (sym (keeping mirrored_in mirrors_ignore pieces s h)) (more_mirrored v rs command value h);
+        judged = keeping asdus_judged judged_ignore pieces s h;
       }
   command_report false v pieces command value = record {
     line = refl;
     told = λ k. refl;
-    fits = λ f. one_fits stay p (Mirror v at) w.calls tt f;
+    fits = λ f. one_fits stay p (Mirror v at) (tasks_of w) tt f;
     mirrors = λ rs h. more_mirrored v rs command value h;
     judged = refl;
   }
@@ -152,6 +162,8 @@ module _ (stay : AnswersStay) (p : Setup) (at : ℕ) (station : ℕ) (asdu : Arr
 pub learnt_of : (stay : AnswersStay) (p : Setup) (at : ℕ) (running : Bool) (o : Outcome) (w z : Works) → LearnsOf p at running o w z → IsLearnt p o w z
 learnt_of stay p at running outcome.None w z h = same_learnt p outcome.None w z refl (λ h. refl) h
 learnt_of stay p at running (outcome.Started station) w z h = same_learnt p (outcome.Started station) w z refl (λ h. refl) h
+learnt_of stay p at running (outcome.StartedGap station session) w z h =
+    subst (λ (x : Works). IsLearnt p (outcome.StartedGap station session) w x) (sym h) (gap_learnt p station session w)
 learnt_of stay p at running (outcome.Empty station) w z h = same_learnt p (outcome.Empty station) w z refl (λ h. refl) h
 learnt_of stay p at running (outcome.Accepted station) w z h = subst (λ (x : Works). IsLearnt p (outcome.Accepted station) w x) (sym h) (accepted_learnt stay p station w)
 learnt_of stay p at running (outcome.Busy station) w z h = subst (λ (x : Works). IsLearnt p (outcome.Busy station) w x) (sym h) (busy_learnt stay p station w)
@@ -162,81 +174,87 @@ learnt_of stay p at running (outcome.Report station asdu) w z h = report_learnt 
 
 -- the same is told of the line, of stations' answers and of what waits
 pub record IsQuiet (p : Setup) (w z : Works) : Type 0 where
-  pub told : (k : ℕ) → line_told k (told_of p z.calls) ≡ line_told k (told_of p w.calls)
-  pub mirrors : mirrored_in (told_of p z.calls) ≡ mirrored_in (told_of p w.calls)
-  pub fits : WaitsFit p w.calls → WaitsFit p z.calls
+  pub told : (k : ℕ) → line_told k z.history ≡ line_told k w.history
+  pub mirrors : mirrored_in z.history ≡ mirrored_in w.history
+  pub fits : WaitsFit p w.serial.commands → WaitsFit p z.serial.commands
 
-pub heard_quiet : (stay : AnswersStay) (p : Setup) (frame : Apdu) (now : ℕ) (w : Works) → Fits frame → IsQuiet p w (heard_works p frame now w)
+pub heard_quiet : (stay : AnswersStay) (p : Setup) (frame : Apdu) (now : ℕ) (w : Works) → Fits frame → IsQuiet p w (heard_works frame now w)
 heard_quiet stay p (I ns nr asdu) now w fits =
-    let s : State = (run_of p w.calls).state in
+    let s : State = w.serial.commands in
     record {
-      told = λ k. judging (line_told k) (line_ignores k) p asdu.items now w.calls;
-      mirrors = judging mirrored_in mirrors_ignore p asdu.items now w.calls;
-      fits = λ f. kept_fit stay p (listed (judged asdu.items now s).0) (judged asdu.items now s).1 (Judge asdu.items now ∷ w.calls) (one_fits stay p (Judge asdu.items now) w.calls fits.2 f);
+      told = λ k. judging (line_told k) (line_ignores k) asdu.items now w;
+      mirrors = judging mirrored_in mirrors_ignore asdu.items now w;
+      fits = λ f. kept_fit stay p (listed (judged asdu.items now s).0) (judged asdu.items now s).1 (one_fits stay p (Judge asdu.items now) (tasks_of w) fits.2 f);
     }
 heard_quiet stay p (S nr) now w fits = record { told = λ k. refl; mirrors = refl; fits = λ f. f }
 heard_quiet stay p (U u) now w fits = record { told = λ k. refl; mirrors = refl; fits = λ f. f }
 
-pub heard_line : (p : Setup) (frame : Apdu) (now : ℕ) (w : Works) → (heard_works p frame now w).line ≡ w.line
-heard_line p (I ns nr asdu) now w = refl
-heard_line p (S nr) now w = refl
-heard_line p (U u) now w = refl
+pub heard_line : (frame : Apdu) (now : ℕ) (w : Works) → (heard_works frame now w).serial.line ≡ w.serial.line
+heard_line frame now w = refl
 
 -- the ASDU of an I frame
 abbrev pub judged_by : Apdu → List (List ℕ)
 judged_by (I ns nr asdu) = asdu.items ∷ []
 judged_by frame = []
 
-pub heard_judged : (p : Setup) (frame : Apdu) (now : ℕ) (w : Works) → asdus_judged (told_of p (heard_works p frame now w).calls) ≡ asdus_judged (told_of p w.calls) ++ judged_by frame
-heard_judged p (I ns nr asdu) now w = judging asdus_judged judged_ignore p asdu.items now w.calls
-heard_judged p (S nr) now w = sym (append-nil (asdus_judged (told_of p w.calls)))
-heard_judged p (U u) now w = sym (append-nil (asdus_judged (told_of p w.calls)))
+pub heard_judged : (frame : Apdu) (now : ℕ) (w : Works) → asdus_judged (heard_works frame now w).history ≡ asdus_judged w.history ++ judged_by frame
+heard_judged (I ns nr asdu) now w = judging asdus_judged judged_ignore asdu.items now w
+heard_judged (S nr) now w = sym (append-nil (asdus_judged w.history))
+heard_judged (U u) now w = sym (append-nil (asdus_judged w.history))
 
 pub sent_quiet : (stay : AnswersStay) (p : Setup) (frame : Apdu) (w : Works) → IsQuiet p w (sent_works frame w)
 sent_quiet stay p (I ns nr asdu) w = go (has_objects asdu.items)
   where
-    go : (b : Bool) → IsQuiet p w (if b then w else with_call SendOwn w)
+    go : (b : Bool) → IsQuiet p w (if b then w else answered_works w)
     go true = record { told = λ k. refl; mirrors = refl; fits = λ f. f }
-    go false = record { told = λ k. sending_own (line_told k) (line_ignores k) p w.calls; mirrors = sending_own mirrored_in mirrors_ignore p w.calls; fits = λ f. one_fits stay p SendOwn w.calls tt f }
+    go false = record { told = λ k. sending_own (line_told k) (line_ignores k) w; mirrors = sending_own mirrored_in mirrors_ignore w; fits = λ f. f }
 sent_quiet stay p (S nr) w = record { told = λ k. refl; mirrors = refl; fits = λ f. f }
 sent_quiet stay p (U u) w = record { told = λ k. refl; mirrors = refl; fits = λ f. f }
 
-pub sent_line : (frame : Apdu) (w : Works) → (sent_works frame w).line ≡ w.line
+pub sent_line : (frame : Apdu) (w : Works) → (sent_works frame w).serial.line ≡ w.serial.line
 sent_line (I ns nr asdu) w = go (has_objects asdu.items)
   where
-    go : (b : Bool) → (if b then w else with_call SendOwn w).line ≡ w.line
+    go : (b : Bool) → (if b then w else answered_works w).serial.line ≡ w.serial.line
     go true = refl
     go false = refl
 sent_line (S nr) w = refl
 sent_line (U u) w = refl
 
-pub sent_judged : (p : Setup) (frame : Apdu) (w : Works) → asdus_judged (told_of p (sent_works frame w).calls) ≡ asdus_judged (told_of p w.calls)
-sent_judged p (I ns nr asdu) w = go (has_objects asdu.items)
+pub sent_judged : (frame : Apdu) (w : Works) → asdus_judged (sent_works frame w).history ≡ asdus_judged w.history
+sent_judged (I ns nr asdu) w = go (has_objects asdu.items)
   where
-    go : (b : Bool) → asdus_judged (told_of p (if b then w else with_call SendOwn w).calls) ≡ asdus_judged (told_of p w.calls)
+    go : (b : Bool) → asdus_judged (if b then w else answered_works w).history ≡ asdus_judged w.history
     go true = refl
-    go false = sending_own asdus_judged judged_ignore p w.calls
-sent_judged p (S nr) w = refl
-sent_judged p (U u) w = refl
+    go false = sending_own asdus_judged judged_ignore w
+sent_judged (S nr) w = refl
+sent_judged (U u) w = refl
 
-pub settled_quiet : (stay : AnswersStay) (p : Setup) (at : ℕ) (w : Works) → IsQuiet p w (settled_works p at w)
-settled_quiet stay p at w = go w.silent
+pub settled_quiet : (stay : AnswersStay) (p : Setup) (at : ℕ) (w : Works) → IsQuiet p w (settled_works at w)
+settled_quiet stay p at w = record { told = λ k. said k w.serial.silent; mirrors = answers w.serial.silent; fits = fit w.serial.silent }
   where
-    go : (o : Option ℕ) → IsQuiet p w (record (unless_silent p o w) { calls = Due at ∷ (unless_silent p o w).calls; silent = None })
-    go None = record { told = λ k. refl; mirrors = refl; fits = λ f. one_fits stay p (Due at) w.calls tt f }
-    go (Some station) = record { told = λ k. refl; mirrors = refl; fits = λ f. one_fits stay p (Due at) (Lose station ∷ w.calls) tt (one_fits stay p (Lose station) w.calls tt f) }
+    said : (k : ℕ) (o : Option ℕ) → line_told k (told_silent o w) ≡ line_told k w.history
+    said k None = refl
+    said k (Some station) = refl
 
-pub settled_line : (p : Setup) (at : ℕ) (w : Works) → (settled_works p at w).line ≡ w.line
-settled_line p at w = go w.silent
+    answers : (o : Option ℕ) → mirrored_in (told_silent o w) ≡ mirrored_in w.history
+    answers None = refl
+    answers (Some station) = refl
+
+    fit : (o : Option ℕ) → WaitsFit p w.serial.commands → WaitsFit p (unless_silent o w.serial).commands
+    fit None f = f
+    fit (Some station) f = one_fits stay p (Lose station) (tasks_of w) tt f
+
+pub settled_line : (at : ℕ) (w : Works) → (settled_works at w).serial.line ≡ w.serial.line
+settled_line at w = go w.serial.silent
   where
-    go : (o : Option ℕ) → (unless_silent p o w).line ≡ w.line
+    go : (o : Option ℕ) → (unless_silent o w.serial).line ≡ w.serial.line
     go None = refl
     go (Some station) = refl
 
-pub settled_judged : (p : Setup) (at : ℕ) (w : Works) → asdus_judged (told_of p (settled_works p at w).calls) ≡ asdus_judged (told_of p w.calls)
-settled_judged p at w = go w.silent
+pub settled_judged : (at : ℕ) (w : Works) → asdus_judged (settled_works at w).history ≡ asdus_judged w.history
+settled_judged at w = go w.serial.silent
   where
-    go : (o : Option ℕ) → asdus_judged (told_of p (Due at ∷ (unless_silent p o w).calls)) ≡ asdus_judged (told_of p w.calls)
+    go : (o : Option ℕ) → asdus_judged (told_silent o w) ≡ asdus_judged w.history
     go None = refl
     go (Some station) = refl
 
@@ -265,36 +283,40 @@ module _ (laws : LinkLaws) (settings : LinkSettings) (addresses : List ℕ) (e :
 
 -- A command goes out
 
-pub put_told : (p : Setup) (first : Bool) (station : ℕ) (request : Asked) (calls : List Call) (k : ℕ) → (first ≡ true → is_command request ≡ true) →
-    ((fcb : Bool) (asdu : List ℕ) → request ≡ Counted fcb (Command asdu) → first ≡ true → octets_waiting station (run_of p calls).state ≡ Some asdu) →
-    line_told k (told_of p (put_calls first station calls)) ≡ line_told k (told_asked first station request (told_of p calls))
-put_told p false station request calls k command waits = refl
-put_told p true station Status calls k command waits = let no : is_command Status ≡ true = command refl in cc
-put_told p true station Reset calls k command waits = let no : is_command Reset ≡ true = command refl in cc
-put_told p true station (Counted fcb Class1) calls k command waits = let no : is_command (Counted fcb Class1) ≡ true = command refl in cc
-put_told p true station (Counted fcb Class2) calls k command waits = let no : is_command (Counted fcb Class2) ≡ true = command refl in cc
-put_told p true station (Counted fcb (Command asdu)) calls k command waits = go (oldest_for station (run_of p calls).state) (waits fcb asdu refl refl)
+pub put_told : (first : Bool) (station : ℕ) (request : Asked) (w : Works) (k : ℕ) → (first ≡ true → is_command request ≡ true) →
+    ((fcb : Bool) (asdu : List ℕ) → request ≡ Counted fcb (Command asdu) → first ≡ true → octets_waiting station w.serial.commands ≡ Some asdu) →
+    line_told k (told_put first station w) ≡ line_told k (told_asked first station request w.history)
+put_told false station request w k command waits = refl
+put_told true station Status w k command waits = let no : is_command Status ≡ true = command refl in cc
+put_told true station Reset w k command waits = let no : is_command Reset ≡ true = command refl in cc
+put_told true station (Counted fcb Class1) w k command waits = let no : is_command (Counted fcb Class1) ≡ true = command refl in cc
+put_told true station (Counted fcb Class2) w k command waits = let no : is_command (Counted fcb Class2) ≡ true = command refl in cc
+put_told true station (Counted fcb (Command asdu)) w k command waits = go (oldest_for station w.serial.commands) (waits fcb asdu refl refl)
   where
-    go : (o : Option Waiting) → option_map (λ (w : Waiting). w.octets) o ≡ Some asdu → line_told k (after_sending o station (run_of p calls)).history ≡ line_told k (Sent station asdu ∷ told_of p calls)
+    go : (o : Option Waiting) → option_map (λ (w : Waiting). w.octets) o ≡ Some asdu → line_told k (after_sending o station (tasks_of w)).history ≡ line_told k (Sent station asdu ∷ w.history)
     go None e = cc
-    go (Some w) e = let same : w.octets ≡ asdu = cc in ap (λ (x : List ℕ). line_told k (Sent station x ∷ told_of p calls)) same
+    go (Some x) e = let same : x.octets ≡ asdu = cc in ap (λ (l : List ℕ). line_told k (Sent station l ∷ w.history)) same
 
-pub put_mirrors : (p : Setup) (first : Bool) (station : ℕ) (calls : List Call) → mirrored_in (told_of p (put_calls first station calls)) ≡ mirrored_in (told_of p calls)
-put_mirrors p false station calls = refl
-put_mirrors p true station calls = go (oldest_for station (run_of p calls).state)
+pub put_mirrors : (first : Bool) (station : ℕ) (w : Works) → mirrored_in (told_put first station w) ≡ mirrored_in w.history
+put_mirrors false station w = refl
+put_mirrors true station w = go (oldest_for station w.serial.commands)
   where
-    go : (o : Option Waiting) → mirrored_in (after_sending o station (run_of p calls)).history ≡ mirrored_in (told_of p calls)
+    go : (o : Option Waiting) → mirrored_in (after_sending o station (tasks_of w)).history ≡ mirrored_in w.history
     go None = refl
-    go (Some w) = refl
+    go (Some x) = refl
 
-pub put_judged : (p : Setup) (first : Bool) (station : ℕ) (calls : List Call) → asdus_judged (told_of p (put_calls first station calls)) ≡ asdus_judged (told_of p calls)
-put_judged p false station calls = refl
-put_judged p true station calls = go (oldest_for station (run_of p calls).state)
+pub put_judged : (first : Bool) (station : ℕ) (w : Works) → asdus_judged (told_put first station w) ≡ asdus_judged w.history
+put_judged false station w = refl
+put_judged true station w = go (oldest_for station w.serial.commands)
   where
-    go : (o : Option Waiting) → asdus_judged (after_sending o station (run_of p calls)).history ≡ asdus_judged (told_of p calls)
+    go : (o : Option Waiting) → asdus_judged (after_sending o station (tasks_of w)).history ≡ asdus_judged w.history
     go None = refl
-    go (Some w) = refl
+    go (Some x) = refl
 
-pub put_fits : (stay : AnswersStay) (p : Setup) (first : Bool) (station : ℕ) (calls : List Call) → WaitsFit p calls → WaitsFit p (put_calls first station calls)
-put_fits stay p false station calls f = f
-put_fits stay p true station calls f = one_fits stay p (PutOnLine station) calls tt f
+pub put_fits : (stay : AnswersStay) (p : Setup) (first : Bool) (station : ℕ) (w : Works) → WaitsFit p w.serial.commands → WaitsFit p (put_on_line first station w.serial.commands)
+put_fits stay p false station w f = f
+put_fits stay p true station w f = go (oldest_for station w.serial.commands) refl (one_fits stay p (PutOnLine station) (tasks_of w) tt f)
+  where
+    go : (o : Option Waiting) → oldest_for station w.serial.commands ≡ o → WaitsFit p (after_sending o station (tasks_of w)).state → WaitsFit p (put_out o station w.serial.commands)
+    go None e h = h
+    go (Some x) e h = subst (λ (o : Option Waiting). WaitsFit p (put_out o station w.serial.commands)) e h

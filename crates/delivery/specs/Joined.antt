@@ -10,7 +10,7 @@ use Rattle.command.specs.History.{History, Mirrored}
 use Rattle.gateway.specs.Log.{Log}
 use Rattle.gateway.specs.Reports.{Setup, AreFound, address_at}
 use Rattle.gateway.specs.Reports.{exchanges_of, exchanges_with, reports_in}
-use Rattle.gateway.specs.Works.{tasks_of, is_command_report}
+use Rattle.gateway.specs.Works.{is_command_report}
 use Rattle.gateway.specs.Course.{Course, here_of}
 use Rattle.delivery.specs.Commands.{steps_in, steps_told, confirmed_by, first_sendings, sent_to}
 use Rattle.delivery.specs.Commands.{asdus_judged, asdus_received}
@@ -43,18 +43,18 @@ AreValues sizes _ _ = ⊥
 -- The course of the log says of the line what its exchanges say.
 pub record IsJoined (p : Setup) (log : Log) (c : Course) : Type 0 where
   -- its primary station is what the exchanges make it
-  pub tells : Tells p.link p.addresses c.works.line (exchanges_of p log)
+  pub tells : Tells p.link p.addresses c.works.serial.line (exchanges_of p log)
   -- what it tells of commands on each station's line, which of them was confirmed and which found
   -- the link busy, is what the exchanges show
-  pub steps : (k : ℕ) → steps_told k (tasks_of p c.works).history
+  pub steps : (k : ℕ) → steps_told k c.works.history
       ≡ steps_in (address_at p.addresses k) None (exchanges_with p k log)
-  pub sent : (k : ℕ) → sent_to k (tasks_of p c.works).history
+  pub sent : (k : ℕ) → sent_to k c.works.history
       ≡ first_sendings (address_at p.addresses k) None (exchanges_with p k log)
   -- those confirmed are those that the exchanges told of as accepted by the outstation
-  pub confirmed : (k : ℕ) → confirmed_by (steps_told k (tasks_of p c.works).history)
+  pub confirmed : (k : ℕ) → confirmed_by (steps_told k c.works.history)
       ≡ commands (learnt (address_at p.addresses k) (exchanges_with p k log))
   -- the stations' answers to commands are, in order, the reports of command types that were taken
-  pub mirrored : AreValues p.sizes (mirrored_in (tasks_of p c.works).history)
+  pub mirrored : AreValues p.sizes (mirrored_in c.works.history)
       (command_reports p.sizes (reports_in p log))
   -- and what it judged are the ASDUs of the I frames of its connections
-  pub judged : asdus_judged (tasks_of p c.works).history ≡ asdus_received (here_of c ∷ c.earlier)
+  pub judged : asdus_judged c.works.history ≡ asdus_received (here_of c ∷ c.earlier)

@@ -1,2 +1,3 @@
 pub mod TimeTagChecks
 pub mod TypeCodes
+mod StandardTables

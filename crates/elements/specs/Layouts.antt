@@ -1,5 +1,5 @@
--- The layouts that information elements share (IEC 60870-5-101, 7.2.6): their octets, the low one first, and what
--- fits them.
+-- The layouts that information elements share (IEC 60870-5-101, 7.2.6): their octets, the low one
+-- first, and what fits them.
 use Rattle.std.specs.Prelude.{ℕ, ℤ, ◌<◌, ◌^◌, ◌++◌, List, [], ◌∷◌, FitsSigned}
 use Rattle.std.specs.Int.{w16, w32, cast_signed, cast_unsigned}
 use Rattle.byteorder.specs.Endian.{little_bytes, little_number}

@@ -4,8 +4,8 @@ use Rattle.elements.specs.Layouts.{short_at, word_at, long_at}
 use Rattle.elements.specs.declared.types.TypeId.{TypeId}
 use Rattle.elements.specs.declared.types.TypeId.TheVariants.{MSpNa1, MDpNa1, MStNa1, MBoNa1, MMeNa1, MMeNb1, MMeNc1, MItNa1, MSpTb1, MDpTb1, MStTb1, MBoTb1, MMeTd1, MMeTe1, MMeTf1, MItTb1, MEiNa1, CScNa1, CDcNa1, CRcNa1, CSeNa1, CSeNb1, CIcNa1, CScTa1, CDcTa1, CRcTa1, CSeTa1, CSeTb1}
 
--- A type's octet, how many octets its element has, whether a time tag follows each, and whether it goes in
--- monitor direction.
+-- A type's octet, how many octets its element has, whether a time tag follows each, and whether it
+-- goes in monitor direction.
 pub record Row : Type 0 where
   pub code : ℕ
   pub size : ℕ
@@ -44,7 +44,10 @@ row CSeTb1 = record { code = 62; size = 3; tagged = true; monitor = false }
 
 -- each type
 abbrev pub types : List TypeId
-types = MSpNa1 ∷ MDpNa1 ∷ MStNa1 ∷ MBoNa1 ∷ MMeNa1 ∷ MMeNb1 ∷ MMeNc1 ∷ MItNa1 ∷ MSpTb1 ∷ MDpTb1 ∷ MStTb1 ∷ MBoTb1 ∷ MMeTd1 ∷ MMeTe1 ∷ MMeTf1 ∷ MItTb1 ∷ MEiNa1 ∷ CScNa1 ∷ CDcNa1 ∷ CRcNa1 ∷ CSeNa1 ∷ CSeNb1 ∷ CIcNa1 ∷ CScTa1 ∷ CDcTa1 ∷ CRcTa1 ∷ CSeTa1 ∷ CSeTb1 ∷ []
+types =
+    MSpNa1 ∷ MDpNa1 ∷ MStNa1 ∷ MBoNa1 ∷ MMeNa1 ∷ MMeNb1 ∷ MMeNc1 ∷ MItNa1 ∷ MSpTb1 ∷ MDpTb1 ∷ MStTb1
+    ∷ MBoTb1 ∷ MMeTd1 ∷ MMeTe1 ∷ MMeTf1 ∷ MItTb1 ∷ MEiNa1 ∷ CScNa1 ∷ CDcNa1 ∷ CRcNa1 ∷ CSeNa1
+    ∷ CSeNb1 ∷ CIcNa1 ∷ CScTa1 ∷ CDcTa1 ∷ CRcTa1 ∷ CSeTa1 ∷ CSeTb1 ∷ []
 
 -- the type that an octet names
 unfoldable pub type_of : ℕ → Option TypeId
@@ -54,7 +57,8 @@ type_of code = find (λ t. (row t).code == code) types
 abbrev pub seven_bits : ℕ → ℤ
 seven_bits x = if nat_lt x 64 then pos x else pos x -ℤ pos 128
 
--- The value that an element's octets show (7.2.6). Which values are shown so is this gateway's own profile.
+-- The value that an element's octets show (7.2.6). Which values are shown so is this gateway's own
+-- profile.
 abbrev pub value_shown : TypeId → List ℕ → ℤ
 value_shown MSpNa1 xs = pos (slice_index xs 0 % 2)
 value_shown MDpNa1 xs = pos (slice_index xs 0 % 4)

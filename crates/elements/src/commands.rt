@@ -8,7 +8,8 @@ use crate::Element;
 use crate::layout::{put_octet, put_short};
 use byteorder::{ByteOrder, LittleEndian};
 
-/// SCO, a single command (IEC 60870-5-101, 7.2.6.15): the state in bit 0, QU in bits 6 to 2, S/E in bit 7.
+/// SCO, a single command (IEC 60870-5-101, 7.2.6.15): the state in bit 0, QU in bits 6 to 2, S/E in
+/// bit 7.
 #[derive(Clone, Copy, Debug, PartialEq, Eq)]
 pub struct Sco(pub u8);
 
@@ -36,8 +37,8 @@ impl Element for Sco {
     ghost writes_back = { λ xs n _. octet_again xs n };
 }
 
-/// DCO, a double command (IEC 60870-5-101, 7.2.6.16): the state in bits 1 to 0, of which 0 and 3 aren't permitted, QU in
-/// bits 6 to 2, S/E in bit 7.
+/// DCO, a double command (IEC 60870-5-101, 7.2.6.16): the state in bits 1 to 0, of which 0 and 3
+/// aren't permitted, QU in bits 6 to 2, S/E in bit 7.
 #[derive(Clone, Copy, Debug, PartialEq, Eq)]
 pub struct Dco(pub u8);
 
@@ -65,8 +66,8 @@ impl Element for Dco {
     ghost writes_back = { λ xs n _. octet_again xs n };
 }
 
-/// RCO, a regulating step command (IEC 60870-5-101, 7.2.6.17): the step in bits 1 to 0, of which 0 and 3 aren't
-/// permitted, QU in bits 6 to 2, S/E in bit 7.
+/// RCO, a regulating step command (IEC 60870-5-101, 7.2.6.17): the step in bits 1 to 0, of which 0
+/// and 3 aren't permitted, QU in bits 6 to 2, S/E in bit 7.
 #[derive(Clone, Copy, Debug, PartialEq, Eq)]
 pub struct Rco(pub u8);
 
@@ -125,7 +126,9 @@ impl Element for SeNva {
         }
     }
 
-    ghost reads_back = { λ v h. ap (λ x. record { value = x; qualifier = v.qualifier }) (short_read v.value v.qualifier h) };
+    ghost reads_back = { λ v h.
+        ap (λ x.
+        record { value = x; qualifier = v.qualifier }) (short_read v.value v.qualifier h) };
 
     ghost writes_back = { λ xs n all. short_again xs n all };
 }
@@ -160,12 +163,15 @@ impl Element for SeSva {
         }
     }
 
-    ghost reads_back = { λ v h. ap (λ x. record { value = x; qualifier = v.qualifier }) (short_read v.value v.qualifier h) };
+    ghost reads_back = { λ v h.
+        ap (λ x.
+        record { value = x; qualifier = v.qualifier }) (short_read v.value v.qualifier h) };
 
     ghost writes_back = { λ xs n all. short_again xs n all };
 }
 
-/// QOI, a qualifier of interrogation (IEC 60870-5-101, 7.2.6.22): 20 the station, 21 to 36 groups 1 to 16.
+/// QOI, a qualifier of interrogation (IEC 60870-5-101, 7.2.6.22): 20 the station, 21 to 36 groups 1
+/// to 16.
 #[derive(Clone, Copy, Debug, PartialEq, Eq)]
 pub struct Qoi(pub u8);
 

@@ -2,8 +2,8 @@
 ghost use Rattle.std.specs.Prelude.{◌≡◌, ℕ, List, length};
 ghost use Rattle.elements.specs.Octets.{AreOctets};
 
-/// An information element (IEC 60870-5-101, 7.2.6), of `SIZE` octets. Each value has one spelling, and all octets are
-/// the spelling of a value: every bit is carried, reserved ones too.
+/// An information element (IEC 60870-5-101, 7.2.6), of `SIZE` octets. Each value has one spelling,
+/// and all octets are the spelling of a value: every bit is carried, reserved ones too.
 pub trait Element {
     /// The octets that stand for a value.
     ghost octets_of: { Self → List ℕ };
@@ -36,5 +36,6 @@ pub trait Element {
     ghost reads_back: { (v : Self) → IsValue v → value_of (octets_of v) ≡ v };
 
     /// Writing what was read gives the octets.
-    ghost writes_back: { (xs : List ℕ) → length xs ≡ SIZE → AreOctets xs → octets_of (value_of xs) ≡ xs };
+    ghost writes_back: { (xs : List ℕ) → length xs ≡ SIZE → AreOctets xs →
+        octets_of (value_of xs) ≡ xs };
 }

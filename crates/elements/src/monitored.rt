@@ -8,8 +8,8 @@ use crate::Element;
 use crate::layout::{put_long, put_octet, put_short, put_word};
 use byteorder::{ByteOrder, LittleEndian};
 
-/// SIQ, single point information with quality (IEC 60870-5-101, 7.2.6.1): the point in bit 0, BL in bit 4, SB in bit 5,
-/// NT in bit 6, IV in bit 7.
+/// SIQ, single point information with quality (IEC 60870-5-101, 7.2.6.1): the point in bit 0, BL in
+/// bit 4, SB in bit 5, NT in bit 6, IV in bit 7.
 #[derive(Clone, Copy, Debug, PartialEq, Eq)]
 pub struct Siq(pub u8);
 
@@ -37,7 +37,8 @@ impl Element for Siq {
     ghost writes_back = { λ xs n _. octet_again xs n };
 }
 
-/// DIQ, double point information with quality (IEC 60870-5-101, 7.2.6.2): the point in bits 1 to 0, quality as in `Siq`.
+/// DIQ, double point information with quality (IEC 60870-5-101, 7.2.6.2): the point in bits 1 to 0,
+/// quality as in `Siq`.
 #[derive(Clone, Copy, Debug, PartialEq, Eq)]
 pub struct Diq(pub u8);
 
@@ -68,7 +69,8 @@ impl Element for Diq {
 /// VTI, a step position, with quality (IEC 60870-5-101, 7.2.6.5 and 7.2.6.3).
 #[derive(Clone, Copy, Debug, PartialEq, Eq)]
 pub struct Vti {
-    /// The position in bits 6 to 0, in two's complement; bit 7 tells that the equipment is in a transient state.
+    /// The position in bits 6 to 0, in two's complement; bit 7 tells that the equipment is in a
+    /// transient state.
     pub vti: u8,
     /// QDS: OV in bit 0, BL in bit 4, SB in bit 5, NT in bit 6, IV in bit 7.
     pub quality: u8,
@@ -102,7 +104,8 @@ impl Element for Vti {
     ghost writes_back = { λ xs n _. two_octets xs n };
 }
 
-/// BSI, a bitstring of 32 bits, with quality (IEC 60870-5-101, 7.2.6.13). A short float (7.2.6.8) is carried as its bits.
+/// BSI, a bitstring of 32 bits, with quality (IEC 60870-5-101, 7.2.6.13). A short float (7.2.6.8)
+/// is carried as its bits.
 #[derive(Clone, Copy, Debug, PartialEq, Eq)]
 pub struct Bsi {
     pub bits: u32,
@@ -132,7 +135,8 @@ impl Element for Bsi {
         }
     }
 
-    ghost reads_back = { λ v h. ap (λ x. record { bits = x; quality = v.quality }) (word_read v.bits v.quality h) };
+    ghost reads_back = { λ v h.
+        ap (λ x. record { bits = x; quality = v.quality }) (word_read v.bits v.quality h) };
 
     ghost writes_back = { λ xs n all. word_again xs n all };
 }
@@ -168,7 +172,8 @@ impl Element for Nva {
         }
     }
 
-    ghost reads_back = { λ v h. ap (λ x. record { value = x; quality = v.quality }) (short_read v.value v.quality h) };
+    ghost reads_back = { λ v h.
+        ap (λ x. record { value = x; quality = v.quality }) (short_read v.value v.quality h) };
 
     ghost writes_back = { λ xs n all. short_again xs n all };
 }
@@ -203,7 +208,8 @@ impl Element for Sva {
         }
     }
 
-    ghost reads_back = { λ v h. ap (λ x. record { value = x; quality = v.quality }) (short_read v.value v.quality h) };
+    ghost reads_back = { λ v h.
+        ap (λ x. record { value = x; quality = v.quality }) (short_read v.value v.quality h) };
 
     ghost writes_back = { λ xs n all. short_again xs n all };
 }
@@ -239,13 +245,15 @@ impl Element for Bcr {
         }
     }
 
-    ghost reads_back = { λ v h. ap (λ x. record { reading = x; sequence = v.sequence }) (long_read v.reading v.sequence h) };
+    ghost reads_back = { λ v h.
+        ap (λ x.
+        record { reading = x; sequence = v.sequence }) (long_read v.reading v.sequence h) };
 
     ghost writes_back = { λ xs n all. long_again xs n all };
 }
 
-/// COI, a cause of initialisation (IEC 60870-5-101, 7.2.6.21): the cause in bits 6 to 0; bit 7 tells that parameters were
-/// changed.
+/// COI, a cause of initialisation (IEC 60870-5-101, 7.2.6.21): the cause in bits 6 to 0; bit 7
+/// tells that parameters were changed.
 #[derive(Clone, Copy, Debug, PartialEq, Eq)]
 pub struct Coi(pub u8);
 

@@ -4,19 +4,21 @@ ghost use Rattle.elements.specs.TimeTag.{AreBits, IsDateOf, fields_of, verdict_o
 
 use jiff::civil::Date;
 
-/// CP56Time2a, a time tag in seven octets (IEC 60870-5-101, 7.2.6.18). It is carried as it came, whatever its verdict.
+/// CP56Time2a, a time tag in seven octets (IEC 60870-5-101, 7.2.6.18). It is carried as it came,
+/// whatever its verdict.
 #[derive(Clone, Copy, Debug, PartialEq, Eq)]
 pub struct Cp56(pub [u8; 7]);
 
-/// What a time tag is worth, by its fields and the calendar. Years 0 to 99 are 2000 to 2099, and the tag is UTC (this
-/// gateway's own profile); SU and reserved bits play no part.
+/// What a time tag is worth, by its fields and the calendar. Years 0 to 99 are 2000 to 2099, and
+/// the tag is UTC (this gateway's own profile); SU and reserved bits play no part.
 #[derive(Clone, Copy, Debug, PartialEq, Eq)]
 pub enum Verdict {
     /// The instant, in milliseconds since 1970-01-01 00:00 UTC.
     Good(u64),
     /// IV is set.
     MarkedInvalid,
-    /// Milliseconds of the minute over 59999, minute over 59, hour over 23, day 0, month 0 or over 12, or year over 99.
+    /// Milliseconds of the minute over 59999, minute over 59, hour over 23, day 0, month 0 or over
+    /// 12, or year over 99.
     OutOfRange,
     /// The month of that year has no such day.
     NoSuchDay,
@@ -24,7 +26,8 @@ pub enum Verdict {
     WrongWeekday,
 }
 
-/// The fields of a tag. `weekday` is 1 for Monday to 7 for Sunday, 0 where it isn't used; `year` counts from 2000.
+/// The fields of a tag. `weekday` is 1 for Monday to 7 for Sunday, 0 where it isn't used; `year`
+/// counts from 2000.
 #[derive(Clone, Copy)]
 pub(crate) struct Fields {
     millisecond: u16,
@@ -55,7 +58,8 @@ fn read_fields(tag: &Cp56) -> Fields
     }
 }
 
-/// Judges a tag: the first of `OutOfRange`, `NoSuchDay`, `WrongWeekday`, `MarkedInvalid` and `Good` that applies.
+/// Judges a tag: the first of `OutOfRange`, `NoSuchDay`, `WrongWeekday`, `MarkedInvalid` and `Good`
+/// that applies.
 pub fn judge(tag: &Cp56) -> Verdict
     ensures { result ≡ verdict_of tag.now.0 }
 {

@@ -4,7 +4,8 @@ use crate::{
     Verdict, Vti, judge, kind,
 };
 
-/// The octet, the type, the element's octets, whether it is tagged, and whether it goes in monitor direction.
+/// The octet, the type, the element's octets, whether it is tagged, and whether it goes in monitor
+/// direction.
 const TABLE: [(u8, TypeId, usize, bool, bool); 28] = [
     (1, TypeId::MSpNa1, 1, false, true),
     (30, TypeId::MSpTb1, 1, true, true),
@@ -39,93 +40,87 @@ const TABLE: [(u8, TypeId, usize, bool, bool); 28] = [
 #[test]
 fn knows_the_types(rt: HostRuntime) {
     for octet in 0..=255u8 {
-        assert_eq!(rt;
-            kind(octet).is_some(),
-            TABLE.iter().any(|row| row.0 == octet)
-        );
+        let row = TABLE.iter().find(|row| row.0 == octet);
+        assert!(rt; kind(octet) == row.map(|row| row.1));
     }
-    for (octet, wanted, size, tagged, monitor) in TABLE {
-        assert_eq!(rt; kind(octet), Some(wanted));
-        assert_eq!(rt; wanted.size(), size);
-        assert_eq!(rt; wanted.tagged(), tagged);
-        assert_eq!(rt; wanted.monitor(), monitor);
+    for (_, kind, size, tagged, monitor) in TABLE {
+        assert!(rt; (kind.size(), kind.tagged(), kind.monitor()) == (size, tagged, monitor));
     }
 }
 
 #[test]
 fn shows_values(rt: HostRuntime) {
-    // Quality and reserved bits show nothing.
-    assert_eq!(rt; TypeId::MSpNa1.value(&[0xF1]), 1);
-    assert_eq!(rt; TypeId::MSpTb1.value(&[0xFE]), 0);
-    assert_eq!(rt; TypeId::MDpNa1.value(&[0xF2]), 2);
-    assert_eq!(rt; TypeId::MDpTb1.value(&[0x03]), 3);
-    assert_eq!(rt; TypeId::MStNa1.value(&[0x3F, 0xFF]), 63);
-    assert_eq!(rt; TypeId::MStTb1.value(&[0xC0, 0x00]), -64);
-    assert_eq!(rt; TypeId::MStNa1.value(&[0xFF, 0x00]), -1);
-    assert_eq!(rt;
-        TypeId::MBoNa1.value(&[0x78, 0x56, 0x34, 0xF2, 0xFF]),
-        0xF234_5678
-    );
-    assert_eq!(rt;
-        TypeId::MBoTb1.value(&[0xFF, 0xFF, 0xFF, 0xFF, 0x00]),
-        4_294_967_295
-    );
-    assert_eq!(rt; TypeId::MMeNa1.value(&[0x00, 0x80, 0x00]), -32_768);
-    assert_eq!(rt; TypeId::MMeTd1.value(&[0xFF, 0x7F, 0x80]), 32_767);
-    assert_eq!(rt; TypeId::MMeNb1.value(&[0xFF, 0xFF, 0x80]), -1);
-    assert_eq!(rt; TypeId::MMeTe1.value(&[0x02, 0x01, 0x00]), 258);
-    // The bits of the short floats 1 and -2.
-    assert_eq!(rt;
-        TypeId::MMeNc1.value(&[0x00, 0x00, 0x80, 0x3F, 0x00]),
-        0x3F80_0000
-    );
-    assert_eq!(rt;
-        TypeId::MMeTf1.value(&[0x00, 0x00, 0x00, 0xC0, 0x00]),
-        0xC000_0000
-    );
-    assert_eq!(rt;
-        TypeId::MItNa1.value(&[0x00, 0x00, 0x00, 0x80, 0x1F]),
-        -2_147_483_648
-    );
-    assert_eq!(rt; TypeId::MItTb1.value(&[0xFE, 0xFF, 0xFF, 0xFF, 0x00]), -2);
-    assert_eq!(rt; TypeId::MEiNa1.value(&[0x82]), 2);
-    assert_eq!(rt; TypeId::CScNa1.value(&[0x81]), 1);
-    assert_eq!(rt; TypeId::CDcNa1.value(&[0x82]), 2);
-    assert_eq!(rt; TypeId::CRcNa1.value(&[0x7D]), 1);
-    assert_eq!(rt; TypeId::CSeNa1.value(&[0x00, 0xC0, 0x80]), -16_384);
-    assert_eq!(rt; TypeId::CSeNb1.value(&[0x9C, 0xFF, 0x00]), -100);
-    assert_eq!(rt; TypeId::CIcNa1.value(&[0x14]), 20);
-    assert_eq!(rt; TypeId::CScTa1.value(&[0x81]), 1);
-    assert_eq!(rt; TypeId::CDcTa1.value(&[0x82]), 2);
-    assert_eq!(rt; TypeId::CRcTa1.value(&[0x7D]), 1);
-    assert_eq!(rt; TypeId::CSeTa1.value(&[0x00, 0xC0, 0x80]), -16_384);
-    assert_eq!(rt; TypeId::CSeTb1.value(&[0x9C, 0xFF, 0x00]), -100);
+    let rows: [(TypeId, &[u8], i64); 29] = [
+        // Quality and reserved bits show nothing.
+        (TypeId::MSpNa1, &[0xF1], 1),
+        (TypeId::MSpTb1, &[0xFE], 0),
+        (TypeId::MDpNa1, &[0xF2], 2),
+        (TypeId::MDpTb1, &[0x03], 3),
+        (TypeId::MStNa1, &[0x3F, 0xFF], 63),
+        (TypeId::MStTb1, &[0xC0, 0x00], -64),
+        (TypeId::MStNa1, &[0xFF, 0x00], -1),
+        (TypeId::MBoNa1, &[0x78, 0x56, 0x34, 0xF2, 0xFF], 0xF234_5678),
+        (
+            TypeId::MBoTb1,
+            &[0xFF, 0xFF, 0xFF, 0xFF, 0x00],
+            4_294_967_295,
+        ),
+        (TypeId::MMeNa1, &[0x00, 0x80, 0x00], -32_768),
+        (TypeId::MMeTd1, &[0xFF, 0x7F, 0x80], 32_767),
+        (TypeId::MMeNb1, &[0xFF, 0xFF, 0x80], -1),
+        (TypeId::MMeTe1, &[0x02, 0x01, 0x00], 258),
+        // The bits of the short floats 1 and -2.
+        (TypeId::MMeNc1, &[0x00, 0x00, 0x80, 0x3F, 0x00], 0x3F80_0000),
+        (TypeId::MMeTf1, &[0x00, 0x00, 0x00, 0xC0, 0x00], 0xC000_0000),
+        (
+            TypeId::MItNa1,
+            &[0x00, 0x00, 0x00, 0x80, 0x1F],
+            -2_147_483_648,
+        ),
+        (TypeId::MItTb1, &[0xFE, 0xFF, 0xFF, 0xFF, 0x00], -2),
+        (TypeId::MEiNa1, &[0x82], 2),
+        (TypeId::CScNa1, &[0x81], 1),
+        (TypeId::CDcNa1, &[0x82], 2),
+        (TypeId::CRcNa1, &[0x7D], 1),
+        (TypeId::CSeNa1, &[0x00, 0xC0, 0x80], -16_384),
+        (TypeId::CSeNb1, &[0x9C, 0xFF, 0x00], -100),
+        (TypeId::CIcNa1, &[0x14], 20),
+        (TypeId::CScTa1, &[0x81], 1),
+        (TypeId::CDcTa1, &[0x82], 2),
+        (TypeId::CRcTa1, &[0x7D], 1),
+        (TypeId::CSeTa1, &[0x00, 0xC0, 0x80], -16_384),
+        (TypeId::CSeTb1, &[0x9C, 0xFF, 0x00], -100),
+    ];
+    for (kind, octets, value) in rows {
+        assert!(rt; octets.len() == kind.size());
+        if octets.len() == kind.size() {
+            assert!(rt; kind.value(octets) == value);
+        }
+    }
 }
 
 // All bits are carried: reserved ones, quality, and the sign.
 #[test]
-fn carries_monitored_elements(rt: HostRuntime) {
+fn carries_elements(rt: HostRuntime) {
     let mut out = [0xAA; 1];
     Siq(0xFE).put(&mut out);
-    assert_eq!(rt; out, [0xFE]);
-    assert_eq!(rt; Siq::get(&out), Siq(0xFE));
+    assert!(rt; out == [0xFE] && Siq::get(&out) == Siq(0xFE));
     let mut out = [0xAA; 1];
     Diq(0x8F).put(&mut out);
-    assert_eq!(rt; out, [0x8F]);
-    assert_eq!(rt; Diq::get(&out), Diq(0x8F));
+    assert!(rt; out == [0x8F] && Diq::get(&out) == Diq(0x8F));
     let mut out = [0xAA; 2];
     Vti {
         vti: 0xC0,
         quality: 0xFF,
     }
     .put(&mut out);
-    assert_eq!(rt; out, [0xC0, 0xFF]);
-    assert_eq!(rt;
-        Vti::get(&out),
-        Vti {
-            vti: 0xC0,
-            quality: 0xFF
-        }
+    assert!(rt;
+        out == [0xC0, 0xFF]
+            && Vti::get(&out)
+                == Vti {
+                    vti: 0xC0,
+                    quality: 0xFF
+                }
     );
     let mut out = [0xAA; 5];
     Bsi {
@@ -133,13 +128,13 @@ fn carries_monitored_elements(rt: HostRuntime) {
         quality: 0x81,
     }
     .put(&mut out);
-    assert_eq!(rt; out, [0x78, 0x56, 0x34, 0xF2, 0x81]);
-    assert_eq!(rt;
-        Bsi::get(&out),
-        Bsi {
-            bits: 0xF234_5678,
-            quality: 0x81
-        }
+    assert!(rt;
+        out == [0x78, 0x56, 0x34, 0xF2, 0x81]
+            && Bsi::get(&out)
+                == Bsi {
+                    bits: 0xF234_5678,
+                    quality: 0x81
+                }
     );
     let mut out = [0xAA; 3];
     Nva {
@@ -147,13 +142,13 @@ fn carries_monitored_elements(rt: HostRuntime) {
         quality: 0x0E,
     }
     .put(&mut out);
-    assert_eq!(rt; out, [0x00, 0x80, 0x0E]);
-    assert_eq!(rt;
-        Nva::get(&out),
-        Nva {
-            value: -32_768,
-            quality: 0x0E
-        }
+    assert!(rt;
+        out == [0x00, 0x80, 0x0E]
+            && Nva::get(&out)
+                == Nva {
+                    value: -32_768,
+                    quality: 0x0E
+                }
     );
     let mut out = [0xAA; 3];
     Sva {
@@ -161,13 +156,13 @@ fn carries_monitored_elements(rt: HostRuntime) {
         quality: 0x80,
     }
     .put(&mut out);
-    assert_eq!(rt; out, [0xFE, 0xFF, 0x80]);
-    assert_eq!(rt;
-        Sva::get(&out),
-        Sva {
-            value: -2,
-            quality: 0x80
-        }
+    assert!(rt;
+        out == [0xFE, 0xFF, 0x80]
+            && Sva::get(&out)
+                == Sva {
+                    value: -2,
+                    quality: 0x80
+                }
     );
     let mut out = [0xAA; 5];
     Bcr {
@@ -175,47 +170,39 @@ fn carries_monitored_elements(rt: HostRuntime) {
         sequence: 0xFF,
     }
     .put(&mut out);
-    assert_eq!(rt; out, [0x00, 0x00, 0x00, 0x80, 0xFF]);
-    assert_eq!(rt;
-        Bcr::get(&out),
-        Bcr {
-            reading: -2_147_483_648,
-            sequence: 0xFF
-        }
+    assert!(rt;
+        out == [0x00, 0x00, 0x00, 0x80, 0xFF]
+            && Bcr::get(&out)
+                == Bcr {
+                    reading: -2_147_483_648,
+                    sequence: 0xFF
+                }
     );
     let mut out = [0xAA; 1];
     Coi(0x82).put(&mut out);
-    assert_eq!(rt; out, [0x82]);
-    assert_eq!(rt; Coi::get(&out), Coi(0x82));
-}
-
-#[test]
-fn carries_command_elements(rt: HostRuntime) {
+    assert!(rt; out == [0x82] && Coi::get(&out) == Coi(0x82));
     let mut out = [0xAA; 1];
     Sco(0xFF).put(&mut out);
-    assert_eq!(rt; out, [0xFF]);
-    assert_eq!(rt; Sco::get(&out), Sco(0xFF));
+    assert!(rt; out == [0xFF] && Sco::get(&out) == Sco(0xFF));
     let mut out = [0xAA; 1];
     Dco(0x83).put(&mut out);
-    assert_eq!(rt; out, [0x83]);
-    assert_eq!(rt; Dco::get(&out), Dco(0x83));
+    assert!(rt; out == [0x83] && Dco::get(&out) == Dco(0x83));
     let mut out = [0xAA; 1];
     Rco(0x7D).put(&mut out);
-    assert_eq!(rt; out, [0x7D]);
-    assert_eq!(rt; Rco::get(&out), Rco(0x7D));
+    assert!(rt; out == [0x7D] && Rco::get(&out) == Rco(0x7D));
     let mut out = [0xAA; 3];
     SeNva {
         value: -16_384,
         qualifier: 0x81,
     }
     .put(&mut out);
-    assert_eq!(rt; out, [0x00, 0xC0, 0x81]);
-    assert_eq!(rt;
-        SeNva::get(&out),
-        SeNva {
-            value: -16_384,
-            qualifier: 0x81
-        }
+    assert!(rt;
+        out == [0x00, 0xC0, 0x81]
+            && SeNva::get(&out)
+                == SeNva {
+                    value: -16_384,
+                    qualifier: 0x81
+                }
     );
     let mut out = [0xAA; 3];
     SeSva {
@@ -223,31 +210,31 @@ fn carries_command_elements(rt: HostRuntime) {
         qualifier: 0x7F,
     }
     .put(&mut out);
-    assert_eq!(rt; out, [0x02, 0x01, 0x7F]);
-    assert_eq!(rt;
-        SeSva::get(&out),
-        SeSva {
-            value: 258,
-            qualifier: 0x7F
-        }
+    assert!(rt;
+        out == [0x02, 0x01, 0x7F]
+            && SeSva::get(&out)
+                == SeSva {
+                    value: 258,
+                    qualifier: 0x7F
+                }
     );
     let mut out = [0xAA; 1];
     Qoi(0x14).put(&mut out);
-    assert_eq!(rt; out, [0x14]);
-    assert_eq!(rt; Qoi::get(&out), Qoi(0x14));
+    assert!(rt; out == [0x14] && Qoi::get(&out) == Qoi(0x14));
 }
 
 #[test]
 fn judges_tags(rt: HostRuntime) {
     // Thursday 2024-02-29 12:34:56.789.
     let thursday = [0xD5, 0xDD, 0x22, 0x0C, 0x9D, 0x02, 0x18];
-    assert_eq!(rt; judge(&Cp56(thursday)), Verdict::Good(1_709_210_096_789));
+    let good = Verdict::Good(1_709_210_096_789);
     let changes = [
+        (6, 0x18, good),
         (6, 0x17, Verdict::NoSuchDay),
         (4, 0xBD, Verdict::WrongWeekday),
-        (4, 0x1D, Verdict::Good(1_709_210_096_789)),
+        (4, 0x1D, good),
         (2, 0xA2, Verdict::MarkedInvalid),
-        (3, 0x8C, Verdict::Good(1_709_210_096_789)),
+        (3, 0x8C, good),
         (1, 0xE9, Verdict::Good(1_709_210_099_861)),
         (1, 0xEA, Verdict::OutOfRange),
         (2, 0x3C, Verdict::OutOfRange),
@@ -262,15 +249,11 @@ fn judges_tags(rt: HostRuntime) {
         if let Some(changed) = tag.get_mut(place) {
             *changed = octet;
         }
-        assert_eq!(rt; judge(&Cp56(tag)), wanted);
+        assert!(rt; judge(&Cp56(tag)) == wanted);
     }
     // A day that doesn't exist comes before a wrong day of the week, and that before IV.
-    assert_eq!(rt;
-        judge(&Cp56([0, 0, 0x80, 0, 0x7D, 2, 23])),
-        Verdict::NoSuchDay
-    );
-    assert_eq!(rt;
-        judge(&Cp56([0, 0, 0x80, 0, 0xBD, 2, 24])),
-        Verdict::WrongWeekday
+    assert!(rt;
+        judge(&Cp56([0, 0, 0x80, 0, 0x7D, 2, 23])) == Verdict::NoSuchDay
+            && judge(&Cp56([0, 0, 0x80, 0, 0xBD, 2, 24])) == Verdict::WrongWeekday
     );
 }

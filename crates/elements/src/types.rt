@@ -5,7 +5,8 @@ ghost use Rattle.elements.specs.declared.types.TypeId.{TypeId};
 
 use crate::{Bcr, Bsi, Coi, Dco, Diq, Element, Nva, Qoi, Rco, Sco, SeNva, SeSva, Siq, Sva, Vti};
 
-/// A type of ASDU, by the standard's mnemonic (IEC 60870-5-101, 7.2.1 and 7.3): those that this gateway carries.
+/// A type of ASDU, by the standard's mnemonic (IEC 60870-5-101, 7.2.1 and 7.3): those that this
+/// gateway carries.
 #[derive(Clone, Copy, Debug, PartialEq, Eq)]
 pub enum TypeId {
     /// Single point.
@@ -173,8 +174,9 @@ impl TypeId {
         }
     }
 
-    /// The value that the octets of an element show: a point's or command's state, a position, a number (normalised values
-    /// in units of 1/32768), the bits of a bitstring or short float as an unsigned number, or a qualifier.
+    /// The value that the octets of an element show: a point's or command's state, a position, a
+    /// number (normalised values in units of 1/32768), the bits of a bitstring or short float as an
+    /// unsigned number, or a qualifier.
     pub fn value(self, octets: &[u8]) -> i64
         requires { length octets.now ≡ (row self).size }
         ensures { result ≡ value_shown self octets.now }

@@ -6,20 +6,27 @@ use Rattle.ft12.specs.declared.assembling.Heard.{Heard}
 use Rattle.ft12.specs.declared.assembling.Heard.TheVariants as heard
 use Rattle.ft12.specs.Reading.{IsFront}
 
--- the size of the addresses, the octets since the last frame (none where the assembler is deaf), and how many octets it has looked at
+-- the size of the addresses, the octets since the last frame (none where the assembler is deaf),
+-- and how many octets it has looked at
 pub record Assembly : Type 0 where
   pub size : LinkSize
   pub so_far : Option (List ℕ)
   pub looked : ℕ
 
--- What is heard of a piece after the octets so far is what stands at the front of both joined. n octets of the piece are taken.
+-- What is heard of a piece after the octets so far is what stands at the front of both joined. n
+-- octets of the piece are taken.
 abbrev pub Hears : LinkSize → List ℕ → List ℕ → ℕ → Heard → Option (List ℕ) → Type 0
-Hears size so_far piece n (heard.Frame frame) after = IsFront size (so_far ++ piece) (front.Whole frame (length so_far + n)) × (after ≡ Some [])
-Hears size so_far piece n heard.More after = IsFront size (so_far ++ piece) front.More × (n ≡ length piece) × (after ≡ Some (so_far ++ piece))
-Hears size so_far piece n (heard.Never place why) after = IsFront size (so_far ++ piece) (front.Never place why) × (n ≡ length piece) × (after ≡ None)
+Hears size so_far piece n (heard.Frame frame) after =
+    IsFront size (so_far ++ piece) (front.Whole frame (length so_far + n)) × (after ≡ Some [])
+Hears size so_far piece n heard.More after =
+    IsFront size (so_far ++ piece) front.More × (n ≡ length piece)
+    × (after ≡ Some (so_far ++ piece))
+Hears size so_far piece n (heard.Never place why) after =
+    IsFront size (so_far ++ piece) (front.Never place why) × (n ≡ length piece) × (after ≡ None)
 Hears size so_far piece n heard.Deaf after = ⊥
 
--- How many of the n octets taken are looked at: all, but none after the one at which the octets since the last frame begin no frame.
+-- How many of the n octets taken are looked at: all, but none after the one at which the octets
+-- since the last frame begin no frame.
 abbrev pub looked_at : Option (List ℕ) → ℕ → Heard → ℕ
 looked_at None n h = 0
 looked_at (Some so_far) n (heard.Never place why) = place + 1 - length so_far

@@ -6,3 +6,4 @@ pub mod Spelling
 pub mod Spoiling
 pub mod Stage
 pub mod Tail
+pub mod Examples

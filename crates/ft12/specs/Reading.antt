@@ -1,5 +1,6 @@
 -- What stands at the front of octets: a frame, the beginning of one, or neither.
--- The frames are those of IEC 60870-5-1 (6.2.4.2); where and how a refusal is told is this gateway's own profile.
+-- The frames are those of IEC 60870-5-1 (6.2.4.2); where and how a refusal is told is this
+-- gateway's own profile.
 use Rattle.std.specs.Prelude.{◌≡◌, ℕ, ◌+◌, ◌<◌, ◌≤◌, ◌==◌, if◌then◌else◌, List, ◌∷◌, ◌++◌, length, take, slice_index}
 use Rattle.ft12.specs.declared.frame.LinkSize.{LinkSize}
 use Rattle.ft12.specs.declared.frame.Frame.{Frame}
@@ -24,7 +25,8 @@ pub record IsBeginning (size : LinkSize) (octets : List ℕ) : Type 0 where
 
 -- where the sum of a fixed or a variable frame with this front stands
 abbrev pub sum_place : LinkSize → List ℕ → ℕ
-sum_place size octets = if slice_index octets 0 == 0x10 then 2 + address_len size else 4 + slice_index octets 1
+sum_place size octets =
+    if slice_index octets 0 == 0x10 then 2 + address_len size else 4 + slice_index octets 1
 
 -- what a refusal at this place is called: by the octet that is due there
 abbrev pub refusal : LinkSize → List ℕ → ℕ → Why
@@ -41,8 +43,10 @@ pub record IsRefusedAt (size : LinkSize) (octets : List ℕ) (place : ℕ) : Typ
   pub before : IsProperBeginning size (take place octets)
   pub here : IsBeginning size (take (place + 1) octets) → ⊥
 
--- What stands at the front: a whole frame of n octets, the proper beginning of one, or the least place at which the octets begin none.
+-- What stands at the front: a whole frame of n octets, the proper beginning of one, or the least
+-- place at which the octets begin none.
 abbrev pub IsFront : LinkSize → List ℕ → Front → Type 0
 IsFront size octets (Whole frame n) = IsLineFrame size frame (take n octets) × (n ≤ length octets)
 IsFront size octets More = IsProperBeginning size octets
-IsFront size octets (Never place why) = IsRefusedAt size octets place × (why ≡ refusal size octets place)
+IsFront size octets (Never place why) =
+    IsRefusedAt size octets place × (why ≡ refusal size octets place)

@@ -1,4 +1,5 @@
--- Frames of the line as octets: format class FT1.2 of IEC 60870-5-1 (6.2.4.2), with the link address of IEC 60870-5-2 and IEC 60870-5-101 (7.1).
+-- Frames of the line as octets: format class FT1.2 of IEC 60870-5-1 (6.2.4.2), with the link
+-- address of IEC 60870-5-2 and IEC 60870-5-101 (7.1).
 use Rattle.std.specs.Prelude.{◌≡◌, ℕ, ◌/◌, ◌%◌, ◌^◌, ◌<◌, List, [], ◌∷◌, ◌++◌, length, sum, All}
 use Rattle.ft12.specs.declared.frame.LinkSize.{LinkSize}
 use Rattle.ft12.specs.declared.frame.LinkSize.TheVariants.{One, Two}
@@ -31,7 +32,8 @@ user size c a body = c ∷ address size a ++ body
 abbrev pub spelling : LinkSize → Frame → List ℕ
 spelling size Single = 0xE5 ∷ []
 spelling size (Fixed c a) = 0x10 ∷ checked (user size c a [])
-spelling size (Data c a body) = header (length (user size c a body.items)) ++ checked (user size c a body.items)
+spelling size (Data c a body) =
+    header (length (user size c a body.items)) ++ checked (user size c a body.items)
 
 -- a number that one octet holds
 abbrev pub IsOctet : ℕ → Type 0
@@ -42,11 +44,13 @@ pub record FitsAddress (size : LinkSize) (c a : ℕ) : Type 0 where
   pub control : IsOctet c
   pub address : a < 256 ^ address_len size
 
--- the frames that have a spelling: all that fit, and whose control octet, address and data are at most 255 octets
+-- the frames that have a spelling: all that fit, and whose control octet, address and data are at
+-- most 255 octets
 abbrev pub Fits : LinkSize → Frame → Type 0
 Fits size Single = Unit {0}
 Fits size (Fixed c a) = FitsAddress size c a
-Fits size (Data c a body) = FitsAddress size c a × All IsOctet body.items × (length (user size c a body.items) < 256)
+Fits size (Data c a body) =
+    FitsAddress size c a × All IsOctet body.items × (length (user size c a body.items) < 256)
 
 -- the frame and its octets are related: the frame has this spelling
 pub record IsLineFrame (size : LinkSize) (frame : Frame) (octets : List ℕ) : Type 0 where

@@ -99,6 +99,7 @@ HasData (bare.Data c a) kept = Unit {0}
 
 -- what octets are, and what is kept of them
 abbrev pub Steps : LinkSize → List ℕ → List ℕ → Step → Type 0
-Steps size octets kept (step.Whole f) = IsFront size octets (front.Whole (frame_with f kept) (length octets)) × HasData f kept
+Steps size octets kept (step.Whole f) =
+    IsFront size octets (front.Whole (frame_with f kept) (length octets)) × HasData f kept
 Steps size octets kept (step.More s) = IsStage size s kept × (so_far size s kept ≡ octets)
 Steps size octets kept (step.Never place why) = IsFront size octets (front.Never place why)

@@ -44,7 +44,13 @@ impl Model for Assembler {
 
     ghost Value = { Assembly };
 
-    ghost view = { λ a. record { size = a.size; so_far = option_map (λ s. so_far a.size s a.kept.items) a.stage; looked = a.looked } };
+    ghost view = { λ a.
+        record {
+          size = a.size;
+          so_far = option_map (λ s.
+              so_far a.size s a.kept.items) a.stage;
+          looked = a.looked;
+        } };
 
     ghost invariant = { λ a. ForSome a.stage (λ s. IsStage a.size s a.kept.items) };
 }
@@ -87,14 +93,16 @@ impl Assembler {
     pub fn feed(&mut self, piece: &[u8]) -> (usize, Heard)
         ensures listening { IfSome self.old.so_far (λ so_far.
             Hears self.old.size so_far piece.now result.0 result.1 self.new.so_far) }
-        ensures deaf { IfNone self.old.so_far ((result.0 ≡ length piece.now) × (result.1 ≡ Deaf) × (self.new.so_far ≡ None)) }
+        ensures deaf { IfNone self.old.so_far
+            ((result.0 ≡ length piece.now) × (result.1 ≡ Deaf) × (self.new.so_far ≡ None)) }
         ensures size { self.new.size ≡ self.old.size }
 
         ensures within { result.0 ≤ length piece.now }
         ensures progress { 0 < length piece.now → 0 < result.0 }
 
         ensures looked { self.new.looked ≤ self.old.looked + result.0 }
-        ensures counted { self.new.looked ≡ min (self.old.looked + looked_at self.old.so_far result.0 result.1) (2 ^ 64 - 1) }
+        ensures counted { self.new.looked
+            ≡ min (self.old.looked + looked_at self.old.so_far result.0 result.1) (2 ^ 64 - 1) }
     {
         let Some(mut stage) = self.stage else {
             return (piece.len(), Heard::Deaf);

@@ -30,7 +30,8 @@ pub(crate) enum Fields {
     Address { c: u8, a: u16 },
 }
 
-/// The len octets from the control octet to the last one of data, as far as they came, and their sum.
+/// The len octets from the control octet to the last one of data, as far as they came, and their
+/// sum.
 #[derive(Clone, Copy)]
 pub(crate) struct Summing {
     kind: Kind,
@@ -126,7 +127,8 @@ impl Fields {
         requires fields { IsFields size self kept.old.items }
         requires room { length (fields_octets size self kept.old.items) < 255 }
         ensures fields { IsFields size result kept.new.items }
-        ensures octets { fields_octets size result kept.new.items ≡ fields_octets size self kept.old.items ++ octet ∷ [] }
+        ensures octets { fields_octets size result kept.new.items
+            ≡ fields_octets size self kept.old.items ++ octet ∷ [] }
     {
         match self {
             Fields::Nothing => Fields::Control { c: octet },
@@ -169,7 +171,9 @@ impl Summing {
     fn with_octet(self, size: LinkSize, kept: &mut Data, octet: u8) -> Stage
         requires { IsSumming size self kept.old.items }
         ensures stage { IsStage size result kept.new.items }
-        ensures octets { so_far size result kept.new.items ≡ head self.kind self.len ++ (fields_octets size self.fields kept.old.items ++ octet ∷ []) }
+        ensures octets { so_far size result kept.new.items
+            ≡ head self.kind self.len
+            ++ (fields_octets size self.fields kept.old.items ++ octet ∷ []) }
     {
         let Summing { kind, len, .. } = self;
         let fields = self.fields.with_octet(size, kept, octet);
@@ -200,7 +204,8 @@ impl Summed {
 
     /// What the octet after those summed gives.
     fn at_sum(self, octet: u8) -> Step
-        ensures { (size : LinkSize) (kept : List ℕ) → IsSummed size self kept → Steps size (summed_octets size self kept ++ octet ∷ []) kept result }
+        ensures { (size : LinkSize) (kept : List ℕ) → IsSummed size self kept →
+            Steps size (summed_octets size self kept ++ octet ∷ []) kept result }
     {
         if octet == self.sum {
             Step::More(Stage::End(self))
@@ -211,7 +216,8 @@ impl Summed {
 
     /// What the octet after the right sum gives.
     fn at_end(self, octet: u8) -> Step
-        ensures { (size : LinkSize) (kept : List ℕ) → IsSummed size self kept → Steps size ((summed_octets size self kept ++ self.sum ∷ []) ++ octet ∷ []) kept result }
+        ensures { (size : LinkSize) (kept : List ℕ) → IsSummed size self kept →
+            Steps size ((summed_octets size self kept ++ self.sum ∷ []) ++ octet ∷ []) kept result }
     {
         let Summed { c, a, .. } = self;
         if octet != END {
@@ -270,7 +276,8 @@ fn at_length(size: LinkSize, octet: u8) -> Step
 }
 
 fn at_length_again(len: u8, octet: u8) -> Step
-    ensures { (size : LinkSize) → 1 + address_len size ≤ len → Steps size (0x68 ∷ len ∷ octet ∷ []) [] result }
+    ensures { (size : LinkSize) → 1 + address_len size ≤ len →
+        Steps size (0x68 ∷ len ∷ octet ∷ []) [] result }
 {
     if octet == len {
         Step::More(Stage::SecondStart { len })
@@ -280,7 +287,8 @@ fn at_length_again(len: u8, octet: u8) -> Step
 }
 
 fn at_second_start(len: u8, octet: u8) -> Step
-    ensures { (size : LinkSize) → 1 + address_len size ≤ len → Steps size (0x68 ∷ len ∷ len ∷ octet ∷ []) [] result }
+    ensures { (size : LinkSize) → 1 + address_len size ≤ len →
+        Steps size (0x68 ∷ len ∷ len ∷ octet ∷ []) [] result }
 {
     if octet == START_DATA {
         Step::More(Stage::User(Summing {

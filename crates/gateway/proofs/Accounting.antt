@@ -11,6 +11,7 @@ use Rattle.gateway.specs.declared.runs.End.TheVariants.{Finished, Turns, Device}
 use Rattle.gateway.specs.Objects.{objects}
 use Rattle.gateway.specs.Reports.{Setup, taken_objects, reports_in, parts_of_all}
 use Rattle.gateway.specs.Course.{here_of, room_in}
+use Rattle.gateway.specs.Serial.{Serial}
 use Rattle.gateway.specs.Works.{unasked_works, ready_works}
 use Rattle.gateway.specs.Line.{done_in}
 use Rattle.gateway.specs.Phases.{resting}
@@ -25,17 +26,17 @@ accounted_at p s log a = record {
   course = a.course;
   course_runs = a.talk.course_runs;
   are = record { open_one = stands_now p s log (resting log) a; earlier = a.before.are };
-  left = sym (ap (λ n. drop n (taken_objects p log)) (sym all.front) ∙ ap (drop (length all.gone)) all.joined ∙ drop-append_seam all.gone (flat_map objects (kept s.queue)));
+  left = sym (ap (λ n. drop n (taken_objects p log)) (sym all.front) ∙ ap (drop (length all.gone)) all.joined ∙ drop-append_seam all.gone (flat_map objects (kept s.centre.queue)));
   counts = counted log a;
   spoilt = a.line.spoilt;
 }
   where
-    all : Carries (taken_objects p log) (parts_of_all p.sizes (reports_in p log)) (here_of a.course ∷ a.course.earlier) [] (kept s.queue)
-    all = carries_end (taken_objects p log) (parts_of_all p.sizes (reports_in p log)) a.course.earlier (here_of a.course) s.session s.queue.sent s.queue.unsent a.here.tied a.carries
+    all : Carries (taken_objects p log) (parts_of_all p.sizes (reports_in p log)) (here_of a.course ∷ a.course.earlier) [] (kept s.centre.queue)
+    all = carries_end (taken_objects p log) (parts_of_all p.sizes (reports_in p log)) a.course.earlier (here_of a.course) s.centre.session s.centre.queue.sent s.centre.queue.unsent a.here.tied a.carries
 
-    counted : (log : Log) (a : Agrees p s log [] (resting log)) → s.counts ≡ (done_in p log a.course).counts
-    counted [] a = a.stands.does.counts ∙ sym (ap (λ b. (if b then unasked_works (latest []) (room_in p [] a.course) (ready_works p (latest []) a.course.works) else a.course.works).counts) a.stands.asks)
-    counted (entry ∷ log) a = a.stands.does.counts
+    counted : (log : Log) (a : Agrees p s log [] (resting log)) → s.serial.counts ≡ (done_in p log a.course).serial.counts
+    counted [] a = ap (λ (z : Serial). z.counts) a.stands.does ∙ sym (ap (λ b. (if b then unasked_works (latest []) (room_in p [] a.course) (ready_works (latest []) a.course.works) else a.course.works).serial.counts) a.stands.asks.0)
+    counted (entry ∷ log) a = ap (λ (z : Serial). z.counts) a.stands.does
 
 untold : (old : Option Log) → tell old [] ≡ old
 untold None = refl

@@ -26,13 +26,17 @@ use Rattle.gateway.specs.Streams.{spelled, IsRefused}
 use Rattle.gateway.specs.Frames.{Sent, Connection, new_connection, data_frames, acknowledged_count, acknowledged_reports, reports_among, fault_of, objects_of_frames, IsNumberedFrom, IsInOrder, AreInOrder}
 use Rattle.gateway.specs.Connections.{is_replaced, Channel, no_channel, sending, ends, present, past, over, closed_by, IsBehind, BeginsWithFault, IsConnection, AreConnections}
 use Rattle.gateway.specs.Reports.{Setup, address_at, exchanges_of, exchanges_with, taken_objects, reports_in, parts_of_all}
+use Rattle.gateway.specs.Gaps.{gaps_told, gap_for}
 use Rattle.gateway.specs.Polls.{has_room}
 use Rattle.gateway.specs.Room.{IsFull}
 use Rattle.gateway.specs.Traffic.{replaces, IsAtRest, IsFaithful}
 use Rattle.command.specs.State as tasks
-use Rattle.gateway.specs.State.{has_place, State, disconnected, framed, next_frame, piece_sent, own_sent}
+use Rattle.gateway.specs.Serial as serial
+use Rattle.gateway.specs.Serial.{Serial, has_place}
+use Rattle.gateway.specs.Centre.{Centre, next_frame}
+use Rattle.gateway.specs.State.{State, with_session, with_octets, disconnected, framed, piece_sent, own_sent}
 use Rattle.gateway.specs.Steps.{IsCloseAt, after_closing}
-use Rattle.gateway.specs.Works.{is_overfull, Works, tasks_of, with_call, cut_works, settled_works, ready_works, unasked_works}
+use Rattle.gateway.specs.Works.{is_overfull, Works, answered_works, cut_works, settled_works, ready_works, unasked_works}
 use Rattle.gateway.specs.Line.{IsServed, done_in}
 use Rattle.gateway.proofs.Serving.{upto_leaves, offers_reach, unasked_stays, left_at_rest}
 use Rattle.link.specs.Offers.{offered_at}
@@ -45,7 +49,6 @@ use Rattle.link.specs.Telling as telling
 use Rattle.ft12.specs.Fronts.{front_of}
 use Rattle.command.specs.State.{octets_waiting, oldest}
 use Rattle.command.specs.declared.waiting.Waiting.{Waiting}
-use Rattle.command.specs.Calls.{SendOwn}
 use Rattle.command.specs.History as happened
 use Rattle.gateway.specs.Course.{Course, here_of, came_frames, room_by, room_in, kind_of, told_sent, with_sent, with_frame, ended_course, works_at, closed_course, HasSentAll, IsFlushed, IsUntouched, HasBegun, IsNextData, IsCause, Runs}
 use Rattle.gateway.specs.Phases.{Phase, Fresh, Taking, Judged, Idle, Crowded, Timed, Asked, IsPast, IsLeftIn, IsFlushing, IsPhase, works_in, IsAsked, IsPlaced, IsOut, after_frame}
@@ -54,8 +57,8 @@ use Rattle.session.specs.History.{History, frame_due, has_timed_out}
 use Rattle.session.specs.Runs.{Call, Send, after_call}
 use Rattle.session.specs.Ends.{IsConfirmed}
 use Rattle.gateway.specs.Conversation.{KeepsTalk}
-use Rattle.gateway.specs.Agrees.{IsAt, Presently, Carries, Past, Talks, Agrees, Does, Tied, ArePlain, IsSpent, IsClear, IsUndue, IsQuiet, pending, pieces_of}
-use Rattle.gateway.proofs.Working.{answers_in, does_same, does_heard, does_cut, does_cut_again, does_own, asked_own, own_placed, heard_placed, heard_due, settled_due}
+use Rattle.gateway.specs.Agrees.{IsAt, Presently, Carries, Past, Talks, Agrees, Tied, ArePlain, IsSpent, IsClear, IsUndue, IsQuiet, pending, pieces_of}
+use Rattle.gateway.proofs.Working.{answers_in, gap_in, own_serial, asked_own, own_placed, heard_placed}
 use Rattle.gateway.proofs.Offering.{count_upto, offers_heard, offers_cut, heard_plain}
 use Rattle.gateway.proofs.Talking.{at, HasNoData, next_plain, sends, kept_talk, talk_out, talk_heard, talk_cut, all_taken, confirmed_by, may_by, due_by, late_by}
 use Rattle.gateway.proofs.Unconfirmed.{numbered_more}
@@ -75,8 +78,8 @@ faithful p s log unjudged phase a = record {
   course_runs = a.talk.course_runs;
   begun = record { put = a.here.put; handed = a.here.handed; sent = a.here.sent; rest = a.here.so_far ++ unjudged; joined = a.here.joined; fit = a.here.fit; pass = a.here.pass };
   are = a.before.are;
-  orders = (in_order (taken_objects p log) (parts_of_all p.sizes (reports_in p log)) (here_of a.course) a.course.earlier s.queue.unsent a.here.numbered a.carries, a.before.orders);
-  links = keeps_links p s.line log a.line;
+  orders = (in_order (taken_objects p log) (parts_of_all p.sizes (reports_in p log)) (here_of a.course) a.course.earlier s.centre.queue.unsent a.here.numbered a.carries, a.before.orders);
+  links = keeps_links p s.serial.line log a.line;
   times = a.before.times;
   acts = a.before.acts;
   rests = a.before.rests;
@@ -84,15 +87,15 @@ faithful p s log unjudged phase a = record {
 
 -- What the queue's room shows of the log, and what stays of the line's part.
 
-pub is_full : (p : Setup) (s : State) (log : Log) (unjudged : List ℕ) (phase : Phase) (a : Agrees p s log unjudged phase) → free_places s.queue < 3 → IsFull p log (here_of a.course ∷ a.course.earlier)
-is_full p s log unjudged phase a few = omega (arith, few, a.places, a.carries.count, split_reports (here_of a.course) s.session s.queue.sent a.here.tied, length-append s.queue.sent s.queue.unsent)
+pub is_full : (p : Setup) (s : State) (log : Log) (unjudged : List ℕ) (phase : Phase) (a : Agrees p s log unjudged phase) → free_places s.centre.queue < 3 → IsFull p log (here_of a.course ∷ a.course.earlier)
+is_full p s log unjudged phase a few = omega (arith, few, a.places, a.carries.count, split_reports (here_of a.course) s.centre.session s.centre.queue.sent a.here.tied, length-append s.centre.queue.sent s.centre.queue.unsent)
 
-pub has_places : (p : Setup) (s : State) (log : Log) (unjudged : List ℕ) (phase : Phase) (a : Agrees p s log unjudged phase) → 3 ≤ free_places s.queue → IsFull p log (here_of a.course ∷ a.course.earlier) → ⊥
-has_places p s log unjudged phase a free full = omega (arith, full, free, a.places, a.carries.count, split_reports (here_of a.course) s.session s.queue.sent a.here.tied, length-append s.queue.sent s.queue.unsent)
+pub has_places : (p : Setup) (s : State) (log : Log) (unjudged : List ℕ) (phase : Phase) (a : Agrees p s log unjudged phase) → 3 ≤ free_places s.centre.queue → IsFull p log (here_of a.course ∷ a.course.earlier) → ⊥
+has_places p s log unjudged phase a free full = omega (arith, full, free, a.places, a.carries.count, split_reports (here_of a.course) s.centre.session s.centre.queue.sent a.here.tied, length-append s.centre.queue.sent s.centre.queue.unsent)
 
 -- the room that the log shows is the queue's
-pub same_room : (p : Setup) (s : State) (log : Log) (unjudged : List ℕ) (phase : Phase) (a : Agrees p s log unjudged phase) → room_in p log a.course ≡ has_room s.queue
-same_room p s log unjudged phase a = by_places (cases_lt (free_places s.queue) 3)
+pub same_room : (p : Setup) (s : State) (log : Log) (unjudged : List ℕ) (phase : Phase) (a : Agrees p s log unjudged phase) → room_in p log a.course ≡ has_room s.centre.queue
+same_room p s log unjudged phase a = by_places (cases_lt (free_places s.centre.queue) 3)
   where
     used : ℕ
     used = p.places + acknowledged_reports (here_of a.course ∷ a.course.earlier)
@@ -100,9 +103,9 @@ same_room p s log unjudged phase a = by_places (cases_lt (free_places s.queue) 3
     parts : ℕ
     parts = parts_of_all p.sizes (reports_in p log)
 
-    by_places : (free_places s.queue < 3) ⊎ (3 ≤ free_places s.queue) → room_in p log a.course ≡ has_room s.queue
-    by_places (inl few) = ap not (lt-ltb used (parts + 3) (is_full p s log unjudged phase a few) ∙ sym (lt-ltb (free_places s.queue) 3 few))
-    by_places (inr free) = ap not (le-ltb used (parts + 3) (not-less used (parts + 3) (has_places p s log unjudged phase a free)) ∙ sym (le-ltb (free_places s.queue) 3 free))
+    by_places : (free_places s.centre.queue < 3) ⊎ (3 ≤ free_places s.centre.queue) → room_in p log a.course ≡ has_room s.centre.queue
+    by_places (inl few) = ap not (lt-ltb used (parts + 3) (is_full p s log unjudged phase a few) ∙ sym (lt-ltb (free_places s.centre.queue) 3 few))
+    by_places (inr free) = ap not (le-ltb used (parts + 3) (not-less used (parts + 3) (has_places p s log unjudged phase a free)) ∙ sym (le-ltb (free_places s.centre.queue) 3 free))
       where
         not-less : (m n : ℕ) → (m < n → ⊥) → n ≤ m
         not-less m n h = elim (cases_lt m n) [ inl lt ↦ absurd (h lt) | inr le ↦ le ]
@@ -115,11 +118,11 @@ room_more p parts received sent more earlier within =
 
 -- Works in a phase, of another state and course
 
-pub same_does : (p : Setup) (phase : Phase) (at : ℕ) (room other : Bool) (w : Works) (s t : State) → other ≡ room → t.line ≡ s.line → t.commands ≡ s.commands → t.counts ≡ s.counts → t.silent ≡ s.silent → Does p s (works_in phase p at room w) → Does p t (works_in phase p at other w)
-same_does p phase at room other w s t same line commands counts silent d = subst (λ r. Does p t (works_in phase p at r w)) (sym same) (does_same p s t (works_in phase p at room w) line commands counts silent d)
+pub same_does : (phase : Phase) (at : ℕ) (room other : Bool) (w : Works) (s : Serial) → other ≡ room → s ≡ (works_in phase at room w).serial → s ≡ (works_in phase at other w).serial
+same_does phase at room other w s same d = d ∙ ap (λ r. (works_in phase at r w).serial) (sym same)
 
-pub same_asks : (p : Setup) (phase : Phase) (at : ℕ) (room other : Bool) (w : Works) → other ≡ room → IsAsked phase p at room w → IsAsked phase p at other w
-same_asks p phase at room other w same h = subst (λ r. IsAsked phase p at r w) (sym same) h
+pub same_asks : (phase : Phase) (at : ℕ) (room other : Bool) (w : Works) → other ≡ room → IsAsked phase at room w → IsAsked phase at other w
+same_asks phase at room other w same h = subst (λ r. IsAsked phase at r w) (sym same) h
 
 pub phase_out : (phase : Phase) (log : Log) (now : ℕ) (octets : List ℕ) → (present log).is_open ≡ true → IsPhase phase log → IsPhase phase (Went now (TcpOut octets) ∷ log)
 phase_out Fresh log now octets on h = let no : false ≡ true = sym (ap (λ l. (present l).is_open) h) ∙ on in cc
@@ -173,15 +176,15 @@ acknowledged_within : (p : Setup) (s : State) (log : Log) (unjudged : List ℕ) 
 acknowledged_within p s log unjudged phase a = omega (arith, a.here.tied.unconfirmed.count)
 
 -- where nothing can be sent any more, all has gone out
-sent_all : (p : Setup) (s : State) (log : Log) (unjudged : List ℕ) (phase : Phase) (a : Agrees p s log unjudged phase) → (s.queue.unsent ≡ []) × (s.commands.answers ≡ []) → HasSentAll p log a.course
+sent_all : (p : Setup) (s : State) (log : Log) (unjudged : List ℕ) (phase : Phase) (a : Agrees p s log unjudged phase) → (s.centre.queue.unsent ≡ []) × (s.serial.commands.answers ≡ []) → HasSentAll p log a.course
 sent_all p s log unjudged phase a all = record {
-  objects = omega (arith, a.carries.front, ap length a.carries.joined, length-append a.carries.gone (objects_of_frames a.course.sent ++ flat_map objects s.queue.unsent), length-append (objects_of_frames a.course.sent) (flat_map objects s.queue.unsent), ap (λ xs. length (flat_map objects xs)) all.0);
-  answers = sym (ap (λ (c : tasks.State). c.answers) a.stands.does.commands ∙ answers_in p phase (latest log) (room_in p log a.course) a.course.works) ∙ all.1;
+  objects = omega (arith, a.carries.front, ap length a.carries.joined, length-append a.carries.gone (objects_of_frames a.course.sent ++ flat_map objects s.centre.queue.unsent), length-append (objects_of_frames a.course.sent) (flat_map objects s.centre.queue.unsent), ap (λ xs. length (flat_map objects xs)) all.0);
+  answers = sym (ap (λ (z : Serial). z.commands.answers) a.stands.does ∙ answers_in phase (latest log) (room_in p log a.course) a.course.works) ∙ all.1;
 }
 
 pub flushed_by : (p : Setup) (s : State) (log : Log) (unjudged : List ℕ) (phase : Phase) (a : Agrees p s log unjudged phase) → IsSpent s → IsFlushed p log a.course
 flushed_by p s log unjudged phase a spent started room =
-    sent_all p s log unjudged phase a (spent (may_by p s.session log a.course a.talk ∙ can (talk.is_started a.course.talk) started))
+    sent_all p s log unjudged phase a (spent (may_by p s.centre.session log a.course a.talk ∙ can (talk.is_started a.course.talk) started))
   where
     can : (b : Bool) → b ≡ true → (b && nat_lt (length (talk.still_unacknowledged a.course.talk)) p.session.k) ≡ true
     can true h = lt-ltb (length (talk.still_unacknowledged a.course.talk)) p.session.k room
@@ -191,16 +194,16 @@ flushed_by p s log unjudged phase a spent started room =
 pub begun_by : (p : Setup) (s : State) (log : Log) (unjudged : List ℕ) (phase : Phase) (a : Agrees p s log unjudged phase) → IsFlushing phase → HasBegun log a.course
 begun_by p s log unjudged phase a flushing = by_phase phase flushing a.left
   where
-    reads : pending s.so_far ≡ a.here.so_far
+    reads : pending s.centre.so_far ≡ a.here.so_far
     reads = ap pending a.here.assembler
 
     none_left : unjudged ≡ [] → HasBegun log a.course
     none_left e = inr (all_taken log a.course a.here.so_far (a.here.joined ∙ ap (λ x. spelled (came_frames a.course.talk) ++ (a.here.so_far ++ x)) e) a.here.waits)
 
-    some_left : IsPast log (length (pending s.so_far ++ unjudged)) → HasBegun log a.course
+    some_left : IsPast log (length (pending s.centre.so_far ++ unjudged)) → HasBegun log a.course
     some_left h = inl (omega (arith, h, ap (λ x. length (x ++ unjudged)) reads, ap length a.here.joined, length-append (spelled (came_frames a.course.talk)) (a.here.so_far ++ unjudged)))
 
-    by_phase : (phase : Phase) → IsFlushing phase → IsLeftIn phase log (pending s.so_far) unjudged → HasBegun log a.course
+    by_phase : (phase : Phase) → IsFlushing phase → IsLeftIn phase log (pending s.centre.so_far) unjudged → HasBegun log a.course
     by_phase Fresh f h = none_left h
     by_phase Taking f h = absurd f
     by_phase Judged f h = some_left h
@@ -213,10 +216,10 @@ begun_by p s log unjudged phase a flushing = by_phase phase flushing a.left
 undue_by : (p : Setup) (s : State) (log : Log) (unjudged : List ℕ) (phase : Phase) (a : Agrees p s log unjudged phase) → IsUndue s log unjudged → IsUntouched log a.course ⊎ (frame_due p.session.w p.session.t2 p.session.t3 (latest log) a.course.talk ≡ None)
 undue_by p s log unjudged phase a (inl h) =
     inl (omega (arith, h, ap (λ x. length (pending x ++ unjudged)) a.here.assembler, ap length a.here.joined, length-append (spelled (came_frames a.course.talk)) (a.here.so_far ++ unjudged)))
-undue_by p s log unjudged phase a (inr h) = inr (subst (λ m. frame_due p.session.w p.session.t2 p.session.t3 m a.course.talk ≡ None) a.clock (sym (due_by p s.session log a.course a.talk s.moment) ∙ h))
+undue_by p s log unjudged phase a (inr h) = inr (subst (λ m. frame_due p.session.w p.session.t2 p.session.t3 m a.course.talk ≡ None) a.clock (sym (due_by p s.centre.session log a.course a.talk s.moment) ∙ h))
 
 -- a frame is handed to TCP
-went_out : (s t : State) (octets : Channel) (unjudged : List ℕ) (c : Connection) (fs : List Sent) (f : Apdu) (h : Presently s octets unjudged c) → Fits f → s.session.connected ≡ true → t.session.connected ≡ s.session.connected → t.so_far ≡ s.so_far →
+went_out : (s t : Centre) (octets : Channel) (unjudged : List ℕ) (c : Connection) (fs : List Sent) (f : Apdu) (h : Presently s octets unjudged c) → Fits f → s.session.connected ≡ true → t.session.connected ≡ s.session.connected → t.so_far ≡ s.so_far →
     fs ≡ data_frames (f ∷ h.put) → length c.sent_frames ≤ length fs →
     Tied (record { sent_frames = fs; received_frames = c.received_frames }) t.session t.queue.sent → IsNumberedFrom 0 fs →
     Presently t (sending octets (spelling f)) unjudged (record { sent_frames = fs; received_frames = c.received_frames })
@@ -251,22 +254,22 @@ past_put p log earlier now f e settled on fits talk b = record {
 -- the course once an I frame of this kind has gone out
 abbrev data_course : State → List ℕ → Kind → (moment : ℕ) → Works → Course → Course
 data_course s asdu kind moment w c = record {
-  talk = talk.Sent s.session.next_sent s.session.next_received kind moment ∷ c.talk;
-  sent = c.sent ++ record { ns = s.session.next_sent; nr = s.session.next_received; asdu = asdu } ∷ [];
+  talk = talk.Sent s.centre.session.next_sent s.centre.session.next_received kind moment ∷ c.talk;
+  sent = c.sent ++ record { ns = s.centre.session.next_sent; nr = s.centre.session.next_received; asdu = asdu } ∷ [];
   earlier = c.earlier;
   works = w;
 }
 
-data_queue : (s : State) (asdu : List ℕ) (moment : ℕ) (c : Course) → has_objects asdu ≡ true → with_sent (next_frame s.session asdu) moment c ≡ data_course s asdu FromQueue moment c.works c
-data_queue s asdu moment c has = ap (λ b. data_course s asdu (if b then FromQueue else Own) moment (if b then c.works else with_call SendOwn c.works) c) has
+data_queue : (s : State) (asdu : List ℕ) (moment : ℕ) (c : Course) → has_objects asdu ≡ true → with_sent (next_frame s.centre.session asdu) moment c ≡ data_course s asdu FromQueue moment c.works c
+data_queue s asdu moment c has = ap (λ b. data_course s asdu (if b then FromQueue else Own) moment (if b then c.works else answered_works c.works) c) has
 
-data_own : (s : State) (asdu : List ℕ) (moment : ℕ) (c : Course) → has_objects asdu ≡ false → with_sent (next_frame s.session asdu) moment c ≡ data_course s asdu Own moment (with_call SendOwn c.works) c
-data_own s asdu moment c none = ap (λ b. data_course s asdu (if b then FromQueue else Own) moment (if b then c.works else with_call SendOwn c.works) c) none
+data_own : (s : State) (asdu : List ℕ) (moment : ℕ) (c : Course) → has_objects asdu ≡ false → with_sent (next_frame s.centre.session asdu) moment c ≡ data_course s asdu Own moment (answered_works c.works) c
+data_own s asdu moment c none = ap (λ b. data_course s asdu (if b then FromQueue else Own) moment (if b then c.works else answered_works c.works) c) none
 
 -- an I frame with this ASDU goes out
 module _ (p : Setup) (s t : State) (log : Log) (unjudged asdu : List ℕ) (kind : Kind) (phase : Phase) (w : Works) (a : Agrees p s log unjudged phase) where
   abbrev data_log : Log
-  data_log = Went s.moment (TcpOut (spelling (next_frame s.session asdu))) ∷ log
+  data_log = Went s.moment (TcpOut (spelling (next_frame s.centre.session asdu))) ∷ log
 
   abbrev after_data : Course
   after_data = data_course s asdu kind s.moment w a.course
@@ -274,18 +277,18 @@ module _ (p : Setup) (s t : State) (log : Log) (unjudged asdu : List ℕ) (kind 
   data_room : room_in p data_log after_data ≡ room_in p log a.course
   data_room = room_more p (parts_of_all p.sizes (reports_in p log)) (came_frames a.course.talk) a.course.sent _ a.course.earlier (acknowledged_within p s log unjudged phase a)
 
-  data_talk : may_send s.session ≡ true → kind_of asdu ≡ kind → IsNextData p log asdu a.course → is_overfull (tasks_of p a.course.works).history ≡ false → Fits (next_frame s.session asdu) → with_sent (next_frame s.session asdu) s.moment a.course ≡ after_data → Talks p (session.sent kind s.moment s.session) data_log after_data
+  data_talk : may_send s.centre.session ≡ true → kind_of asdu ≡ kind → IsNextData p log asdu a.course → is_overfull a.course.works.history ≡ false → Fits (next_frame s.centre.session asdu) → with_sent (next_frame s.centre.session asdu) s.moment a.course ≡ after_data → Talks p (session.sent kind s.moment s.centre.session) data_log after_data
   data_talk may is next placed fits same =
-      subst (Talks p (session.sent kind s.moment s.session) data_log) same
-      (talk_out p s.session (session.sent kind s.moment s.session) log a.course s.moment s.moment (next_frame s.session asdu) (Send kind s.moment) a.talk fits a.clock next placed (sends s.session a.course.talk asdu kind s.moment may is) (a.here.so_far ++ unjudged, a.here.joined))
+      subst (Talks p (session.sent kind s.moment s.centre.session) data_log) same
+      (talk_out p s.centre.session (session.sent kind s.moment s.centre.session) log a.course s.moment s.moment (next_frame s.centre.session asdu) (Send kind s.moment) a.talk fits a.clock next placed (sends s.centre.session a.course.talk asdu kind s.moment may is) (a.here.so_far ++ unjudged, a.here.joined))
 
-pub after_piece : (p : Setup) (s : State) (log : Log) (unjudged asdu : List ℕ) (rest : List (List ℕ)) (phase : Phase) → Agrees p s log unjudged phase → IsFlushing phase → IsConfirmed s.session → may_send s.session ≡ true → s.session.connected ≡ true → s.commands.answers ≡ [] → s.queue.unsent ≡ asdu ∷ rest → Fits (next_frame s.session asdu) →
-    Agrees p (piece_sent s) (Went s.moment (TcpOut (spelling (next_frame s.session asdu))) ∷ log) unjudged phase
+pub after_piece : (p : Setup) (s : State) (log : Log) (unjudged asdu : List ℕ) (rest : List (List ℕ)) (phase : Phase) → Agrees p s log unjudged phase → IsFlushing phase → IsConfirmed s.centre.session → may_send s.centre.session ≡ true → s.centre.session.connected ≡ true → s.serial.commands.answers ≡ [] → s.centre.queue.unsent ≡ asdu ∷ rest → Fits (next_frame s.centre.session asdu) →
+    Agrees p (piece_sent s) (Went s.moment (TcpOut (spelling (next_frame s.centre.session asdu))) ∷ log) unjudged phase
 after_piece p s log unjudged asdu rest phase a flushing ready may on none unsent fits =
-    let f : Sent = record { ns = s.session.next_sent; nr = s.session.next_received; asdu = asdu } in
-    let has : has_objects asdu ≡ true = first_whole (taken_objects p log) (parts_of_all p.sizes (reports_in p log)) a.course.earlier a.course.sent s.queue.unsent rest asdu unsent a.carries in
-    let answers : (tasks_of p a.course.works).state.answers ≡ [] = sym (ap (λ (c : tasks.State). c.answers) a.stands.does.commands ∙ answers_in p phase (latest log) (room_in p log a.course) a.course.works) ∙ none in
-    let talk = data_talk p s (piece_sent s) log unjudged asdu FromQueue phase a.course.works a may (ap (λ b. if b then FromQueue else Own) has) (record { confirmed = sym (confirmed_by p s.session log a.course a.talk) ∙ ready; own = λ no. absurd (false≢true (sym no ∙ has)); none = λ some. answers; report = λ some. next_objects (taken_objects p log) (parts_of_all p.sizes (reports_in p log)) a.course.earlier a.course.sent s.queue.unsent rest asdu unsent a.carries }) (placed_in phase log _ flushing a.stands.placed (sym a.here.link ∙ on)) fits (data_queue s asdu s.moment a.course has) in
+    let f : Sent = record { ns = s.centre.session.next_sent; nr = s.centre.session.next_received; asdu = asdu } in
+    let has : has_objects asdu ≡ true = first_whole (taken_objects p log) (parts_of_all p.sizes (reports_in p log)) a.course.earlier a.course.sent s.centre.queue.unsent rest asdu unsent a.carries in
+    let answers : a.course.works.serial.commands.answers ≡ [] = sym (ap (λ (z : Serial). z.commands.answers) a.stands.does ∙ answers_in phase (latest log) (room_in p log a.course) a.course.works) ∙ none in
+    let talk = data_talk p s (piece_sent s) log unjudged asdu FromQueue phase a.course.works a may (ap (λ b. if b then FromQueue else Own) has) (record { confirmed = sym (confirmed_by p s.centre.session log a.course a.talk) ∙ ready; own = λ no. absurd (false≢true (sym no ∙ has)); none = λ some. answers; report = λ some. next_objects (taken_objects p log) (parts_of_all p.sizes (reports_in p log)) a.course.earlier a.course.sent s.centre.queue.unsent rest asdu unsent a.carries }) (placed_in phase log _ flushing a.stands.placed (sym a.here.link ∙ on)) fits (data_queue s asdu s.moment a.course has) in
     let room = data_room p s (piece_sent s) log unjudged asdu FromQueue phase a.course.works a in
     record {
       k = a.k;
@@ -297,16 +300,17 @@ after_piece p s log unjudged asdu rest phase a flushing ready may on none unsent
       line = a.line;
       course = data_course s asdu FromQueue s.moment a.course.works a.course;
       talk = talk;
-      stands = record { does = same_does p phase (latest log) _ _ a.course.works s (piece_sent s) room refl refl refl refl a.stands.does; asks = same_asks p phase (latest log) _ _ a.course.works room a.stands.asks; phase_is = phase_out phase log s.moment _ (sym a.here.link ∙ on) a.stands.phase_is; placed = placed_on phase log _ _ _ (λ o. o) refl a.stands.placed };
+      stands = record { does = same_does phase (latest log) _ _ a.course.works s.serial room a.stands.does; asks = same_asks phase (latest log) _ _ a.course.works room a.stands.asks; phase_is = phase_out phase log s.moment _ (sym a.here.link ∙ on) a.stands.phase_is; placed = placed_on phase log _ _ _ (λ o. o) refl a.stands.placed };
+      gaps = a.gaps;
       offers = a.offers;
       plain = a.plain;
-      here = went_out s (piece_sent s) (present log) unjudged (here_of a.course) (a.course.sent ++ f ∷ []) (next_frame s.session asdu) a.here fits on refl refl
+      here = went_out s.centre (piece_sent s).centre (present log) unjudged (here_of a.course) (a.course.sent ++ f ∷ []) (next_frame s.centre.session asdu) a.here fits on refl refl
           (ap (λ xs. xs ++ f ∷ []) a.here.sent) (omega (arith, length-append a.course.sent (f ∷ [])))
-          (subst (λ u. Tied (sent_more f (here_of a.course)) (session.sent FromQueue s.moment s.session) (s.queue.sent ++ take 1 u)) (sym unsent) (tied_piece f s.moment (here_of a.course) s.session s.queue.sent a.here.tied may has))
+          (subst (λ u. Tied (sent_more f (here_of a.course)) (session.sent FromQueue s.moment s.centre.session) (s.centre.queue.sent ++ take 1 u)) (sym unsent) (tied_piece f s.moment (here_of a.course) s.centre.session s.centre.queue.sent a.here.tied may has))
           (numbered_more 0 a.course.sent f (a.here.tied.next ∙ ap (λ n. n % 32768) (sym (zero-add (length a.course.sent)))) a.here.numbered);
       left = left_out phase log s.moment _ _ unjudged a.left;
-      carries = carries_piece (taken_objects p log) (parts_of_all p.sizes (reports_in p log)) a.course.earlier a.course.sent s.queue.unsent rest f unsent has a.carries;
-      before = past_put p log a.course.earlier s.moment (next_frame s.session asdu) a.clock a.settled (sym a.here.link ∙ on) fits (kept_talk p _ _ _ talk) a.before;
+      carries = carries_piece (taken_objects p log) (parts_of_all p.sizes (reports_in p log)) a.course.earlier a.course.sent s.centre.queue.unsent rest f unsent has a.carries;
+      before = past_put p log a.course.earlier s.moment (next_frame s.centre.session asdu) a.clock a.settled (sym a.here.link ∙ on) fits (kept_talk p _ _ _ talk) a.before;
     }
 
 first_plain : (answers : List (List ℕ)) (asdu : List ℕ) → tasks.first_answer answers ≡ Some asdu → ArePlain answers → has_objects asdu ≡ false
@@ -320,15 +324,15 @@ fewer_plain : (answers : List (List ℕ)) → ArePlain answers → ArePlain (dro
 fewer_plain [] h = tt
 fewer_plain (x ∷ xs) h = h.1
 
-pub after_own : (p : Setup) (s : State) (log : Log) (unjudged asdu : List ℕ) (phase : Phase) → Agrees p s log unjudged phase → IsFlushing phase → IsConfirmed s.session → may_send s.session ≡ true → s.session.connected ≡ true → tasks.first_answer s.commands.answers ≡ Some asdu → Fits (next_frame s.session asdu) →
-    Agrees p (own_sent s) (Went s.moment (TcpOut (spelling (next_frame s.session asdu))) ∷ log) unjudged phase
+pub after_own : (p : Setup) (s : State) (log : Log) (unjudged asdu : List ℕ) (phase : Phase) → Agrees p s log unjudged phase → IsFlushing phase → IsConfirmed s.centre.session → may_send s.centre.session ≡ true → s.centre.session.connected ≡ true → tasks.first_answer s.serial.commands.answers ≡ Some asdu → Fits (next_frame s.centre.session asdu) →
+    Agrees p (own_sent s) (Went s.moment (TcpOut (spelling (next_frame s.centre.session asdu))) ∷ log) unjudged phase
 after_own p s log unjudged asdu phase a flushing ready may on first fits =
-    let f : Sent = record { ns = s.session.next_sent; nr = s.session.next_received; asdu = asdu } in
-    let none : has_objects asdu ≡ false = first_plain s.commands.answers asdu first a.plain in
-    let oldest : tasks.first_answer (tasks_of p a.course.works).state.answers ≡ Some asdu =
-    ap tasks.first_answer (sym (ap (λ (c : tasks.State). c.answers) a.stands.does.commands ∙ answers_in p phase (latest log) (room_in p log a.course) a.course.works)) ∙ first in
-    let w : Works = with_call SendOwn a.course.works in
-    let talk = data_talk p s (own_sent s) log unjudged asdu Own phase w a may (ap (λ b. if b then FromQueue else Own) none) (record { confirmed = sym (confirmed_by p s.session log a.course a.talk) ∙ ready; own = λ no. oldest; none = λ some. absurd (false≢true (sym none ∙ some)); report = λ some. absurd (false≢true (sym none ∙ some)) }) (placed_in phase log _ flushing a.stands.placed (sym a.here.link ∙ on)) fits (data_own s asdu s.moment a.course none) in
+    let f : Sent = record { ns = s.centre.session.next_sent; nr = s.centre.session.next_received; asdu = asdu } in
+    let none : has_objects asdu ≡ false = first_plain s.serial.commands.answers asdu first a.plain in
+    let oldest : tasks.first_answer a.course.works.serial.commands.answers ≡ Some asdu =
+    ap tasks.first_answer (sym (ap (λ (z : Serial). z.commands.answers) a.stands.does ∙ answers_in phase (latest log) (room_in p log a.course) a.course.works)) ∙ first in
+    let w : Works = answered_works a.course.works in
+    let talk = data_talk p s (own_sent s) log unjudged asdu Own phase w a may (ap (λ b. if b then FromQueue else Own) none) (record { confirmed = sym (confirmed_by p s.centre.session log a.course a.talk) ∙ ready; own = λ no. oldest; none = λ some. absurd (false≢true (sym none ∙ some)); report = λ some. absurd (false≢true (sym none ∙ some)) }) (placed_in phase log _ flushing a.stands.placed (sym a.here.link ∙ on)) fits (data_own s asdu s.moment a.course none) in
     let room = data_room p s (own_sent s) log unjudged asdu Own phase w a in
     record {
       k = a.k;
@@ -341,20 +345,21 @@ after_own p s log unjudged asdu phase a flushing ready may on first fits =
       course = data_course s asdu Own s.moment w a.course;
       talk = talk;
       stands = record {
-        does = same_does p phase (latest log) _ _ w (record s { commands = tasks.answered s.commands }) (own_sent s) room refl refl refl refl (does_own p a.course.works asdu oldest phase s (latest log) (room_in p log a.course) a.stands.does);
-        asks = same_asks p phase (latest log) _ _ w room (asked_own p a.course.works asdu oldest phase (latest log) (room_in p log a.course) a.stands.asks);
+        does = same_does phase (latest log) _ _ w (serial.answered s.serial) room (ap serial.answered a.stands.does ∙ sym (own_serial a.course.works asdu oldest phase (latest log) (room_in p log a.course)));
+        asks = same_asks phase (latest log) _ _ w room (asked_own a.course.works asdu oldest phase (latest log) (room_in p log a.course) a.stands.asks);
         phase_is = phase_out phase log s.moment _ (sym a.here.link ∙ on) a.stands.phase_is;
-        placed = placed_on phase log _ _ _ (λ o. o) (own_placed p a.course.works asdu oldest) a.stands.placed;
+        placed = placed_on phase log _ _ _ (λ o. o) (own_placed a.course.works asdu oldest) a.stands.placed;
       };
+      gaps = a.gaps;
       offers = a.offers;
-      plain = fewer_plain s.commands.answers a.plain;
-      here = went_out s (own_sent s) (present log) unjudged (here_of a.course) (a.course.sent ++ f ∷ []) (next_frame s.session asdu) a.here fits on refl refl
+      plain = fewer_plain s.serial.commands.answers a.plain;
+      here = went_out s.centre (own_sent s).centre (present log) unjudged (here_of a.course) (a.course.sent ++ f ∷ []) (next_frame s.centre.session asdu) a.here fits on refl refl
           (ap (λ xs. xs ++ f ∷ []) a.here.sent) (omega (arith, length-append a.course.sent (f ∷ [])))
-          (tied_own f s.moment (here_of a.course) s.session s.queue.sent a.here.tied may none)
+          (tied_own f s.moment (here_of a.course) s.centre.session s.centre.queue.sent a.here.tied may none)
           (numbered_more 0 a.course.sent f (a.here.tied.next ∙ ap (λ n. n % 32768) (sym (zero-add (length a.course.sent)))) a.here.numbered);
       left = left_out phase log s.moment _ _ unjudged a.left;
-      carries = carries_own (taken_objects p log) (parts_of_all p.sizes (reports_in p log)) a.course.earlier a.course.sent s.queue.unsent f none a.carries;
-      before = past_put p log a.course.earlier s.moment (next_frame s.session asdu) a.clock a.settled (sym a.here.link ∙ on) fits (kept_talk p _ _ _ talk) a.before;
+      carries = carries_own (taken_objects p log) (parts_of_all p.sizes (reports_in p log)) a.course.earlier a.course.sent s.centre.queue.unsent f none a.carries;
+      before = past_put p log a.course.earlier s.moment (next_frame s.centre.session asdu) a.clock a.settled (sym a.here.link ∙ on) fits (kept_talk p _ _ _ talk) a.before;
     }
 
 -- A call of the session leads from this session to that, and this frame goes out.
@@ -371,8 +376,8 @@ due_same (I ns nr asdu) moment c none = let no : data_frames (I ns nr asdu ∷ [
 due_same (S nr) moment c none = refl
 due_same (U u) moment c none = refl
 
-pub after_due : (p : Setup) (s : State) (t : Session) (log : Log) (unjudged : List ℕ) (f : Apdu) (phase : Phase) (a : Agrees p s log unjudged phase) → IsFlushing phase → (talk.confirmation_of a.course.talk ≡ Some f) ⊎ ((talk.confirmation_of a.course.talk ≡ None) × IsFlushed p log a.course × HasBegun log a.course) → s.session.connected ≡ true → Fits f → HasNoData f → GoesOut s.session t s.moment f → SameWindow s.session t →
-    Agrees p (record s { session = t }) (Went s.moment (TcpOut (spelling f)) ∷ log) unjudged phase
+pub after_due : (p : Setup) (s : State) (t : Session) (log : Log) (unjudged : List ℕ) (f : Apdu) (phase : Phase) (a : Agrees p s log unjudged phase) → IsFlushing phase → (talk.confirmation_of a.course.talk ≡ Some f) ⊎ ((talk.confirmation_of a.course.talk ≡ None) × IsFlushed p log a.course × HasBegun log a.course) → s.centre.session.connected ≡ true → Fits f → HasNoData f → GoesOut s.centre.session t s.moment f → SameWindow s.centre.session t →
+    Agrees p (with_session t s) (Went s.moment (TcpOut (spelling f)) ∷ log) unjudged phase
 after_due p s t log unjudged f phase a flushing next on fits none goes same = record {
   k = same.same_k ∙ a.k;
   sizes = a.sizes;
@@ -383,11 +388,12 @@ after_due p s t log unjudged f phase a flushing next on fits none goes same = re
   line = a.line;
   course = due_course f s.moment a.course;
   talk = talk_due;
-  stands = record { does = does_same p s (record s { session = t }) _ refl refl refl refl a.stands.does; asks = a.stands.asks; phase_is = phase_out phase log s.moment _ (sym a.here.link ∙ on) a.stands.phase_is; placed = placed_on phase log _ _ _ (λ o. o) refl a.stands.placed };
+  stands = record { does = a.stands.does; asks = a.stands.asks; phase_is = phase_out phase log s.moment _ (sym a.here.link ∙ on) a.stands.phase_is; placed = placed_on phase log _ _ _ (λ o. o) refl a.stands.placed };
+  gaps = a.gaps;
   offers = a.offers;
   plain = a.plain;
-  here = went_out s (record s { session = t }) (present log) unjudged (here_of a.course) a.course.sent f a.here fits on same.same_connected refl (a.here.sent ∙ sym (none a.here.put)) (omega arith)
-      (tied_same (here_of a.course) s.session t s.queue.sent same a.here.tied) a.here.numbered;
+  here = went_out s.centre (with_session t s).centre (present log) unjudged (here_of a.course) a.course.sent f a.here fits on same.same_connected refl (a.here.sent ∙ sym (none a.here.put)) (omega arith)
+      (tied_same (here_of a.course) s.centre.session t s.centre.queue.sent same a.here.tied) a.here.numbered;
   left = left_out phase log s.moment _ _ unjudged a.left;
   carries = a.carries;
   before = past_put p log a.course.earlier s.moment f a.clock a.settled (sym a.here.link ∙ on) fits (kept_talk p _ _ _ talk_due) a.before;
@@ -395,19 +401,19 @@ after_due p s t log unjudged f phase a flushing next on fits none goes same = re
   where
     talk_due : Talks p t (Went s.moment (TcpOut (spelling f)) ∷ log) (due_course f s.moment a.course)
     talk_due = subst (Talks p t (Went s.moment (TcpOut (spelling f)) ∷ log)) (due_same f s.moment a.course none)
-        (talk_out p s.session t log a.course s.moment s.moment f goes.call a.talk fits a.clock (next_plain p log a.course f none next) (placed_in phase log _ flushing a.stands.placed (sym a.here.link ∙ on)) (goes.made a.course.talk) (a.here.so_far ++ unjudged, a.here.joined))
+        (talk_out p s.centre.session t log a.course s.moment s.moment f goes.call a.talk fits a.clock (next_plain p log a.course f none next) (placed_in phase log _ flushing a.stands.placed (sym a.here.link ∙ on)) (goes.made a.course.talk) (a.here.so_far ++ unjudged, a.here.joined))
 
 -- the works where a frame is taken, by whether its answer finds a place
-heard_stands : (p : Setup) (s : State) (log : Log) (f : Apdu) (c : Course) (kept : Bool) → has_place f s.moment s.commands ≡ kept → IsAt p log Taking s c → IsAt p log (after_frame kept) (framed f s) (with_frame p f s.moment c)
+heard_stands : (p : Setup) (s : State) (log : Log) (f : Apdu) (c : Course) (kept : Bool) → has_place f s.moment s.serial.commands ≡ kept → IsAt p log Taking s c → IsAt p log (after_frame kept) (framed f s) (with_frame p f s.moment c)
 heard_stands p s log f c true place h = record {
-  does = does_heard p s (framed f s) f s.moment c.works refl refl refl refl h.does;
-  asks = heard_due p f s.moment c.works ∙ h.asks;
+  does = ap (serial.judged f s.moment) h.does;
+  asks = h.asks;
   phase_is = h.phase_is;
-  placed = λ o. heard_placed p f s.moment c.works (ap (has_place f s.moment) (sym h.does.commands) ∙ place) ∙ h.placed o;
+  placed = λ o. heard_placed f s.moment c.works (ap (λ (z : Serial). has_place f s.moment z.commands) (sym h.does) ∙ place) ∙ h.placed o;
 }
 heard_stands p s log f c false place h = record {
-  does = does_heard p s (framed f s) f s.moment c.works refl refl refl refl h.does;
-  asks = heard_due p f s.moment c.works ∙ h.asks;
+  does = ap (serial.judged f s.moment) h.does;
+  asks = h.asks;
   phase_is = tt;
   placed = tt;
 }
@@ -417,11 +423,11 @@ heard_left true log rest past e = subst (λ x. IsPast log (length (pending x ++ 
 heard_left false log rest past e = tt
 
 -- a whole frame without fault is taken
-pub after_heard : (p : Setup) (s : State) (log : Log) (unjudged rest : List ℕ) (f : Apdu) (a : Agrees p s log unjudged Taking) → s.session.connected ≡ true → IsClear s → IsUndue s log unjudged → IsPast log (length rest) → s.so_far ≡ Some [] → Fits f → a.here.so_far ++ unjudged ≡ spelling f ++ rest → refuses s.session f ≡ false → fault_of (length a.course.sent) (came_frames a.course.talk) f ≡ None →
-    (kept : Bool) → has_place f s.moment s.commands ≡ kept → Agrees p (framed f s) log rest (after_frame kept)
+pub after_heard : (p : Setup) (s : State) (log : Log) (unjudged rest : List ℕ) (f : Apdu) (a : Agrees p s log unjudged Taking) → s.centre.session.connected ≡ true → IsClear s → IsUndue s log unjudged → IsPast log (length rest) → s.centre.so_far ≡ Some [] → Fits f → a.here.so_far ++ unjudged ≡ spelling f ++ rest → refuses s.centre.session f ≡ false → fault_of (length a.course.sent) (came_frames a.course.talk) f ≡ None →
+    (kept : Bool) → has_place f s.moment s.serial.commands ≡ kept → Agrees p (framed f s) log rest (after_frame kept)
 after_heard p s log unjudged rest f a on ready undue past so fits whole passes faultless kept place =
     let joined : (present log).received ≡ spelled (f ∷ came_frames a.course.talk) ++ rest = a.here.joined ∙ ap (λ x. spelled (came_frames a.course.talk) ++ x) whole ∙ sym (append_assoc (spelled (came_frames a.course.talk)) (spelling f) rest) in
-    let stays = taken_stays f s.moment s.session in
+    let stays = taken_stays f s.moment s.centre.session in
     record {
       k = stays.k ∙ a.k;
       sizes = a.sizes;
@@ -431,10 +437,11 @@ after_heard p s log unjudged rest f a on ready undue past so fits whole passes f
       found = a.found;
       line = a.line;
       course = with_frame p f s.moment a.course;
-      talk = talk_heard p s.session log a.course s.moment f rest a.talk a.stands.phase_is a.clock on ready.confirmed fits passes (a.stands.placed (sym a.here.link ∙ on)) (flushed_by p s log unjudged Taking a ready.spent) (undue_by p s log unjudged Taking a undue) joined;
+      talk = talk_heard p s.centre.session log a.course s.moment f rest a.talk a.stands.phase_is a.clock on ready.confirmed fits passes (a.stands.placed (sym a.here.link ∙ on)) (flushed_by p s log unjudged Taking a ready.spent) (undue_by p s log unjudged Taking a undue) joined;
       stands = heard_stands p s log f a.course kept place a.stands;
-      offers = offers_heard a.talk.command_laws s.line s.line s.commands (framed f s).commands f s.moment refl refl a.offers;
-      plain = heard_plain a.talk.command_laws f s.moment s.commands fits a.plain;
+      gaps = a.gaps;
+      offers = offers_heard a.talk.command_laws s.serial.line s.serial.line s.serial.commands (framed f s).serial.commands f s.moment refl refl a.offers;
+      plain = heard_plain a.talk.command_laws f s.moment s.serial.commands fits a.plain;
       here = record {
         link = stays.connected ∙ a.here.link;
         none = λ off. absurd (false≢true (sym off ∙ sym a.here.link ∙ on));
@@ -447,7 +454,7 @@ after_heard p s log unjudged rest f a on ready undue past so fits whole passes f
         joined = joined;
         fit = (fits, a.here.fit);
         pass = (faultless, a.here.pass);
-        tied = tied_taken f s.moment (here_of a.course) s.session s.queue.sent on a.here.tied passes;
+        tied = tied_taken f s.moment (here_of a.course) s.centre.session s.centre.queue.sent on a.here.tied passes;
         numbered = a.here.numbered;
       };
       left = heard_left kept log rest past so;
@@ -455,13 +462,13 @@ after_heard p s log unjudged rest f a on ready undue past so fits whole passes f
       before = a.before;
     }
 
-pub heard_course : (p : Setup) (s : State) (log : Log) (unjudged rest : List ℕ) (f : Apdu) (a : Agrees p s log unjudged Taking) (on : s.session.connected ≡ true) (ready : IsClear s) (undue : IsUndue s log unjudged) (past : IsPast log (length rest)) (so : s.so_far ≡ Some []) (fits : Fits f) (whole : a.here.so_far ++ unjudged ≡ spelling f ++ rest) (passes : refuses s.session f ≡ false) (faultless : fault_of (length a.course.sent) (came_frames a.course.talk) f ≡ None) (kept : Bool) (place : has_place f s.moment s.commands ≡ kept) →
+pub heard_course : (p : Setup) (s : State) (log : Log) (unjudged rest : List ℕ) (f : Apdu) (a : Agrees p s log unjudged Taking) (on : s.centre.session.connected ≡ true) (ready : IsClear s) (undue : IsUndue s log unjudged) (past : IsPast log (length rest)) (so : s.centre.so_far ≡ Some []) (fits : Fits f) (whole : a.here.so_far ++ unjudged ≡ spelling f ++ rest) (passes : refuses s.centre.session f ≡ false) (faultless : fault_of (length a.course.sent) (came_frames a.course.talk) f ≡ None) (kept : Bool) (place : has_place f s.moment s.serial.commands ≡ kept) →
     (after_heard p s log unjudged rest f a on ready undue past so fits whole passes faultless kept place).course ≡ with_frame p f s.moment a.course
 unfolding after_heard
 heard_course p s log unjudged rest f a on ready undue past so fits whole passes faultless kept place = refl
 
 -- the same of another assembler's state
-pub with_so_far : (p : Setup) (s : State) (log : Log) (unjudged rest so_far : List ℕ) (phase : Phase) (a : Agrees p s log unjudged phase) → IsMore so_far → (present log).received ≡ spelled (came_frames a.course.talk) ++ (so_far ++ rest) → IsLeftIn phase log so_far rest → Agrees p (record s { so_far = Some so_far }) log rest phase
+pub with_so_far : (p : Setup) (s : State) (log : Log) (unjudged rest so_far : List ℕ) (phase : Phase) (a : Agrees p s log unjudged phase) → IsMore so_far → (present log).received ≡ spelled (came_frames a.course.talk) ++ (so_far ++ rest) → IsLeftIn phase log so_far rest → Agrees p (with_octets (Some so_far) s) log rest phase
 with_so_far p s log unjudged rest so_far phase a waits joined left = record {
   k = a.k;
   sizes = a.sizes;
@@ -472,7 +479,8 @@ with_so_far p s log unjudged rest so_far phase a waits joined left = record {
   line = a.line;
   course = a.course;
   talk = a.talk;
-  stands = record { does = does_same p s (record s { so_far = Some so_far }) _ refl refl refl refl a.stands.does; asks = a.stands.asks; phase_is = a.stands.phase_is; placed = a.stands.placed };
+  stands = record { does = a.stands.does; asks = a.stands.asks; phase_is = a.stands.phase_is; placed = a.stands.placed };
+  gaps = a.gaps;
   offers = a.offers;
   plain = a.plain;
   here = record {
@@ -496,7 +504,7 @@ with_so_far p s log unjudged rest so_far phase a waits joined left = record {
 }
 
 -- the octets left are the beginning of a frame
-pub after_more : (p : Setup) (s t : State) (log : Log) (unjudged : List ℕ) (a : Agrees p s log unjudged Taking) → IsMore (a.here.so_far ++ unjudged) → t ≡ record s { so_far = Some (a.here.so_far ++ unjudged) } → Agrees p t log [] Taking
+pub after_more : (p : Setup) (s t : State) (log : Log) (unjudged : List ℕ) (a : Agrees p s log unjudged Taking) → IsMore (a.here.so_far ++ unjudged) → t ≡ with_octets (Some (a.here.so_far ++ unjudged)) s → Agrees p t log [] Taking
 after_more p s t log unjudged a waits e =
     subst (λ x. Agrees p x log [] Taking) (sym e)
     (with_so_far p s log unjudged [] (a.here.so_far ++ unjudged) Taking a waits (a.here.joined ∙ ap (λ x. spelled (came_frames a.course.talk) ++ x) (sym (append-nil (a.here.so_far ++ unjudged)))) tt)
@@ -514,6 +522,7 @@ now_idle p s log a = record {
   course = a.course;
   talk = a.talk;
   stands = record { does = a.stands.does; asks = a.stands.asks; phase_is = tt; placed = a.stands.placed };
+  gaps = a.gaps;
   offers = a.offers;
   plain = a.plain;
   here = a.here;
@@ -535,6 +544,7 @@ now_taking p s log unjudged a = record {
   course = a.course;
   talk = a.talk;
   stands = record { does = a.stands.does; asks = a.stands.asks; phase_is = a.stands.phase_is; placed = a.stands.placed };
+  gaps = a.gaps;
   offers = a.offers;
   plain = a.plain;
   here = a.here;
@@ -580,7 +590,7 @@ fault_closes_so sent older f cause c fault = fault_cases (λ cause. (closed_by c
 pub record Ended (p : Setup) (s : State) (log : Log) (c : Course) (octets : Channel) : Type 0 where
   pub are : AreConnections (over octets (past log)) (if octets.is_open then here_of c ∷ c.earlier else c.earlier)
   pub orders : AreInOrder (taken_objects p log) (if octets.is_open then here_of c ∷ c.earlier else c.earlier)
-  pub carries : Carries (taken_objects p log) (parts_of_all p.sizes (reports_in p log)) (if octets.is_open then here_of c ∷ c.earlier else c.earlier) [] (queue.rewound s.queue).unsent
+  pub carries : Carries (taken_objects p log) (parts_of_all p.sizes (reports_in p log)) (if octets.is_open then here_of c ∷ c.earlier else c.earlier) [] (queue.rewound s.centre.queue).unsent
 
 pub ended : (p : Setup) (s : State) (log : Log) (unjudged : List ℕ) (phase : Phase) (a : Agrees p s log unjudged phase) (octets : Channel) (fault : Option Close) → octets.is_open ≡ (present log).is_open → IsConnection octets (here_of a.course) fault → Ended p s log a.course octets
 ended p s log unjudged phase a octets fault as_now stands = by_case octets.is_open refl
@@ -600,23 +610,23 @@ ended p s log unjudged phase a octets fault as_now stands = by_case octets.is_op
         let gone : over octets (past log) ≡ octets ∷ past log = ap (λ b. if b then octets ∷ past log else past log) h in
         record {
           are = subst (AreConnections (over octets (past log))) (sym is) (subst (λ cs. AreConnections cs (here_of c ∷ c.earlier)) (sym gone) (fault, stands, a.before.are));
-          orders = subst (AreInOrder objs) (sym is) (in_order objs parts (here_of c) c.earlier s.queue.unsent a.here.numbered a.carries, a.before.orders);
-          carries = subst (λ cs. Carries objs parts cs [] (queue.rewound s.queue).unsent) (sym is) (carries_end objs parts c.earlier (here_of c) s.session s.queue.sent s.queue.unsent a.here.tied a.carries);
+          orders = subst (AreInOrder objs) (sym is) (in_order objs parts (here_of c) c.earlier s.centre.queue.unsent a.here.numbered a.carries, a.before.orders);
+          carries = subst (λ cs. Carries objs parts cs [] (queue.rewound s.centre.queue).unsent) (sym is) (carries_end objs parts c.earlier (here_of c) s.centre.session s.centre.queue.sent s.centre.queue.unsent a.here.tied a.carries);
         }
     by_case false h =
         let is : (if octets.is_open then here_of c ∷ c.earlier else c.earlier) ≡ c.earlier = ap (λ b. if b then here_of c ∷ c.earlier else c.earlier) h in
         let gone : over octets (past log) ≡ past log = ap (λ b. if b then octets ∷ past log else past log) h in
         let new : here_of c ≡ new_connection = (a.here.none (sym as_now ∙ h)).1 in
-        let none : s.queue.sent ≡ [] = a.here.tied.unconfirmed.pieces_are ∙ ap (λ (c : Connection). pieces_of (drop (acknowledged_count c.received_frames) c.sent_frames)) new in
+        let none : s.centre.queue.sent ≡ [] = a.here.tied.unconfirmed.pieces_are ∙ ap (λ (c : Connection). pieces_of (drop (acknowledged_count c.received_frames) c.sent_frames)) new in
         record {
           are = subst (AreConnections (over octets (past log))) (sym is) (subst (λ cs. AreConnections cs c.earlier) (sym gone) a.before.are);
           orders = subst (AreInOrder objs) (sym is) a.before.orders;
-          carries = subst (λ cs. Carries objs parts cs [] (queue.rewound s.queue).unsent) (sym is)
-              (subst (λ q. Carries objs parts c.earlier [] (q ++ s.queue.unsent)) (sym none) (subst (λ (d : Connection). Carries objs parts c.earlier d.sent_frames s.queue.unsent) new a.carries));
+          carries = subst (λ cs. Carries objs parts cs [] (queue.rewound s.centre.queue).unsent) (sym is)
+              (subst (λ q. Carries objs parts c.earlier [] (q ++ s.centre.queue.unsent)) (sym none) (subst (λ (d : Connection). Carries objs parts c.earlier d.sent_frames s.centre.queue.unsent) new a.carries));
         }
 
 -- the state of a connection that has just begun, or of none
-pub fresh : (s : State) (octets : Channel) → s.session.k < 32768 → s.session.connected ≡ octets.is_open → (octets.is_open ≡ false → octets ≡ no_channel) → octets.sent ≡ [] → octets.received ≡ [] → is_running s.session ≡ false → s.session.next_received ≡ 0 → s.session.next_sent ≡ 0 → s.session.unacknowledged ≡ [] → s.queue.sent ≡ [] → s.so_far ≡ Some [] →
+pub fresh : (s : Centre) (octets : Channel) → s.session.k < 32768 → s.session.connected ≡ octets.is_open → (octets.is_open ≡ false → octets ≡ no_channel) → octets.sent ≡ [] → octets.received ≡ [] → is_running s.session ≡ false → s.session.next_received ≡ 0 → s.session.next_sent ≡ 0 → s.session.unacknowledged ≡ [] → s.queue.sent ≡ [] → s.so_far ≡ Some [] →
     Presently s octets [] new_connection
 fresh s octets small link none sent received stopped first next us queued so = record {
   link = link;
@@ -672,57 +682,57 @@ closed_left Timed log so_far cause timely = refl
 closed_left Asked log so_far cause timely = refl
 
 -- the cut takes place where the step is
-closed_does : (p : Setup) (s : State) (cause : Close) (phase : Phase) (at : ℕ) (room other : Bool) (w : Works) → IsCloseAt cause phase → Does p s (works_in phase p at room w) → Does p (disconnected s) (works_in (after_closing phase) p at other (cut_works (works_at p cause at w)))
-closed_does p s Grammar Taking at room other w timely d = does_cut p s w d
-closed_does p s SendNumber Taking at room other w timely d = does_cut p s w d
-closed_does p s ReceiveNumber Taking at room other w timely d = does_cut p s w d
-closed_does p s Stopped Taking at room other w timely d = does_cut p s w d
-closed_does p s Timeout Taking at room other w timely d = absurd timely
-closed_does p s OwnAnswers Taking at room other w timely d = absurd timely
-closed_does p s Replaced Taking at room other w timely d = does_cut p s w d
-closed_does p s Grammar Idle at room other w timely d = absurd timely
-closed_does p s SendNumber Idle at room other w timely d = absurd timely
-closed_does p s ReceiveNumber Idle at room other w timely d = absurd timely
-closed_does p s Stopped Idle at room other w timely d = absurd timely
-closed_does p s Timeout Idle at room other w timely d = absurd timely
-closed_does p s OwnAnswers Idle at room other w timely d = absurd timely
-closed_does p s Replaced Idle at room other w timely d = absurd timely
-closed_does p s Grammar Crowded at room other w timely d = absurd timely
-closed_does p s SendNumber Crowded at room other w timely d = absurd timely
-closed_does p s ReceiveNumber Crowded at room other w timely d = absurd timely
-closed_does p s Stopped Crowded at room other w timely d = absurd timely
-closed_does p s Timeout Crowded at room other w timely d = absurd timely
-closed_does p s OwnAnswers Crowded at room other w timely d = does_cut p s w d
-closed_does p s Replaced Crowded at room other w timely d = absurd timely
-closed_does p s Grammar Timed at room other w timely d = absurd timely
-closed_does p s SendNumber Timed at room other w timely d = absurd timely
-closed_does p s ReceiveNumber Timed at room other w timely d = absurd timely
-closed_does p s Stopped Timed at room other w timely d = absurd timely
-closed_does p s Timeout Timed at room other w timely d = does_cut_again p s at w d
-closed_does p s OwnAnswers Timed at room other w timely d = absurd timely
-closed_does p s Replaced Timed at room other w timely d = absurd timely
-closed_does p s Grammar Asked at room other w timely d = absurd timely
-closed_does p s SendNumber Asked at room other w timely d = absurd timely
-closed_does p s ReceiveNumber Asked at room other w timely d = absurd timely
-closed_does p s Stopped Asked at room other w timely d = absurd timely
-closed_does p s Timeout Asked at room other w timely d = absurd timely
-closed_does p s OwnAnswers Asked at room other w timely d = absurd timely
-closed_does p s Replaced Asked at room other w timely d = absurd timely
-closed_does p s cause Judged at room other w timely d = absurd (not_judged cause timely)
-closed_does p s cause Fresh at room other w timely d = absurd (not_fresh cause timely)
+closed_does : (s : Serial) (cause : Close) (phase : Phase) (at : ℕ) (room other : Bool) (w : Works) → IsCloseAt cause phase → s ≡ (works_in phase at room w).serial → serial.cut s ≡ (works_in (after_closing phase) at other (cut_works (works_at cause at w))).serial
+closed_does s Grammar Taking at room other w timely d = ap serial.cut d
+closed_does s SendNumber Taking at room other w timely d = ap serial.cut d
+closed_does s ReceiveNumber Taking at room other w timely d = ap serial.cut d
+closed_does s Stopped Taking at room other w timely d = ap serial.cut d
+closed_does s Timeout Taking at room other w timely d = absurd timely
+closed_does s OwnAnswers Taking at room other w timely d = absurd timely
+closed_does s Replaced Taking at room other w timely d = ap serial.cut d
+closed_does s Grammar Idle at room other w timely d = absurd timely
+closed_does s SendNumber Idle at room other w timely d = absurd timely
+closed_does s ReceiveNumber Idle at room other w timely d = absurd timely
+closed_does s Stopped Idle at room other w timely d = absurd timely
+closed_does s Timeout Idle at room other w timely d = absurd timely
+closed_does s OwnAnswers Idle at room other w timely d = absurd timely
+closed_does s Replaced Idle at room other w timely d = absurd timely
+closed_does s Grammar Crowded at room other w timely d = absurd timely
+closed_does s SendNumber Crowded at room other w timely d = absurd timely
+closed_does s ReceiveNumber Crowded at room other w timely d = absurd timely
+closed_does s Stopped Crowded at room other w timely d = absurd timely
+closed_does s Timeout Crowded at room other w timely d = absurd timely
+closed_does s OwnAnswers Crowded at room other w timely d = ap serial.cut d
+closed_does s Replaced Crowded at room other w timely d = absurd timely
+closed_does s Grammar Timed at room other w timely d = absurd timely
+closed_does s SendNumber Timed at room other w timely d = absurd timely
+closed_does s ReceiveNumber Timed at room other w timely d = absurd timely
+closed_does s Stopped Timed at room other w timely d = absurd timely
+closed_does s Timeout Timed at room other w timely d = ap serial.cut d
+closed_does s OwnAnswers Timed at room other w timely d = absurd timely
+closed_does s Replaced Timed at room other w timely d = absurd timely
+closed_does s Grammar Asked at room other w timely d = absurd timely
+closed_does s SendNumber Asked at room other w timely d = absurd timely
+closed_does s ReceiveNumber Asked at room other w timely d = absurd timely
+closed_does s Stopped Asked at room other w timely d = absurd timely
+closed_does s Timeout Asked at room other w timely d = absurd timely
+closed_does s OwnAnswers Asked at room other w timely d = absurd timely
+closed_does s Replaced Asked at room other w timely d = absurd timely
+closed_does s cause Judged at room other w timely d = absurd (not_judged cause timely)
+closed_does s cause Fresh at room other w timely d = absurd (not_fresh cause timely)
 
-works_due : (p : Setup) (cause : Close) (at : ℕ) (w : Works) → (works_at p cause at w).is_due ≡ w.is_due
-works_due p Timeout at w = settled_due p at w
-works_due p Grammar at w = refl
-works_due p SendNumber at w = refl
-works_due p ReceiveNumber at w = refl
-works_due p Stopped at w = refl
-works_due p OwnAnswers at w = refl
-works_due p Replaced at w = refl
+works_due : (cause : Close) (at : ℕ) (w : Works) → (works_at cause at w).is_due ≡ w.is_due
+works_due Timeout at w = refl
+works_due Grammar at w = refl
+works_due SendNumber at w = refl
+works_due ReceiveNumber at w = refl
+works_due Stopped at w = refl
+works_due OwnAnswers at w = refl
+works_due Replaced at w = refl
 
-closed_asks : (p : Setup) (cause : Close) (phase : Phase) (at : ℕ) (room other : Bool) (w : Works) → IsCloseAt cause phase → IsAsked phase p at room w → IsAsked (after_closing phase) p at other (cut_works (works_at p cause at w))
-closed_asks p cause Taking at room other w timely h = works_due p cause at w ∙ h
-closed_asks p cause Idle at room other w timely h = absurd (never cause timely)
+closed_asks : (cause : Close) (phase : Phase) (at : ℕ) (room other : Bool) (w : Works) → IsCloseAt cause phase → IsAsked phase at room w → IsAsked (after_closing phase) at other (cut_works (works_at cause at w))
+closed_asks cause Taking at room other w timely h = works_due cause at w ∙ h
+closed_asks cause Idle at room other w timely h = absurd (never cause timely)
   where
     never : (cause : Close) → IsCloseAt cause Idle → ⊥
     never Timeout h = h
@@ -732,11 +742,11 @@ closed_asks p cause Idle at room other w timely h = absurd (never cause timely)
     never Stopped h = h
     never OwnAnswers h = h
     never Replaced h = h
-closed_asks p cause Crowded at room other w timely h = works_due p cause at w ∙ h
-closed_asks p cause Timed at room other w timely h = works_due p cause at w ∙ h
-closed_asks p cause Judged at room other w timely h = absurd (not_judged cause timely)
-closed_asks p cause Fresh at room other w timely h = absurd (not_fresh cause timely)
-closed_asks p cause Asked at room other w timely h = absurd (never cause timely)
+closed_asks cause Crowded at room other w timely h = works_due cause at w ∙ h
+closed_asks cause Timed at room other w timely h = works_due cause at w ∙ h
+closed_asks cause Judged at room other w timely h = absurd (not_judged cause timely)
+closed_asks cause Fresh at room other w timely h = absurd (not_fresh cause timely)
+closed_asks cause Asked at room other w timely h = absurd (never cause timely)
   where
     never : (cause : Close) → IsCloseAt cause Asked → ⊥
     never Timeout h = h
@@ -756,7 +766,7 @@ closed_phase Judged log now cause timely = absurd (not_judged cause timely)
 closed_phase Timed log now cause timely = tt
 closed_phase Asked log now cause timely = tt
 
-closed_is : (p : Setup) (cause : Close) (is_open : Bool) (at : ℕ) (c : Course) → ends cause ≡ true → closed_course p cause is_open at c ≡ ended_course is_open (works_at p cause at c.works) c
+closed_is : (p : Setup) (cause : Close) (is_open : Bool) (at : ℕ) (c : Course) → ends cause ≡ true → closed_course p cause is_open at c ≡ ended_course is_open (works_at cause at c.works) c
 closed_is p Grammar is_open at c h = refl
 closed_is p SendNumber is_open at c h = refl
 closed_is p ReceiveNumber is_open at c h = refl
@@ -774,15 +784,15 @@ same_open Timeout c = refl
 same_open OwnAnswers c = refl
 same_open Replaced c = refl
 
-pub after_close : (laws : LineLaws) (p : Setup) (s : State) (log : Log) (unjudged : List ℕ) (cause : Close) (phase : Phase) (fault : Option Close) (a : Agrees p s log unjudged phase) → s.session.connected ≡ true → ends cause ≡ true → IsCloseAt cause phase → IsConnection (closed_by cause (present log)) (here_of a.course) fault → IsCause p log cause a.course →
+pub after_close : (laws : LineLaws) (p : Setup) (s : State) (log : Log) (unjudged : List ℕ) (cause : Close) (phase : Phase) (fault : Option Close) (a : Agrees p s log unjudged phase) → s.centre.session.connected ≡ true → ends cause ≡ true → IsCloseAt cause phase → IsConnection (closed_by cause (present log)) (here_of a.course) fault → IsCause p log cause a.course →
     Agrees p (disconnected s) (Went s.moment (Closed cause) ∷ log) [] (after_closing phase)
 after_close laws p s log unjudged cause phase fault a on last timely stands why =
     let new : Log = Went s.moment (Closed cause) ∷ log in
     let octets : Channel = closed_by cause (present log) in
-    let course : Course = ended_course octets.is_open (works_at p cause (latest log) a.course.works) a.course in
+    let course : Course = ended_course octets.is_open (works_at cause (latest log) a.course.works) a.course in
     let end = ended p s log unjudged phase a octets fault (same_open cause (present log)) stands in
-    let runs : Runs p new course = (a.course, a.talk.course_runs, sym (closed_is p cause (present log).is_open (latest log) a.course last ∙ ap (λ b. ended_course b (works_at p cause (latest log) a.course.works) a.course) (sym (same_open cause (present log)))), why) in
-    let talk : Talks p (session.closed s.session) new course = talk_cut p s.session s.session log new a.course course a.talk refl refl runs in
+    let runs : Runs p new course = (a.course, a.talk.course_runs, sym (closed_is p cause (present log).is_open (latest log) a.course last ∙ ap (λ b. ended_course b (works_at cause (latest log) a.course.works) a.course) (sym (same_open cause (present log)))), why) in
+    let talk : Talks p (session.closed s.centre.session) new course = talk_cut p s.centre.session s.centre.session log new a.course course a.talk refl refl runs in
     let shut : present new ≡ no_channel = ap (λ b. if b then no_channel else present log) last in
     let gone : past new ≡ over octets (past log) = ap (λ b. if b then over octets (past log) else past log) last in
     record {
@@ -792,18 +802,19 @@ after_close laws p s log unjudged cause phase fault a on last timely stands why 
       clock = a.clock;
       settled = refl;
       found = a.found;
-      line = laws.withdraw p.link p.addresses s.line (exchanges_of p log) a.line;
+      line = laws.withdraw p.link p.addresses s.serial.line (exchanges_of p log) a.line;
       course = course;
       talk = talk;
       stands = record {
-        does = closed_does p s cause phase (latest log) (room_in p log a.course) (room_in p new course) a.course.works timely a.stands.does;
-        asks = closed_asks p cause phase (latest log) (room_in p log a.course) (room_in p new course) a.course.works timely a.stands.asks;
+        does = closed_does s.serial cause phase (latest log) (room_in p log a.course) (room_in p new course) a.course.works timely a.stands.does;
+        asks = closed_asks cause phase (latest log) (room_in p log a.course) (room_in p new course) a.course.works timely a.stands.asks;
         phase_is = closed_phase phase log s.moment cause timely;
         placed = placed_cut (after_closing phase) new _;
       };
-      offers = offers_cut laws s.line (tasks.closed s.commands);
+      gaps = a.gaps;
+      offers = offers_cut laws s.serial.line (tasks.closed s.serial.commands);
       plain = tt;
-      here = subst (λ octets. Presently (disconnected s) octets [] new_connection) (sym shut) (fresh (disconnected s) no_channel a.here.tied.small refl (λ h. refl) refl refl refl refl refl refl refl refl);
+      here = subst (λ octets. Presently (disconnected s).centre octets [] new_connection) (sym shut) (fresh (disconnected s).centre no_channel a.here.tied.small refl (λ h. refl) refl refl refl refl refl refl refl refl);
       left = closed_left phase new [] cause timely;
       carries = end.carries;
       before = record {
@@ -832,19 +843,20 @@ rested laws p s log a spent quiet = record {
   are = record { open_one = stands_now p s log Asked a; earlier = a.before.are };
   settled = a.settled;
   placed = a.stands.placed;
-  eager = λ on started room. sent_all p s log [] Asked a (spent (can (is_running s.session) (a.here.tied.running ∙ started) (omega (arith, room, a.here.tied.unconfirmed.count, a.k))));
-  line = line_rests laws p s.line log a.course (room_in p log a.course) a.line (none_left a.course.works.is_due refl) (here_of a.course ∷ a.course.earlier)
-      (λ none. is_full p s log [] Asked a (no_room_means s.queue (sym (same_room p s log [] Asked a) ∙ none))) served;
+  eager = λ on started room. sent_all p s log [] Asked a (spent (can (is_running s.centre.session) (a.here.tied.running ∙ started) (omega (arith, room, a.here.tied.unconfirmed.count, a.k))));
+  gaps = λ i. sym (append-nil (gaps_told i log)) ∙ ap (λ g. gaps_told i log ++ gap_for i g) (sym all_told) ∙ a.gaps i;
+  line = line_rests laws p s.serial.line log a.course (room_in p log a.course) a.line (none_left a.course.works.is_due refl) (here_of a.course ∷ a.course.earlier)
+      (λ none. is_full p s log [] Asked a (no_room_means s.centre.queue (sym (same_room p s log [] Asked a) ∙ none))) served;
   talk = record {
     all = all_taken log a.course a.here.so_far a.here.joined a.here.waits;
-    confirmed = sym (confirmed_by p s.session log a.course a.talk) ∙ quiet.confirmed;
-    none_due = subst (λ m. frame_due p.session.w p.session.t2 p.session.t3 m a.course.talk ≡ None) a.clock (sym (due_by p s.session log a.course a.talk s.moment) ∙ quiet.pulled_all);
-    in_time = subst (λ m. has_timed_out p.session.t1 m a.course.talk ≡ false) a.clock (sym (late_by p s.session log a.course a.talk s.moment) ∙ quiet.in_time);
+    confirmed = sym (confirmed_by p s.centre.session log a.course a.talk) ∙ quiet.confirmed;
+    none_due = subst (λ m. frame_due p.session.w p.session.t2 p.session.t3 m a.course.talk ≡ None) a.clock (sym (due_by p s.centre.session log a.course a.talk s.moment) ∙ quiet.pulled_all);
+    in_time = subst (λ m. has_timed_out p.session.t1 m a.course.talk ≡ false) a.clock (sym (late_by p s.centre.session log a.course a.talk s.moment) ∙ quiet.in_time);
   };
 }
   where
-    can : (b : Bool) → b ≡ true → length s.session.unacknowledged < s.session.k → (b && nat_lt (length s.session.unacknowledged) s.session.k) ≡ true
-    can true h lt = lt-ltb (length s.session.unacknowledged) s.session.k lt
+    can : (b : Bool) → b ≡ true → length s.centre.session.unacknowledged < s.centre.session.k → (b && nat_lt (length s.centre.session.unacknowledged) s.centre.session.k) ≡ true
+    can true h lt = lt-ltb (length s.centre.session.unacknowledged) s.centre.session.k lt
     can false h lt = cc
 
     w : Works
@@ -853,57 +865,60 @@ rested laws p s log a spent quiet = record {
     room : Bool
     room = room_in p log a.course
 
-    out_none : (o : Option Outstanding) → IsOut o → primary.sending_from w.line o room ≡ None
+    all_told : s.serial.gap ≡ None
+    all_told = ap (λ (z : Serial). z.gap) a.stands.does ∙ gap_in Asked (latest log) room w ∙ a.stands.asks.2
+
+    out_none : (o : Option Outstanding) → IsOut o → primary.sending_from w.serial.line o room ≡ None
     out_none None h = absurd h
     out_none (Some o) h = refl
 
-    none_left : (b : Bool) → w.is_due ≡ b → primary.sending s.line room ≡ None
+    none_left : (b : Bool) → w.is_due ≡ b → primary.sending s.serial.line room ≡ None
     none_left true due =
-        let is : s.line ≡ primary.asked (ready_works p (latest log) w).line (latest log) room = a.stands.does.line ∙ ap (λ b. (if b then unasked_works (latest log) room (ready_works p (latest log) w) else w).line) due in
-        subst (λ q. primary.sending q room ≡ None) (sym is) (laws.over (ready_works p (latest log) w).line (latest log) room (a.stands.asks.0 due))
+        let is : s.serial.line ≡ primary.asked (ready_works (latest log) w).serial.line (latest log) room = ap (λ (z : Serial). z.line) a.stands.does ∙ ap (λ b. (if b then unasked_works (latest log) room (ready_works (latest log) w) else w).serial.line) due in
+        subst (λ q. primary.sending q room ≡ None) (sym is) (laws.over (ready_works (latest log) w).serial.line (latest log) room (a.stands.asks.0 due))
     none_left false due =
-        let is : s.line ≡ w.line = a.stands.does.line ∙ ap (λ b. (if b then unasked_works (latest log) room (ready_works p (latest log) w) else w).line) due in
-        subst (λ q. primary.sending q room ≡ None) (sym is) (out_none w.line.outstanding (a.stands.asks.1 due))
+        let is : s.serial.line ≡ w.serial.line = ap (λ (z : Serial). z.line) a.stands.does ∙ ap (λ b. (if b then unasked_works (latest log) room (ready_works (latest log) w) else w).serial.line) due in
+        subst (λ q. primary.sending q room ≡ None) (sym is) (out_none w.serial.line.outstanding (a.stands.asks.1 due))
 
     -- a command that waits was offered, and is offered no more only where it went out
-    none_waits : (b : Bool) → w.is_due ≡ b → s.line.outstanding ≡ None → (i : ℕ) → i < length p.addresses → offered_at s.line i ≡ None → holds_command (station_at s.line.stations i).link ≡ false → octets_waiting i s.commands ≡ None
+    none_waits : (b : Bool) → w.is_due ≡ b → s.serial.line.outstanding ≡ None → (i : ℕ) → i < length p.addresses → offered_at s.serial.line i ≡ None → holds_command (station_at s.serial.line.stations i).link ≡ false → octets_waiting i s.serial.commands ≡ None
     none_waits false due out i within none free =
-        let is : s.line ≡ w.line = a.stands.does.line ∙ ap (λ b. (if b then unasked_works (latest log) room (ready_works p (latest log) w) else w).line) due in
+        let is : s.serial.line ≡ w.serial.line = ap (λ (z : Serial). z.line) a.stands.does ∙ ap (λ b. (if b then unasked_works (latest log) room (ready_works (latest log) w) else w).serial.line) due in
         absurd (subst IsOut (sym (ap (λ (q : primary.Primary). q.outstanding) is) ∙ out) (a.stands.asks.1 due))
     none_waits true due out i within none free =
-        let r : Works = ready_works p (latest log) w in
-        let is : s.line ≡ primary.asked r.line (latest log) room = a.stands.does.line ∙ ap (λ b. (if b then unasked_works (latest log) room r else w).line) due in
-        let next : primary.sending r.line room ≡ None = a.stands.asks.0 due in
-        let stays = unasked_stays r.line (latest log) room next in
-        let same : s.line.stations ≡ r.line.stations = ap (λ (q : primary.Primary). q.stations) is ∙ stays.0 in
-        let quiet : r.line.outstanding ≡ None = sym stays.1 ∙ sym (ap (λ (q : primary.Primary). q.outstanding) is) ∙ out in
-        let q : primary.Primary = (settled_works p (latest log) w).line in
-        let ws : List Waiting = (tasks_of p (settled_works p (latest log) w)).state.waiting in
+        let r : Works = ready_works (latest log) w in
+        let is : s.serial.line ≡ primary.asked r.serial.line (latest log) room = ap (λ (z : Serial). z.line) a.stands.does ∙ ap (λ b. (if b then unasked_works (latest log) room r else w).serial.line) due in
+        let next : primary.sending r.serial.line room ≡ None = a.stands.asks.0 due in
+        let stays = unasked_stays r.serial.line (latest log) room next in
+        let same : s.serial.line.stations ≡ r.serial.line.stations = ap (λ (q : primary.Primary). q.stations) is ∙ stays.0 in
+        let quiet : r.serial.line.outstanding ≡ None = sym stays.1 ∙ sym (ap (λ (q : primary.Primary). q.outstanding) is) ∙ out in
+        let q : primary.Primary = (settled_works (latest log) w).serial.line in
+        let ws : List Waiting = (settled_works (latest log) w).serial.commands.waiting in
         let kept = upto_leaves laws (length q.stations) ws q (omega arith) in
-        let waits : octets_waiting i s.commands ≡ option_map (λ (z : Waiting). z.octets) (oldest i ws) =
-        ap (octets_waiting i) a.stands.does.commands ∙ ap (λ b. octets_waiting i (tasks_of p (if b then unasked_works (latest log) room r else w)).state) due in
-        let empty : offered_at r.line i ≡ None = sym (ap (λ xs. (station_at xs i).offered) same) ∙ none in
+        let waits : octets_waiting i s.serial.commands ≡ option_map (λ (z : Waiting). z.octets) (oldest i ws) =
+        ap (λ (z : Serial). octets_waiting i z.commands) a.stands.does ∙ ap (λ b. octets_waiting i (if b then unasked_works (latest log) room r else w).serial.commands) due in
+        let empty : offered_at r.serial.line i ≡ None = sym (ap (λ xs. (station_at xs i).offered) same) ∙ none in
         let able : holds_command (station_at q.stations i).link ≡ false = ap holds_command (sym (kept.link i)) ∙ ap (λ xs. holds_command (station_at xs i).link) (sym same) ∙ free in
         let known : i < length q.stations = omega (arith, within, a.line.count, ap length same, count_upto laws (length q.stations) ws q) in
         waits ∙ by_oldest (oldest i ws) refl (λ z e. offers_reach laws (length q.stations) ws q i z known (omega arith) e (sym kept.outstanding ∙ quiet) able empty)
       where
-        by_oldest : (o : Option Waiting) → oldest i (tasks_of p (settled_works p (latest log) w)).state.waiting ≡ o → ((z : Waiting) → oldest i (tasks_of p (settled_works p (latest log) w)).state.waiting ≡ Some z → ⊥) → option_map (λ (z : Waiting). z.octets) o ≡ None
+        by_oldest : (o : Option Waiting) → oldest i (settled_works (latest log) w).serial.commands.waiting ≡ o → ((z : Waiting) → oldest i (settled_works (latest log) w).serial.commands.waiting ≡ Some z → ⊥) → option_map (λ (z : Waiting). z.octets) o ≡ None
         by_oldest None e never = refl
         by_oldest (Some z) e never = absurd (never z e)
 
-    served : s.line.outstanding ≡ None → (i : ℕ) → i < length p.addresses → IsServed p log (done_in p log a.course) i
+    served : s.serial.line.outstanding ≡ None → (i : ℕ) → i < length p.addresses → IsServed p log (done_in p log a.course) i
     served out i within =
-        let left = laws.left s.line room a.line.fits out (none_left w.is_due refl) i (omega (arith, within, a.line.count)) in
-        let link : link_after p.link (address_at p.addresses i) Down (exchanges_with p i log) ≡ (station_at s.line.stations i).link =
-        subst (λ (o : Option primary.Outstanding). telling.AreLinks (front_of p.link.size) p.link p.addresses s.line.stations (telling.past o (exchanges_of p log))) out a.line.links i in
+        let left = laws.left s.serial.line room a.line.fits out (none_left w.is_due refl) i (omega (arith, within, a.line.count)) in
+        let link : link_after p.link (address_at p.addresses i) Down (exchanges_with p i log) ≡ (station_at s.serial.line.stations i).link =
+        subst (λ (o : Option primary.Outstanding). telling.AreLinks (front_of p.link.size) p.link p.addresses s.serial.line.stations (telling.past o (exchanges_of p log))) out a.line.links i in
         let flags = a.line.flags i in
-        let here = left_at_rest s.line i (octets_waiting i s.commands) left (none_waits w.is_due refl out i within) in
-        subst (λ (c : tasks.State). (octets_waiting i c ≡ None) ⊎ ((flags_after (address_at p.addresses i) clear (exchanges_with p i log)).dfc ≡ true) ⊎ (holds_poll (link_after p.link (address_at p.addresses i) Down (exchanges_with p i log)) ≡ true)) a.stands.does.commands
+        let here = left_at_rest s.serial.line i (octets_waiting i s.serial.commands) left (none_waits w.is_due refl out i within) in
+        subst (λ (c : tasks.State). (octets_waiting i c ≡ None) ⊎ ((flags_after (address_at p.addresses i) clear (exchanges_with p i log)).dfc ≡ true) ⊎ (holds_poll (link_after p.link (address_at p.addresses i) Down (exchanges_with p i log)) ≡ true)) (ap (λ (z : Serial). z.commands) a.stands.does)
         (by_exchanges link flags here)
       where
-        by_exchanges : link_after p.link (address_at p.addresses i) Down (exchanges_with p i log) ≡ (station_at s.line.stations i).link → flags_after (address_at p.addresses i) clear (exchanges_with p i log) ≡ telling.flags_of (station_at s.line.stations i) →
-            (octets_waiting i s.commands ≡ None) ⊎ ((station_at s.line.stations i).dfc ≡ true) ⊎ (holds_poll (station_at s.line.stations i).link ≡ true) →
-            (octets_waiting i s.commands ≡ None) ⊎ ((flags_after (address_at p.addresses i) clear (exchanges_with p i log)).dfc ≡ true) ⊎ (holds_poll (link_after p.link (address_at p.addresses i) Down (exchanges_with p i log)) ≡ true)
+        by_exchanges : link_after p.link (address_at p.addresses i) Down (exchanges_with p i log) ≡ (station_at s.serial.line.stations i).link → flags_after (address_at p.addresses i) clear (exchanges_with p i log) ≡ telling.flags_of (station_at s.serial.line.stations i) →
+            (octets_waiting i s.serial.commands ≡ None) ⊎ ((station_at s.serial.line.stations i).dfc ≡ true) ⊎ (holds_poll (station_at s.serial.line.stations i).link ≡ true) →
+            (octets_waiting i s.serial.commands ≡ None) ⊎ ((flags_after (address_at p.addresses i) clear (exchanges_with p i log)).dfc ≡ true) ⊎ (holds_poll (link_after p.link (address_at p.addresses i) Down (exchanges_with p i log)) ≡ true)
         by_exchanges link flags (inl none) = inl none
         by_exchanges link flags (inr (inl full)) = inr (inl (ap (λ f. f.dfc) flags ∙ full))
         by_exchanges link flags (inr (inr held)) = inr (inr (ap holds_poll link ∙ held))

@@ -1,5 +1,5 @@
 -- The line's lemmas where a port may tell no log, in the form that answers cite.
-use Rattle.std.proofs.Common.{◌≡◌, ℕ, ◌≤◌, ◌+◌, Bool, true, false, not, List, [], ◌∷◌, ◌++◌, length, refl, ap, sym, ◌∙◌, subst, arith, inl, Option, Some, None, length-append}
+use Rattle.std.proofs.Common.{◌≡◌, ℕ, ◌≤◌, ◌+◌, ◌==◌, Bool, true, false, not, List, [], ◌∷◌, ◌++◌, length, refl, ap, sym, ◌∙◌, subst, arith, inl, Option, Some, None, length-append}
 use Rattle.std.specs.Prelude.{IfSome, if◌then◌else◌, option_map}
 use Rattle.std.specs.Bool.{OnTrue}
 use Rattle.std.proofs.lemmas.List.{append-nil}
@@ -12,30 +12,34 @@ use Rattle.link.specs.Turns.{station_at}
 use Rattle.link.specs.Exchanges.{Exchanges, Sending, begun_by}
 use Rattle.link.specs.Primary.{Primary, Outstanding, asked, asked_from, after_choice, choice, sending, sending_from, sending_by, request_of, is_command}
 use Rattle.link.specs.declared.request.Request.{Request}
+use Rattle.link.specs.Offers.{offered_at}
 use Rattle.link.specs.Telling.{Tells}
 use Rattle.session.specs.declared.kinds.Close.TheVariants.{OwnAnswers, Replaced}
-use Rattle.command.specs.State as tasks
 use Rattle.command.specs.State.{octets_waiting}
 use Rattle.events.specs.Queue.{free_places}
 use Rattle.session.specs.Ends.{IsConfirmed}
 use Rattle.gateway.proofs.Talking.{kept_talk, talk_on, all_taken}
-use Rattle.gateway.specs.Log.{Log, LogEntry, events_of, Input, Opened, TcpIn, CutOff, Ticked, LineIn, Came, Went, LineOut, Closed, latest, tell}
+use Rattle.gateway.specs.Log.{Log, LogEntry, events_of, Input, Opened, TcpIn, CutOff, Ticked, LineIn, Came, Went, LineOut, Closed, GapOut, latest, tell}
 use Rattle.gateway.specs.Frames.{AreInOrder}
 use Rattle.gateway.specs.Connections.{Channel, receiving, received_before, present}
-use Rattle.gateway.specs.Reports.{Setup, exchanges_of, taken_objects, reports_in, parts_of_all}
+use Rattle.gateway.specs.Reports.{Setup, sending_in, exchanges_of, taken_objects, reports_in, parts_of_all}
 use Rattle.link.specs.Leave.{is_poll_request}
+use Rattle.gateway.specs.declared.gaps.Gap.{Gap}
+use Rattle.gateway.specs.Gaps.{gaps_told, gap_for, TellsGaps}
 use Rattle.gateway.specs.Polls.{has_room}
-use Rattle.gateway.specs.Works.{Works, tasks_of, is_overfull, offered_upto, settled_works, ready_works, unasked_works, asked_works, is_first_command}
-use Rattle.gateway.specs.Course.{Course, first_course, here_of, room_in, with_works, Comes, Runs}
+use Rattle.gateway.specs.Serial as serial
+use Rattle.gateway.specs.Serial.{Serial, is_first_command, put_on_line}
+use Rattle.gateway.specs.Centre.{Centre}
+use Rattle.gateway.specs.Works.{Works, is_overfull, ready_works, gapless_works, unasked_works, asked_works}
+use Rattle.gateway.specs.Course.{Course, first_course, room_in, with_works, Comes, Runs}
 use Rattle.gateway.specs.Phases.{Phase, Fresh, Taking, Idle, Crowded, Timed, Asked, IsOut}
 use Rattle.gateway.specs.LineLaws.{LineLaws}
 use Rattle.gateway.specs.Traffic.{IsFaithful}
 use Rattle.gateway.specs.Runs.{events_told, MoreEvents}
-use Rattle.gateway.specs.State.{State, at_moment, disconnected, connected, put_on_line, commands_after, after_request as after_next}
-use Rattle.gateway.specs.Steps as steps
-use Rattle.gateway.specs.Steps.{HearsEvent, line_timed, settled, Begins, MayClose}
-use Rattle.gateway.specs.Agrees.{Presently, Talks, Agrees, Does, OffersWait, ArePlain, Tracks, Awaits, Leaves, Follows, HasCome, Rests, Carries, IsClear, IsUndue, IsSpent, pending}
-use Rattle.gateway.proofs.Working.{does_settled, settled_placed, put_state, put_placed}
+use Rattle.gateway.specs.State.{State, with_serial, at_moment, line_timed, settled, disconnected, connected, after_request as after_next}
+use Rattle.gateway.specs.Steps.{HearsEvent, Begins, MayClose}
+use Rattle.gateway.specs.Agrees.{Talks, Agrees, OffersWait, ArePlain, Tracks, Awaits, Leaves, Follows, HasCome, Rests, Carries, IsClear, IsUndue, IsSpent, pending}
+use Rattle.gateway.proofs.Working.{gap_in, settled_without_gap, settled_placed, put_placed}
 use Rattle.gateway.proofs.Offering.{offers_stay, offers_made, offers_asked, offers_unasked}
 use Rattle.gateway.proofs.Agreement.{stands_now, stands_overfull, has_places, same_room, now_idle}
 use Rattle.gateway.proofs.Put.{told_faithful}
@@ -46,14 +50,14 @@ use Rattle.gateway.proofs.Come.{Heard, left_of, heard_event, Worked, Counts, com
 
 -- the state once commands were offered
 pub record IsReady (p : Setup) (s t : State) (told : Option Log) : Type 0 where
-  pub is : t ≡ record s { line = offered_upto (length s.line.stations) s.commands.waiting s.line }
-  pub tells : (e : Exchanges) → Tells p.link p.addresses s.line e → Tells p.link p.addresses t.line e
+  pub is : t ≡ with_serial (serial.offered s.serial) s
+  pub tells : (e : Exchanges) → Tells p.link p.addresses s.serial.line e → Tells p.link p.addresses t.serial.line e
 
 -- and once a request was asked for
-abbrev pub asked_state : State → Primary → Option Sending → State
-asked_state s q x = record s { line = asked q s.moment (has_room s.queue); commands = commands_after q x s.commands }
+abbrev pub asked_state : State → Option Sending → State
+asked_state s x = with_serial (serial.asked s.moment (has_room s.centre.queue) x (serial.offered s.serial)) s
 
-module _ (laws : LineLaws) (p : Setup) (s : State) (q : Primary) (log : Log) (a : Agrees p s log [] Timed) (is : q ≡ offered_upto (length s.line.stations) s.commands.waiting s.line) (tells : Tells p.link p.addresses q (exchanges_of p log)) where
+module _ (laws : LineLaws) (p : Setup) (s : State) (log : Log) (a : Agrees p s log [] Timed) (tells : Tells p.link p.addresses (serial.offered s.serial).line (exchanges_of p log)) (no_gap : s.serial.gap ≡ None) where
   abbrev at : ℕ
   at = latest log
 
@@ -61,49 +65,60 @@ module _ (laws : LineLaws) (p : Setup) (s : State) (q : Primary) (log : Log) (a 
   w = a.course.works
 
   abbrev ready : Works
-  ready = ready_works p at w
+  ready = ready_works at w
+
+  abbrev q : Primary
+  q = (serial.offered s.serial).line
+
+  -- each gap is told
+  none_left : w.serial.gap ≡ None
+  none_left = sym (gap_in Timed at (room_in p log a.course) w) ∙ ap (λ (z : Serial). z.gap) (sym a.stands.does) ∙ no_gap
+
+  all_told : TellsGaps p log
+  all_told i = sym (append-nil (gaps_told i log)) ∙ ap (λ g. gaps_told i log ++ gap_for i g) (sym no_gap) ∙ a.gaps i
 
   -- what is offered
-  same_line : q ≡ ready.line
-  same_line = is ∙ ap (λ (l : Primary). offered_upto (length l.stations) s.commands.waiting l) a.stands.does.line
-      ∙ ap (λ (c : tasks.State). offered_upto (length (settled_works p at w).line.stations) c.waiting (settled_works p at w).line) a.stands.does.commands
+  same_ready : serial.offered s.serial ≡ ready.serial
+  same_ready = ap serial.offered a.stands.does
 
-  offers : OffersWait q s.commands
-  offers = subst (λ l. OffersWait l s.commands) (sym is) (offers_made laws s.line s.commands a.offers)
+  offers : OffersWait q s.serial.commands
+  offers = offers_made laws s.serial.line s.serial.commands a.offers
 
-  room : room_in p log a.course ≡ has_room s.queue
+  room : room_in p log a.course ≡ has_room s.centre.queue
   room = same_room p s log [] Timed a
 
-  same_next : (x : Option Sending) → sending q (has_room s.queue) ≡ x → sending ready.line (room_in p log a.course) ≡ x
-  same_next x h = ap (sending ready.line) room ∙ ap (λ l. sending l (has_room s.queue)) (sym same_line) ∙ h
+  same_next : (x : Option Sending) → sending q (has_room s.centre.queue) ≡ x → sending ready.serial.line (room_in p log a.course) ≡ x
+  same_next x h = ap (sending ready.serial.line) room ∙ ap (λ (z : Serial). sending z.line (has_room s.centre.queue)) (sym same_ready) ∙ h
 
-  same_asked : asked q s.moment (has_room s.queue) ≡ asked ready.line at (room_in p log a.course)
-  same_asked = ap (λ m. asked q m (has_room s.queue)) a.clock ∙ ap (λ l. asked l at (has_room s.queue)) same_line ∙ ap (asked ready.line at) (sym room)
+  same_asked : (x : Option Sending) → (asked_state s x).serial ≡ serial.asked at (room_in p log a.course) x ready.serial
+  same_asked x = ap (λ m. serial.asked m (has_room s.centre.queue) x (serial.offered s.serial)) a.clock
+      ∙ ap (λ b. serial.asked at b x (serial.offered s.serial)) (sym room)
+      ∙ ap (serial.asked at (room_in p log a.course) x) same_ready
 
-  command_waits : (x : Sending) → sending q (has_room s.queue) ≡ Some x → (fcb : Bool) (asdu : List ℕ) → x.request ≡ Counted fcb (Command asdu) → is_first_command ready.line x ≡ true → octets_waiting x.station (tasks_of p ready).state ≡ Some asdu
+  command_waits : (x : Sending) → sending q (has_room s.centre.queue) ≡ Some x → (fcb : Bool) (asdu : List ℕ) → x.request ≡ Counted fcb (Command asdu) → is_first_command ready.serial.line x ≡ true → octets_waiting x.station ready.serial.commands ≡ Some asdu
   command_waits x next fcb asdu request first =
-      let new : is_first_command q x ≡ true = ap (λ l. is_first_command l x) same_line ∙ first in
+      let new : is_first_command q x ≡ true = ap (λ (z : Serial). is_first_command z.line x) same_ready ∙ first in
       let fresh : is_held (station_at q.stations x.station).link ≡ false = not-true _ (and_parts (is_command x.request) _ new).1 in
-      ap (octets_waiting x.station) (sym a.stands.does.commands) ∙ offers x.station asdu (laws.begun q (has_room s.queue) x fcb asdu next request fresh)
+      ap (λ (z : Serial). octets_waiting x.station z.commands) (sym same_ready) ∙ offers x.station asdu (laws.begun q (has_room s.centre.queue) x fcb asdu next request fresh)
     where
       not-true : (b : Bool) → not b ≡ true → b ≡ false
       not-true true h = cc
       not-true false h = refl
 
-  is_out : (x : Sending) → sending q (has_room s.queue) ≡ Some x → IsOut (asked q s.moment (has_room s.queue)).outstanding
+  is_out : (x : Sending) → sending q (has_room s.centre.queue) ≡ Some x → IsOut (asked q s.moment (has_room s.centre.queue)).outstanding
   is_out x next = by_outstanding q.outstanding next
     where
       by_choice : (c : Option Chosen) → sending_by c ≡ Some x → IsOut (after_choice q s.moment c).outstanding
       by_choice None h = cc
       by_choice (Some c) h = tt
 
-      by_outstanding : (o : Option Outstanding) → sending_from q o (has_room s.queue) ≡ Some x → IsOut (asked_from q o s.moment (has_room s.queue)).outstanding
-      by_outstanding None h = by_choice (choice q (has_room s.queue)) h
+      by_outstanding : (o : Option Outstanding) → sending_from q o (has_room s.centre.queue) ≡ Some x → IsOut (asked_from q o s.moment (has_room s.centre.queue)).outstanding
+      by_outstanding None h = by_choice (choice q (has_room s.centre.queue)) h
       by_outstanding (Some o) h = cc
 
-  pub after_asked : (x : Sending) → sending q (has_room s.queue) ≡ Some x → (is_poll_request x.request ≡ true → 3 ≤ free_places s.queue) → Agrees p (asked_state s q (Some x)) (Went s.moment (LineOut (octets_of p x)) ∷ log) [] Asked
+  pub after_asked : (x : Sending) → sending q (has_room s.centre.queue) ≡ Some x → (is_poll_request x.request ≡ true → 3 ≤ free_places s.centre.queue) → Agrees p (asked_state s (Some x)) (Went s.moment (LineOut (octets_of p x)) ∷ log) [] Asked
   after_asked x next poll =
-      let may : Bool = has_room s.queue in
+      let may : Bool = has_room s.centre.queue in
       let new : Log = Went s.moment (LineOut (octets_of p x)) ∷ log in
       let goes = after_request laws p q log s.moment may x a.found tells next in
       let fits = laws.fit p.link p.addresses q (exchanges_of p log) may x tells next in
@@ -117,6 +132,7 @@ module _ (laws : LineLaws) (p : Setup) (s : State) (q : Primary) (log : Log) (a 
           all = all_taken log a.course a.here.so_far a.here.joined a.here.waits;
           placed = a.stands.placed;
           due = a.stands.asks;
+          told = none_left;
           request = x;
           next = same_next (Some x) next;
           spelled_so = refl;
@@ -124,7 +140,7 @@ module _ (laws : LineLaws) (p : Setup) (s : State) (q : Primary) (log : Log) (a 
           is = refl;
         },
       ) in
-      let talk : Talks p s.session new d = talk_on p s.session s.session log new a.course d a.talk refl refl course_runs in
+      let talk : Talks p s.centre.session new d = talk_on p s.centre.session s.centre.session log new a.course d a.talk refl refl course_runs in
       record {
         k = a.k;
         sizes = a.sizes;
@@ -136,22 +152,18 @@ module _ (laws : LineLaws) (p : Setup) (s : State) (q : Primary) (log : Log) (a 
         course = d;
         talk = talk;
         stands = record {
-          does = record {
-            line = same_asked;
-            commands = ap (λ l. put_on_line (is_first_command l x) x.station s.commands) same_line ∙ ap (put_on_line (is_first_command ready.line x) x.station) a.stands.does.commands ∙ sym (put_state p (is_first_command ready.line x) x.station ready.calls);
-            counts = a.stands.does.counts;
-            silent = a.stands.does.silent;
-          };
-          asks = (λ due. cc, λ none. subst (λ (l : Primary). IsOut l.outstanding) same_asked (is_out x next));
+          does = same_asked (Some x);
+          asks = (λ due. cc, λ none. subst (λ (z : Serial). IsOut z.line.outstanding) (same_asked (Some x)) (is_out x next), gap_in Timed at (room_in p log a.course) w ∙ none_left);
           phase_is = tt;
-          placed = λ o. put_placed p (is_first_command ready.line x) x.station ready.calls ∙ settled_placed p at w ∙ a.stands.placed o;
+          placed = λ o. put_placed (is_first_command ready.serial.line x) x.station ready ∙ settled_placed at w ∙ a.stands.placed o;
         };
-        offers = offers_asked laws a.talk.command_laws q s.commands s.moment may x next (omega (arith, fits.station, tells.count)) offers;
+        gaps = λ i. a.gaps i ∙ sym (laws.gaps_next p.link.size p.addresses s.moment (sending_in p (octets_of p x)) (exchanges_of p log) i);
+        offers = offers_asked laws a.talk.command_laws q s.serial.commands s.moment may x next (omega (arith, fits.station, tells.count)) offers;
         plain = subst ArePlain (sym (put_answers (is_first_command q x))) a.plain;
-        here = with_line_out;
+        here = a.here;
         left = refl;
-        carries = subst (λ objs. Carries objs (parts_of_all p.sizes (reports_in p new)) a.course.earlier a.course.sent s.queue.unsent) (sym same)
-            (subst (λ n. Carries (taken_objects p log) n a.course.earlier a.course.sent s.queue.unsent) (sym parts) a.carries);
+        carries = subst (λ objs. Carries objs (parts_of_all p.sizes (reports_in p new)) a.course.earlier a.course.sent s.centre.queue.unsent) (sym same)
+            (subst (λ n. Carries (taken_objects p log) n a.course.earlier a.course.sent s.centre.queue.unsent) (sym parts) a.carries);
         before = record {
           are = a.before.are;
           orders = subst (λ objs. AreInOrder objs a.course.earlier) (sym same) a.before.orders;
@@ -165,6 +177,7 @@ module _ (laws : LineLaws) (p : Setup) (s : State) (q : Primary) (log : Log) (a 
                 within = fits.station;
                 request = x.request;
                 spelled = refl;
+                told = all_told;
                 alone = λ z. laws.alone p.link p.addresses q (exchanges_of p log) may x z.exchange tells next z.latest_is z.waits;
                 room = λ polls. record {
                   course = a.course;
@@ -180,15 +193,12 @@ module _ (laws : LineLaws) (p : Setup) (s : State) (q : Primary) (log : Log) (a 
         };
       }
     where
-      put_answers : (b : Bool) → (put_on_line b x.station s.commands).answers ≡ s.commands.answers
-      put_answers true = a.talk.command_laws.sent_answers x.station s.commands
+      put_answers : (b : Bool) → (put_on_line b x.station s.serial.commands).answers ≡ s.serial.commands.answers
+      put_answers true = a.talk.command_laws.sent_answers x.station s.serial.commands
       put_answers false = refl
 
-      with_line_out : Presently (asked_state s q (Some x)) (present log) [] (here_of a.course)
-      with_line_out = record { link = a.here.link; none = a.here.none; put = a.here.put; handed = a.here.handed; sent = a.here.sent; so_far = a.here.so_far; assembler = a.here.assembler; waits = a.here.waits; joined = a.here.joined; fit = a.here.fit; pass = a.here.pass; tied = a.here.tied; numbered = a.here.numbered }
-
   -- no request is left
-  pub none_asked : sending q (has_room s.queue) ≡ None → Agrees p (asked_state s q None) log [] Asked
+  pub none_asked : sending q (has_room s.centre.queue) ≡ None → Agrees p (asked_state s None) log [] Asked
   none_asked none = record {
     k = a.k;
     sizes = a.sizes;
@@ -196,55 +206,56 @@ module _ (laws : LineLaws) (p : Setup) (s : State) (q : Primary) (log : Log) (a 
     clock = a.clock;
     settled = a.settled;
     found = a.found;
-    line = subst (λ o. Tells p.link p.addresses (asked q s.moment (has_room s.queue)) (begun_by s.moment o (exchanges_of p log))) none (laws.next p.link p.addresses q (exchanges_of p log) s.moment (has_room s.queue) tells);
+    line = subst (λ o. Tells p.link p.addresses (asked q s.moment (has_room s.centre.queue)) (begun_by s.moment o (exchanges_of p log))) none (laws.next p.link p.addresses q (exchanges_of p log) s.moment (has_room s.centre.queue) tells);
     course = a.course;
     talk = a.talk;
     stands = record {
-      does = subst (λ b. Does p (asked_state s q None) (if b then unasked_works at (room_in p log a.course) ready else w)) (sym a.stands.asks) (record { line = same_asked; commands = a.stands.does.commands; counts = a.stands.does.counts; silent = a.stands.does.silent });
-      asks = (λ due. same_next None none, λ off. let no : false ≡ true = sym off ∙ a.stands.asks in cc);
+      does = subst (λ b. (asked_state s None).serial ≡ (if b then unasked_works at (room_in p log a.course) ready else w).serial) (sym a.stands.asks) (same_asked None);
+      asks = (λ due. same_next None none, λ off. let no : false ≡ true = sym off ∙ a.stands.asks in cc, none_left);
       phase_is = tt;
       placed = a.stands.placed;
     };
-    offers = offers_unasked laws q s.commands s.moment (has_room s.queue) none offers;
+    gaps = a.gaps;
+    offers = offers_unasked laws q s.serial.commands s.moment (has_room s.centre.queue) none offers;
     plain = a.plain;
-    here = record { link = a.here.link; none = a.here.none; put = a.here.put; handed = a.here.handed; sent = a.here.sent; so_far = a.here.so_far; assembler = a.here.assembler; waits = a.here.waits; joined = a.here.joined; fit = a.here.fit; pass = a.here.pass; tied = a.here.tied; numbered = a.here.numbered };
+    here = a.here;
     left = refl;
     carries = a.carries;
     before = a.before;
   }
 
-ready_state : (s r : State) (p : Setup) (told : Option Log) → IsReady p s r told → (x : Option Sending) → after_next r x ≡ asked_state s r.line x
-ready_state s r p told ready x = ap (λ (z : State). asked_state z r.line x) ready.is
+ready_state : (s r : State) (p : Setup) (told : Option Log) → IsReady p s r told → (x : Option Sending) → after_next r x ≡ asked_state s x
+ready_state s r p told ready x = ap (λ (z : State). after_next z x) ready.is
 
 -- the same where a port may tell no log: s is the state before commands were offered, r the one after, t the one once asked
 
-pub asked_none : (laws : LineLaws) (p : Setup) (told : Option Log) (s r t : State) → IsReady p s r told → sending r.line (has_room r.queue) ≡ None → t ≡ after_next r None → Tracks p s told [] Timed → Tracks p t told [] Asked
-asked_none laws p None s r t made none is h = tt
-asked_none laws p (Some log) s r t made none is a =
-    let q : r.line ≡ offered_upto (length s.line.stations) s.commands.waiting s.line = ap (λ (x : State). x.line) made.is in
-    let same : t ≡ asked_state s r.line None = is ∙ ready_state s r p (Some log) made None in
-    subst (λ x. Agrees p x log [] Asked) (sym same) (none_asked laws p s r.line log a q (made.tells (exchanges_of p log) a.line) (ap (λ (x : State). sending r.line (has_room x.queue)) (sym made.is) ∙ none))
+pub asked_none : (laws : LineLaws) (p : Setup) (told : Option Log) (s r t : State) → s.serial.gap ≡ None → IsReady p s r told → sending r.serial.line (has_room r.centre.queue) ≡ None → t ≡ after_next r None → Tracks p s told [] Timed → Tracks p t told [] Asked
+asked_none laws p None s r t no_gap made none is h = tt
+asked_none laws p (Some log) s r t no_gap made none is a =
+    let same : t ≡ asked_state s None = is ∙ ready_state s r p (Some log) made None in
+    let tells = subst (λ (z : State). Tells p.link p.addresses z.serial.line (exchanges_of p log)) made.is (made.tells (exchanges_of p log) a.line) in
+    subst (λ x. Agrees p x log [] Asked) (sym same) (none_asked laws p s log a tells no_gap (ap (λ (x : State). sending x.serial.line (has_room x.centre.queue)) (sym made.is) ∙ none))
 
-told_asked : (laws : LineLaws) (p : Setup) (told after : Option Log) (s r t : State) (x : Sending) (octets : List ℕ) (now : ℕ) → IsReady p s r told → sending r.line (has_room r.queue) ≡ Some x → (is_poll_request x.request ≡ true → 3 ≤ free_places r.queue) → octets ≡ (request_of r.line x).octets.items →
+told_asked : (laws : LineLaws) (p : Setup) (told after : Option Log) (s r t : State) (x : Sending) (octets : List ℕ) (now : ℕ) → s.serial.gap ≡ None → IsReady p s r told → sending r.serial.line (has_room r.centre.queue) ≡ Some x → (is_poll_request x.request ≡ true → 3 ≤ free_places r.centre.queue) → octets ≡ (request_of r.serial.line x).octets.items →
     now ≡ r.moment → t ≡ after_next r (Some x) → after ≡ tell told (Went now (LineOut octets) ∷ []) → Tracks p s told [] Timed → Tracks p t after [] Asked
-told_asked laws p told after s r t x octets now made next poll spelled same is e h =
+told_asked laws p told after s r t x octets now no_gap made next poll spelled same is e h =
     let moment : now ≡ s.moment = same ∙ ap (λ (x : State). x.moment) made.is in
-    let state : t ≡ asked_state s r.line (Some x) = is ∙ ready_state s r p told made (Some x) in
+    let state : t ≡ asked_state s (Some x) = is ∙ ready_state s r p told made (Some x) in
     rw (e, moment, state) (by_log told made h)
   where
-    by_log : (told : Option Log) → IsReady p s r told → Tracks p s told [] Timed → Tracks p (asked_state s r.line (Some x)) (tell told (Went s.moment (LineOut octets) ∷ [])) [] Asked
+    by_log : (told : Option Log) → IsReady p s r told → Tracks p s told [] Timed → Tracks p (asked_state s (Some x)) (tell told (Went s.moment (LineOut octets) ∷ [])) [] Asked
     by_log None made h = tt
     by_log (Some log) made a =
-        let q : r.line ≡ offered_upto (length s.line.stations) s.commands.waiting s.line = ap (λ (x : State). x.line) made.is in
-        let tells : Tells p.link p.addresses r.line (exchanges_of p log) = made.tells (exchanges_of p log) a.line in
-        let written : octets ≡ octets_of p x = spelled ∙ laws.spelled p.link p.addresses r.line (exchanges_of p log) x tells in
-        subst (λ o. Agrees p (asked_state s r.line (Some x)) (Went s.moment (LineOut o) ∷ log) [] Asked) (sym written)
-        (after_asked laws p s r.line log a q tells x (ap (λ (z : State). sending r.line (has_room z.queue)) (sym made.is) ∙ next) (λ polls. subst (λ (z : State). 3 ≤ free_places z.queue) made.is (poll polls)))
+        let tells : Tells p.link p.addresses r.serial.line (exchanges_of p log) = made.tells (exchanges_of p log) a.line in
+        let written : octets ≡ octets_of p x = spelled ∙ laws.spelled p.link p.addresses r.serial.line (exchanges_of p log) x tells in
+        subst (λ o. Agrees p (asked_state s (Some x)) (Went s.moment (LineOut o) ∷ log) [] Asked) (sym written)
+        (after_asked laws p s log a (subst (λ (z : State). Tells p.link p.addresses z.serial.line (exchanges_of p log)) made.is tells) no_gap x
+        (ap (λ (z : State). sending z.serial.line (has_room z.centre.queue)) (sym made.is) ∙ next) (λ polls. subst (λ (z : State). 3 ≤ free_places z.centre.queue) made.is (poll polls)))
 
-pub asked_leaves : (laws : LineLaws) (result : Bool) (p : Setup) (told after : Option Log) (s r t : State) (x : Sending) (octets : List ℕ) (now : ℕ) → IsReady p s r told → sending r.line (has_room r.queue) ≡ Some x → (is_poll_request x.request ≡ true → 3 ≤ free_places r.queue) → octets ≡ (request_of r.line x).octets.items →
+pub asked_leaves : (laws : LineLaws) (result : Bool) (p : Setup) (told after : Option Log) (s r t : State) (x : Sending) (octets : List ℕ) (now : ℕ) → s.serial.gap ≡ None → IsReady p s r told → sending r.serial.line (has_room r.centre.queue) ≡ Some x → (is_poll_request x.request ≡ true → 3 ≤ free_places r.centre.queue) → octets ≡ (request_of r.serial.line x).octets.items →
     now ≡ r.moment → t ≡ after_next r (Some x) → after ≡ (if result then tell told (Went now (LineOut octets) ∷ []) else told) → Tracks p s told [] Timed → Leaves result p t after [] Asked
-asked_leaves laws true p told after s r t x octets now made next poll spelled same is e h = told_asked laws p told after s r t x octets now made next poll spelled same is e h
-asked_leaves laws false p told after s r t x octets now made next poll spelled same is e h = subst (λ l. IfSome l (IsFaithful p)) (sym e) (told_faithful p told s [] Timed h)
+asked_leaves laws true p told after s r t x octets now no_gap made next poll spelled same is e h = told_asked laws p told after s r t x octets now no_gap made next poll spelled same is e h
+asked_leaves laws false p told after s r t x octets now no_gap made next poll spelled same is e h = subst (λ l. IfSome l (IsFaithful p)) (sym e) (told_faithful p told s [] Timed h)
 
 -- what a request says of what is next
 pub next_is : (q : Primary) (o : Option Sending) (r : Request) → Some r ≡ option_map (request_of q) o → (x : Sending) × (o ≡ Some x) × (r ≡ request_of q x)
@@ -258,45 +269,116 @@ none_is q (Some x) e = cc
 -- The timers
 
 now_settled : (p : Setup) (s : State) (log : Log) → Agrees p s log [] Idle → Agrees p (settled s) log [] Timed
-now_settled p s log a = subst (λ x. Agrees p x log [] Timed) (sym (settled_parts s)) (record {
+now_settled p s log a = record {
   k = a.k;
   sizes = a.sizes;
   places = a.places;
   clock = a.clock;
   settled = a.settled;
   found = a.found;
-  line = a.line;
+  line = subst (λ q. Tells p.link p.addresses q (exchanges_of p log)) (sym (same_line s.serial.silent)) a.line;
   course = a.course;
   talk = a.talk;
-  stands = record { does = subst (λ x. Does p x (settled_works p (latest log) a.course.works)) (settled_parts s) (does_settled p s (latest log) a.course.works a.clock a.stands.does); asks = a.stands.asks; phase_is = tt; placed = a.stands.placed };
-  offers = offers_stay s.line s.line s.commands (settled s).commands (λ k. refl) (settled_waiting s.silent) a.offers;
-  plain = subst ArePlain (sym (settled_answers s.silent)) a.plain;
-  here = record { link = a.here.link; none = a.here.none; put = a.here.put; handed = a.here.handed; sent = a.here.sent; so_far = a.here.so_far; assembler = a.here.assembler; waits = a.here.waits; joined = a.here.joined; fit = a.here.fit; pass = a.here.pass; tied = a.here.tied; numbered = a.here.numbered };
+  stands = record { does = ap (λ m. serial.settled m s.serial) a.clock ∙ ap (serial.settled (latest log)) a.stands.does; asks = a.stands.asks; phase_is = tt; placed = a.stands.placed };
+  gaps = λ i. ap (λ g. gaps_told i log ++ gap_for i g) (same_gap s.serial.silent) ∙ a.gaps i;
+  offers = offers_stay s.serial.line (settled s).serial.line s.serial.commands (settled s).serial.commands (λ k. ap (λ q. offered_at q k) (same_line s.serial.silent)) (same_waiting s.serial.silent) a.offers;
+  plain = subst ArePlain (sym (same_answers s.serial.silent)) a.plain;
+  here = a.here;
   left = refl;
   carries = a.carries;
   before = a.before;
-})
+}
   where
-    settled_waiting : (o : Option ℕ) → (tasks.timed (steps.unless_silent o s).moment (steps.unless_silent o s).commands).waiting ≡ s.commands.waiting
-    settled_waiting None = refl
-    settled_waiting (Some i) = refl
+    same_line : (o : Option ℕ) → (serial.unless_silent o s.serial).line ≡ s.serial.line
+    same_line None = refl
+    same_line (Some i) = refl
 
-    settled_answers : (o : Option ℕ) → (tasks.timed (steps.unless_silent o s).moment (steps.unless_silent o s).commands).answers ≡ s.commands.answers
-    settled_answers None = refl
-    settled_answers (Some i) = refl
+    same_gap : (o : Option ℕ) → (serial.unless_silent o s.serial).gap ≡ s.serial.gap
+    same_gap None = refl
+    same_gap (Some i) = refl
 
-    -- it changes nothing but commands and what is counted
-    settled_parts : (s : State) → settled s ≡ record s { commands = (settled s).commands; counts = (settled s).counts; silent = None }
-    settled_parts s = by_silent s.silent
-      where
-        by_silent : (o : Option ℕ) → (let t : State = steps.unless_silent o s in let made : State = record t { commands = tasks.timed t.moment t.commands; silent = None } in made)
-            ≡ (let t : State = steps.unless_silent o s in let made : State = record s { commands = tasks.timed t.moment t.commands; counts = t.counts; silent = None } in made)
-        by_silent None = refl
-        by_silent (Some i) = refl
+    same_waiting : (o : Option ℕ) → (serial.unless_silent o s.serial).commands.waiting ≡ s.serial.commands.waiting
+    same_waiting None = refl
+    same_waiting (Some i) = refl
+
+    same_answers : (o : Option ℕ) → (serial.unless_silent o s.serial).commands.answers ≡ s.serial.commands.answers
+    same_answers None = refl
+    same_answers (Some i) = refl
 
 pub told_settled : (p : Setup) (told : Option Log) (s t : State) → t ≡ settled s → Tracks p s told [] Idle → Tracks p t told [] Timed
 told_settled p None s t is h = tt
 told_settled p (Some log) s t is a = subst (λ x. Agrees p x log [] Timed) (sym is) (now_settled p s log a)
+
+-- A gap is told
+
+one_more : (b : Bool) (xs : List ℕ) (session : ℕ) → (if b then xs ++ session ∷ [] else xs) ≡ xs ++ (if b then session ∷ [] else [])
+one_more true xs session = refl
+one_more false xs session = sym (append-nil xs)
+
+module _ (p : Setup) (s : State) (log : Log) (a : Agrees p s log [] Timed) (gap : Gap) (some : s.serial.gap ≡ Some gap) where
+  abbrev gap_log : Log
+  gap_log = Went s.moment (GapOut gap.station gap.session) ∷ log
+
+  abbrev after_gap : Course
+  after_gap = with_works (gapless_works a.course.works) a.course
+
+  gap_runs : Runs p gap_log after_gap
+  gap_runs = (
+    a.course,
+    a.talk.course_runs,
+    record {
+      all = all_taken log a.course a.here.so_far a.here.joined a.here.waits;
+      due = a.stands.asks;
+      gap = sym (gap_in Timed (latest log) (room_in p log a.course) a.course.works) ∙ ap (λ (z : Serial). z.gap) (sym a.stands.does) ∙ some;
+      is = refl;
+    },
+  )
+
+  gap_talk : Talks p s.centre.session gap_log after_gap
+  gap_talk = talk_on p s.centre.session s.centre.session log gap_log a.course after_gap a.talk refl refl gap_runs
+
+  tells_gap : TellsGaps p gap_log
+  tells_gap i = one_more (gap.station == i) (gaps_told i log) gap.session ∙ ap (λ g. gaps_told i log ++ gap_for i g) (sym some) ∙ a.gaps i
+
+  pub gap_told : Agrees p (with_serial (serial.without_gap s.serial) s) gap_log [] Timed
+  gap_told = record {
+    k = a.k;
+    sizes = a.sizes;
+    places = a.places;
+    clock = a.clock;
+    settled = refl;
+    found = a.found;
+    line = a.line;
+    course = after_gap;
+    talk = gap_talk;
+    stands = record { does = ap serial.without_gap a.stands.does ∙ sym (settled_without_gap (latest log) a.course.works.serial); asks = a.stands.asks; phase_is = tt; placed = a.stands.placed };
+    gaps = λ i. append-nil (gaps_told i gap_log) ∙ tells_gap i;
+    offers = a.offers;
+    plain = a.plain;
+    here = a.here;
+    left = refl;
+    carries = a.carries;
+    before = record {
+      are = a.before.are;
+      orders = a.before.orders;
+      times = (kept_talk p _ _ _ gap_talk, a.before.times);
+      acts = (record { moment = a.clock; replaced = sym a.settled; may = tells_gap }, a.before.acts);
+      rests = a.before.rests;
+    };
+  }
+
+pub told_gap : (result : Bool) (p : Setup) (told after : Option Log) (s t : State) (gap : Gap) (now : ℕ) → s.serial.gap ≡ Some gap → now ≡ s.moment → t ≡ with_serial (serial.without_gap s.serial) s → after ≡ (if result then tell told (Went now (GapOut gap.station gap.session) ∷ []) else told) → Tracks p s told [] Timed →
+    Leaves result p t after [] Timed
+told_gap true p told after s t gap now some same is e h = rw (e, same, is) (by_log told h)
+  where
+    by_log : (told : Option Log) → Tracks p s told [] Timed → Tracks p (with_serial (serial.without_gap s.serial) s) (tell told (Went s.moment (GapOut gap.station gap.session) ∷ [])) [] Timed
+    by_log None h = tt
+    by_log (Some log) a = gap_told p s log a gap some
+told_gap false p told after s t gap now some same is e h = subst (λ l. IfSome l (IsFaithful p)) (sym e) (told_faithful p told s [] Timed h)
+
+-- where there is none nothing changes
+pub no_gap_told : (s t : State) → s.serial.gap ≡ None → t ≡ with_serial (serial.without_gap s.serial) s → t ≡ s
+no_gap_told s t none is = is ∙ ap (λ (g : Option Gap). let made : State = record s { serial = record s.serial { gap = g } } in made) (sym none)
 
 -- An event comes
 
@@ -312,17 +394,17 @@ as_log p t now event log before unjudged phase is a = subst (λ l. Agrees p t l 
 -- the line's octets are taken; their own answers found places, or there is no connection to count them
 
 on_line : (log : Log) (now : ℕ) (octets : List ℕ) (p : Setup) (c : Course) (z : Works) → Worked p log (latest (Came now (LineIn octets) ∷ log)) (LineIn octets) c z → Comes p log (latest (Came now (LineIn octets) ∷ log)) (LineIn octets) c (with_works z c)
-on_line log now octets p c z w = (z, w, refl)
+on_line log now octets p c z w = (w.0, w.1, ap (λ x. with_works x c) w.2)
 
-pub told_line : (p : Setup) (told : Option Log) (s t : State) (now : ℕ) (octets : List ℕ) (fits : Bool) → LineLaws → (t.session.connected ≡ true → fits ≡ true) → Begins s now (LineIn octets) fits t → IfSome told (HasCome p s now (LineIn octets)) → Tracks p t told [] Idle
+pub told_line : (p : Setup) (told : Option Log) (s t : State) (now : ℕ) (octets : List ℕ) (fits : Bool) → LineLaws → (t.centre.session.connected ≡ true → fits ≡ true) → Begins s now (LineIn octets) fits t → IfSome told (HasCome p s now (LineIn octets)) → Tracks p t told [] Idle
 told_line p None s t now octets fits laws fit b h = tt
 told_line p (Some log) s t now octets fits laws fit b h =
     let heard = heard_in laws p s t now (LineIn octets) fits log b h in
     as_log p t now (LineIn octets) log h.before [] Idle h.is
-    (come_other p s t h.before now (LineIn octets) fits true (λ yes on. fit (ap (λ x. x.connected) heard.session ∙ h.agrees.here.link ∙ on)) (refl, refl, refl) (on_line h.before now octets) h.rested h.agrees heard)
+    (come_other p s t h.before now (LineIn octets) fits true (λ yes on. fit (ap (λ (c : Centre). c.session.connected) heard.centre ∙ h.agrees.here.link ∙ on)) (refl, refl, refl) (on_line h.before now octets) h.rested h.agrees heard)
 
 -- an own answer found no place
-pub told_overfull : (p : Setup) (told : Option Log) (s t : State) (now : ℕ) (octets : List ℕ) (fits : Bool) → LineLaws → fits ≡ false → t.session.connected ≡ true → Begins s now (LineIn octets) fits t → IfSome told (HasCome p s now (LineIn octets)) → IfSome told (MayClose p t OwnAnswers Idle)
+pub told_overfull : (p : Setup) (told : Option Log) (s t : State) (now : ℕ) (octets : List ℕ) (fits : Bool) → LineLaws → fits ≡ false → t.centre.session.connected ≡ true → Begins s now (LineIn octets) fits t → IfSome told (HasCome p s now (LineIn octets)) → IfSome told (MayClose p t OwnAnswers Idle)
 told_overfull p None s t now octets fits laws off on b h = tt
 told_overfull p (Some log) s t now octets fits laws off on b h =
     let heard = heard_in laws p s t now (LineIn octets) fits log b h in
@@ -340,7 +422,7 @@ told_overfull p (Some log) s t now octets fits laws off on b h =
       agrees = a;
       fault = Some OwnAnswers;
       stands = stands_overfull p t (Came now (LineIn octets) ∷ h.before) [] Crowded a;
-      why = subst (λ (c : Course). is_overfull (tasks_of p c.works).history ≡ true) (sym (come_course p s t h.before now (LineIn octets) fits false none (refl, refl, refl) (on_line h.before now octets) h.rested h.agrees heard)) (heard.full off);
+      why = subst (λ (c : Course). is_overfull c.works.history ≡ true) (sym (come_course p s t h.before now (LineIn octets) fits false none (refl, refl, refl) (on_line h.before now octets) h.rested h.agrees heard)) (heard.full off);
     })
 
 pub told_tick : (p : Setup) (told : Option Log) (s t : State) (now : ℕ) (fits : Bool) → LineLaws → Begins s now Ticked fits t → IfSome told (HasCome p s now Ticked) → Tracks p t told [] Idle
@@ -351,11 +433,11 @@ pub told_cut : (p : Setup) (told : Option Log) (s t u : State) (now : ℕ) (fits
 told_cut p None s t u now fits laws b is h = tt
 told_cut p (Some log) s t u now fits laws b is h = subst (λ x. Agrees p x log [] Idle) (sym is) (as_log p (disconnected t) now CutOff log h.before [] Idle h.is (come_cut laws p s t h.before now fits h.rested h.agrees (heard_in laws p s t now CutOff fits log b h)))
 
-pub told_open : (p : Setup) (told : Option Log) (s t u : State) (now : ℕ) (fits : Bool) → LineLaws → Begins s now Opened fits t → t.session.connected ≡ false → u ≡ connected (disconnected t) → IfSome told (HasCome p s now Opened) → Tracks p u told [] Idle
+pub told_open : (p : Setup) (told : Option Log) (s t u : State) (now : ℕ) (fits : Bool) → LineLaws → Begins s now Opened fits t → t.centre.session.connected ≡ false → u ≡ connected (disconnected t) → IfSome told (HasCome p s now Opened) → Tracks p u told [] Idle
 told_open p None s t u now fits laws b off is h = tt
 told_open p (Some log) s t u now fits laws b off is h = subst (λ x. Agrees p x log [] Idle) (sym is) (as_log p (connected (disconnected t)) now Opened log h.before [] Idle h.is (come_open laws p s t h.before now fits h.rested h.agrees (heard_in laws p s t now Opened fits log b h) off))
 
-pub told_replaced : (p : Setup) (told after : Option Log) (s t u : State) (now moment : ℕ) (fits : Bool) → LineLaws → Begins s now Opened fits t → t.session.connected ≡ true → u ≡ connected (disconnected t) → after ≡ tell told (Went moment (Closed Replaced) ∷ []) → moment ≡ t.moment → IfSome told (HasCome p s now Opened) → Tracks p u after [] Idle
+pub told_replaced : (p : Setup) (told after : Option Log) (s t u : State) (now moment : ℕ) (fits : Bool) → LineLaws → Begins s now Opened fits t → t.centre.session.connected ≡ true → u ≡ connected (disconnected t) → after ≡ tell told (Went moment (Closed Replaced) ∷ []) → moment ≡ t.moment → IfSome told (HasCome p s now Opened) → Tracks p u after [] Idle
 told_replaced p told after s t u now moment fits laws b on is e same h = rw (e, same, is) (by_log told h)
   where
     by_log : (told : Option Log) → IfSome told (HasCome p s now Opened) → Tracks p (connected (disconnected t)) (tell told (Went t.moment (Closed Replaced) ∷ [])) [] Idle
@@ -372,17 +454,17 @@ received_by : (b : Bool) (c : Channel) (octets : List ℕ) → c.is_open ≡ b �
 received_by true c octets e = ap (λ (x : Bool). length (if x then record { is_open = true; sent = c.sent; received = c.received ++ octets; overfull = c.overfull } else c).received) e ∙ length-append c.received octets
 received_by false c octets e = ap (λ (x : Bool). length (if x then record { is_open = true; sent = c.sent; received = c.received ++ octets; overfull = c.overfull } else c).received) e ∙ omega arith
 
-pub told_bytes : (b : Bool) (p : Setup) (told : Option Log) (s t : State) (now : ℕ) (octets : List ℕ) (fits : Bool) → LineLaws → Begins s now (TcpIn octets) fits t → t.session.connected ≡ b → IfSome told (HasCome p s now (TcpIn octets)) → Awaits p t told (if b then octets else [])
+pub told_bytes : (b : Bool) (p : Setup) (told : Option Log) (s t : State) (now : ℕ) (octets : List ℕ) (fits : Bool) → LineLaws → Begins s now (TcpIn octets) fits t → t.centre.session.connected ≡ b → IfSome told (HasCome p s now (TcpIn octets)) → Awaits p t told (if b then octets else [])
 told_bytes b p None s t now octets fits laws begun is h = tt
 told_bytes b p (Some log) s t now octets fits laws begun is h =
     let agrees = come_bytes p s t h.before now octets fits begun.hears.1 h.rested h.agrees (heard_in laws p s t now (TcpIn octets) fits log begun h) in
     let same : t ≡ line_timed (at_moment s now) = begun.times ∙ ap line_timed begun.hears.0 in
     let more : List ℕ = if b then octets else [] in
-    let open_is : (present h.before).is_open ≡ b = sym h.agrees.here.link ∙ sym (ap (λ (x : State). x.session.connected) same) ∙ is in
+    let open_is : (present h.before).is_open ≡ b = sym h.agrees.here.link ∙ sym (ap (λ (x : State). x.centre.session.connected) same) ∙ is in
     let total : length (present (Came now (TcpIn octets) ∷ h.before)).received ≡ length (present h.before).received + length more = received_by b (present h.before) octets open_is in (
-      subst (λ b. Agrees p t log (if b then octets else []) Taking) is (as_log p t now (TcpIn octets) log h.before (if t.session.connected then octets else []) Taking h.is agrees),
+      subst (λ b. Agrees p t log (if b then octets else []) Taking) is (as_log p t now (TcpIn octets) log h.before (if t.centre.session.connected then octets else []) Taking h.is agrees),
       subst IsClear (sym same) (record { confirmed = h.clear.confirmed; spent = h.clear.spent }),
-      subst (λ l. IsUndue t l more) (sym h.is) (inl (omega (arith, total, length-append (pending t.so_far) more))),
+      subst (λ l. IsUndue t l more) (sym h.is) (inl (omega (arith, total, length-append (pending t.centre.so_far) more))),
       subst (λ l. length (received_before l) + length more ≤ length (present l).received) (sym h.is) (omega (arith, total)),
     )
 
@@ -397,14 +479,14 @@ started : (p : Setup) (s : State) → Agrees p s [] [] Asked → Agrees p s [] [
 started p s a =
     let first : a.course ≡ first_course p = a.talk.course_runs in
     let none : a.course.works.is_due ≡ false = ap (λ (c : Course). c.works.is_due) first in
-    absurd (subst (λ (c : Course). IsOut c.works.line.outstanding) first (a.stands.asks.1 none))
+    absurd (subst (λ (c : Course). IsOut c.works.serial.line.outstanding) first (a.stands.asks.1 none))
 
 pub follows : (laws : LineLaws) (p : Setup) (told : Option Log) (s : State) → IsClear s → Tracks p s told [] Asked → Follows p s told
 follows laws p None s last h = tt
 follows laws p (Some []) s last a = (started p s a, last)
 follows laws p (Some (entry ∷ log)) s last a = (a, last)
 
-pub step_follows : (laws : LineLaws) (p : Setup) (result : Bool) (told : Option Log) (s : State) → OnTrue result (IsConfirmed s.session) → OnTrue result (IsSpent s) → Leaves result p s told [] Asked → OnTrue result (Follows p s told)
+pub step_follows : (laws : LineLaws) (p : Setup) (result : Bool) (told : Option Log) (s : State) → OnTrue result (IsConfirmed s.centre.session) → OnTrue result (IsSpent s) → Leaves result p s told [] Asked → OnTrue result (Follows p s told)
 step_follows laws p true told s last spent h = follows laws p told s (record { confirmed = last; spent = spent }) h
 step_follows laws p false told s last spent h = tt
 

@@ -8,15 +8,16 @@ use Rattle.asdu.specs.declared.sizes.Sizes.{Sizes}
 use Rattle.asdu.specs.Sizes.{tcp}
 use Rattle.asdu.specs.InformationObjects.{InformationObject, object_in, value_objects, objects_of, monitor_objects_of, is_passed_on}
 use Rattle.asdu.specs.Translation.{parts, IsPiece, IsFull, AllButLast}
-use Rattle.events.specs.Queue as queue
 use Rattle.events.specs.Queue.{octets_of}
 use Rattle.gateway.specs.Objects.{objects, has_objects, monitor_objects, parts_of}
 use Rattle.asdu.specs.Asdu.{AsduValue, Info, IsAsdu}
 use Rattle.gateway.specs.declared.counts.Tally.{Tally}
 use Rattle.gateway.specs.Counting.{is_answer_type, counted, counted_by, one_skipped}
-use Rattle.gateway.specs.State.{State}
+use Rattle.gateway.specs.Serial.{Serial, mirrored, mirror_fits, reported}
+use Rattle.gateway.specs.Centre.{pushed}
+use Rattle.gateway.specs.State.{State, with_serial, with_centre}
 use Rattle.session.specs.Session.{is_running}
-use Rattle.gateway.specs.Steps.{Keeps, Mirrors, LearnsReport, mirrored_state, mirror_fits}
+use Rattle.gateway.specs.Steps.{Keeps, Mirrors, LearnsReport}
 use Rattle.gateway.specs.Works.{is_command_by, is_command_report, IsPassedOn}
 
 objects_map : (ps : List (ArrayVec ℕ)) → flat_map objects (octets_of ps) ≡ flat_map (λ p. monitor_objects_of tcp p.items) ps
@@ -42,17 +43,17 @@ parts_some sizes report h = ap (λ b. if b then 0 else parts sizes report) (none
 
 -- a report that is passed on
 pub keeps_report : (s t : State) (report octets : List ℕ) (sizes : Sizes) (ps : List (ArrayVec ℕ)) → sizes ≡ s.sizes → octets ≡ report → flat_map (λ p. monitor_objects_of tcp p.items) ps ≡ monitor_objects_of sizes octets → AllByRecursion (λ p. 1 ≤ length (monitor_objects_of tcp p.items)) ps →
-    length ps ≡ parts sizes octets → 1 ≤ length (monitor_objects_of sizes octets) → counted s.sizes report s.counts ≡ s.counts → t ≡ record s { queue = queue.pushed (octets_of ps) s.queue } → Keeps s report t
+    length ps ≡ parts sizes octets → 1 ≤ length (monitor_objects_of sizes octets) → counted s.sizes report s.serial.counts ≡ s.serial.counts → t ≡ with_centre (pushed (octets_of ps) s.centre) s → Keeps s report t
 keeps_report s t report octets sizes ps same is joined each number passed counts after = record {
   pieces = octets_of ps;
   objects_are = objects_map ps ∙ joined ∙ ap (λ z. monitor_objects z octets) same ∙ ap (λ x. monitor_objects s.sizes x) is;
   whole = whole_map ps each;
   number = length_map ps ∙ number ∙ sym (parts_some sizes octets passed) ∙ ap (λ z. parts_of z octets) same ∙ ap (λ x. parts_of s.sizes x) is;
-  after = after ∙ ap (λ (c : Tally). let made : State = record s { queue = queue.pushed (octets_of ps) s.queue; counts = c } in made) (sym counts);
+  after = after ∙ ap (λ (c : Tally). let made : State = record s { serial = record s.serial { counts = c }; centre = pushed (octets_of ps) s.centre } in made) (sym counts);
 }
 
 -- one that isn't
-pub keeps_none : (s t : State) (report octets : List ℕ) (sizes : Sizes) → sizes ≡ s.sizes → octets ≡ report → monitor_objects_of sizes octets ≡ [] → t ≡ record s { counts = counted s.sizes report s.counts } → Keeps s report t
+pub keeps_none : (s t : State) (report octets : List ℕ) (sizes : Sizes) → sizes ≡ s.sizes → octets ≡ report → monitor_objects_of sizes octets ≡ [] → t ≡ with_serial (reported s.sizes report s.serial) s → Keeps s report t
 keeps_none s t report octets sizes same is none after =
     let nothing : monitor_objects s.sizes report ≡ [] = sym (ap (λ z. monitor_objects z octets) same ∙ ap (λ x. monitor_objects s.sizes x) is) ∙ none in
     record {
@@ -60,7 +61,7 @@ keeps_none s t report octets sizes same is none after =
       objects_are = sym nothing;
       whole = refl;
       number = sym (ap (λ (os : List InformationObject). if length os == 0 then 0 else parts s.sizes report) nothing);
-      after = after ∙ ap (λ (u : List (List ℕ)). let made : State = record s { queue = record { sent = s.queue.sent; unsent = u; places = s.queue.places }; counts = counted s.sizes report s.counts } in made) (sym (append-nil s.queue.unsent));
+      after = after ∙ ap (λ (u : List (List ℕ)). let made : State = record s { serial = reported s.sizes report s.serial; centre = record s.centre { queue = record { sent = s.centre.queue.sent; unsent = u; places = s.centre.queue.places } } } in made) (sym (append-nil s.centre.queue.unsent));
     }
 
 -- How a report is counted: by its type and cause, where it is read.
@@ -71,8 +72,8 @@ read_counts (i ∷ infos) u c is some = ap (λ is. counted_by (map (object_in u)
 
 -- in the sizes and octets as the gateway has them
 pub counted_as : (s : State) (report octets : List ℕ) (sizes : Sizes) (u : AsduValue) → sizes ≡ s.sizes → octets ≡ report → objects_of s.sizes report ≡ value_objects u → 1 ≤ length u.infos →
-    counted s.sizes report s.counts ≡ (if is_answer_type u.kind then s.counts else (if is_passed_on u.kind u.cause then s.counts else one_skipped s.counts))
-counted_as s report octets sizes u same is objects some = ap (λ os. counted_by os s.counts) objects ∙ read_counts u.infos u s.counts refl some
+    counted s.sizes report s.serial.counts ≡ (if is_answer_type u.kind then s.serial.counts else (if is_passed_on u.kind u.cause then s.serial.counts else one_skipped s.serial.counts))
+counted_as s report octets sizes u same is objects some = ap (λ os. counted_by os s.serial.counts) objects ∙ read_counts u.infos u s.serial.counts refl some
 
 pub passed_counts : (answer passed : Bool) (c : Tally) → passed ≡ true → (if answer then c else (if passed then c else one_skipped c)) ≡ c
 passed_counts true passed c on = refl
@@ -113,15 +114,15 @@ full_map v [] h = tt
 full_map v (p ∷ []) h = tt
 full_map v (p ∷ q ∷ ps) h = (h.0, full_map v (q ∷ ps) h.1)
 
-pub passed_on : (sizes known : Sizes) (v : AsduValue) (report : List ℕ) (ps : List (ArrayVec ℕ)) → sizes ≡ known → IsAsdu sizes v report → flat_map (λ p. objects_of tcp p.items) ps ≡ objects_of sizes report → AllByRecursion (λ p. IsPiece v p.items) ps → AllButLast (λ p. IsFull v p.items) ps →
-    length ps ≡ parts sizes report → IsPassedOn known v report (octets_of ps)
-passed_on sizes known v report ps same found joined each full number = subst (λ z. IsPassedOn z v report (octets_of ps)) same (record {
+pub passed_on : (sizes : Sizes) (v : AsduValue) (report : List ℕ) (ps : List (ArrayVec ℕ)) → IsAsdu sizes v report → flat_map (λ p. objects_of tcp p.items) ps ≡ objects_of sizes report → AllByRecursion (λ p. IsPiece v p.items) ps → AllButLast (λ p. IsFull v p.items) ps →
+    length ps ≡ parts sizes report → IsPassedOn sizes v report (octets_of ps)
+passed_on sizes v report ps found joined each full number = record {
   value = found;
   joined = joined_map ps ∙ joined;
   each = pieces_map v ps each;
   full = full_map v ps full;
   number = length_map ps ∙ number;
-})
+}
 
 -- none of them has an object of the queue's, where the report has none
 
@@ -139,14 +140,24 @@ plain_map (p ∷ ps) none =
     let others : List InformationObject = flat_map (λ p. monitor_objects_of tcp p.items) ps in
     (ap (λ (os : List InformationObject). not (length os == 0)) (first_none (objects p.items) others none), plain_map ps (rest_none (objects p.items) others none))
 
-pub mirrors : (s t : State) (sizes : Sizes) (v : AsduValue) (report : List ℕ) (ps : List (ArrayVec ℕ)) (fits : Bool) → sizes ≡ s.sizes → IsPassedOn s.sizes v report (octets_of ps) → flat_map (λ p. monitor_objects_of tcp p.items) ps ≡ monitor_objects_of sizes report → monitor_objects_of sizes report ≡ [] →
-    t ≡ mirrored_state (is_running s.session) v (octets_of ps) s → fits ≡ mirror_fits (is_running s.session) v (octets_of ps) s → Mirrors s report fits t
-mirrors s t sizes v report ps fits same passed monitored none after all = record {
+pub mirrors : (s t : Serial) (at : ℕ) (runs : Bool) (sizes : Sizes) (v : AsduValue) (report : List ℕ) (ps : List (ArrayVec ℕ)) (fits : Bool) → IsPassedOn sizes v report (octets_of ps) → flat_map (λ p. monitor_objects_of tcp p.items) ps ≡ monitor_objects_of sizes report → monitor_objects_of sizes report ≡ [] →
+    t ≡ mirrored at runs v (octets_of ps) s → fits ≡ mirror_fits at runs v (octets_of ps) s → Mirrors sizes at runs s report fits t
+mirrors s t at runs sizes v report ps fits passed monitored none after all = record {
   v = v;
   pieces = octets_of ps;
   passed = passed;
-  none = sym (ap (λ z. monitor_objects_of z report) same) ∙ none;
+  none = none;
   plain = plain_map ps (monitored ∙ none);
   after = after;
   all = all;
 }
+
+-- the same of the whole gateway, in its own sizes
+pub learns_mirrored : (s t : State) (runs : Bool) (sizes : Sizes) (report octets : List ℕ) (fits : Bool) → is_command_report s.sizes report ≡ true → sizes ≡ s.sizes → octets ≡ report → runs ≡ is_running s.centre.session → Mirrors sizes s.moment runs s.serial octets fits t.serial → t ≡ with_serial t.serial s → LearnsReport (is_command_report s.sizes report) s report fits t
+learns_mirrored s t runs sizes report octets fits of same is running m only =
+    subst (λ b. LearnsReport b s report fits t) (sym of) (
+      subst (λ z. Mirrors z s.moment (is_running s.centre.session) s.serial report fits t.serial) same
+          (subst (λ x. Mirrors sizes s.moment (is_running s.centre.session) s.serial x fits t.serial) is
+          (subst (λ r. Mirrors sizes s.moment r s.serial octets fits t.serial) running m)),
+      only,
+    )

@@ -6,6 +6,7 @@ pub mod Frames
 pub mod Objects
 pub mod Acknowledging
 pub mod Working
+pub mod Reached
 pub mod Offering
 pub mod Serving
 pub mod Talking

@@ -16,10 +16,9 @@ use Rattle.command.specs.declared.waiting.Waiting.{Waiting}
 use Rattle.command.specs.State as tasks
 use Rattle.command.specs.State.{octets_waiting, oldest}
 use Rattle.command.specs.Judging.{judged}
-use Rattle.gateway.specs.Works.{offered_by, offered_upto, listed, is_first_command}
-use Rattle.gateway.specs.State.{heard_commands, put_on_line}
+use Rattle.gateway.specs.Serial.{listed, heard_commands, offered_by, offered_upto, is_first_command, put_on_line}
 use Rattle.gateway.specs.LineLaws.{LineLaws}
-use Rattle.gateway.specs.CommandLaws.{CommandLaws}
+use Rattle.command.specs.CommandLaws.{CommandLaws}
 use Rattle.gateway.specs.Objects.{has_objects}
 use Rattle.gateway.specs.Agrees.{OffersWait, ArePlain}
 use Rattle.gateway.proofs.Working.{kept_waiting, kept_plain}

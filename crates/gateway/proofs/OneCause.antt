@@ -13,12 +13,12 @@ use Rattle.session.specs.declared.kinds.Taken.TheVariants.{Nothing, Asdu, Close 
 use Rattle.session.specs.Session.{is_close}
 use Rattle.session.specs.History as talk
 use Rattle.session.specs.History.{History, reached, sent_frames, received_count, is_started, is_valid_receive_number, verdict_on}
-use Rattle.gateway.specs.Log.{Log, Input, LineIn, Opened, TcpIn, CutOff, Ticked, Came, Went, LineOut, TcpOut, Closed, latest}
+use Rattle.gateway.specs.Log.{Log, Input, LineIn, Opened, TcpIn, CutOff, Ticked, Came, Went, LineOut, TcpOut, Closed, GapOut, latest}
 use Rattle.gateway.specs.Frames.{runs, i_frames, acknowledged_count, fault_of}
 use Rattle.gateway.specs.Streams.{spelled, IsRefused}
 use Rattle.gateway.specs.Connections.{present, ends, IsConnection, BeginsWithFault}
 use Rattle.gateway.specs.Reports.{Setup}
-use Rattle.gateway.specs.Works.{tasks_of, is_overfull}
+use Rattle.gateway.specs.Works.{is_overfull}
 use Rattle.gateway.specs.Course.{Course, here_of, came_frames, with_frames, kind_of, with_sent, closed_course, MayTake, StandsNext, IsLate, IsCause, Comes, Runs}
 use Rattle.gateway.specs.One.{AreOne}
 use Rattle.gateway.specs.Traffic.{HasCause}
@@ -96,6 +96,7 @@ counted : (p : Setup) (log : Log) (c : Course) → Runs p log c → IsCounted c
 counted p [] c r = subst IsCounted (sym r) refl
 counted p (Came now event ∷ log) c r = counted_come p log _ event r.1 c r.5 (subst IsCounted (sym r.4.is) (counted p log r.0 r.2))
 counted p (Went now (LineOut octets) ∷ log) c r = subst IsCounted (sym r.2.is) (counted p log r.0 r.1)
+counted p (Went now (GapOut station session) ∷ log) c r = subst IsCounted (sym r.2.is) (counted p log r.0 r.1)
 counted p (Went now (TcpOut octets) ∷ log) c r =
     subst IsCounted (sym r.4.taken) (counted_frames p r.4.frames (latest log) r.1 (subst IsCounted (sym r.3.put) (counted_sent r.3.frame (latest log) r.0 (counted p log r.0 r.2))))
 counted p (Went now (Closed cause) ∷ log) c r = subst IsCounted (sym r.2) (counted_closed p cause (present log).is_open (latest log) r.0 (counted p log r.0 r.1))
@@ -153,7 +154,7 @@ both_at u p log a b c d r s h k (inr g) = stays p log d c g (cause_none u p log 
 
 -- what a cause is
 abbrev Kinds : Setup → Log → Close → Course → Type 0
-Kinds p log a c = ((a ≡ OwnAnswers) × (is_overfull (tasks_of p c.works).history ≡ true)) ⊎ (((a ≡ Timeout) × IsLate p log c) ⊎ StandsNext p log a c)
+Kinds p log a c = ((a ≡ OwnAnswers) × (is_overfull c.works.history ≡ true)) ⊎ (((a ≡ Timeout) × IsLate p log c) ⊎ StandsNext p log a c)
 
 kinds : (p : Setup) (log : Log) (a : Close) (c : Course) → ends a ≡ true → IsCause p log a c → Kinds p log a c
 kinds p log Grammar c e h = inr (inr h)
@@ -164,7 +165,7 @@ kinds p log Timeout c e h = inr (inl (refl, h))
 kinds p log OwnAnswers c e h = inl (refl, h)
 kinds p log Replaced c e h = cc
 
-placed_so : (p : Setup) (c : Course) → is_overfull (tasks_of p c.works).history ≡ true → is_overfull (tasks_of p c.works).history ≡ false → ⊥
+placed_so : (p : Setup) (c : Course) → is_overfull c.works.history ≡ true → is_overfull c.works.history ≡ false → ⊥
 placed_so p c full placed = let no : true ≡ false = sym full ∙ placed in cc
 
 late_and_next : AreUnique → (p : Setup) (log : Log) (b : Close) (c : Course) → IsLate p log c → StandsNext p log b c → ⊥

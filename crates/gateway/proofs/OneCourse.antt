@@ -14,12 +14,12 @@ use Rattle.session.specs.Rules.{KeepsRules}
 use Rattle.session.specs.History.{confirmation_of, frame_due}
 use Rattle.command.specs.State.{first_answer}
 use Rattle.gateway.specs.Objects.{objects, has_objects}
-use Rattle.gateway.specs.Log.{Log, Input, LineIn, Opened, TcpIn, CutOff, Ticked, Came, Went, LineOut, TcpOut, Closed, latest}
+use Rattle.gateway.specs.Log.{Log, Input, LineIn, Opened, TcpIn, CutOff, Ticked, Came, Went, LineOut, TcpOut, Closed, GapOut, latest}
 use Rattle.gateway.specs.Streams.{spelled}
 use Rattle.gateway.specs.Frames.{Connection}
 use Rattle.gateway.specs.Connections.{no_channel, present, is_replaced, ends, IsConnection}
 use Rattle.gateway.specs.Reports.{Setup, taken_objects}
-use Rattle.gateway.specs.Works.{tasks_of, is_overfull, begun_works, ready_works, done_works, asked_works}
+use Rattle.gateway.specs.Works.{is_overfull, begun_works, gapless_works, ready_works, done_works, asked_works}
 use Rattle.gateway.specs.Course.{Course, here_of, came_frames, with_frame, with_frames, with_works, told_sent, with_sent, room_in, closed_course, sent_objects, IsFlushed, IsUntouched, HasBegun, HasTakenAll, MayTake, AreTaken, TakesFrames, IsNext, HandsOver, IsCause, IsLeft, Comes, SendsNext, Runs}
 use Rattle.gateway.specs.One.{GoesOn, AreOne}
 use Rattle.gateway.specs.LineLaws.{LineLaws}
@@ -170,6 +170,7 @@ present_plain (Came now (TcpIn octets) ∷ log) = by_open (present log).is_open 
 present_plain (Came now CutOff ∷ log) = refl
 present_plain (Came now Ticked ∷ log) = present_plain log
 present_plain (Went now (LineOut octets) ∷ log) = present_plain log
+present_plain (Went now (GapOut station session) ∷ log) = present_plain log
 present_plain (Went now (TcpOut octets) ∷ log) = present_plain log
 present_plain (Went now (Closed cause) ∷ log) = by_cause (ends cause) (present_plain log)
   where
@@ -210,9 +211,9 @@ cause_one u p log c d SendNumber h k one = next_one u p log c d SendNumber h.nex
 cause_one u p log c d ReceiveNumber h k one = next_one u p log c d ReceiveNumber h.next k.next one
 cause_one u p log c d Stopped h k one = next_one u p log c d Stopped h.next k.next one
 cause_one u p log c d Timeout h k one = all_one u p log c d h.all k.all one
-cause_one u p log c d OwnAnswers h k one = settled_one p log c d (λ x. is_overfull (tasks_of p x.works).history ≡ true) (λ x full f may. clash x full may.placed) h k one
+cause_one u p log c d OwnAnswers h k one = settled_one p log c d (λ x. is_overfull x.works.history ≡ true) (λ x full f may. clash x full may.placed) h k one
   where
-    clash : (x : Course) → is_overfull (tasks_of p x.works).history ≡ true → is_overfull (tasks_of p x.works).history ≡ false → ⊥
+    clash : (x : Course) → is_overfull x.works.history ≡ true → is_overfull x.works.history ≡ false → ⊥
     clash x full placed = let no : true ≡ false = sym full ∙ placed in cc
 cause_one u p log c d Replaced h k one = settled_one p log c d (λ x. is_replaced log ≡ true) (λ x e f may. replaced_none p log (latest log) f x e may) h k one
 
@@ -229,10 +230,10 @@ each_at laws p log now other moment octets (f ∷ fs) c h =
 comes_one : Laws → (p : Setup) (log : Log) (now : ℕ) (event : Input) (l c d : Course) → Comes p log (latest (Came now event ∷ log)) event l c → Comes p log (latest (Came now event ∷ log)) event l d → AreOne p (Came now event ∷ log) c d
 comes_one laws p log now (LineIn octets) l c d h k =
     let z : h.0 ≡ k.0 = learns_one laws.asdus p _ _ _ _ h.0 k.0 h.1 k.1 in
-    same_one p (Came now (LineIn octets) ∷ log) c d (h.2 ∙ ap (λ x. with_works x l) z ∙ sym k.2)
+    same_one p (Came now (LineIn octets) ∷ log) c d (h.2 ∙ ap (λ x. with_works (begun_works _ x) l) z ∙ sym k.2)
 comes_one laws p log now (TcpIn octets) l c d h k =
     let at : ℕ = latest (Came now (TcpIn octets) ∷ log) in
-    elim (one_taking laws.unique p (Came at (TcpIn octets) ∷ log) at (with_works (begun_works (TcpIn octets) at l.works) l) c d h k) [
+    elim (one_taking laws.unique p (Came at (TcpIn octets) ∷ log) at (with_works (begun_works at l.works) l) c d h k) [
       | inl g ↦ inl (g.0, g.1, each_at laws.line p log at now at octets g.0 c g.2)
       | inr g ↦ inr (g.0, g.1, each_at laws.line p log at now at octets g.0 d g.2)
     ]
@@ -243,15 +244,15 @@ comes_one laws p log now CutOff l c d h k = same_one p (Came now CutOff ∷ log)
 -- what the step before leaves
 left_one : (p : Setup) (log : Log) (b c x y : Course) → b ≡ c → IsLeft p log b x → IsLeft p log c y → x ≡ y
 left_one p log b c x y e h k =
-    h.is ∙ ap (λ (z : Course). let made : Course = record { talk = z.talk; sent = z.sent; earlier = z.earlier; works = done_works p (latest log) (room_in p log z) z.works } in made) e ∙ sym k.is
+    h.is ∙ ap (λ (z : Course). let made : Course = record { talk = z.talk; sent = z.sent; earlier = z.earlier; works = done_works (latest log) (room_in p log z) z.works } in made) e ∙ sym k.is
 
 -- the same request
 sends_one : (p : Setup) (log : Log) (octets : List ℕ) (b e c d : Course) → b ≡ e → SendsNext p log octets b c → SendsNext p log octets e d → c ≡ d
 sends_one p log octets b e c d same h k =
-    let next : Some h.request ≡ Some k.request = sym h.next ∙ ap (λ (x : Course). sending (ready_works p (latest log) x.works).line (room_in p log x)) same ∙ k.next in
+    let next : Some h.request ≡ Some k.request = sym h.next ∙ ap (λ (x : Course). sending (ready_works (latest log) x.works).serial.line (room_in p log x)) same ∙ k.next in
     let request : h.request ≡ k.request = cc in
-    h.is ∙ ap (λ (x : Course). with_works (asked_works (latest log) (room_in p log x) h.request (ready_works p (latest log) x.works)) x) same
-    ∙ ap (λ r. with_works (asked_works (latest log) (room_in p log e) r (ready_works p (latest log) e.works)) e) request ∙ sym k.is
+    h.is ∙ ap (λ (x : Course). with_works (asked_works (latest log) (room_in p log x) h.request (ready_works (latest log) x.works)) x) same
+    ∙ ap (λ r. with_works (asked_works (latest log) (room_in p log e) r (ready_works (latest log) e.works)) e) request ∙ sym k.is
 
 -- the same frame
 hands_one : AreUnique → (p : Setup) (log : Log) (octets : List ℕ) (b e c d : Course) → b ≡ e → HandsOver p log octets (latest log) b c → HandsOver p log octets (latest log) e d → c ≡ d
@@ -268,6 +269,9 @@ one_course laws p (Came now event ∷ log) c d h k =
 one_course laws p (Went now (LineOut octets) ∷ log) c d h k =
     let before : h.0 ≡ k.0 = all_one laws.unique p log h.0 k.0 h.2.all k.2.all (one_course laws p log h.0 k.0 h.1 k.1) in
     same_one p (Went now (LineOut octets) ∷ log) c d (sends_one p log octets h.0 k.0 c d before h.2 k.2)
+one_course laws p (Went now (GapOut station session) ∷ log) c d h k =
+    let before : h.0 ≡ k.0 = all_one laws.unique p log h.0 k.0 h.2.all k.2.all (one_course laws p log h.0 k.0 h.1 k.1) in
+    same_one p (Went now (GapOut station session) ∷ log) c d (h.2.is ∙ ap (λ (x : Course). with_works (gapless_works x.works) x) before ∙ sym k.2.is)
 one_course laws p (Went now (TcpOut octets) ∷ log) c d h k =
     let before : h.0 ≡ k.0 = settled_one p log h.0 k.0 (λ x. (y : Course) × HandsOver p log octets (latest log) x y) (λ x hand f may. hands_none laws.unique p log x hand.1.frame f hand.1.rules hand.1.next may) (h.1, h.3) (k.1, k.3) (one_course laws p log h.0 k.0 h.2 k.2) in
     let after : h.1 ≡ k.1 = hands_one laws.unique p log octets h.0 k.0 h.1 k.1 before h.3 k.3 in

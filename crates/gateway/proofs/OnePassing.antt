@@ -89,7 +89,7 @@ one_passing laws sizes u v report xs ys h k =
 report_one : AsduLaws → (p : Setup) (at : ℕ) (running b : Bool) (report : List ℕ) (w z y : Works) → LearnsReport p at running b report w z → LearnsReport p at running b report w y → z ≡ y
 report_one laws p at running true report w z y h k =
     let one = one_passing laws p.sizes h.0 k.0 report h.1 k.1 h.2 k.2 in
-    h.3 ∙ ap (λ v. mirrored_works p at running v h.1 w) one.0 ∙ ap (λ ps. mirrored_works p at running k.0 ps w) one.1 ∙ sym k.3
+    h.3 ∙ ap (λ v. mirrored_works at running v h.1 w) one.0 ∙ ap (λ ps. mirrored_works at running k.0 ps w) one.1 ∙ sym k.3
 report_one laws p at running false report w z y h k = h ∙ sym k
 
 -- and so what came of an exchange is learnt in one way
@@ -100,4 +100,5 @@ learns_one laws p at running (outcome.Busy station) w z y h k = h ∙ sym k
 learns_one laws p at running (outcome.Down station) w z y h k = h ∙ sym k
 learns_one laws p at running outcome.None w z y h k = h ∙ sym k
 learns_one laws p at running (outcome.Started station) w z y h k = h ∙ sym k
+learns_one laws p at running (outcome.StartedGap station session) w z y h k = h ∙ sym k
 learns_one laws p at running (outcome.Empty station) w z y h k = h ∙ sym k

@@ -14,30 +14,30 @@ use Rattle.session.specs.Rules.{KeepsRules}
 use Rattle.session.specs.Runs as session
 use Rattle.session.specs.declared.kinds.Close.{Close}
 use Rattle.session.specs.declared.kinds.Close.TheVariants.{Grammar, SendNumber, ReceiveNumber, Stopped, Timeout, OwnAnswers, Replaced}
-use Rattle.command.specs.Calls.{SendOwn}
 use Rattle.gateway.specs.Objects.{has_objects}
-use Rattle.gateway.specs.Log.{Log, LineIn, Opened, TcpIn, CutOff, Ticked, Output, LineOut, TcpOut, Closed, Came, Went, latest}
+use Rattle.gateway.specs.Log.{Log, LineIn, Opened, TcpIn, CutOff, Ticked, Output, LineOut, TcpOut, Closed, GapOut, Came, Went, latest}
 use Rattle.gateway.specs.Streams.{spelled, IsRefused}
 use Rattle.gateway.specs.Frames.{Connection}
 use Rattle.gateway.specs.Connections.{is_replaced, Channel, new_channel, present, BeginsWithFault, IsConnection}
 use Rattle.gateway.specs.Reports.{Setup}
-use Rattle.gateway.specs.Works.{Works, tasks_of, is_overfull, with_call, sent_works, ready_works, is_first_command}
+use Rattle.gateway.specs.Works.{Works, is_overfull, answered_works, sent_works, ready_works}
+use Rattle.gateway.specs.Serial.{is_first_command}
 use Rattle.gateway.specs.Course.{Course, came_frames, with_frames, told_sent, closed_course, Runs}
 use Rattle.gateway.specs.Conversation.{KeepsTalk, KeepsTimes}
 use Rattle.gateway.specs.Traffic.{HasCause, replaces, GoesOut, ActsRightly}
 use Rattle.gateway.specs.Order.{step_actions, is_request, is_close, MayFollow, KeepsOrder}
-use Rattle.gateway.proofs.Working.{heard_due, settled_due, settled_placed, put_placed}
+use Rattle.gateway.proofs.Working.{settled_placed, put_placed}
 
 -- One request
 
 frames_due : (p : Setup) (frames : List Apdu) (at : ℕ) (c : Course) → (with_frames p frames at c).works.is_due ≡ c.works.is_due
 frames_due p [] at c = refl
-frames_due p (f ∷ fs) at c = heard_due p f at (with_frames p fs at c).works ∙ frames_due p fs at c
+frames_due p (f ∷ fs) at c = frames_due p fs at c
 
 sent_due : (f : Apdu) (w : Works) → (sent_works f w).is_due ≡ w.is_due
 sent_due (I ns nr asdu) w = by_objects (has_objects asdu.items)
   where
-    by_objects : (b : Bool) → (if b then w else with_call SendOwn w).is_due ≡ w.is_due
+    by_objects : (b : Bool) → (if b then w else answered_works w).is_due ≡ w.is_due
     by_objects true = refl
     by_objects false = refl
 sent_due (S nr) w = refl
@@ -48,7 +48,7 @@ closed_due p Grammar is_open at c = refl
 closed_due p SendNumber is_open at c = refl
 closed_due p ReceiveNumber is_open at c = refl
 closed_due p Stopped is_open at c = refl
-closed_due p Timeout is_open at c = settled_due p at c.works
+closed_due p Timeout is_open at c = refl
 closed_due p OwnAnswers is_open at c = refl
 closed_due p Replaced is_open at c = refl
 
@@ -57,6 +57,7 @@ none_due : (p : Setup) (log : Log) (c : Course) → Runs p log c → list_any is
 none_due p [] c r h = cc
 none_due p (Came now event ∷ log) c r h = cc
 none_due p (Went now (LineOut octets) ∷ log) c r h = ap (λ (d : Course). d.works.is_due) r.2.is
+none_due p (Went now (GapOut station session) ∷ log) c r h = ap (λ (d : Course). d.works.is_due) r.2.is ∙ none_due p log r.0 r.1 h
 none_due p (Went now (TcpOut octets) ∷ log) c r h =
     ap (λ (d : Course). d.works.is_due) r.4.taken ∙ frames_due p r.4.frames (latest log) r.1 ∙ ap (λ (d : Course). d.works.is_due) r.3.put ∙ sent_due r.3.frame r.0.works ∙ none_due p log r.0 r.2 h
 none_due p (Went now (Closed cause) ∷ log) c r h =
@@ -69,7 +70,7 @@ record OnlyOpened (p : Setup) (log : Log) : Type 0 where
   channel : present log ≡ new_channel
   settled : is_replaced log ≡ false
   said : (c : Course) → Runs p log c → c.talk ≡ talk.Opened (latest log) ∷ []
-  placed : (c : Course) → Runs p log c → is_overfull (tasks_of p c.works).history ≡ false
+  placed : (c : Course) → Runs p log c → is_overfull c.works.history ≡ false
 
 replaced_one : (p : Setup) (log : Log) (now : ℕ) → is_replaced log ≡ true → OnlyOpened p (Went now (Closed Replaced) ∷ log)
 replaced_one p [] now h = absurd (cc)
@@ -82,7 +83,7 @@ replaced_one p (Came moment Opened ∷ log) now h = record {
   channel = refl;
   settled = refl;
   said = λ c r. ap (λ (d : Course). d.talk) (r.2 ∙ r.1.5);
-  placed = λ c r. ap (λ (d : Course). is_overfull (tasks_of p d.works).history) (r.2 ∙ r.1.5);
+  placed = λ c r. ap (λ (d : Course). is_overfull d.works.history) (r.2 ∙ r.1.5);
 }
 
 request_after : (p : Setup) (log : Log) (now : ℕ) (octets : List ℕ) → OnlyOpened p log → OnlyOpened p (Went now (LineOut octets) ∷ log)
@@ -90,10 +91,18 @@ request_after p log now octets h = record {
   channel = h.channel;
   settled = refl;
   said = λ c r. ap (λ (d : Course). d.talk) r.2.is ∙ h.said r.0 r.1;
-  placed = λ c r. ap (λ (d : Course). is_overfull (tasks_of p d.works).history) r.2.is
-      ∙ put_placed p (is_first_command (ready_works p (latest log) r.0.works).line r.2.request) r.2.request.station (ready_works p (latest log) r.0.works).calls
-      ∙ settled_placed p (latest log) r.0.works
+  placed = λ c r. ap (λ (d : Course). is_overfull d.works.history) r.2.is
+      ∙ put_placed (is_first_command (ready_works (latest log) r.0.works).serial.line r.2.request) r.2.request.station (ready_works (latest log) r.0.works)
+      ∙ settled_placed (latest log) r.0.works
       ∙ h.placed r.0 r.1;
+}
+
+gap_after : (p : Setup) (log : Log) (now station session : ℕ) → OnlyOpened p log → OnlyOpened p (Went now (GapOut station session) ∷ log)
+gap_after p log now station session h = record {
+  channel = h.channel;
+  settled = refl;
+  said = λ c r. ap (λ (d : Course). d.talk) r.2.is ∙ h.said r.0 r.1;
+  placed = λ c r. ap (λ (d : Course). is_overfull d.works.history) r.2.is ∙ h.placed r.0 r.1;
 }
 
 -- no octets hold no frames
@@ -206,10 +215,15 @@ still_unsaid : (p : Setup) (log : Log) (now : ℕ) (octets : List ℕ) → IsUns
 still_unsaid p log now octets (inl off) = inl off
 still_unsaid p log now octets (inr h) = inr (request_after p log now octets h)
 
+still_after_gap : (p : Setup) (log : Log) (now station session : ℕ) → IsUnsaid p log → IsUnsaid p (Went now (GapOut station session) ∷ log)
+still_after_gap p log now station session (inl off) = inl off
+still_after_gap p log now station session (inr h) = inr (gap_after p log now station session h)
+
 after_close : (p : Setup) (log : Log) → ActsRightly p log → KeepsOrder log → list_any is_close (step_actions log) ≡ true → IsUnsaid p log
 after_close p [] acts order h = absurd (cc)
 after_close p (Came now event ∷ log) acts order h = absurd (cc)
 after_close p (Went now (LineOut octets) ∷ log) acts order h = still_unsaid p log now octets (after_close p log acts.1 order.1 h)
+after_close p (Went now (GapOut station session) ∷ log) acts order h = still_after_gap p log now station session (after_close p log acts.1 order.1 h)
 after_close p (Went now (TcpOut octets) ∷ log) acts order h = let no : false ≡ true = sym order.0 ∙ h in absurd (cc)
 after_close p (Went now (Closed cause) ∷ log) acts order h = closed_now p log now cause acts.0.replaced
 
@@ -244,6 +258,8 @@ not_true false h = refl
 
 may_follow : (p : Setup) (log : Log) (now : ℕ) (action : Output) → 0 < p.session.w → 0 < p.session.t3 → KeepsTalk p (Went now action ∷ log) → GoesOut p log now action → ActsRightly p log → KeepsOrder log → MayFollow (step_actions log) action
 may_follow p log now (LineOut octets) some long k g acts order =
+    not_true (list_any is_request (step_actions log)) (λ h. let no : false ≡ true = sym (none_due p log k.runs.0 k.runs.1 h) ∙ k.runs.2.due in absurd (cc))
+may_follow p log now (GapOut station session) some long k g acts order =
     not_true (list_any is_request (step_actions log)) (λ h. let no : false ≡ true = sym (none_due p log k.runs.0 k.runs.1 h) ∙ k.runs.2.due in absurd (cc))
 may_follow p log now (TcpOut octets) some long k g acts order =
     not_true (list_any is_close (step_actions log)) (λ h. no_octets p log now octets some long (after_close p log acts order h) k g)

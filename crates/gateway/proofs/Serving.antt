@@ -13,7 +13,7 @@ use Rattle.link.specs.Offers.{offered_at}
 use Rattle.link.specs.Leave.{holds_poll, IsLeftToPolls}
 use Rattle.command.specs.declared.waiting.Waiting.{Waiting}
 use Rattle.command.specs.State.{oldest}
-use Rattle.gateway.specs.Works.{offered_by, offered_upto}
+use Rattle.gateway.specs.Serial.{offered_by, offered_upto}
 use Rattle.gateway.specs.LineLaws.{LineLaws}
 use Rattle.gateway.proofs.Offering.{count_upto}
 

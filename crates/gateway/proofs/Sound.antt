@@ -1,19 +1,18 @@
 -- What holds of the gateway's parts together.
-use Rattle.std.proofs.Common.{◌≡◌, ℕ, ◌<◌, ◌≤◌, Bool, true, false, not, List, ◌++◌, length, drop, inl, inr, refl, ap, sym, ◌∙◌, subst, arith, length-append, length-drop, Option, Some}
+use Rattle.std.proofs.Common.{◌≡◌, ℕ, ◌<◌, ◌≤◌, Bool, true, false, not, ◌++◌, length, drop, inl, inr, refl, ap, sym, ◌∙◌, subst, arith, length-append, length-drop, Some}
 use Rattle.std.specs.Prelude.{IsTrue, ◌↔◌, ◌⊎◌}
 use Rattle.std.proofs.lemmas.Bool.{cases_lt, lt-ltb, le-ltb, false≢true}
 use Rattle.link.specs.Exchanges.{Sending}
-use Rattle.link.specs.Primary.{Primary, asked, sending}
-use Rattle.session.specs.Session.{Session}
+use Rattle.link.specs.Primary.{Primary, sending}
 use Rattle.events.specs.Queue as queue
 use Rattle.events.specs.Queue.{Queue, free_places}
 use Rattle.link.specs.Leave.{is_poll_request, is_polling}
 use Rattle.gateway.specs.Polls.{has_room}
-use Rattle.gateway.specs.State.{IsSound}
+use Rattle.gateway.specs.State.{HasPlaces}
 
 -- without some of the pieces there are as many free places at least
-pub less_kept : (n : ℕ) (q r : Queue) → r ≡ queue.acknowledged n q → 3 ≤ free_places q → 3 ≤ free_places r
-less_kept n q r e h = omega (arith, h, ap (λ (x : Queue). x.places) e, ap (λ (x : Queue). length (x.sent ++ x.unsent)) e, length-append q.sent q.unsent, length-append (drop n q.sent) q.unsent, length-drop n q.sent)
+pub less_kept : (n : ℕ) (q r : Queue) → r ≡ queue.acknowledged n q → free_places q ≤ free_places r
+less_kept n q r e = omega (arith, ap (λ (x : Queue). x.places) e, ap (λ (x : Queue). length (x.sent ++ x.unsent)) e, length-append q.sent q.unsent, length-append (drop n q.sent) q.unsent, length-drop n q.sent)
 
 pub room_means : (q : Queue) → has_room q ≡ true → 3 ≤ free_places q
 room_means q h = elim (cases_lt (free_places q) 3) [ inl lt ↦ absurd (false≢true (sym (ap not (lt-ltb (free_places q) 3 lt)) ∙ h)) | inr le ↦ le ]
@@ -37,17 +36,13 @@ room_of full q is = go full is (cases_lt (free_places q) 3)
     go false is (inl lt) = absurd (never (is.1 lt))
     go false is (inr le) = sym (ap not (le-ltb (free_places q) 3 le))
 
-pub asked_sound : ((p : Primary) (now : ℕ) (may_poll : Bool) → is_polling (asked p now may_poll) ≡ true → (is_polling p ≡ true) ⊎ (may_poll ≡ true)) → (l m : Primary) (q : Queue) (s : Session) (so_far : Option (List ℕ)) (now : ℕ) (may : Bool) → may ≡ has_room q → m ≡ asked l now may → IsSound l q s so_far → IsSound m q s so_far
-asked_sound polls l m q s so_far now may is e h = record {
-  counted = h.counted;
-  listens = h.listens;
-  room = λ out. elim (polls l now may (subst (λ x. is_polling x ≡ true) e out)) [ inl was ↦ h.room was | inr leave ↦ room_means q (sym is ∙ leave) ];
-}
+pub asked_sound : (l m : Primary) (q : Queue) (may : Bool) → may ≡ has_room q → (is_polling m ≡ true → (is_polling l ≡ true) ⊎ (may ≡ true)) → HasPlaces l q → HasPlaces m q
+asked_sound l m q may is polls h = λ out. elim (polls out) [ inl was ↦ h was | inr leave ↦ room_means q (sym is ∙ leave) ]
 
 -- a poll goes out only where there is room
-pub poll_room : ((p : Primary) (s : Sending) → sending p false ≡ Some s → is_poll_request s.request ≡ true → is_polling p ≡ true) → (l : Primary) (q : Queue) (s : Session) (so_far : Option (List ℕ)) (x : Sending) → IsSound l q s so_far → sending l (has_room q) ≡ Some x → is_poll_request x.request ≡ true → 3 ≤ free_places q
-poll_room repeats l q s so_far x h is poll = go (has_room q) refl
+pub poll_room : ((p : Primary) (s : Sending) → sending p false ≡ Some s → is_poll_request s.request ≡ true → is_polling p ≡ true) → (l : Primary) (q : Queue) (x : Sending) → HasPlaces l q → sending l (has_room q) ≡ Some x → is_poll_request x.request ≡ true → 3 ≤ free_places q
+poll_room repeats l q x h is poll = go (has_room q) refl
   where
     go : (b : Bool) → has_room q ≡ b → 3 ≤ free_places q
     go true room = room_means q room
-    go false none = h.room (repeats l x (subst (λ b. sending l b ≡ Some x) none is) poll)
+    go false none = h (repeats l x (subst (λ b. sending l b ≡ Some x) none is) poll)

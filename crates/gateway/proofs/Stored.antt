@@ -24,8 +24,8 @@ use Rattle.gateway.specs.Entries.{event_of, told_of, stored_log, log_of, FitsPor
 use Rattle.gateway.specs.Recorded.{is_none_left, coming}
 use Rattle.gateway.specs.Connections.{no_channel}
 use Rattle.gateway.specs.Reports.{Setup, address_at, index_of, AreFound}
-use Rattle.gateway.specs.SessionLaws.{SessionLaws}
-use Rattle.gateway.specs.CommandLaws.{CommandLaws}
+use Rattle.session.specs.SessionLaws.{SessionLaws}
+use Rattle.command.specs.CommandLaws.{CommandLaws}
 use Rattle.gateway.specs.LineLaws.{LineLaws}
 use Rattle.gateway.specs.Course.{first_course}
 use Rattle.gateway.specs.Phases.{Fresh}
@@ -84,10 +84,11 @@ at_first c starts laws commands line_laws rules timely = record {
   line = starts (link_of c.line) (map (λ (s : Station). s.address) c.stations) (omega (arith, rules.some, length-map c.stations (λ (s : Station). s.address))) (first_fits c.line.link c.line.sizes.ca c.stations rules.each);
   course = first_course (setup_of c);
   talk = talk_first (setup_of c) timely laws commands line_laws;
-  stands = record { does = record { line = refl; commands = refl; counts = refl; silent = refl }; asks = refl; phase_is = refl; placed = λ o. refl };
+  stands = record { does = refl; asks = (refl, refl); phase_is = refl; placed = λ o. refl };
+  gaps = λ i. refl;
   offers = λ k octets e. absurd (no_offer k octets e);
   plain = tt;
-  here = fresh (first_state c) no_channel timely.range.k_small refl (λ h. refl) refl refl refl refl refl refl refl refl;
+  here = fresh (first_state c).centre no_channel timely.range.k_small refl (λ h. refl) refl refl refl refl refl refl refl refl;
   left = refl;
   carries = record { whole = refl; gone = []; front = refl; joined = refl; count = refl };
   before = record { are = tt; orders = tt; times = tt; acts = tt; rests = tt };

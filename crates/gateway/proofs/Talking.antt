@@ -20,19 +20,20 @@ use Rattle.session.specs.History.{History, confirmation_of, frame_due, has_timed
 use Rattle.session.specs.Runs.{Settings, Call, Take, Send, Confirm, Pull, Open, Cut, Run, run, told, gone, may_take, after_call}
 use Rattle.session.specs.Rules.{KeepsRules}
 use Rattle.session.specs.Ends.{IsConfirmed, after_confirm, after_pull}
-use Rattle.gateway.specs.Log.{Log, LineIn, Opened, TcpIn, CutOff, Ticked, Came, Went, LineOut, TcpOut, Closed, latest}
+use Rattle.gateway.specs.Log.{Log, LineIn, Opened, TcpIn, CutOff, Ticked, Came, Went, LineOut, TcpOut, Closed, GapOut, latest}
 use Rattle.gateway.specs.Streams.{spelled}
 use Rattle.gateway.specs.Frames.{data_frames}
 use Rattle.gateway.specs.Connections.{Channel, present}
 use Rattle.gateway.specs.Objects.{monitor_objects}
 use Rattle.gateway.specs.LineLaws.{LineLaws}
 use Rattle.gateway.specs.Reports.{Setup, address_at, exchanges_of, taken_objects}
-use Rattle.gateway.specs.Works.{tasks_of, is_overfull}
+use Rattle.gateway.specs.Works.{is_overfull}
 use Rattle.gateway.specs.Course.{Course, first_course, came_frames, kind_of, told_sent, with_frame, with_sent, IsFlushed, IsUntouched, HasBegun, MayTake, TakesFrames, HasTakenAll, IsNext, Runs}
-use Rattle.gateway.specs.Conversation.{KeepsTalk}
+use Rattle.gateway.specs.Conversation.{KeepsCommands, KeepsTalk}
+use Rattle.gateway.proofs.Reached.{IsReached, reached}
 use Rattle.gateway.specs.Phases.{IsTaking}
-use Rattle.gateway.specs.CommandLaws.{CommandLaws}
-use Rattle.gateway.specs.SessionLaws.{SessionLaws}
+use Rattle.command.specs.CommandLaws.{CommandLaws}
+use Rattle.session.specs.SessionLaws.{SessionLaws}
 use Rattle.gateway.specs.Agrees.{Talks, IsTimely}
 
 -- A frame more is taken
@@ -71,6 +72,7 @@ runs_more laws p (Came now Ticked ∷ log) c f takes may k = absurd takes
 runs_more laws p (Went now (LineOut octets) ∷ log) c f takes may k = absurd takes
 runs_more laws p (Went now (TcpOut octets) ∷ log) c f takes may k = (k.0, k.1, k.2, k.3, taken_more p (Went now (TcpOut octets) ∷ log) _ k.1 c f may k.4)
 runs_more laws p (Went now (Closed cause) ∷ log) c f takes may k = absurd takes
+runs_more laws p (Went now (GapOut station session) ∷ log) c f takes may k = absurd takes
 
 -- The calls
 
@@ -126,14 +128,17 @@ kept_talk p s log c k = record {
   course = c;
   runs = k.course_runs;
   rules = subst (λ (r : Run). KeepsRules p.session r.history) k.called (k.laws.rules p.session k.calls k.timely.range);
-  commands = record {
-    forwarded = k.command_laws.forwarded p.stations p.sizes p.select_ms c.works.calls;
-    selected = k.command_laws.selected p.stations p.sizes p.select_ms c.works.calls;
-    answered = k.command_laws.right p.stations p.sizes p.select_ms c.works.calls;
-    in_turn = k.command_laws.in_turn p.stations p.sizes p.select_ms c.works.calls;
-    kept = k.command_laws.kept p.stations p.sizes p.select_ms c.works.calls;
-  };
+  commands = subst (KeepsCommands p) calls.1 (record {
+    forwarded = k.command_laws.forwarded p.stations p.sizes p.select_ms calls.0;
+    selected = k.command_laws.selected p.stations p.sizes p.select_ms calls.0;
+    answered = k.command_laws.right p.stations p.sizes p.select_ms calls.0;
+    in_turn = k.command_laws.in_turn p.stations p.sizes p.select_ms calls.0;
+    kept = k.command_laws.kept p.stations p.sizes p.select_ms calls.0;
+  });
 }
+  where
+    calls : IsReached p c.works
+    calls = reached p log c k.course_runs
 
 -- the octets received begin with the frames
 abbrev pub Begins : Channel → Course → Type 0
@@ -146,7 +151,7 @@ ruled p s t log c call now moment said k clock made =
     (subst (λ (r : Run). KeepsRules p.session r.history) (ap (after_call call) k.called ∙ made) (k.laws.rules p.session (call ∷ k.calls) k.timely.range))
 
 -- a frame goes out
-pub talk_out : (p : Setup) (s t : Session) (log : Log) (c : Course) (now moment : ℕ) (f : Apdu) (call : Call) (k : Talks p s log c) → Fits f → moment ≡ latest log → IsNext p log f c → is_overfull (tasks_of p c.works).history ≡ false → after_call call (at s c.talk) ≡ at t (told_sent f moment c.talk) → Begins (present log) c →
+pub talk_out : (p : Setup) (s t : Session) (log : Log) (c : Course) (now moment : ℕ) (f : Apdu) (call : Call) (k : Talks p s log c) → Fits f → moment ≡ latest log → IsNext p log f c → is_overfull c.works.history ≡ false → after_call call (at s c.talk) ≡ at t (told_sent f moment c.talk) → Begins (present log) c →
     Talks p t (Went now (TcpOut (spelling f)) ∷ log) (with_sent f moment c)
 talk_out p s t log c now moment f call k fits clock next placed made b = record {
   timely = k.timely;
@@ -165,7 +170,7 @@ talk_out p s t log c now moment f call k fits clock next placed made b = record 
 }
 
 -- a frame is taken
-pub talk_heard : (p : Setup) (s : Session) (log : Log) (c : Course) (moment : ℕ) (f : Apdu) (rest : List ℕ) (k : Talks p s log c) → IsTaking log → moment ≡ latest log → s.connected ≡ true → IsConfirmed s → Fits f → refuses s f ≡ false → is_overfull (tasks_of p c.works).history ≡ false → IsFlushed p log c → IsUntouched log c ⊎ (frame_due p.session.w p.session.t2 p.session.t3 (latest log) c.talk ≡ None) → (present log).received ≡ spelled (f ∷ came_frames c.talk) ++ rest →
+pub talk_heard : (p : Setup) (s : Session) (log : Log) (c : Course) (moment : ℕ) (f : Apdu) (rest : List ℕ) (k : Talks p s log c) → IsTaking log → moment ≡ latest log → s.connected ≡ true → IsConfirmed s → Fits f → refuses s f ≡ false → is_overfull c.works.history ≡ false → IsFlushed p log c → IsUntouched log c ⊎ (frame_due p.session.w p.session.t2 p.session.t3 (latest log) c.talk ≡ None) → (present log).received ≡ spelled (f ∷ came_frames c.talk) ++ rest →
     Talks p (session.taken f moment s) log (with_frame p f moment c)
 talk_heard p s log c moment f rest k taking clock on ready fits goes placed flushed undue joined = record {
   timely = k.timely;

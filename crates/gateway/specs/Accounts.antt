@@ -22,6 +22,6 @@ pub record IsAccounted (p : Setup) (s : State) (log : Log) : Type 0 where
   pub course : Course
   pub course_runs : Runs p log course
   pub are : AreConnectionsOf log (here_of course) course.earlier
-  pub left : flat_map objects (kept s.queue) ≡ drop (first_unacknowledged (here_of course ∷ course.earlier)) (taken_objects p log)
-  pub counts : s.counts ≡ (done_in p log course).counts
-  pub spoilt : s.line.spoilt ≡ saturated (spoilt_count (front_of p.link.size) (address_at p.addresses) (all_of (exchanges_of p log)))
+  pub left : flat_map objects (kept s.centre.queue) ≡ drop (first_unacknowledged (here_of course ∷ course.earlier)) (taken_objects p log)
+  pub counts : s.serial.counts ≡ (done_in p log course).serial.counts
+  pub spoilt : s.serial.line.spoilt ≡ saturated (spoilt_count (front_of p.link.size) (address_at p.addresses) (all_of (exchanges_of p log)))

@@ -13,6 +13,8 @@ use Rattle.session.specs.Session.{Session, is_running, is_from_queue, may_send, 
 use Rattle.session.specs.Runs.{Settings, IsInRange, Call, run}
 use Rattle.session.specs.Ends.{IsConfirmed, IsInTime}
 use Rattle.session.specs.declared.kinds.Unacknowledged.{Unacknowledged}
+use Rattle.gateway.specs.declared.gaps.Gap.{Gap}
+use Rattle.gateway.specs.Gaps.{gaps_of, gaps_told, gap_for}
 use Rattle.gateway.specs.Objects.{objects, has_objects}
 use Rattle.gateway.specs.Log.{Log, Input, Came, latest}
 use Rattle.gateway.specs.Streams.{spelled, AllFit, AreFrames}
@@ -20,34 +22,31 @@ use Rattle.gateway.specs.Frames.{Sent, Connection, new_connection, data_frames, 
 use Rattle.gateway.specs.Connections.{Channel, no_channel, present, past, received_before, is_replaced, Passes, AreConnections}
 use Rattle.gateway.specs.Reports.{Setup, AreFound, exchanges_of, taken_objects, reports_in, parts_of_all}
 use Rattle.gateway.specs.Traffic.{ActsRightly, RestsBetweenSteps, HasRested, IsFaithful}
-use Rattle.gateway.specs.Works.{Works, tasks_of}
 use Rattle.gateway.specs.Course.{Course, here_of, room_in, Runs}
 use Rattle.gateway.specs.Conversation.{KeepsTimes}
 use Rattle.gateway.specs.Phases.{Phase, Taking, resting, IsPhase, works_in, IsAsked, IsPlaced, IsPast, IsLeftIn}
-use Rattle.gateway.specs.CommandLaws.{CommandLaws}
+use Rattle.command.specs.CommandLaws.{CommandLaws}
 use Rattle.gateway.specs.LineLaws.{LineLaws}
-use Rattle.gateway.specs.SessionLaws.{SessionLaws}
+use Rattle.session.specs.SessionLaws.{SessionLaws}
+use Rattle.gateway.specs.Centre.{Centre}
 use Rattle.gateway.specs.State.{State}
 
 -- The line and commands
 
--- the state has these works
-pub record Does (p : Setup) (s : State) (w : Works) : Type 0 where
-  pub line : s.line ≡ w.line
-  pub commands : s.commands ≡ (tasks_of p w).state
-  pub counts : s.counts ≡ w.counts
-  pub silent : s.silent ≡ w.silent
-
--- the works that the log shows, as far as the step is
+-- the line's side is that of the works that the log shows, as far as the step is
 pub record IsAt (p : Setup) (log : Log) (phase : Phase) (s : State) (c : Course) : Type 0 where
-  pub does : Does p s (works_in phase p (latest log) (room_in p log c) c.works)
-  pub asks : IsAsked phase p (latest log) (room_in p log c) c.works
+  pub does : s.serial ≡ (works_in phase (latest log) (room_in p log c) c.works).serial
+  pub asks : IsAsked phase (latest log) (room_in p log c) c.works
   pub phase_is : IsPhase phase log
-  pub placed : IsPlaced phase log (tasks_of p c.works).history
+  pub placed : IsPlaced phase log c.works.history
 
 -- what is offered to a station is the oldest command that waits for it
 abbrev pub OffersWait : Primary → tasks.State → Type 0
 OffersWait q s = (k : ℕ) (octets : List ℕ) → offered_at q k ≡ Some octets → octets_waiting k s ≡ Some octets
+
+-- what was told of gaps, and the one that is still to be told, are those of the exchanges
+abbrev pub GapsTold : Setup → Log → Option Gap → Type 0
+GapsTold p log gap = (station : ℕ) → gaps_told station log ++ gap_for station gap ≡ gaps_of p station log
 
 -- own answers have no objects of the queue's
 abbrev pub ArePlain : List (List ℕ) → Type 0
@@ -75,9 +74,9 @@ pub record Tied (c : Connection) (s : Session) (pieces : List (List ℕ)) : Type
   pub bound : length s.unacknowledged ≤ s.k
   pub unconfirmed : Unconfirmed (acknowledged_count c.received_frames) c.sent_frames s.unacknowledged pieces
 
--- The state agrees with the open connection, as if of its octets the last ones had not been received: the step has
+-- The control centre's side agrees with the open connection, as if of its octets the last ones had not been received: the step has
 -- not judged them yet. Without a connection nothing is sent and nothing received.
-pub record Presently (s : State) (octets : Channel) (unjudged : List ℕ) (c : Connection) : Type 0 where
+pub record Presently (s : Centre) (octets : Channel) (unjudged : List ℕ) (c : Connection) : Type 0 where
   pub link : s.session.connected ≡ octets.is_open
   pub none : octets.is_open ≡ false → (octets ≡ no_channel) × (c ≡ new_connection)
   pub put : List Apdu
@@ -137,21 +136,22 @@ pending (Some octets) = octets
 
 -- The state agrees with the log, as if these octets of the open connection had not come yet, so far in a step.
 pub record Agrees (p : Setup) (s : State) (log : Log) (unjudged : List ℕ) (phase : Phase) : Type 0 where
-  pub k : s.session.k ≡ p.session.k
+  pub k : s.centre.session.k ≡ p.session.k
   pub sizes : s.sizes ≡ p.sizes
-  pub places : s.queue.places ≡ p.places
+  pub places : s.centre.queue.places ≡ p.places
   pub clock : s.moment ≡ latest log
   pub settled : is_replaced log ≡ false
   pub found : AreFound p.addresses
-  pub line : Tells p.link p.addresses s.line (exchanges_of p log)
+  pub line : Tells p.link p.addresses s.serial.line (exchanges_of p log)
   pub course : Course
-  pub here : Presently s (present log) unjudged (here_of course)
-  pub left : IsLeftIn phase log (pending s.so_far) unjudged
-  pub talk : Talks p s.session log course
+  pub here : Presently s.centre (present log) unjudged (here_of course)
+  pub left : IsLeftIn phase log (pending s.centre.so_far) unjudged
+  pub talk : Talks p s.centre.session log course
   pub stands : IsAt p log phase s course
-  pub offers : OffersWait s.line s.commands
-  pub plain : ArePlain s.commands.answers
-  pub carries : Carries (taken_objects p log) (parts_of_all p.sizes (reports_in p log)) course.earlier course.sent s.queue.unsent
+  pub gaps : GapsTold p log s.serial.gap
+  pub offers : OffersWait s.serial.line s.serial.commands
+  pub plain : ArePlain s.serial.commands.answers
+  pub carries : Carries (taken_objects p log) (parts_of_all p.sizes (reports_in p log)) course.earlier course.sent s.centre.queue.unsent
   pub before : Past p log course.earlier
 
 -- the same where the port tells its log
@@ -160,17 +160,17 @@ Tracks p s told unjudged phase = IfSome told (λ log. Agrees p s log unjudged ph
 
 -- nothing can be sent any more
 abbrev pub IsSpent : State → Type 0
-IsSpent s = may_send s.session ≡ true → (s.queue.unsent ≡ []) × (s.commands.answers ≡ [])
+IsSpent s = may_send s.centre.session ≡ true → (s.centre.queue.unsent ≡ []) × (s.serial.commands.answers ≡ [])
 
 -- no confirmation is due, and nothing can be sent any more
 pub record IsClear (s : State) : Type 0 where
-  pub confirmed : IsConfirmed s.session
+  pub confirmed : IsConfirmed s.centre.session
   pub spent : IsSpent s
 
 -- no frame of the event is taken yet, or no S frame and no test is due
 abbrev pub IsUndue : State → Log → List ℕ → Type 0
 IsUndue s log unjudged =
-    (length (present log).received ≤ length (received_before log) + length (pending s.so_far ++ unjudged)) ⊎ ((pulled s.moment s.session).0 ≡ None)
+    (length (present log).received ≤ length (received_before log) + length (pending s.centre.so_far ++ unjudged)) ⊎ ((pulled s.moment s.centre.session).0 ≡ None)
 
 -- the same where all that may go out has gone out, and these octets of the event are to be judged
 abbrev pub Awaits : Setup → State → Option Log → List ℕ → Type 0
@@ -203,10 +203,10 @@ Rests p told = IfSome told (HasRested p)
 
 -- nothing is due on the connection, and no answer is late
 pub record IsQuiet (s : State) : Type 0 where
-  pub confirmed : IsConfirmed s.session
-  pub pulled_all : (pulled s.moment s.session).0 ≡ None
-  pub in_time : IsInTime s.moment s.session
+  pub confirmed : IsConfirmed s.centre.session
+  pub pulled_all : (pulled s.moment s.centre.session).0 ≡ None
+  pub in_time : IsInTime s.moment s.centre.session
 
 -- where no answer was late, none is late
 abbrev pub StaysInTime : (before after : State) → Type 0
-StaysInTime s t = 0 < s.session.t1 → IsInTime s.moment s.session → IsInTime t.moment t.session × (0 < t.session.t1)
+StaysInTime s t = 0 < s.centre.session.t1 → IsInTime s.moment s.centre.session → IsInTime t.moment t.centre.session × (0 < t.centre.session.t1)

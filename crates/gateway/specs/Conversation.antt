@@ -26,7 +26,7 @@ pub record KeepsTalk (p : Setup) (log : Log) : Type 0 where
   pub course : Course
   pub runs : Runs p log course
   pub rules : KeepsRules p.session course.talk
-  pub commands : KeepsCommands p (tasks_of p course.works)
+  pub commands : KeepsCommands p (tasks_of course.works)
 
 -- and so at each point of the log
 abbrev pub KeepsTimes : Setup → Log → Type 0

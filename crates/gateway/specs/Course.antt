@@ -7,12 +7,11 @@ use Rattle.apci.specs.declared.apdu.Apdu.{Apdu}
 use Rattle.apci.specs.declared.apdu.Apdu.TheVariants.{I}
 use Rattle.apci.specs.Spelling.{spelling, Fits}
 use Rattle.apci.specs.Reading.{IsMore}
-use Rattle.ft12.specs.Fronts.{front_of}
 use Rattle.link.specs.declared.service.Service.TheVariants.{Command}
 use Rattle.link.specs.declared.service.Asked.TheVariants.{Counted}
 use Rattle.link.specs.Exchanges.{Sending}
 use Rattle.link.specs.Requests.{request_frame}
-use Rattle.link.specs.Primary.{sending, received_outcome}
+use Rattle.link.specs.Primary.{sending}
 use Rattle.session.specs.declared.kinds.Close.{Close}
 use Rattle.session.specs.declared.kinds.Close.TheVariants.{Timeout, OwnAnswers, Replaced}
 use Rattle.session.specs.declared.kinds.Kind.{Kind}
@@ -22,12 +21,13 @@ use Rattle.session.specs.History.{History, is_started, still_unacknowledged, con
 use Rattle.session.specs.Rules.{KeepsRules}
 use Rattle.command.specs.State.{octets_waiting, first_answer}
 use Rattle.gateway.specs.Objects.{objects, has_objects}
-use Rattle.gateway.specs.Log.{Log, Input, LineIn, Opened, TcpIn, CutOff, Ticked, Came, Went, LineOut, TcpOut, Closed, latest}
+use Rattle.gateway.specs.Log.{Log, Input, LineIn, Opened, TcpIn, CutOff, Ticked, Came, Went, LineOut, TcpOut, Closed, GapOut, latest}
 use Rattle.gateway.specs.Streams.{spelled}
 use Rattle.gateway.specs.Frames.{Sent, Connection, runs, first_unacknowledged, monitor_objects_sent, acknowledged_reports}
 use Rattle.gateway.specs.Connections.{Channel, present, received_before, is_replaced, IsConnection}
 use Rattle.gateway.specs.Reports.{Setup, address_at, reports_in, parts_of_all, taken_objects}
-use Rattle.gateway.specs.Works.{Works, first_works, tasks_of, is_overfull, LearnsOf, heard_works, sent_works, cut_works, begun_works, settled_works, ready_works, is_first_command, asked_works, done_works}
+use Rattle.gateway.specs.Serial.{is_first_command, heard_outcome}
+use Rattle.gateway.specs.Works.{Works, first_works, is_overfull, LearnsOf, heard_works, sent_works, cut_works, octets_works, begun_works, settled_works, ready_works, gapless_works, asked_works, done_works}
 
 pub record Course : Type 0 where
   -- what was said on the open connection: frames that came and frames that went out, each with its moment, the latest first
@@ -67,7 +67,7 @@ sent_objects c = first_unacknowledged c.earlier + length (monitor_objects_sent (
 -- All objects taken and all own answers have gone out.
 pub record HasSentAll (p : Setup) (log : Log) (c : Course) : Type 0 where
   pub objects : sent_objects c ≡ length (taken_objects p log)
-  pub answers : (tasks_of p c.works).state.answers ≡ []
+  pub answers : c.works.serial.commands.answers ≡ []
 
 -- where data transfer runs and fewer than k I frames are unacknowledged, all has gone out (5.3, 5.5)
 abbrev pub IsFlushed : Setup → Log → Course → Type 0
@@ -90,7 +90,7 @@ abbrev pub HasBegun : Log → Course → Type 0
 HasBegun log c = (length (received_before log) < length (spelled (came_frames c.talk))) ⊎ HasTakenAll (present log) c.talk
 
 abbrev pub with_frame : Setup → Apdu → (now : ℕ) → Course → Course
-with_frame p frame now c = record { talk = talk.Came frame now ∷ c.talk; sent = c.sent; earlier = c.earlier; works = heard_works p frame now c.works }
+with_frame p frame now c = record { talk = talk.Came frame now ∷ c.talk; sent = c.sent; earlier = c.earlier; works = heard_works frame now c.works }
 
 -- frames come at a moment, the latest first
 abbrev pub with_frames : Setup → List Apdu → (now : ℕ) → Course → Course
@@ -105,7 +105,7 @@ pub record MayTake (p : Setup) (log : Log) (now : ℕ) (frame : Apdu) (c : Cours
   pub rest : List ℕ
   pub joined : (present log).received ≡ spelled (frame ∷ came_frames c.talk) ++ rest
   pub rules : KeepsRules p.session (talk.Came frame now ∷ c.talk)
-  pub placed : is_overfull (tasks_of p c.works).history ≡ false
+  pub placed : is_overfull c.works.history ≡ false
   pub flushed : IsFlushed p log c
   pub undue : IsUntouched log c ⊎ (frame_due p.session.w p.session.t2 p.session.t3 now c.talk ≡ None)
 
@@ -144,8 +144,8 @@ with_sent frame now c = record { talk = told_sent frame now c.talk; sent = more_
 -- oldest own answer (5.3; profile).
 pub record IsNextData (p : Setup) (log : Log) (asdu : List ℕ) (c : Course) : Type 0 where
   pub confirmed : confirmation_of c.talk ≡ None
-  pub own : has_objects asdu ≡ false → first_answer (tasks_of p c.works).state.answers ≡ Some asdu
-  pub none : has_objects asdu ≡ true → (tasks_of p c.works).state.answers ≡ []
+  pub own : has_objects asdu ≡ false → first_answer c.works.serial.commands.answers ≡ Some asdu
+  pub none : has_objects asdu ≡ true → c.works.serial.commands.answers ≡ []
   pub report : has_objects asdu ≡ true → objects asdu ≡ take (length (objects asdu)) (drop (sent_objects c) (taken_objects p log))
 
 -- An S frame or a test goes out once all other frames that may have gone out, since an I frame bears N(R) too, and behind the first frame
@@ -161,7 +161,7 @@ pub record HandsOver (p : Setup) (log : Log) (octets : List ℕ) (now : ℕ) (be
   pub spelled_so : octets ≡ spelling frame
   pub rules : KeepsRules p.session (told_sent frame now before.talk)
   pub next : IsNext p log frame before
-  pub placed : is_overfull (tasks_of p before.works).history ≡ false
+  pub placed : is_overfull before.works.history ≡ false
   pub put : after ≡ with_sent frame now before
 
 -- The ends of connections
@@ -172,13 +172,13 @@ pub record StandsNext (p : Setup) (log : Log) (cause : Close) (c : Course) : Typ
   pub next : IsConnection (present log) (here_of c) (Some cause)
   pub confirmed : confirmation_of c.talk ≡ None
   pub flushed : IsFlushed p log c
-  pub placed : is_overfull (tasks_of p c.works).history ≡ false
+  pub placed : is_overfull c.works.history ≡ false
 
 -- An I frame or a test has been without an answer for t1 (5.2), and no cause stands before it: all that came was taken without fault, and
 -- each own answer found a place.
 pub record IsLate (p : Setup) (log : Log) (c : Course) : Type 0 where
   pub all : HasTakenAll (present log) c.talk
-  pub placed : is_overfull (tasks_of p c.works).history ≡ false
+  pub placed : is_overfull c.works.history ≡ false
   pub late : has_timed_out p.session.t1 (latest log) c.talk ≡ true
 
 -- Why a connection is closed, where the course is so far: an answer is late; the own answer of the frame taken last, or of the line's
@@ -186,7 +186,7 @@ pub record IsLate (p : Setup) (log : Log) (c : Course) : Type 0 where
 abbrev pub IsCause : Setup → Log → Close → Course → Type 0
 IsCause p log Replaced c = is_replaced log ≡ true
 IsCause p log Timeout c = IsLate p log c
-IsCause p log OwnAnswers c = is_overfull (tasks_of p c.works).history ≡ true
+IsCause p log OwnAnswers c = is_overfull c.works.history ≡ true
 IsCause p log cause c = StandsNext p log cause c
 
 -- the connection that was open, if any, is over
@@ -197,21 +197,22 @@ abbrev pub opened_course : (now : ℕ) → Course → Course
 opened_course now c = record { talk = talk.Opened now ∷ []; sent = c.sent; earlier = c.earlier; works = c.works }
 
 -- where an answer was late, the step's timers come first
-abbrev pub works_at : Setup → Close → (at : ℕ) → Works → Works
-works_at p Timeout at w = settled_works p at w
-works_at p cause at w = w
+abbrev pub works_at : Close → (at : ℕ) → Works → Works
+works_at Timeout at w = settled_works at w
+works_at cause at w = w
 
 abbrev pub closed_course : Setup → Close → (is_open : Bool) → (at : ℕ) → Course → Course
 closed_course p Replaced is_open at c = c
-closed_course p cause is_open at c = ended_course is_open (works_at p cause at c.works) c
+closed_course p cause is_open at c = ended_course is_open (works_at cause at c.works) c
 
 -- Steps
 
--- What the step before leaves when an event comes: its timers are done, and no request is left that may go out. A turn that has none
--- ends.
+-- What the step before leaves when an event comes: its timers are done, its gap is told, and no request is left that may go out. A turn
+-- that has none ends.
 pub record IsLeft (p : Setup) (log : Log) (before after : Course) : Type 0 where
-  pub none : before.works.is_due ≡ true → sending (ready_works p (latest log) before.works).line (room_in p log before) ≡ None
-  pub is : after ≡ record { talk = before.talk; sent = before.sent; earlier = before.earlier; works = done_works p (latest log) (room_in p log before) before.works }
+  pub told : before.works.serial.gap ≡ None
+  pub none : before.works.is_due ≡ true → sending (ready_works (latest log) before.works).serial.line (room_in p log before) ≡ None
+  pub is : after ≡ record { talk = before.talk; sent = before.sent; earlier = before.earlier; works = done_works (latest log) (room_in p log before) before.works }
 
 abbrev pub with_works : Works → Course → Course
 with_works w c = record { talk = c.talk; sent = c.sent; earlier = c.earlier; works = w }
@@ -219,24 +220,33 @@ with_works w c = record { talk = c.talk; sent = c.sent; earlier = c.earlier; wor
 -- what an event brings
 abbrev pub Comes : Setup → Log → (at : ℕ) → Input → (before after : Course) → Type 0
 Comes p log at (LineIn octets) c d =
-    (z : Works) × LearnsOf p at (runs (came_frames c.talk)) (received_outcome (front_of c.works.line.settings.size) c.works.line octets) (begun_works (LineIn octets) at c.works) z × (d ≡ with_works z c)
-Comes p log at (TcpIn octets) c d = TakesFrames p (Came at (TcpIn octets) ∷ log) at (with_works (begun_works (TcpIn octets) at c.works) c) d
-Comes p log at Ticked c d = d ≡ with_works (begun_works Ticked at c.works) c
-Comes p log at Opened c d = d ≡ opened_course at (ended_course (present log).is_open (begun_works Opened at c.works) c)
-Comes p log at CutOff c d = d ≡ ended_course (present log).is_open (begun_works CutOff at c.works) c
+    (z : Works) × LearnsOf p at (runs (came_frames c.talk)) (heard_outcome octets c.works.serial) (octets_works octets c.works) z
+    × (d ≡ with_works (begun_works at z) c)
+Comes p log at (TcpIn octets) c d = TakesFrames p (Came at (TcpIn octets) ∷ log) at (with_works (begun_works at c.works) c) d
+Comes p log at Ticked c d = d ≡ with_works (begun_works at c.works) c
+Comes p log at Opened c d = d ≡ opened_course at (ended_course (present log).is_open (begun_works at c.works) c)
+Comes p log at CutOff c d = d ≡ ended_course (present log).is_open (begun_works at c.works) c
 
--- The octets are the request that is next, where the queue has the room that the log shows, once all that came is taken; and a command
+-- The gap of the session that the event's octets have ended is told, once all that came is taken and before the step's request.
+pub record TellsGap (log : Log) (station session : ℕ) (before after : Course) : Type 0 where
+  pub all : HasTakenAll (present log) before.talk
+  pub due : before.works.is_due ≡ true
+  pub gap : before.works.serial.gap ≡ Some (record { station = station; session = session })
+  pub is : after ≡ with_works (gapless_works before.works) before
+
+-- The octets are the request that is next, its gap told, where the queue has the room that the log shows, once all that came is taken; and a command
 -- that goes out for the first time is the oldest that waits for its station.
 pub record SendsNext (p : Setup) (log : Log) (octets : List ℕ) (before after : Course) : Type 0 where
   pub all : HasTakenAll (present log) before.talk
-  pub placed : (present log).is_open ≡ true → is_overfull (tasks_of p before.works).history ≡ false
+  pub placed : (present log).is_open ≡ true → is_overfull before.works.history ≡ false
   pub due : before.works.is_due ≡ true
+  pub told : before.works.serial.gap ≡ None
   pub request : Sending
-  pub next : sending (ready_works p (latest log) before.works).line (room_in p log before) ≡ Some request
+  pub next : sending (ready_works (latest log) before.works).serial.line (room_in p log before) ≡ Some request
   pub spelled_so : octets ≡ line.spelling p.link.size (request_frame (address_at p.addresses request.station) request.request)
-  pub waits : (fcb : Bool) (asdu : List ℕ) → request.request ≡ Counted fcb (Command asdu) → is_first_command (ready_works p (latest log) before.works).line request ≡ true →
-      octets_waiting request.station (tasks_of p (ready_works p (latest log) before.works)).state ≡ Some asdu
-  pub is : after ≡ with_works (asked_works (latest log) (room_in p log before) request (ready_works p (latest log) before.works)) before
+  pub waits : (fcb : Bool) (asdu : List ℕ) → request.request ≡ Counted fcb (Command asdu) → is_first_command (ready_works (latest log) before.works).serial.line request ≡ true →
+      octets_waiting request.station (ready_works (latest log) before.works).serial.commands ≡ Some asdu
+  pub is : after ≡ with_works (asked_works (latest log) (room_in p log before) request (ready_works (latest log) before.works)) before
 
 -- The course that the log shows. When an event comes all whole frames received before are taken, and the step before has done what
 -- was due. Frames are taken of an event's octets, before and between the frames that go out in its step. A connection is closed where the
@@ -248,5 +258,6 @@ Runs p (Came now event ∷ log) c =
 Runs p (Went now (TcpOut octets) ∷ log) c =
     (before : Course) × (after : Course) × Runs p log before × HandsOver p log octets (latest log) before after × TakesFrames p (Went now (TcpOut octets) ∷ log) (latest log) after c
 Runs p (Went now (LineOut octets) ∷ log) c = (before : Course) × Runs p log before × SendsNext p log octets before c
+Runs p (Went now (GapOut station session) ∷ log) c = (before : Course) × Runs p log before × TellsGap log station session before c
 Runs p (Went now (Closed cause) ∷ log) c =
     (before : Course) × Runs p log before × (c ≡ closed_course p cause (present log).is_open (latest log) before) × IsCause p log cause before

@@ -2,7 +2,7 @@
 use Rattle.std.specs.Prelude.{ℕ, ◌≤◌, ◌==◌, List, [], ◌∷◌, length, map, if◌then◌else◌}
 use Rattle.session.specs.declared.kinds.Close.{Close}
 use Rattle.session.specs.declared.kinds.Close.TheVariants.{Grammar, SendNumber, ReceiveNumber, Stopped, Timeout, OwnAnswers, Replaced}
-use Rattle.gateway.specs.Log.{Log, LogEntry, Came, Went, LineIn, Opened, TcpIn, CutOff, Ticked, LineOut, TcpOut, Closed}
+use Rattle.gateway.specs.Log.{Log, LogEntry, Came, Went, LineIn, Opened, TcpIn, CutOff, Ticked, LineOut, TcpOut, Closed, GapOut}
 use Rattle.gateway.specs.declared.entries.Entry.{Entry}
 use Rattle.gateway.specs.declared.entries.Entry.TheVariants as entries
 use Rattle.gateway.specs.declared.entries.Told.{Told}
@@ -46,6 +46,7 @@ told_of (told.Came entry) = event_of entry
 told_of (told.Line now octets) = Went now (LineOut octets.items)
 told_of (told.Tcp now octets) = Went now (TcpOut octets.items)
 told_of (told.Close now number) = Went now (Closed (cause_of number))
+told_of (told.Gap now station session) = Went now (GapOut station session)
 
 -- the log that is stored, before what was there
 abbrev pub stored_log : List Told → Log → Log

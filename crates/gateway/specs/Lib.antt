@@ -6,17 +6,19 @@ pub mod Log
 pub mod Ports
 pub mod Objects
 pub mod Reports
+pub mod Gaps
+pub mod Setups
 pub mod Polls
 pub mod Counting
 pub mod Streams
 pub mod Frames
 pub mod Connections
+pub mod Serial
+pub mod Centre
 pub mod Works
 pub mod Course
 pub mod One
 pub mod Conversation
-pub mod SessionLaws
-pub mod CommandLaws
 pub mod Room
 pub mod Line
 pub mod LineLaws
@@ -30,4 +32,3 @@ pub mod Agrees
 pub mod Steps
 pub mod Judging
 pub mod Runs
-pub mod Setups

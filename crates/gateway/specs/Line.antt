@@ -11,7 +11,7 @@ use Rattle.gateway.specs.Log.{Log, latest}
 use Rattle.gateway.specs.Frames.{Connection}
 use Rattle.gateway.specs.Reports.{Setup, address_at, exchanges_of, exchanges_with}
 use Rattle.gateway.specs.Room.{IsFull}
-use Rattle.gateway.specs.Works.{Works, tasks_of, done_works}
+use Rattle.gateway.specs.Works.{Works, done_works}
 use Rattle.gateway.specs.Course.{Course, room_in}
 
 -- an exchange is outstanding
@@ -22,13 +22,13 @@ pub record IsWaiting (p : Setup) (log : Log) : Type 0 where
 
 -- the step's timers and its request are done
 abbrev pub done_in : Setup → Log → Course → Works
-done_in p log c = done_works p (latest log) (room_in p log c) c.works
+done_in p log c = done_works (latest log) (room_in p log c) c.works
 
 -- No command waits for the station, or it is one that takes none, as its exchanges show: DFC stood in its latest answer, or an
 -- unanswered poll is held.
 abbrev pub IsServed : Setup → Log → Works → ℕ → Type 0
 IsServed p log w i =
-    (octets_waiting i (tasks_of p w).state ≡ None)
+    (octets_waiting i w.serial.commands ≡ None)
     ⊎ ((flags_after (address_at p.addresses i) clear (exchanges_with p i log)).dfc ≡ true)
     ⊎ (holds_poll (link_after p.link (address_at p.addresses i) Down (exchanges_with p i log)) ≡ true)
 

@@ -17,7 +17,8 @@ use Rattle.ft12.specs.declared.frame.Front.{Front}
 use Rattle.link.specs.declared.service.Service.TheVariants.{Command}
 use Rattle.link.specs.declared.service.Asked.TheVariants.{Counted}
 use Rattle.link.specs.Procedure.{is_held}
-use Rattle.link.specs.Telling.{Tells, report_in, IsFittingSending}
+use Rattle.link.specs.Telling.{Tells, report_in, gap_in_outcome, IsFittingSending}
+use Rattle.link.specs.Gaps.{gaps_at}
 
 pub record LineLaws : Type 0 where
   pub octets : (settings : LinkSettings) (addresses : List ℕ) (q : Primary) (e : Exchanges) (octets : List ℕ) → Tells settings addresses q e →
@@ -59,3 +60,10 @@ pub record LineLaws : Type 0 where
   pub asked_offers : (q : Primary) (now : ℕ) (may_poll : Bool) (s : Sending) (k : ℕ) → sending q may_poll ≡ Some s → s.station < length q.stations → offered_at (asked q now may_poll) k ≡ (if k == s.station && is_command s.request then None else offered_at q k)
   pub begun : (q : Primary) (may_poll : Bool) (s : Sending) (fcb : Bool) (asdu : List ℕ) → sending q may_poll ≡ Some s → s.request ≡ Counted fcb (Command asdu) → is_held (station_at q.stations s.station).link ≡ false → offered_at q s.station ≡ Some asdu
   pub count : (q : Primary) (i : ℕ) (asdu : List ℕ) → length (offered_to q i asdu).stations ≡ length q.stations
+  pub gaps_octets : (settings : LinkSettings) (addresses : List ℕ) (q : Primary) (e : Exchanges) (octets : List ℕ) (station : ℕ) → Tells settings addresses q e →
+      gaps_at (front_of settings.size) addresses station (record { ended = e.ended; current = heard_current octets e.current })
+      ≡ gaps_at (front_of settings.size) addresses station e ++ gap_in_outcome station (received_outcome (front_of q.settings.size) q octets)
+  pub gaps_due : (size : LinkSize) (addresses : List ℕ) (answer_ms at : ℕ) (e : Exchanges) (station : ℕ) →
+      gaps_at (front_of size) addresses station (record { ended = e.ended; current = timed_current answer_ms at e.current }) ≡ gaps_at (front_of size) addresses station e
+  pub gaps_next : (size : LinkSize) (addresses : List ℕ) (now : ℕ) (s : Option Sending) (e : Exchanges) (station : ℕ) →
+      gaps_at (front_of size) addresses station (begun_by now s e) ≡ gaps_at (front_of size) addresses station e

@@ -16,6 +16,8 @@ pub data Output : Type 0 where
   LineOut : (octets : List ℕ) → Output
   TcpOut : (octets : List ℕ) → Output
   Closed : (cause : Close) → Output
+  -- a session of the station's link has ended, and its last report may be lost
+  GapOut : (station session : ℕ) → Output
 
 -- an event or an action, with its moment in milliseconds
 pub data LogEntry : Type 0 where

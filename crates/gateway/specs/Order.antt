@@ -1,7 +1,7 @@
 -- The order of actions within a step. All of it is this gateway's own profile.
 use Rattle.std.specs.Prelude.{◌≡◌, Bool, true, false, List, [], ◌∷◌}
 use Rattle.std.specs.List.{list_any}
-use Rattle.gateway.specs.Log.{Log, Went, Output, LineOut, TcpOut, Closed}
+use Rattle.gateway.specs.Log.{Log, Went, Output, LineOut, TcpOut, Closed, GapOut}
 
 -- the actions of the latest step so far, those since the latest event, the newest first (profile)
 abbrev pub step_actions : Log → List Output
@@ -18,12 +18,13 @@ abbrev pub is_close : Output → Bool
 is_close (Closed cause) = true
 is_close action = false
 
--- A request only where the step has put out no request yet; octets to TCP, and a close, only where it has closed no connection yet
+-- A request, and a gap, only where the step has put out no request yet; octets to TCP, and a close, only where it has closed no connection yet
 -- (profile).
 abbrev pub MayFollow : (earlier : List Output) → Output → Type 0
 MayFollow earlier (LineOut octets) = list_any is_request earlier ≡ false
 MayFollow earlier (TcpOut octets) = list_any is_close earlier ≡ false
 MayFollow earlier (Closed cause) = list_any is_close earlier ≡ false
+MayFollow earlier (GapOut station session) = list_any is_request earlier ≡ false
 
 -- each action of the log, after those of its step (profile)
 abbrev pub KeepsOrder : Log → Type 0

@@ -2,7 +2,6 @@
 use Rattle.std.specs.Prelude.{◌≡◌, ℕ, ◌+◌, ◌<◌, Bool, true, false, List, [], ◌∷◌, ◌++◌, length, Option, Some, None}
 use Rattle.link.specs.Primary.{Outstanding, sending}
 use Rattle.gateway.specs.Log.{Log, TcpIn, Came, Went, TcpOut}
-use Rattle.gateway.specs.Reports.{Setup}
 use Rattle.command.specs.History.{History}
 use Rattle.gateway.specs.Connections.{present, received_before}
 use Rattle.gateway.specs.Works.{Works, is_overfull, settled_works, ready_works, done_works}
@@ -30,25 +29,25 @@ IsPhase Judged log = IsTaking log
 IsPhase phase log = Unit {0}
 
 -- The log shows the works before the step's timers and request; so far they have become these.
-abbrev pub works_in : Phase → Setup → (at : ℕ) → (room : Bool) → Works → Works
-works_in Fresh p at room w = w
-works_in Taking p at room w = w
-works_in Judged p at room w = w
-works_in Idle p at room w = w
-works_in Crowded p at room w = w
-works_in Timed p at room w = settled_works p at w
-works_in Asked p at room w = done_works p at room w
+abbrev pub works_in : Phase → (at : ℕ) → (room : Bool) → Works → Works
+works_in Fresh at room w = w
+works_in Taking at room w = w
+works_in Judged at room w = w
+works_in Idle at room w = w
+works_in Crowded at room w = w
+works_in Timed at room w = settled_works at w
+works_in Asked at room w = done_works at room w
 
 -- a request is outstanding
 abbrev pub IsOut : Option Outstanding → Type 0
 IsOut None = ⊥
 IsOut (Some o) = Unit {0}
 
--- Until the request is asked for it is due. Then it is out, or there was none that might go out.
-abbrev pub IsAsked : Phase → Setup → (at : ℕ) → (room : Bool) → Works → Type 0
-IsAsked Asked p at room w = (w.is_due ≡ true → sending (ready_works p at w).line room ≡ None) × (w.is_due ≡ false → IsOut w.line.outstanding)
-IsAsked Fresh p at room w = w.is_due ≡ false
-IsAsked phase p at room w = w.is_due ≡ true
+-- Until the request is asked for it is due. Then it is out, or there was none that might go out; and no gap is left to be told.
+abbrev pub IsAsked : Phase → (at : ℕ) → (room : Bool) → Works → Type 0
+IsAsked Asked at room w = (w.is_due ≡ true → sending (ready_works at w).serial.line room ≡ None) × (w.is_due ≡ false → IsOut w.serial.line.outstanding) × (w.serial.gap ≡ None)
+IsAsked Fresh at room w = (w.is_due ≡ false) × (w.serial.gap ≡ None)
+IsAsked phase at room w = w.is_due ≡ true
 
 -- how far it is between two steps
 abbrev pub resting : Log → Phase

@@ -1,6 +1,6 @@
 -- What a port's answers and an action's octets mean in a log.
 use Rattle.std.specs.Prelude.{ℕ, List, [], ◌∷◌, take, ◌≤◌}
-use Rattle.gateway.specs.Log.{Input, LineIn, Opened, TcpIn, CutOff, Ticked, Output, LineOut, TcpOut, Closed, LogEntry, Came}
+use Rattle.gateway.specs.Log.{Input, LineIn, Opened, TcpIn, CutOff, Ticked, Output, LineOut, TcpOut, Closed, GapOut, LogEntry, Came}
 use Rattle.gateway.specs.declared.ports.Event.{Event}
 use Rattle.gateway.specs.declared.ports.Event.TheVariants as events
 use Rattle.gateway.specs.declared.ports.Action.{Action}
@@ -19,6 +19,7 @@ abbrev pub output_of : Action → Output
 output_of (actions.Line octets) = LineOut octets.now
 output_of (actions.Tcp octets) = TcpOut octets.now
 output_of (actions.Close cause) = Closed cause
+output_of (actions.Gap station session) = GapOut station session
 
 -- the event that an answer adds to the log; its octets are the front of the buffer
 abbrev pub told_by : Next → List ℕ → List LogEntry

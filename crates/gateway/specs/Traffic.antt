@@ -5,36 +5,44 @@ use Rattle.link.specs.declared.service.Asked.{Asked}
 use Rattle.link.specs.Requests.{request_frame}
 use Rattle.session.specs.declared.kinds.Close.{Close}
 use Rattle.session.specs.declared.kinds.Close.TheVariants.{Replaced}
-use Rattle.gateway.specs.Log.{Log, Came, Went, Output, LineOut, TcpOut, Closed, latest}
+use Rattle.gateway.specs.Log.{Log, Came, Went, Output, LineOut, TcpOut, Closed, GapOut, latest}
+use Rattle.gateway.specs.Gaps.{gaps_of, gaps_told, TellsGaps}
 use Rattle.gateway.specs.Streams.{IsOneFrame}
 use Rattle.gateway.specs.Frames.{runs, acknowledged_count, AreInOrder}
 use Rattle.gateway.specs.Connections.{present, past, ends, is_replaced, AreConnections, IsBegun}
 use Rattle.gateway.specs.Reports.{Setup, address_at, taken_objects, KeepsLinks}
 use Rattle.link.specs.Leave.{is_poll_request}
 use Rattle.gateway.specs.Room.{AreConnectionsOf, HasRoom}
-use Rattle.gateway.specs.Works.{tasks_of, is_overfull}
+use Rattle.gateway.specs.Works.{is_overfull}
 use Rattle.gateway.specs.Course.{Course, here_of, HasSentAll, IsCause, Runs}
 use Rattle.gateway.specs.Conversation.{KeepsTimes, IsTalkAtRest}
 use Rattle.gateway.specs.Line.{IsWaiting, IsLineAtRest}
 
--- The octets are a request to a station, while no exchange is outstanding; and a poll only where there is room.
+-- The octets are a request to a station, while no exchange is outstanding and each gap is told; and a poll only where there is room.
 pub record IsRequest (p : Setup) (log : Log) (octets : List ℕ) : Type 0 where
   pub station : ℕ
   pub within : station < length p.addresses
   pub request : Asked
   pub spelled : octets ≡ spelling p.link.size (request_frame (address_at p.addresses station) request)
   pub alone : IsWaiting p log → ⊥
+  pub told : TellsGaps p log
   pub room : is_poll_request request ≡ true → HasRoom p log
 
 -- The connection is open, and its course gives the cause, the first that stands.
 abbrev pub HasCause : Setup → Close → Log → Type 0
 HasCause p cause log = ends cause ≡ true → ((present log).is_open ≡ true) × ((c : Course) × Runs p log c × IsCause p log cause c)
 
--- to the line whole requests, to TCP one APDU at a time while a connection is open, and a close with its cause
+-- The session is the station's next one that ended with a gap. (Between steps each is told, so the reset was answered in this step; and
+-- each is told before a request, so none went out since.)
+abbrev pub IsNextGap : Setup → Log → (station session : ℕ) → Type 0
+IsNextGap p log station session = (other : ℕ) → gaps_told other (Went (latest log) (GapOut station session) ∷ log) ≡ gaps_of p other log
+
+-- to the line whole requests, to TCP one APDU at a time while a connection is open, a close with its cause, and a gap once
 abbrev pub MayGo : Setup → Log → Output → Type 0
 MayGo p log (LineOut octets) = IsRequest p log octets
 MayGo p log (TcpOut octets) = ((present log).is_open ≡ true) × IsOneFrame octets
 MayGo p log (Closed cause) = HasCause p cause log
+MayGo p log (GapOut station session) = IsNextGap p log station session
 
 abbrev pub replaces : Output → Bool
 replaces (Closed Replaced) = true
@@ -55,16 +63,17 @@ ActsRightly p (entry ∷ log) = ActsRightly p log
 
 -- After a step nothing stands on the connection that closes it, and all that may be sent is sent: on the connection, where
 -- data transfer is started and the window isn't full, all objects and own answers, and each confirmation, S frame and test that is
--- due; on the line, all but data for which there is no room.
+-- due; on the line, all but data for which there is no room; and each gap is told.
 pub record IsAtRest (p : Setup) (log : Log) : Type 0 where
   pub course : Course
   pub course_runs : Runs p log course
   pub are : AreConnectionsOf log (here_of course) course.earlier
   pub settled : is_replaced log ≡ false
-  pub placed : (present log).is_open ≡ true → is_overfull (tasks_of p course.works).history ≡ false
+  pub placed : (present log).is_open ≡ true → is_overfull course.works.history ≡ false
   pub eager : (present log).is_open ≡ true → runs (here_of course).received_frames ≡ true →
       length (here_of course).sent_frames < acknowledged_count (here_of course).received_frames + p.session.k → HasSentAll p log course
   pub line : IsLineAtRest p log course (here_of course ∷ course.earlier)
+  pub gaps : TellsGaps p log
   pub talk : IsTalkAtRest p log course
 
 -- nothing has come yet, or the last step has done all that it could

@@ -1,9 +1,7 @@
--- What the gateway keeps beside the connection: the line's primary station, and what became of commands. Each entry of the log
--- changes it (IEC 60870-5-101, 7.2.3; when own answers are kept, and when a command is offered to the line, is this gateway's own
--- profile).
-use Rattle.std.specs.Prelude.{◌≡◌, ℕ, zero, suc, Bool, true, false, not, ◌&&◌, if◌then◌else◌, List, [], ◌∷◌, length, Option, Some, None}
+-- What the gateway keeps beside the connection: the line's side, and what became of commands. Each entry of the log changes it
+-- (IEC 60870-5-101, 7.2.3). What happens to the line's side is said in `Serial`; here it is told to the history of commands.
+use Rattle.std.specs.Prelude.{◌≡◌, ℕ, Bool, true, false, if◌then◌else◌, List, [], ◌∷◌, length, Option, Some, None}
 use Rattle.std.specs.List.{flat_map, AllByRecursion}
-use Rattle.ft12.specs.Fronts.{front_of}
 use Rattle.asdu.specs.declared.sizes.Sizes.{Sizes}
 use Rattle.asdu.specs.Sizes.{tcp}
 use Rattle.asdu.specs.Asdu.{AsduValue, IsAsdu}
@@ -11,57 +9,45 @@ use Rattle.asdu.specs.InformationObjects.{InformationObject, objects_of}
 use Rattle.asdu.specs.Translation.{parts, IsPiece, IsFull, AllButLast}
 use Rattle.apci.specs.declared.apdu.Apdu.{Apdu}
 use Rattle.apci.specs.declared.apdu.Apdu.TheVariants.{I}
-use Rattle.link.specs.Procedure.{is_held}
-use Rattle.link.specs.Turns.{station_at}
 use Rattle.link.specs.Exchanges.{Sending}
 use Rattle.link.specs.declared.outcome.Outcome.{Outcome}
-use Rattle.link.specs.Primary.{Primary, start, asked, received, timed_out, due_outcome, is_command, offered_to, withdrawn}
 use Rattle.link.specs.declared.outcome.Outcome.TheVariants as outcome
-use Rattle.command.specs.declared.waiting.Waiting.{Waiting}
 use Rattle.command.specs.State as tasks
-use Rattle.command.specs.State.{has_room, line_of, refusal_of, is_used, oldest}
+use Rattle.command.specs.State.{has_room}
 use Rattle.command.specs.Judging.{judged}
+use Rattle.command.specs.Mirrors as mirrors
 use Rattle.command.specs.History.{Offered, Ended, History}
-use Rattle.command.specs.Calls.{Call, Judge, PutOnLine, Accept, Busy, Lose, Mirror, Own, SendOwn, Cut, Due, Run, run}
-use Rattle.gateway.specs.declared.counts.Tally.{Tally}
-use Rattle.gateway.specs.Log.{Input, LineIn}
+use Rattle.command.specs.Calls.{Call, Judge, PutOnLine, Accept, Busy, Lose, Mirror, SendOwn, Cut, Run, after_call}
 use Rattle.gateway.specs.Objects.{has_objects}
-use Rattle.gateway.specs.Counting.{is_answer_type, nothing_counted, counted, one_mirrored, one_lost}
+use Rattle.gateway.specs.Counting.{is_answer_type}
 use Rattle.gateway.specs.Reports.{Setup}
+use Rattle.gateway.specs.Serial as serial
+use Rattle.gateway.specs.Serial.{Serial, first_serial, refusals, is_first_command, listed}
 
 pub record Works : Type 0 where
-  -- the line's primary station
-  pub line : Primary
-  -- what was done with commands, the newest first
-  pub calls : List Call
-  pub counts : Tally
-  -- the station whose link this step's silence took down, which commands are told of once the event is taken
-  pub silent : Option ℕ
+  pub serial : Serial
+  -- what became of commands, the newest first
+  pub history : History
   -- the step's timers and its request are still due
   pub is_due : Bool
 
--- where commands stand
-abbrev pub tasks_of : Setup → Works → Run
-tasks_of p w = run p.stations p.sizes p.select_ms w.calls
-
 abbrev pub first_works : Setup → Works
-first_works p = record { line = start p.link p.addresses; calls = []; counts = nothing_counted; silent = None; is_due = false }
+first_works p = record { serial = first_serial p; history = []; is_due = false }
+
+-- where commands stand
+abbrev pub tasks_of : Works → Run
+tasks_of w = record { state = w.serial.commands; history = w.history }
+
+-- what is told of commands once this is done with them, too
+abbrev pub told : Call → Works → History
+told call w = (after_call call (tasks_of w)).history
 
 -- Own answers
 
--- Answers are kept, one after another, up to the first that finds no place.
-abbrev pub kept_until : List (List ℕ) → tasks.State → tasks.State
-kept_until [] s = s
-kept_until (x ∷ xs) s = if has_room s then kept_until xs (tasks.offered x s) else tasks.offered x s
-
-abbrev pub keep_calls : List (List ℕ) → tasks.State → List Call → List Call
-keep_calls [] s calls = calls
-keep_calls (x ∷ xs) s calls = if has_room s then keep_calls xs (tasks.offered x s) (Own x ∷ calls) else Own x ∷ calls
-
--- each finds a place
-abbrev pub all_kept : List (List ℕ) → tasks.State → Bool
-all_kept [] s = true
-all_kept (x ∷ xs) s = has_room s && all_kept xs (tasks.offered x s)
+-- answers are kept, one after another, up to the first that finds no place
+abbrev pub told_kept : List (List ℕ) → tasks.State → History → History
+told_kept [] s h = h
+told_kept (x ∷ xs) s h = if has_room s then told_kept xs (tasks.offered x s) (Offered x (has_room s) ∷ h) else Offered x (has_room s) ∷ h
 
 -- an own answer of the open connection found no place
 abbrev pub is_overfull : History → Bool
@@ -69,10 +55,6 @@ is_overfull [] = false
 is_overfull (Offered octets false ∷ h) = true
 is_overfull (Ended ∷ h) = false
 is_overfull (entry ∷ h) = is_overfull h
-
-abbrev pub listed : Option (List ℕ) → List (List ℕ)
-listed None = []
-listed (Some x) = x ∷ []
 
 -- What came of an exchange
 
@@ -92,124 +74,107 @@ pub record IsPassedOn (sizes : Sizes) (v : AsduValue) (report : List ℕ) (piece
   pub full : AllButLast (λ piece. IsFull v piece) pieces
   pub number : length pieces ≡ parts sizes report
 
-abbrev pub with_call : Call → Works → Works
-with_call call w = record w { calls = call ∷ w.calls }
+-- a station's answer to a command
+abbrev pub told_mirror : (at : ℕ) → (is_running : Bool) → AsduValue → (pieces : List (List ℕ)) → Works → History
+told_mirror at true v pieces w = told_kept pieces (mirrors.mirrored v at w.serial.commands) (told (Mirror v at) w)
+told_mirror at false v pieces w = told (Mirror v at) w
 
--- A station's answer to a command: what it does to selections, and where data transfer runs it is passed on as own answers. Else
--- it is counted.
-abbrev pub mirrored_works : Setup → (at : ℕ) → (is_running : Bool) → AsduValue → List (List ℕ) → Works → Works
-mirrored_works p at true v pieces w = record w { calls = keep_calls pieces (tasks_of p (with_call (Mirror v at) w)).state (Mirror v at ∷ w.calls) }
-mirrored_works p at false v pieces w = record w { calls = Mirror v at ∷ w.calls; counts = one_mirrored w.counts }
+abbrev pub mirrored_works : (at : ℕ) → (is_running : Bool) → AsduValue → (pieces : List (List ℕ)) → Works → Works
+mirrored_works at is_running v pieces w = record w { serial = serial.mirrored at is_running v pieces w.serial; history = told_mirror at is_running v pieces w }
 
 abbrev pub LearnsReport : Setup → (at : ℕ) → (is_running is_of_command : Bool) → List ℕ → (before after : Works) → Type 0
 LearnsReport p at is_running true report w z =
-    (v : AsduValue) × (pieces : List (List ℕ)) × IsPassedOn p.sizes v report pieces × (z ≡ mirrored_works p at is_running v pieces w)
-LearnsReport p at is_running false report w z = z ≡ record w { counts = counted p.sizes report w.counts }
+    (v : AsduValue) × (pieces : List (List ℕ)) × IsPassedOn p.sizes v report pieces × (z ≡ mirrored_works at is_running v pieces w)
+LearnsReport p at is_running false report w z = z ≡ record w { serial = serial.reported p.sizes report w.serial }
 
--- the counts where a station's line is given up
-abbrev pub lost_counts : Setup → (station : ℕ) → Works → Tally
-lost_counts p station w = if is_used (line_of station (tasks_of p w).state) then one_lost w.counts else w.counts
+abbrev pub accepted_works : (station : ℕ) → Works → Works
+accepted_works station w = record w { serial = serial.accepted station w.serial; history = told (Accept station) w }
 
-abbrev pub given_up_works : Setup → (station : ℕ) → Works → Works
-given_up_works p station w = record w { calls = Lose station ∷ w.calls; counts = lost_counts p station w }
+abbrev pub given_up_works : (station : ℕ) → Works → Works
+given_up_works station w = record w { serial = serial.given_up station w.serial; history = told (Lose station) w }
 
 -- a busy station's command is answered
-abbrev pub refused_works : Setup → (station : ℕ) → Works → Works
-refused_works p station w = record w { calls = keep_calls (listed (refusal_of (line_of station (tasks_of p w).state))) (tasks_of p (with_call (Busy station) w)).state (Busy station ∷ w.calls) }
+abbrev pub refused_works : (station : ℕ) → Works → Works
+refused_works station w = record w {
+  serial = serial.refused station w.serial;
+  history = told_kept (refusals station w.serial) (tasks.given_up station w.serial.commands) (told (Busy station) w);
+}
 
 abbrev pub LearnsOf : Setup → (at : ℕ) → (is_running : Bool) → Outcome → (before after : Works) → Type 0
 LearnsOf p at is_running (outcome.Report station asdu) w z = LearnsReport p at is_running (is_command_report p.sizes asdu.items) asdu.items w z
-LearnsOf p at is_running (outcome.Accepted station) w z = z ≡ with_call (Accept station) w
-LearnsOf p at is_running (outcome.Busy station) w z = z ≡ refused_works p station w
-LearnsOf p at is_running (outcome.Down station) w z = z ≡ given_up_works p station w
+LearnsOf p at is_running (outcome.Accepted station) w z = z ≡ accepted_works station w
+LearnsOf p at is_running (outcome.Busy station) w z = z ≡ refused_works station w
+LearnsOf p at is_running (outcome.Down station) w z = z ≡ given_up_works station w
+LearnsOf p at is_running (outcome.StartedGap station session) w z = z ≡ record w { serial = serial.with_gap station session w.serial }
 LearnsOf p at is_running other w z = z ≡ w
 
 -- A frame that came, and one that goes out
 
-abbrev pub answer_calls : Option (List ℕ) → tasks.State → List Call → List Call
-answer_calls answer s calls = keep_calls (listed answer) s calls
-
 -- an ASDU of the connection is judged, and its answer, if it has one, is kept
-abbrev pub judged_calls : List ℕ → (now : ℕ) → tasks.State → List Call → List Call
-judged_calls asdu now s calls = answer_calls (judged asdu now s).0 (judged asdu now s).1 (Judge asdu now ∷ calls)
+abbrev pub told_judged : List ℕ → (now : ℕ) → Works → History
+told_judged asdu now w = told_kept (listed (judged asdu now w.serial.commands).0) (judged asdu now w.serial.commands).1 (told (Judge asdu now) w)
 
-abbrev pub heard_works : Setup → Apdu → (now : ℕ) → Works → Works
-heard_works p (I ns nr asdu) now w = record w { calls = judged_calls asdu.items now (tasks_of p w).state w.calls }
-heard_works p frame now w = w
+abbrev pub told_frame : Apdu → (now : ℕ) → Works → History
+told_frame (I ns nr asdu) now w = told_judged asdu.items now w
+told_frame frame now w = w.history
+
+abbrev pub heard_works : Apdu → (now : ℕ) → Works → Works
+heard_works frame now w = record w { serial = serial.judged frame now w.serial; history = told_frame frame now w }
 
 -- an own answer has gone out
+abbrev pub answered_works : Works → Works
+answered_works w = record w { serial = serial.answered w.serial; history = told SendOwn w }
+
 abbrev pub sent_works : Apdu → Works → Works
-sent_works (I ns nr asdu) w = if has_objects asdu.items then w else with_call SendOwn w
+sent_works (I ns nr asdu) w = if has_objects asdu.items then w else answered_works w
 sent_works frame w = w
 
 -- The end of a connection
 
--- commands that were never put on the line are taken back, and selections and own answers are gone
 abbrev pub cut_works : Works → Works
-cut_works w = record w { line = withdrawn w.line; calls = Cut ∷ w.calls }
+cut_works w = record w { serial = serial.cut w.serial; history = told Cut w }
 
 -- A step: its event, its timers, its request
 
--- the primary station once an event's octets came
-abbrev pub heard_by : Primary → Input → Primary
-heard_by q (LineIn octets) = received (front_of q.settings.size) q octets
-heard_by q event = q
+-- the octets of the line's event, before what came of them is learnt
+abbrev pub octets_works : (octets : List ℕ) → Works → Works
+octets_works octets w = record w { serial = serial.heard octets w.serial }
 
--- and its moment
-abbrev pub after_event : Primary → Input → (at : ℕ) → Primary
-after_event q event at = timed_out (heard_by q event) at
+-- an event's moment has come
+abbrev pub begun_works : (at : ℕ) → Works → Works
+begun_works at w = record w { serial = serial.timed at w.serial; is_due = true }
 
--- the station that is down
-abbrev pub silent_by : Outcome → Option ℕ
-silent_by (outcome.Down station) = Some station
-silent_by other = None
+-- what the line's silence ended is told
+abbrev pub told_silent : Option ℕ → Works → History
+told_silent None w = w.history
+told_silent (Some station) w = told (Lose station) w
 
-abbrev pub begun_works : Input → (at : ℕ) → Works → Works
-begun_works event at w = record w { line = after_event w.line event at; silent = silent_by (due_outcome (heard_by w.line event) at); is_due = true }
+abbrev pub settled_works : (at : ℕ) → Works → Works
+settled_works at w = record w { serial = serial.settled at w.serial; history = told_silent w.serial.silent w }
 
--- the command of a station that is silent is given up
-abbrev pub unless_silent : Setup → Option ℕ → Works → Works
-unless_silent p None w = w
-unless_silent p (Some station) w = given_up_works p station w
+-- all that comes before the step's request: commands are offered to the line
+abbrev pub ready_works : (at : ℕ) → Works → Works
+ready_works at w = let t : Works = settled_works at w in record t { serial = serial.offered t.serial }
 
-abbrev pub timed_works : (at : ℕ) → Works → Works
-timed_works at w = record w { calls = Due at ∷ w.calls; silent = None }
+-- the gap is told
+abbrev pub gapless_works : Works → Works
+gapless_works w = record w { serial = serial.without_gap w.serial }
 
--- the timers: what the line's silence ended is told, and selections end
-abbrev pub settled_works : Setup → (at : ℕ) → Works → Works
-settled_works p at w = timed_works at (unless_silent p w.silent w)
+abbrev pub told_put : (is_first : Bool) → (station : ℕ) → Works → History
+told_put true station w = told (PutOnLine station) w
+told_put false station w = w.history
 
--- the oldest command that waits for a station is offered to it
-abbrev pub offered_by : Option Waiting → (station : ℕ) → Primary → Primary
-offered_by None station q = q
-offered_by (Some w) station q = offered_to q station w.octets
-
--- the same for so many stations, from the first on
-abbrev pub offered_upto : (count : ℕ) → List Waiting → Primary → Primary
-offered_upto zero ws q = q
-offered_upto (suc k) ws q = offered_by (oldest k ws) k (offered_upto k ws q)
-
-abbrev pub with_offers : List Waiting → Works → Works
-with_offers ws w = record w { line = offered_upto (length w.line.stations) ws w.line }
-
--- all that comes before the step's request
-abbrev pub ready_works : Setup → (at : ℕ) → Works → Works
-ready_works p at w = with_offers (tasks_of p (settled_works p at w)).state.waiting (settled_works p at w)
-
--- a command that goes out for the first time
-abbrev pub is_first_command : Primary → Sending → Bool
-is_first_command q s = is_command s.request && not (is_held (station_at q.stations s.station).link)
-
-abbrev pub put_calls : Bool → (station : ℕ) → List Call → List Call
-put_calls true station calls = PutOnLine station ∷ calls
-put_calls false station calls = calls
-
+-- a request goes out
 abbrev pub asked_works : (at : ℕ) → (room : Bool) → Sending → Works → Works
-asked_works at room s w = record w { line = asked w.line at room; calls = put_calls (is_first_command w.line s) s.station w.calls; is_due = false }
+asked_works at room x w = record w {
+  serial = serial.asked at room (Some x) w.serial;
+  history = told_put (is_first_command w.serial.line x) x.station w;
+  is_due = false;
+}
 
 -- the step is done without a request
 abbrev pub unasked_works : (at : ℕ) → (room : Bool) → Works → Works
-unasked_works at room w = record w { line = asked w.line at room; is_due = false }
+unasked_works at room w = record w { serial = serial.asked at room None w.serial; is_due = false }
 
-abbrev pub done_works : Setup → (at : ℕ) → (room : Bool) → Works → Works
-done_works p at room w = if w.is_due then unasked_works at room (ready_works p at w) else w
+abbrev pub done_works : (at : ℕ) → (room : Bool) → Works → Works
+done_works at room w = if w.is_due then unasked_works at room (ready_works at w) else w

@@ -1,30 +1,31 @@
-//! The gateway's parts, and what each part of a step makes of them.
-ghost use Rattle.std.specs.Prelude.{◌≡◌, ◌<◌, ◌≤◌, [], length, map, IfOk, Some, None};
-ghost use Rattle.link.specs.declared.settings.LinkSettings.{LinkSettings};
+//! The gateway's two sides, and what each part of a step makes of them.
+ghost use Rattle.std.specs.Prelude.{◌≡◌, ◌≤◌, [], length, map, IfOk, Some};
 ghost use Rattle.link.specs.Primary.{start};
 ghost use Rattle.session.specs.Session.{new_session};
 ghost use Rattle.command.specs.State as tasks;
-ghost use Rattle.command.specs.State.{oldest};
 ghost use Rattle.events.specs.Queue.{empty, kept};
 ghost use Rattle.gateway.specs.Agrees.{Follows};
-ghost use Rattle.gateway.specs.Setups.{link_of, info_of, setup_of};
+ghost use Rattle.gateway.specs.Serial.{first_serial};
+ghost use Rattle.gateway.specs.Centre.{first_centre};
+ghost use Rattle.gateway.specs.Setups.{link_of, info_of, session_of, setup_of};
 ghost use Rattle.gateway.specs.declared.settings.Station.{Station};
 ghost use Rattle.gateway.specs.State.{counts_of, first_state, at_moment};
-ghost use Rattle.gateway.specs.Steps.{refused};
 
 mod centre;
 mod serial;
 
+use self::centre::CentreSide;
+use self::serial::SerialSide;
 use crate::config::Config;
 use crate::counts::{Counts, Tally};
-use crate::laws::{command_is_told, line_is_told, session_is_told};
+use crate::laws::line_is_told;
 use crate::settings::{LineSettings, Silence};
 use apci::{Apdu, Assembler};
 use asdu::Sizes;
-use command::{Commands, StationInfo};
+use command::{Commands, StationInfo, commands_keep_the_rules};
 use events::{Events, Kept};
 use link::{LinkSettings, Master, master_tells_the_log};
-use session::Session;
+use session::{Session, session_keeps_the_standard};
 use std::alloc::Global;
 use std::marker::Model;
 use thiserror::Error;
@@ -48,31 +49,30 @@ pub(crate) enum Found {
     Refused,
 }
 
-/// The gateway between a line and one connection at a time.
+/// The gateway between a line and one connection at a time: what it keeps of the line, what it keeps
+/// of the control centre, and the greatest moment so far.
 #[derive(Drop)]
 pub struct Gateway {
-    line: Master,
+    serial: SerialSide,
+    centre: CentreSide,
     sizes: Sizes,
-    events: Events,
-    session: Session,
-    assembler: Assembler,
     moment: u64,
-    counts: Tally,
-    commands: Commands,
-    /// The station whose link the step's silence took down.
-    silent: Option<usize>,
 }
 
 impl Model for Gateway {
-    ghost use Rattle.gateway.specs.State.{State, IsSound};
+    ghost use Rattle.gateway.specs.State.{State, HasPlaces};
 
     ghost Value = { State };
 
-    ghost view = { λ a. record { line = a.line; sizes = a.sizes; queue = a.events; session = a.session; so_far = a.assembler.so_far; moment = a.moment; counts = a.counts; commands = a.commands; silent = a.silent } };
+    ghost view = { λ a. record {
+      serial = a.serial;
+      centre = a.centre;
+      sizes = a.sizes;
+      moment = a.moment;
+    } };
 
-    // The pieces sent are those that the session counts as the queue's; the assembler isn't deaf; and while a poll is
-    // out, or is sent again at once, three places are free.
-    ghost invariant = { λ a. IsSound a.line a.events a.session a.assembler.so_far };
+    // While a poll is out, or is sent again at once, three places are free.
+    ghost invariant = { λ a. HasPlaces a.serial.line a.centre.queue };
 }
 
 /// What the line is set to.
@@ -90,7 +90,8 @@ fn link_settings(line: &LineSettings) -> LinkSettings
 
 /// The primary station of the line.
 fn master(alloc: Global, config: &Config) -> Result<Master, NoMemory>
-    ensures { IfOk result (λ m. m ≡ start (link_of config.now.line) (map (λ (s : Station). s.address) config.now.stations)) }
+    ensures { IfOk result (λ m. m ≡ start (link_of config.now.line)
+        (map (λ (s : Station). s.address) config.now.stations)) }
 {
     let addresses: Vec<u16> = config
         .stations()
@@ -119,7 +120,8 @@ fn station_infos(alloc: Global, config: &Config) -> Result<Vec<StationInfo>, NoM
 
 /// The commands to the stations.
 fn commands(alloc: Global, config: &Config) -> Result<Commands, NoMemory>
-    ensures { IfOk result (λ c. c ≡ tasks.new_state (map info_of config.now.stations) config.now.line.sizes config.now.tcp.select_ms) }
+    ensures { IfOk result (λ c. c ≡ tasks.new_state (map info_of config.now.stations)
+        config.now.line.sizes config.now.tcp.select_ms) }
 {
     let stations = station_infos(alloc, config)?;
     Commands::new(
@@ -140,10 +142,40 @@ fn empty_queue(alloc: Global, config: &Config) -> Result<Events, NoMemory>
 
 /// The session without a connection.
 fn closed_session(alloc: Global, config: &Config) -> Result<Session, NoMemory>
-    ensures { IfOk result (λ s. s ≡ new_session config.now.tcp.k config.now.tcp.w config.now.tcp.t1_ms config.now.tcp.t2_ms config.now.tcp.t3_ms) }
+    ensures { IfOk result (λ s. s ≡ new_session config.now.tcp.k config.now.tcp.w
+        config.now.tcp.t1_ms config.now.tcp.t2_ms config.now.tcp.t3_ms) }
 {
     let tcp = config.tcp();
     Session::new(alloc, tcp.k, tcp.w, tcp.t1_ms, tcp.t2_ms, tcp.t3_ms).map_err(|_| NoMemory)
+}
+
+/// The line's side of a new gateway.
+fn serial_side(alloc: Global, config: &Config) -> Result<SerialSide, NoMemory>
+    ensures { IfOk result (λ s. s ≡ first_serial (setup_of config.now)) }
+{
+    Ok(SerialSide {
+        line: master(alloc, config)?,
+        commands: commands(alloc, config)?,
+        counts: Tally {
+            skipped: 0,
+            mirrors: 0,
+            lost: 0,
+        },
+        silent: None,
+        gap: None,
+    })
+}
+
+/// The control centre's side of a new gateway.
+fn centre_side(alloc: Global, config: &Config) -> Result<CentreSide, NoMemory>
+    ensures { IfOk result (λ s.
+        s ≡ first_centre (session_of config.now.tcp) config.now.line.queue) }
+{
+    Ok(CentreSide {
+        session: closed_session(alloc, config)?,
+        assembler: Assembler::new(),
+        queue: empty_queue(alloc, config)?,
+    })
 }
 
 impl Gateway {
@@ -155,8 +187,8 @@ impl Gateway {
     {
         master_tells_the_log();
         line_is_told();
-        session_is_told();
-        command_is_told();
+        session_keeps_the_standard();
+        commands_keep_the_rules();
         let _stations = config.stations();
         let gateway = Gateway::at_first(alloc, config)?;
         Ok(gateway)
@@ -167,19 +199,10 @@ impl Gateway {
         ensures { IfOk result (λ s. s ≡ first_state config.now) }
     {
         Ok(Gateway {
-            line: master(alloc, config)?,
+            serial: serial_side(alloc, config)?,
+            centre: centre_side(alloc, config)?,
             sizes: config.line().sizes,
-            events: empty_queue(alloc, config)?,
-            session: closed_session(alloc, config)?,
-            assembler: Assembler::new(),
             moment: 0,
-            counts: Tally {
-                skipped: 0,
-                mirrors: 0,
-                lost: 0,
-            },
-            commands: commands(alloc, config)?,
-            silent: None,
         })
     }
 
@@ -191,20 +214,20 @@ impl Gateway {
             skipped,
             mirrors,
             lost,
-        } = self.counts;
+        } = self.serial.counts;
         Counts {
             skipped,
             mirrors,
             lost,
-            spoilt: self.line.spoilt(),
+            spoilt: self.serial.line.spoilt(),
         }
     }
 
     /// The pieces that no connection has acknowledged, oldest first: ASDUs in the sizes of the connection.
     pub fn kept(&self) -> Kept<'_>
-        ensures { result ≡ kept self.now.queue }
+        ensures { result ≡ kept self.now.centre.queue }
     {
-        self.events.kept()
+        self.centre.queue.kept()
     }
 
     /// Moments that go back count as the greatest so far, and one past the last as the last.

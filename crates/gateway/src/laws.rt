@@ -8,21 +8,14 @@ ghost use Rattle.gateway.specs.Connections.{Channel, present, ends, IsConnection
 ghost use Rattle.gateway.specs.Course.{Course, HasTakenAll, Runs};
 ghost use Rattle.gateway.specs.One.{AreOne};
 ghost use Rattle.gateway.specs.Traffic.{HasCause};
-ghost use Rattle.gateway.specs.CommandLaws.{CommandLaws};
 ghost use Rattle.gateway.specs.LineLaws.{LineLaws};
-ghost use Rattle.gateway.specs.SessionLaws.{SessionLaws};
 
 use apci::{one_front, spellings_cancel};
 use asdu::{objects_are_those_of_the_asdu, one_asdu_one_spelling};
-use command::{
-    commands_are_forwarded, executes_are_selected, own_answers_are_given,
-    own_answers_bear_no_objects, waiting_commands_stay,
-};
 use link::{
-    master_tells_the_log, next_changes_nothing, offers_wait, outcomes_bear_the_reports,
-    requests_are_read_back, requests_wait_their_turn, rests_mean,
+    gaps_are_told, master_tells_the_log, next_changes_nothing, offers_wait,
+    outcomes_bear_the_reports, requests_are_read_back, requests_wait_their_turn, rests_mean,
 };
-use session::{histories_keep_the_rules, timers_are_kept, transfer_is_controlled, window_is_kept};
 
 /// The octets of a connection have one reading: its frames, and what closes it, if anything does; but for a connection that was
 /// closed for want of a place for an own answer, whose octets alone don't tell at which frame: of a log `one_course` tells it.
@@ -69,25 +62,5 @@ pub(crate) fn line_is_told()
     rests_mean();
     next_changes_nothing();
     offers_wait();
-}
-
-/// What holds of commands after every list of calls.
-pub(crate) fn command_is_told()
-    ensures { CommandLaws }
-{
-    commands_are_forwarded();
-    executes_are_selected();
-    own_answers_are_given();
-    waiting_commands_stay();
-    own_answers_bear_no_objects();
-}
-
-/// What holds of the connection's session after every list of calls.
-pub(crate) fn session_is_told()
-    ensures { SessionLaws }
-{
-    histories_keep_the_rules();
-    transfer_is_controlled();
-    window_is_kept();
-    timers_are_kept();
+    gaps_are_told();
 }

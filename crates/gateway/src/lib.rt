@@ -23,6 +23,7 @@ mod config;
 mod counts;
 mod engine;
 mod entries;
+mod gaps;
 mod laws;
 mod ordering;
 mod ports;

@@ -28,6 +28,9 @@ pub enum Action<'a> {
     Tcp(&'a [u8]),
     /// The connection is closed.
     Close(Close),
+    /// A session of a station's link has ended, and its last report may be lost: the station by its
+    /// place among the settings, from 0, and the session numbered from 1.
+    Gap { station: usize, session: u64 },
 }
 
 /// What a port has next: an event with its moment in milliseconds, whose octets are the front of the buffer, or none.

@@ -102,6 +102,7 @@ fn stored(alloc: Global, now: u64, action: &Action<'_>) -> Result<Told, AllocErr
         Action::Line(octets) => Ok(Told::Line(now, Vec::from_slice(alloc, octets)?)),
         Action::Tcp(octets) => Ok(Told::Tcp(now, Vec::from_slice(alloc, octets)?)),
         Action::Close(cause) => Ok(Told::Close(now, number(*cause))),
+        Action::Gap { station, session } => Ok(Told::Gap(now, *station, *session)),
     }
 }
 

@@ -9,7 +9,7 @@ ghost use Rattle.gateway.specs.Log.{LogEntry, Went, LineIn, TcpOut, Opened, tell
 ghost use Rattle.gateway.specs.Ports.{input_of};
 ghost use Rattle.gateway.specs.Reports.{Setup};
 ghost use Rattle.gateway.specs.Traffic.{IsFaithful};
-ghost use Rattle.gateway.specs.State.{State, disconnected, connected};
+ghost use Rattle.gateway.specs.State.{State, disconnected, connected, with_session};
 ghost use Rattle.gateway.specs.Agrees.{IsClear, Tracks, Awaits, Meets, Leaves, Follows, HasCome, Rests, IsSpent, StaysInTime};
 ghost use Rattle.gateway.specs.Steps.{MayClose, HearsEvent, Begins};
 ghost use Rattle.gateway.specs.Phases.{Phase, Idle, Timed, Asked, IsFlushing};
@@ -50,8 +50,8 @@ impl Gateway {
     fn send_confirmation<P: Port>(&mut self, port: &mut P) -> bool
         requires { P.failed port.old < u64.MAX }
         ensures kept { (p : Setup) (unjudged : List ℕ) (phase : Phase) → IsFlushing phase → Tracks p self.old (P.log port.old) unjudged phase → Leaves result p self.new (P.log port.new) unjudged phase }
-        ensures open { self.new.session.connected ≡ self.old.session.connected }
-        ensures next { OnTrue result (self.new ≡ record self.old { session = after_confirm self.old.session }) }
+        ensures open { self.new.centre.session.connected ≡ self.old.centre.session.connected }
+        ensures next { OnTrue result (self.new ≡ with_session (after_confirm self.old.centre.session) self.old) }
         ensures events { events_told (P.log port.new) ≡ events_told (P.log port.old) }
         ensures script { P.script port.new ≡ P.script port.old }
         ensures cause { P.failed port.new ≡ P.failed port.old + (if result then 0 else 1) }
@@ -66,8 +66,8 @@ impl Gateway {
     fn send_confirmations<P: Port>(&mut self, port: &mut P) -> bool
         requires { P.failed port.old < u64.MAX }
         ensures kept { (p : Setup) (unjudged : List ℕ) (phase : Phase) → IsFlushing phase → Tracks p self.old (P.log port.old) unjudged phase → Leaves result p self.new (P.log port.new) unjudged phase }
-        ensures open { self.new.session.connected ≡ self.old.session.connected }
-        ensures confirmed { OnTrue result (IsConfirmed self.new.session) }
+        ensures open { self.new.centre.session.connected ≡ self.old.centre.session.connected }
+        ensures confirmed { OnTrue result (IsConfirmed self.new.centre.session) }
         ensures in_time { OnTrue result (StaysInTime self.old self.new) }
         ensures events { events_told (P.log port.new) ≡ events_told (P.log port.old) }
         ensures script { P.script port.new ≡ P.script port.old }
@@ -86,10 +86,10 @@ impl Gateway {
     /// Sends own answers and reports while the window is open.
     fn send_data<P: Port>(&mut self, port: &mut P) -> bool
         requires { P.failed port.old < u64.MAX }
-        ensures kept { (p : Setup) (unjudged : List ℕ) (phase : Phase) → IsFlushing phase → IsConfirmed self.old.session → Tracks p self.old (P.log port.old) unjudged phase → Leaves result p self.new (P.log port.new) unjudged phase }
-        ensures open { self.new.session.connected ≡ self.old.session.connected }
+        ensures kept { (p : Setup) (unjudged : List ℕ) (phase : Phase) → IsFlushing phase → IsConfirmed self.old.centre.session → Tracks p self.old (P.log port.old) unjudged phase → Leaves result p self.new (P.log port.new) unjudged phase }
+        ensures open { self.new.centre.session.connected ≡ self.old.centre.session.connected }
         ensures spent { OnTrue result (IsSpent self.new) }
-        ensures confirmed { OnTrue result (IsConfirmed self.old.session → IsConfirmed self.new.session) }
+        ensures confirmed { OnTrue result (IsConfirmed self.old.centre.session → IsConfirmed self.new.centre.session) }
         ensures in_time { OnTrue result (StaysInTime self.old self.new) }
         ensures events { events_told (P.log port.new) ≡ events_told (P.log port.old) }
         ensures script { P.script port.new ≡ P.script port.old }
@@ -108,8 +108,8 @@ impl Gateway {
     fn send_due<P: Port>(&mut self, port: &mut P) -> bool
         requires { P.failed port.old < u64.MAX }
         ensures kept { (p : Setup) (unjudged : List ℕ) (phase : Phase) → IsFlushing phase → IsClear self.old → Tracks p self.old (P.log port.old) unjudged phase → Leaves result p self.new (P.log port.new) unjudged phase }
-        ensures open { self.new.session.connected ≡ self.old.session.connected }
-        ensures next { OnTrue result (self.new ≡ record self.old { session = after_pull self.old.moment self.old.session }) }
+        ensures open { self.new.centre.session.connected ≡ self.old.centre.session.connected }
+        ensures next { OnTrue result (self.new ≡ with_session (after_pull self.old.moment self.old.centre.session) self.old) }
         ensures events { events_told (P.log port.new) ≡ events_told (P.log port.old) }
         ensures script { P.script port.new ≡ P.script port.old }
         ensures cause { P.failed port.new ≡ P.failed port.old + (if result then 0 else 1) }
@@ -124,10 +124,10 @@ impl Gateway {
     fn send_dues<P: Port>(&mut self, port: &mut P) -> bool
         requires { P.failed port.old < u64.MAX }
         ensures kept { (p : Setup) (unjudged : List ℕ) (phase : Phase) → IsFlushing phase → IsClear self.old → Tracks p self.old (P.log port.old) unjudged phase → Leaves result p self.new (P.log port.new) unjudged phase }
-        ensures open { self.new.session.connected ≡ self.old.session.connected }
+        ensures open { self.new.centre.session.connected ≡ self.old.centre.session.connected }
         ensures spent { OnTrue result (IsSpent self.old → IsSpent self.new) }
-        ensures confirmed { OnTrue result (IsConfirmed self.old.session → IsConfirmed self.new.session) }
-        ensures pulled { OnTrue result ((pulled self.new.moment self.new.session).0 ≡ None) }
+        ensures confirmed { OnTrue result (IsConfirmed self.old.centre.session → IsConfirmed self.new.centre.session) }
+        ensures pulled { OnTrue result ((pulled self.new.moment self.new.centre.session).0 ≡ None) }
         ensures in_time { OnTrue result (StaysInTime self.old self.new) }
         ensures events { events_told (P.log port.new) ≡ events_told (P.log port.old) }
         ensures script { P.script port.new ≡ P.script port.old }
@@ -144,10 +144,10 @@ impl Gateway {
     fn flush<P: Port>(&mut self, port: &mut P) -> bool
         requires { P.failed port.old < u64.MAX }
         ensures kept { (p : Setup) (unjudged : List ℕ) (phase : Phase) → IsFlushing phase → Tracks p self.old (P.log port.old) unjudged phase → Leaves result p self.new (P.log port.new) unjudged phase }
-        ensures open { self.new.session.connected ≡ self.old.session.connected }
+        ensures open { self.new.centre.session.connected ≡ self.old.centre.session.connected }
         ensures spent { OnTrue result (IsSpent self.new) }
-        ensures confirmed { OnTrue result (IsConfirmed self.new.session) }
-        ensures pulled { OnTrue result ((pulled self.new.moment self.new.session).0 ≡ None) }
+        ensures confirmed { OnTrue result (IsConfirmed self.new.centre.session) }
+        ensures pulled { OnTrue result ((pulled self.new.moment self.new.centre.session).0 ≡ None) }
         ensures in_time { OnTrue result (StaysInTime self.old self.new) }
         ensures events { events_told (P.log port.new) ≡ events_told (P.log port.old) }
         ensures script { P.script port.new ≡ P.script port.old }
@@ -183,10 +183,10 @@ impl Gateway {
     fn take_apdu<P: Port>(&mut self, apdu: ApduRef<'_>, port: &mut P) -> Outcome
         requires ready { P.failed port.old < u64.MAX }
         requires fits { Fits (owned apdu) }
-        requires open { self.old.session.connected ≡ true }
-        requires whole { self.old.so_far ≡ Some [] }
+        requires open { self.old.centre.session.connected ≡ true }
+        requires whole { self.old.centre.so_far ≡ Some [] }
         ensures kept { (p : Setup) (rest : List ℕ) → Meets p self.old (P.log port.old) (spelling (owned apdu.entry) ++ rest) rest → Goes result p self.new (P.log port.new) rest }
-        ensures open { IsOnward result (self.new.session.connected ≡ true) }
+        ensures open { IsOnward result (self.new.centre.session.connected ≡ true) }
         ensures events { events_told (P.log port.new) ≡ events_told (P.log port.old) }
         ensures script { P.script port.new ≡ P.script port.old }
         ensures cause { P.failed port.new ≡ P.failed port.old + faults_in result }
@@ -206,9 +206,9 @@ impl Gateway {
     fn take_front<P: Port>(&mut self, octets: &[u8], port: &mut P) -> (usize, Outcome)
         requires ready { P.failed port.old < u64.MAX }
         requires some { 0 < length octets.now }
-        requires open { self.old.session.connected ≡ true }
+        requires open { self.old.centre.session.connected ≡ true }
         ensures kept { (p : Setup) → Awaits p self.old (P.log port.old) octets.now → Goes result.1 p self.new (P.log port.new) (drop result.0 octets.now) }
-        ensures open { IsOnward result.1 (self.new.session.connected ≡ true) }
+        ensures open { IsOnward result.1 (self.new.centre.session.connected ≡ true) }
         ensures progress { IsOnward result.1 ((0 < result.0) × (result.0 ≤ length octets.now)) }
         ensures events { events_told (P.log port.new) ≡ events_told (P.log port.old) }
         ensures script { P.script port.new ≡ P.script port.old }
@@ -242,7 +242,7 @@ impl Gateway {
     /// Takes the octets of a piece.
     fn receive<P: Port>(&mut self, octets: &[u8], port: &mut P) -> bool
         requires ready { P.failed port.old < u64.MAX }
-        requires open { self.old.session.connected ≡ true }
+        requires open { self.old.centre.session.connected ≡ true }
         ensures kept { (p : Setup) → Awaits p self.old (P.log port.old) octets.now → Leaves result p self.new (P.log port.new) [] Idle }
         ensures events { events_told (P.log port.new) ≡ events_told (P.log port.old) }
         ensures script { P.script port.new ≡ P.script port.old }
@@ -279,7 +279,7 @@ impl Gateway {
     /// Begins a connection, and closes the one before it.
     fn replace<P: Port>(&mut self, port: &mut P) -> bool
         requires ready { P.failed port.old < u64.MAX }
-        requires open { self.old.session.connected ≡ true }
+        requires open { self.old.centre.session.connected ≡ true }
         ensures kept { (p : Setup) (s : State) (now : ℕ) (fits : Bool) → Begins s now Opened fits self.old → IfSome (P.log port.old) (HasCome p s now Opened) → Leaves result p self.new (P.log port.new) [] Idle }
         ensures events { events_told (P.log port.new) ≡ events_told (P.log port.old) }
         ensures script { P.script port.new ≡ P.script port.old }
@@ -355,7 +355,7 @@ impl Gateway {
     /// Takes the octets of a piece, where a connection is open.
     fn take_bytes<P: Port>(&mut self, octets: &[u8], port: &mut P) -> bool
         requires { P.failed port.old < u64.MAX }
-        ensures kept { (p : Setup) → Awaits p self.old (P.log port.old) (if self.old.session.connected then octets.now else []) → Leaves result p self.new (P.log port.new) [] Idle }
+        ensures kept { (p : Setup) → Awaits p self.old (P.log port.old) (if self.old.centre.session.connected then octets.now else []) → Leaves result p self.new (P.log port.new) [] Idle }
         ensures events { events_told (P.log port.new) ≡ events_told (P.log port.old) }
         ensures script { P.script port.new ≡ P.script port.old }
         ensures cause { P.failed port.new ≡ P.failed port.old + (if result then 0 else 1) }
@@ -370,7 +370,7 @@ impl Gateway {
     fn watch<P: Port>(&mut self, port: &mut P) -> bool
         requires { P.failed port.old < u64.MAX }
         ensures kept { (p : Setup) → Tracks p self.old (P.log port.old) [] Timed → Leaves result p self.new (P.log port.new) [] Timed }
-        ensures in_time { OnTrue result (IsInTime self.new.moment self.new.session) }
+        ensures in_time { OnTrue result (IsInTime self.new.moment self.new.centre.session) }
         ensures events { events_told (P.log port.new) ≡ events_told (P.log port.old) }
         ensures script { P.script port.new ≡ P.script port.old }
         ensures cause { P.failed port.new ≡ P.failed port.old + (if result then 0 else 1) }
@@ -381,11 +381,36 @@ impl Gateway {
         }
     }
 
-    /// Puts out the line's next request, if there is one.
-    fn ask<P: Port>(&mut self, port: &mut P) -> bool
+    /// Tells the gap of the session that the step's octets have ended, if there is one.
+    fn tell_gap<P: Port>(&mut self, port: &mut P) -> bool
         requires { P.failed port.old < u64.MAX }
+        ensures kept { (p : Setup) → Tracks p self.old (P.log port.old) [] Timed →
+            Leaves result p self.new (P.log port.new) [] Timed }
+        ensures told { self.new.serial.gap ≡ None }
+        ensures session { self.new.centre.session ≡ self.old.centre.session }
+        ensures moment { self.new.moment ≡ self.old.moment }
+        ensures events { events_told (P.log port.new) ≡ events_told (P.log port.old) }
+        ensures script { P.script port.new ≡ P.script port.old }
+        ensures cause { P.failed port.new ≡ P.failed port.old + (if result then 0 else 1) }
+    {
+        match self.take_gap() {
+            None => true,
+            Some(gap) => port.put(
+                self.moment(),
+                &Action::Gap {
+                    station: gap.station,
+                    session: gap.session,
+                },
+            ),
+        }
+    }
+
+    /// Puts out the line's next request, if there is one, once each gap is told.
+    fn ask<P: Port>(&mut self, port: &mut P) -> bool
+        requires ready { P.failed port.old < u64.MAX }
+        requires told { self.old.serial.gap ≡ None }
         ensures kept { (p : Setup) → Tracks p self.old (P.log port.old) [] Timed → Leaves result p self.new (P.log port.new) [] Asked }
-        ensures session { self.new.session ≡ self.old.session }
+        ensures session { self.new.centre.session ≡ self.old.centre.session }
         ensures moment { self.new.moment ≡ self.old.moment }
         ensures events { events_told (P.log port.new) ≡ events_told (P.log port.old) }
         ensures script { P.script port.new ≡ P.script port.old }
@@ -419,6 +444,9 @@ impl Gateway {
         }
         self.settle();
         if !self.watch(port) {
+            return false;
+        }
+        if !self.tell_gap(port) {
             return false;
         }
         if !self.ask(port) {

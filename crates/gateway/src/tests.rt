@@ -148,6 +148,12 @@ fn is_row(alloc: Global, told: &Told, row: &Row<'_>) -> Result<bool, AllocError>
         Told::Close(now, cause) => row.1 == 'X'
             && *now == row.0
             && row.2.as_bytes() == [b'0'.wrapping_add(*cause)].as_slice(),
+        Told::Gap(now, station, session) => row.1 == 'G'
+            && *now == row.0
+            && match octets.as_slice() {
+                [of, ended] => usize::from(*of) == *station && u64::from(*ended) == *session,
+                _ => false,
+            },
     })
 }
 
@@ -386,8 +392,20 @@ fn waiting_class_1_data_are_polled(rt: HostRuntime) -> Result<(), Fail> {
 fn a_silent_station_is_reset(rt: HostRuntime) -> Result<(), Fail> {
     let alloc = rt.alloc();
     let config = config_of(alloc, IoaSize::Two, 100, 1, Silence::Reset, &[FIRST])?;
-    let silence = [(220, 'T', ""), (420, 'T', "")];
-    let out = [(220, 'S', "107B017C16"), (420, 'S', "1049014A16")];
+    // The poll has no answer, so that the session which the next reset ends has a gap.
+    let silence = [
+        (220, 'T', ""),
+        (420, 'T', ""),
+        (430, 'S', "100B010C16"),
+        (440, 'S', "E5"),
+    ];
+    let out = [
+        (220, 'S', "107B017C16"),
+        (420, 'S', "1049014A16"),
+        (430, 'S', "1040014116"),
+        (440, 'G', "0001"),
+        (440, 'S', "107B017C16"),
+    ];
     assert!(rt; runs(alloc, &config, &OPENING, &silence, &OPENED, &out)?);
     Ok(())
 }

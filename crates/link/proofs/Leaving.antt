@@ -8,7 +8,8 @@ use Rattle.link.specs.Answers.{Service, Frame, Single, Fixed, Data, Class1, Clas
 use Rattle.link.specs.Exchanges.{Sending, whole_of}
 use Rattle.link.specs.Procedure.{LinkSettings, Link, Down, Available, Next, Held, missed_so_far, after_answer, after_silence, has_repeats}
 use Rattle.link.specs.Turns.{StationState, Phase, Starting, Commanding, Polling, Class1Polling, Over, no_station, station_at, is_poll, wants, polls_from, commands_from, next_of, wanted_by, Wanted, Chosen}
-use Rattle.link.specs.Primary.{Outstanding, Primary, choice, after_choice, asked_from, asked, sending_by, sending_from, sending, station_answered, answered, answer_at, said_by, open_octets, took, with_octets, received_after, received_from, received, outcome_by, outcome_of, outcome_at, outcome_after, outcome_from, received_outcome, station_unanswered, unanswered, is_late, due_from, timed_out, may_offer, with_offer, offered_to, without_offer, withdrawn}
+use Rattle.link.specs.Primary.{Outstanding, Primary, choice, after_choice, asked_from, asked, sending_by, sending_from, sending, station_answered, answered, answer_at, said_by, open_octets, took, with_octets, received_after, received_from, received, outcome_by, outcome_of, outcome_at, outcome_after, outcome_from, received_outcome, station_unanswered, unanswered, is_late, due_from, timed_out, may_offer, with_offer, offered_to, without_offer, withdrawn, Outcome, turn_gap, started, with_gap}
+use Rattle.link.specs.declared.outcome.Outcome.TheVariants as outcome
 use Rattle.link.specs.Leave.{is_poll_request, holds_poll, is_polling_by, is_polling, is_report}
 use Rattle.link.proofs.Links.{set_view}
 use Rattle.link.proofs.Turning.{present, goes_on, passes_on}
@@ -325,6 +326,21 @@ reported station (Counted fcb service) Busy h = cc
 reported station (Counted fcb service) NoData h = cc
 reported station (Counted fcb service) Unable h = cc
 
+started_no : (station : ℕ) (gap : Option ℕ) → is_report (started station gap) ≡ false
+started_no station None = refl
+started_no station (Some session) = refl
+
+-- A gap is no report.
+gap_no : (gap : Option ℕ) (told : Outcome) → is_report (with_gap gap told) ≡ is_report told
+gap_no gap (outcome.Started station) = started_no station gap
+gap_no gap (outcome.StartedGap station session) = refl
+gap_no gap outcome.None = refl
+gap_no gap (outcome.Report station asdu) = refl
+gap_no gap (outcome.Empty station) = refl
+gap_no gap (outcome.Accepted station) = refl
+gap_no gap (outcome.Busy station) = refl
+gap_no gap (outcome.Down station) = refl
+
 pub report : (front : List ℕ → Front) (p : Primary) (octets : List ℕ) → is_report (received_outcome front p octets) ≡ true →
     (is_polling p ≡ true) × (is_polling (received front p octets) ≡ false)
 report front p octets is = go p.outstanding refl is
@@ -342,7 +358,8 @@ report front p octets is = go p.outstanding refl is
     is_taken : (o : Outstanding) → p.outstanding ≡ Some o → (so_far : Option (List ℕ)) (m : Option Frame) → is_report (outcome_at p o m) ≡ true →
         (is_polling p ≡ true) × (is_polling (took p (with_octets octets o) so_far m) ≡ false)
     is_taken o e so_far None h = cc
-    is_taken o e so_far (Some frame) h = said o e frame (answer_at p o frame) refl h
+    is_taken o e so_far (Some frame) h =
+        said o e frame (answer_at p o frame) refl (sym (gap_no (turn_gap p) (outcome_of p.turn o.request (answer_at p o frame))) ∙ h)
 
     heard : (o : Outstanding) → p.outstanding ≡ Some o → (before : Option (List ℕ)) → is_report (outcome_after front p o before octets) ≡ true →
         (is_polling p ≡ true) × (is_polling (received_after front p (with_octets octets o) before octets) ≡ false)

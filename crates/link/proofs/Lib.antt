@@ -24,6 +24,8 @@ pub mod Turning
 pub mod Leaving
 pub mod Resting
 pub mod Flagging
+pub mod OneMore
+pub mod GapsTold
 pub mod Heeding
 pub mod Visiting
 pub mod VisitRuns

@@ -4,9 +4,10 @@ use Rattle.ft12.specs.declared.frame.Front.{Front}
 use Rattle.ft12.specs.declared.frame.Front.TheVariants.{Whole, More, Never}
 use Rattle.link.specs.Answers.{Asked, Answer, answer_of}
 use Rattle.link.specs.Exchanges.{OpenExchange, Exchanges, IsOutstanding, answer_to, whole_of, view, views, with_station, heard_octets, timed}
+use Rattle.link.specs.Gaps.{gap_at}
 use Rattle.link.specs.Procedure.{LinkSettings, Link, Down, after_silence, link_after}
 use Rattle.link.specs.Turns.{station_at}
-use Rattle.link.specs.Primary.{Outstanding, Primary, received_from, received, outcome_of, outcome_at, outcome_after, outcome_from, received_outcome, is_late, due_from, timed_out, due_outcome, due_outcome_from, miss_outcome, unanswered}
+use Rattle.link.specs.Primary.{Outstanding, Primary, received_from, received, outcome_of, outcome_at, outcome_after, outcome_from, received_outcome, is_late, due_from, timed_out, due_outcome, due_outcome_from, miss_outcome, unanswered, gap_of, turn_gap, with_gap}
 use Rattle.link.specs.declared.outcome.Outcome.TheVariants as outcome
 use Rattle.link.specs.Telling.{IsHeard, IsAwaited, IsOver, IsCurrent, TellsBy}
 use Rattle.link.specs.Runs.{silence_outcome}
@@ -40,28 +41,38 @@ awaited_at front addresses turn (Some q) x w out = (q, refl, w)
 
 pub told_octets : (front : List ℕ → Front) (settings : LinkSettings) (addresses : List ℕ) (p : Primary) (e : Exchanges) (octets : List ℕ) (x : OpenExchange) →
     TellsBy front settings addresses p e → e.current ≡ Some x → IsOutstanding (slice_index addresses x.station) (view front x).exchange →
-    received_outcome front p octets ≡ outcome_of x.station x.request (answer_to (slice_index addresses x.station) (view front (heard_octets octets x)).exchange)
+    received_outcome front p octets
+    ≡ with_gap (gap_at front addresses x.station e)
+    (outcome_of x.station x.request (answer_to (slice_index addresses x.station) (view front (heard_octets octets x)).exchange))
 told_octets front settings addresses p e octets x t latest out =
     let a = awaited_at front addresses p.turn p.outstanding x (subst (λ (c : Option OpenExchange). IsCurrent front addresses p.turn p.outstanding c) latest t.current) out in
     ap (λ (o : Option Outstanding). outcome_from front p o octets) a.1 ∙ go a.0 a.2
   where
     go : (q : Outstanding) → IsAwaited front (slice_index addresses p.turn) p.turn q x →
-        outcome_after front p q q.heard octets ≡ outcome_of x.station x.request (answer_to (slice_index addresses x.station) (view front (heard_octets octets x)).exchange)
+        outcome_after front p q q.heard octets
+        ≡ with_gap (gap_at front addresses x.station e)
+        (outcome_of x.station x.request (answer_to (slice_index addresses x.station) (view front (heard_octets octets x)).exchange))
     go q w =
         by_heard q.heard w.heard
-        ∙ ap (λ (i : ℕ). outcome_of i x.request (option_and_then (answer_of (slice_index addresses i) x.request) (whole_of (front (x.octets ++ octets))))) (sym w.station)
-        ∙ ap (λ (z : OpenExchange). outcome_of x.station x.request (answer_to (slice_index addresses x.station) (view front z).exchange)) (sym (heard_open octets x w.waits))
+        ∙ ap (λ (g : Option ℕ). with_gap g (outcome_of p.turn x.request (option_and_then (answer_of (slice_index addresses p.turn) x.request) (whole_of (front (x.octets ++ octets)))))) gap
+        ∙ ap (λ (i : ℕ). with_gap (gap_at front addresses i e) (outcome_of i x.request (option_and_then (answer_of (slice_index addresses i) x.request) (whole_of (front (x.octets ++ octets)))))) (sym w.station)
+        ∙ ap (λ (z : OpenExchange). with_gap (gap_at front addresses x.station e) (outcome_of x.station x.request (answer_to (slice_index addresses x.station) (view front z).exchange))) (sym (heard_open octets x w.waits))
       where
-        by_front : (f : Front) → outcome_at p q (whole_of f) ≡ outcome_of p.turn x.request (option_and_then (answer_of (slice_index addresses p.turn) x.request) (whole_of f))
+        gap : turn_gap p ≡ gap_at front addresses p.turn e
+        gap = ap gap_of (sym (t.sessions p.turn))
+
+        by_front : (f : Front) →
+            outcome_at p q (whole_of f) ≡ with_gap (turn_gap p) (outcome_of p.turn x.request (option_and_then (answer_of (slice_index addresses p.turn) x.request) (whole_of f)))
         by_front More = refl
         by_front (Never place why) = refl
         by_front (Whole frame n) =
-            ap (λ (a : ℕ). outcome_of p.turn q.request (answer_of a q.request frame)) (t.address p.turn)
-            ∙ ap (λ (r : Asked). outcome_of p.turn r (answer_of (slice_index addresses p.turn) r frame)) (sym w.request)
+            ap (λ (a : ℕ). with_gap (turn_gap p) (outcome_of p.turn q.request (answer_of a q.request frame))) (t.address p.turn)
+            ∙ ap (λ (r : Asked). with_gap (turn_gap p) (outcome_of p.turn r (answer_of (slice_index addresses p.turn) r frame))) (sym w.request)
 
         by_heard : (h : Option (List ℕ)) → IsHeard front (slice_index addresses p.turn) x h →
-            outcome_after front p q h octets ≡ outcome_of p.turn x.request (option_and_then (answer_of (slice_index addresses p.turn) x.request) (whole_of (front (x.octets ++ octets))))
-        by_heard None said = ap (λ (m : Option Answer). outcome_of p.turn x.request m) (sym (said octets))
+            outcome_after front p q h octets
+            ≡ with_gap (turn_gap p) (outcome_of p.turn x.request (option_and_then (answer_of (slice_index addresses p.turn) x.request) (whole_of (front (x.octets ++ octets)))))
+        by_heard None said = ap (λ (m : Option Answer). with_gap (turn_gap p) (outcome_of p.turn x.request m)) (sym (said octets))
         by_heard (Some before) so = ap (λ (b : List ℕ). outcome_at p q (whole_of (front (b ++ octets)))) so.0 ∙ by_front (front (x.octets ++ octets))
 
 -- nothing is outstanding

@@ -6,7 +6,8 @@ use Rattle.link.specs.Answers.{Asked, Status, Reset, Counted, Answer, Ready, Con
 use Rattle.link.specs.Exchanges.{LineExchange, OpenExchange, Exchanges, Sending, answer_to, as_list, whole_of, view, views, heard_octets, heard_current, timed_current, begun_by, report_by, reports_of, reports_of_exchanges}
 use Rattle.link.specs.Procedure.{LinkSettings}
 use Rattle.link.specs.Turns.{station_at}
-use Rattle.link.specs.Primary.{Outstanding, Primary, answer_at, outcome_of, outcome_at, outcome_after, outcome_from, received_outcome}
+use Rattle.link.specs.Primary.{Outstanding, Primary, answer_at, outcome_of, outcome_at, outcome_after, outcome_from, received_outcome, Outcome, turn_gap, started, with_gap}
+use Rattle.link.specs.declared.outcome.Outcome.TheVariants as outcome
 use Rattle.link.specs.Telling.{IsHeard, IsOver, IsCurrent, TellsBy, report_in}
 use Rattle.link.proofs.Links.{views-append}
 use Rattle.link.proofs.Telling.{said_now, grown, heard_open, heard_closed}
@@ -53,6 +54,21 @@ told_report station (Counted fcb service) (Some Busy) = refl
 told_report station (Counted fcb service) (Some (Report asdu)) = refl
 told_report station (Counted fcb service) (Some NoData) = refl
 told_report station (Counted fcb service) (Some Unable) = refl
+
+-- A gap bears none.
+start_bears : (station : ℕ) (gap : Option ℕ) → report_in (started station gap) ≡ []
+start_bears station None = refl
+start_bears station (Some session) = refl
+
+gap_bears : (gap : Option ℕ) (told : Outcome) → report_in (with_gap gap told) ≡ report_in told
+gap_bears gap (outcome.Started station) = start_bears station gap
+gap_bears gap (outcome.StartedGap station session) = refl
+gap_bears gap outcome.None = refl
+gap_bears gap (outcome.Report station asdu) = refl
+gap_bears gap (outcome.Empty station) = refl
+gap_bears gap (outcome.Accepted station) = refl
+gap_bears gap (outcome.Busy station) = refl
+gap_bears gap (outcome.Down station) = refl
 
 -- the latest exchange says more
 said_more : (front : List ℕ → Front) (address : ℕ → ℕ) (ended : List OpenExchange) (x y : OpenExchange) (told : List (ℕ × List ℕ)) → y.station ≡ x.station →
@@ -130,7 +146,7 @@ hear_reports front settings addresses p ended cur octets t = go p.outstanding cu
             ∙ ap (λ (m : Option Answer). report_by x.station m)
             (here (Whole frame n) ∙ ap (λ (a : ℕ). answer_of a x.request frame) (sym (t.address p.turn)) ∙ ap (λ (r : Asked). answer_of (station_at p.stations p.turn).address r frame) w.request)
             ∙ ap (λ (i : ℕ). report_by i (answer_at p q frame)) w.station
-            ∙ sym (told_report p.turn q.request (answer_at p q frame))
+            ∙ sym (gap_bears (turn_gap p) (outcome_of p.turn q.request (answer_at p q frame)) ∙ told_report p.turn q.request (answer_at p q frame))
 
         by_heard : (h : Option (List ℕ)) → IsHeard front (slice_index addresses p.turn) x h →
             report_by x.station (answer_in front (λ i. slice_index addresses i) (grown x octets))

@@ -9,14 +9,15 @@ use Rattle.link.specs.Exchanges.{OpenExchange, Exchanges, no_exchanges, as_list,
 use Rattle.link.specs.Flags.{clear, flags_in}
 use Rattle.link.specs.Procedure.{LinkSettings, Link, Down, MaySend, after_outcome, after_answer, after_silence}
 use Rattle.link.specs.Requests.{IsUserData, FitsAddress, FitsAsked}
-use Rattle.link.specs.Turns.{StationState, Chosen, station_at}
-use Rattle.link.specs.Primary.{Outstanding, Primary, start, station_down, choice, station_asked, after_choice, asked_from, asked, sending_from, sending_by, sending, acd_of, dfc_of, station_answered, awaits, answer_at, said_by, open_octets, took, with_octets, received_after, received_from, received, station_unanswered, unanswered, is_late, due_from, timed_out, may_offer, with_offer, offered_to, without_offer, withdrawn}
+use Rattle.link.specs.Turns.{StationState, no_session, Chosen, station_at}
+use Rattle.link.specs.Primary.{Outstanding, Primary, start, station_down, choice, station_asked, after_choice, asked_from, asked, sending_from, sending_by, sending, acd_of, dfc_of, session_answered, station_answered, awaits, answer_at, said_by, open_octets, took, with_octets, received_after, received_from, received, station_unanswered, unanswered, is_late, due_from, timed_out, may_offer, with_offer, offered_to, without_offer, withdrawn}
 use Rattle.link.specs.Holding.{FitsOutstanding}
-use Rattle.link.specs.Telling.{IsStable, IsSaid, IsAllowed, IsHeard, IsOver, IsCurrent, past, AreKept, AreLinks, flags_of, AreFlags, AreSpoilt, TellsBy}
+use Rattle.link.specs.Telling.{IsStable, IsSaid, IsAllowed, IsHeard, IsOver, IsCurrent, past, AreKept, AreLinks, flags_of, AreFlags, AreSessions, AreSpoilt, TellsBy}
 use Rattle.link.proofs.Fitting.{FitStations, station_fits, set_fits, down_fits, withdrawn_fits, asked_fits, offered_fits, answered_fits, unanswered_fits, length-down}
 use Rattle.link.proofs.Choice.{MayChooseIt, choice_may}
 use Rattle.link.proofs.Links.{set_view, grown_keeps, begun_keeps, ended_links, alike_links}
 use Rattle.link.proofs.Flagging.{unanswered_flags, alike_flags, answered_flags}
+use Rattle.link.proofs.OneMore.{begun_sessions, alike_sessions, answered_sessions}
 use Rattle.link.proofs.Spoilt.{open_push, answered_push, missed_push, more_octets}
 
 nil : (xs : List ℕ) → xs ++ [] ≡ xs
@@ -52,9 +53,10 @@ same_state : (front : List ℕ → Front) (settings : LinkSettings) (addresses :
     IsCurrent front addresses p.turn o cur' → AreKept front settings addresses (ended ++ as_list cur') →
     AreLinks front settings addresses p.stations (past o (record { ended = ended; current = cur' })) →
     AreFlags front addresses p.stations (ended ++ as_list cur') →
+    AreSessions front addresses p.stations (ended ++ as_list cur') →
     spoilt_count front (λ i. slice_index addresses i) (ended ++ as_list cur') ≡ spoilt_count front (λ i. slice_index addresses i) (ended ++ as_list cur) →
     TellsBy front settings addresses p (record { ended = ended; current = cur' })
-same_state front settings addresses p ended cur cur' o is t current keeps links flags count = record {
+same_state front settings addresses p ended cur cur' o is t current keeps links flags sessions count = record {
   settings_are = t.settings_are;
   fits = t.fits;
   count = t.count;
@@ -64,6 +66,7 @@ same_state front settings addresses p ended cur cur' o is t current keeps links 
   keeps = keeps;
   links = subst (λ (q : Option Outstanding). AreLinks front settings addresses p.stations (past q (record { ended = ended; current = cur' }))) (sym is) links;
   flags = flags;
+  sessions = sessions;
   spoilt = t.spoilt ∙ ap saturated (sym count);
 }
 
@@ -73,7 +76,7 @@ pub links_at : (front : List ℕ → Front) (settings : LinkSettings) (addresses
 links_at front settings addresses p e o is t = subst (λ (q : Option Outstanding). AreLinks front settings addresses p.stations (past q e)) is t.links
 
 -- what is awaited isn't answered
-unheard : (front : List ℕ → Front) (a : ℕ) (x : OpenExchange) (h : Option (List ℕ)) → IsHeard front a x h →
+pub unheard : (front : List ℕ → Front) (a : ℕ) (x : OpenExchange) (h : Option (List ℕ)) → IsHeard front a x h →
     option_and_then (answer_of a x.request) (whole_of (front x.octets)) ≡ None
 unheard front a x (Some octets) m = ap (λ (f : Front). option_and_then (answer_of a x.request) (whole_of f)) m.1
 unheard front a x None said = said_now front a x None said
@@ -113,6 +116,7 @@ ask_tells front settings addresses p e now may_poll stable t = go p.outstanding 
           keeps = t.keeps;
           links = t.links;
           flags = t.flags;
+          sessions = t.sessions;
           spoilt = t.spoilt;
         }
         choose (Some c) may =
@@ -138,6 +142,8 @@ ask_tells front settings addresses p e now may_poll stable t = go p.outstanding 
                   unanswered_flags front addresses (e.ended ++ as_list e.current) x
                   (ap (λ (f : Front). option_and_then (answer_of (slice_index addresses x.station) x.request) (whole_of f)) stable.nothing) i
                   ∙ t.flags i ∙ sym (set_view flags_of p.stations c.station s refl i);
+              sessions = begun_sessions front addresses p.stations (e.ended ++ as_list e.current) x s may.within t.sessions
+                  (ap (λ (f : Front). option_and_then (answer_of (slice_index addresses x.station) x.request) (whole_of f)) stable.nothing) refl;
               spoilt = t.spoilt ∙ ap saturated (sym (open_push front (λ i. slice_index addresses i) (e.ended ++ as_list e.current) x refl));
             }
 
@@ -176,6 +182,7 @@ due_tells front settings addresses p ended cur at t = go p.outstanding cur refl 
             (λ (l : Link). ap (λ (m : Option Answer). after_outcome settings m (view front (timed settings.answer_ms at x)).exchange l) e
             ∙ ap (λ (m : Option Answer). after_outcome settings m (view front x).exchange l) (sym e)) i ∙ links i)
             (λ i. alike_flags front addresses ended x (timed settings.answer_ms at x) refl refl refl i ∙ t.flags i)
+            (λ i. alike_sessions front addresses ended x (timed settings.answer_ms at x) refl refl refl i ∙ t.sessions i)
             (answered_push front (λ i. slice_index addresses i) ended (timed settings.answer_ms at x) a.0 e
             ∙ sym (answered_push front (λ i. slice_index addresses i) ended x a.0 e))
     go (Some q) (Some x) is t w = late (is_late p q at) refl
@@ -198,6 +205,7 @@ due_tells front settings addresses p ended cur at t = go p.outstanding cur refl 
             (record { station = w.station; request = w.request; since = w.since; waits = closes false e; heard = same_heard q.heard w.heard; has_octets = w.has_octets })
             (grown_keeps front settings addresses ended x (timed settings.answer_ms at x) refl refl t.keeps) links
             (λ i. alike_flags front addresses ended x (timed settings.answer_ms at x) refl refl refl i ∙ t.flags i)
+            (λ i. alike_sessions front addresses ended x (timed settings.answer_ms at x) refl refl refl i ∙ t.sessions i)
             (open_push front (λ i. slice_index addresses i) ended (timed settings.answer_ms at x) (closes false e)
             ∙ sym (open_push front (λ i. slice_index addresses i) ended x w.waits))
           where
@@ -230,6 +238,9 @@ due_tells front settings addresses p ended cur at t = go p.outstanding cur refl 
               flags = λ i.
                   alike_flags front addresses ended x (timed settings.answer_ms at x) refl refl refl i ∙ t.flags i
                   ∙ sym (set_view flags_of p.stations p.turn s refl i);
+              sessions = λ i.
+                  alike_sessions front addresses ended x (timed settings.answer_ms at x) refl refl refl i ∙ t.sessions i
+                  ∙ sym (set_view (λ (r : StationState). r.session) p.stations p.turn s refl i);
               spoilt = missed_push front (λ i. slice_index addresses i) ended (timed settings.answer_ms at x) q.has_octets p.spoilt (closes true e) w.has_octets
                   (ap (λ (i : ℕ). option_and_then (answer_of (slice_index addresses i) x.request) (whole_of (front x.octets))) w.station ∙ unheard front (slice_index addresses p.turn) x q.heard w.heard)
                   (t.spoilt ∙ ap saturated (open_push front (λ i. slice_index addresses i) ended x w.waits));
@@ -271,6 +282,7 @@ hear_tells front settings addresses p ended cur octets stable t = go p.outstandi
             ∙ ap (λ (m : Option Answer). after_outcome settings m (view front x).exchange l) (sym before)) i ∙ links i)
             (λ i. alike_flags front addresses ended x (grown x octets) refl refl
             (answered_front front (slice_index addresses x.station) x octets a.0 stable before) i ∙ t.flags i)
+            (λ i. alike_sessions front addresses ended x (grown x octets) refl refl (a.1 octets ∙ sym before) i ∙ t.sessions i)
             (answered_push front (λ i. slice_index addresses i) ended (grown x octets) a.0 (a.1 octets)
             ∙ sym (answered_push front (λ i. slice_index addresses i) ended x a.0 before))
 
@@ -333,6 +345,12 @@ hear_tells front settings addresses p ended cur octets stable t = go p.outstandi
               (subst (λ (j : ℕ). option_and_then (answer_of (slice_index addresses j) x.request) (whole_of (front (x.octets ++ octets))) ≡ None) (sym w.station)
               (unheard front here (grown x octets) heard so)) i
               ∙ before_it i;
+          sessions = λ i.
+              alike_sessions front addresses ended x (grown x octets) refl refl
+              (subst (λ (j : ℕ). option_and_then (answer_of (slice_index addresses j) x.request) (whole_of (front (x.octets ++ octets)))
+              ≡ option_and_then (answer_of (slice_index addresses j) x.request) (whole_of (front x.octets))) (sym w.station)
+              (unheard front here (grown x octets) heard so ∙ sym (unheard front here x q.heard w.heard))) i
+              ∙ t.sessions i;
           spoilt = spoilt;
         }
 
@@ -379,6 +397,9 @@ hear_tells front settings addresses p ended cur octets stable t = go p.outstandi
                       (subst (λ (j : ℕ). option_and_then (answer_of (slice_index addresses j) x.request) (whole_of (front (x.octets ++ octets))) ≡ Some answer) (sym w.station)
                       (said_now front here (grown x octets) (Some answer) (said (Some answer) e')))
                       (ap whole_of e) (flags_are frame);
+                  sessions = answered_sessions front addresses p.stations p.turn ended x (grown x octets) s answer t.fits.turn t.sessions w.station w.station refl
+                      (unheard front here x q.heard w.heard) (said_now front here (grown x octets) (Some answer) (said (Some answer) e'))
+                      (ap (λ (r : Asked). session_answered (station_at p.stations p.turn).session r answer) (sym w.request));
                   spoilt = spoilt;
                 }
 
@@ -395,8 +416,9 @@ same_views : (front : List ℕ → Front) (settings : LinkSettings) (addresses :
     FitStations p.settings.size stations → length stations ≡ length p.stations →
     ((i : ℕ) → (station_at stations i).link ≡ (station_at p.stations i).link) → ((i : ℕ) → (station_at stations i).address ≡ (station_at p.stations i).address) →
     ((i : ℕ) → flags_of (station_at stations i) ≡ flags_of (station_at p.stations i)) →
+    ((i : ℕ) → (station_at stations i).session ≡ (station_at p.stations i).session) →
     TellsBy front settings addresses p e → TellsBy front settings addresses (record p { stations = stations }) e
-same_views front settings addresses p e stations fit count link address flags t = record {
+same_views front settings addresses p e stations fit count link address flags sessions t = record {
   settings_are = t.settings_are;
   fits = record { turn = subst (λ (n : ℕ). p.turn < n) (sym count) t.fits.turn; stations = fit; outstanding = t.fits.outstanding };
   count = count ∙ t.count;
@@ -406,6 +428,7 @@ same_views front settings addresses p e stations fit count link address flags t 
   keeps = t.keeps;
   links = λ i. t.links i ∙ sym (link i);
   flags = λ i. t.flags i ∙ sym (flags i);
+  sessions = λ i. t.sessions i ∙ sym (sessions i);
   spoilt = t.spoilt;
 }
   where
@@ -431,13 +454,14 @@ offer_tells front settings addresses p e station asdu within carried t = go (may
         (length-set p.stations station _)
         (set_view (λ (r : StationState). r.link) p.stations station _ refl)
         (set_view (λ (r : StationState). r.address) p.stations station _ refl)
-        (set_view flags_of p.stations station _ refl) t
+        (set_view flags_of p.stations station _ refl)
+        (set_view (λ (r : StationState). r.session) p.stations station _ refl) t
 
 pub withdraw_tells : (front : List ℕ → Front) (settings : LinkSettings) (addresses : List ℕ) (p : Primary) (e : Exchanges) → TellsBy front settings addresses p e →
     TellsBy front settings addresses (withdrawn p) e
 withdraw_tells front settings addresses p e t =
     same_views front settings addresses p e (map without_offer p.stations) (withdrawn_fits p.settings.size p.stations t.fits.stations)
-    (length-map p.stations without_offer) (link p.stations) (address p.stations) (flags p.stations) t
+    (length-map p.stations without_offer) (link p.stations) (address p.stations) (flags p.stations) (sessions p.stations) t
   where
     link : (ss : List StationState) (i : ℕ) → (station_at (map without_offer ss) i).link ≡ (station_at ss i).link
     link [] i = refl
@@ -454,6 +478,11 @@ withdraw_tells front settings addresses p e t =
     flags (s ∷ ss) zero = refl
     flags (s ∷ ss) (suc i) = flags ss i
 
+    sessions : (ss : List StationState) (i : ℕ) → (station_at (map without_offer ss) i).session ≡ (station_at ss i).session
+    sessions [] i = refl
+    sessions (s ∷ ss) zero = refl
+    sessions (s ∷ ss) (suc i) = sessions ss i
+
 -- `new`
 
 pub start_tells : (front : List ℕ → Front) (settings : LinkSettings) (addresses : List ℕ) → 0 < length addresses → All (FitsAddress settings.size) addresses →
@@ -468,6 +497,7 @@ start_tells front settings addresses some fit = record {
   keeps = λ i. tt;
   links = λ i. sym (link addresses i);
   flags = λ i. sym (flags addresses i);
+  sessions = λ i. sym (sessions addresses i);
   spoilt = refl;
 }
   where
@@ -485,3 +515,8 @@ start_tells front settings addresses some fit = record {
     flags [] i = refl
     flags (a ∷ rest) zero = refl
     flags (a ∷ rest) (suc i) = flags rest i
+
+    sessions : (list : List ℕ) (i : ℕ) → (station_at (map station_down list) i).session ≡ no_session
+    sessions [] i = refl
+    sessions (a ∷ rest) zero = refl
+    sessions (a ∷ rest) (suc i) = sessions rest i

@@ -10,6 +10,7 @@ pub mod Holding
 pub mod Telling
 pub mod Outstation
 pub mod Delivery
+pub mod Gaps
 pub mod Secondary
 pub mod Life
 pub mod Runs

@@ -8,7 +8,7 @@ use Rattle.link.specs.Counts.{saturated}
 use Rattle.link.specs.Exchanges.{Sending, whole_of}
 use Rattle.link.specs.Procedure.{LinkSettings, Down, after_answer, after_silence, is_held, holds_command, has_repeats, goes_down}
 use Rattle.link.specs.Requests.{request_frame, kind_of}
-use Rattle.link.specs.Turns.{StationState, Phase, Starting, Over, station_at, wanted, Chosen, chosen_or, first_after}
+use Rattle.link.specs.Turns.{StationState, SessionState, no_session, Phase, Starting, Over, station_at, is_poll, wanted, Chosen, chosen_or, first_after}
 pub use Rattle.link.specs.declared.request.Request.{Request}
 pub use Rattle.link.specs.declared.outcome.Outcome.{Outcome}
 pub use Rattle.link.specs.declared.outcome.Outcome.TheVariants as outcome
@@ -33,7 +33,7 @@ pub record Primary : Type 0 where
   pub spoilt : ℕ
 
 abbrev pub station_down : (address : ℕ) → StationState
-station_down address = record { address = address; link = Down; acd = false; dfc = false; offered = None }
+station_down address = record { address = address; link = Down; acd = false; dfc = false; offered = None; session = no_session }
 
 -- A primary of these stations, whose links are down. The first turn is the first station's.
 abbrev pub start : LinkSettings → (addresses : List ℕ) → Primary
@@ -60,8 +60,20 @@ abbrev pub offer_left : Asked → Option (List ℕ) → Option (List ℕ)
 offer_left (Counted fcb (Command asdu)) offered = None
 offer_left request offered = offered
 
+-- A poll that goes out may give a report that is never taken.
+abbrev pub session_asked : SessionState → Asked → SessionState
+session_asked s (Counted fcb service) = record { number = s.number; has_gap = is_poll service }
+session_asked s request = s
+
 abbrev pub station_asked : StationState → Asked → StationState
-station_asked s request = record { address = s.address; link = s.link; acd = s.acd; dfc = s.dfc; offered = offer_left request s.offered }
+station_asked s request = record {
+  address = s.address;
+  link = s.link;
+  acd = s.acd;
+  dfc = s.dfc;
+  offered = offer_left request s.offered;
+  session = session_asked s.session request;
+}
 
 abbrev pub after_choice : Primary → (now : ℕ) → Option Chosen → Primary
 after_choice p now None = record p { phase = Over; again = false }
@@ -122,9 +134,22 @@ abbrev pub phase_after : Answer → Phase → Phase
 phase_after Unable phase = Over
 phase_after answer phase = phase
 
+-- A confirmed reset begins the next session. What a poll asked for is known once it is answered, save that it couldn't be served.
+unfoldable pub session_answered : SessionState → Asked → Answer → SessionState
+session_answered s Reset Confirmed = record { number = saturated (s.number + 1); has_gap = false }
+session_answered s (Counted fcb service) Unable = s
+session_answered s (Counted fcb service) answer = record { number = s.number; has_gap = false }
+session_answered s request answer = s
+
 abbrev pub station_answered : StationState → Asked → Frame → Answer → StationState
-station_answered s request frame answer =
-    record { address = s.address; link = after_answer request answer s.link; acd = acd_of frame; dfc = dfc_of frame; offered = s.offered }
+station_answered s request frame answer = record {
+  address = s.address;
+  link = after_answer request answer s.link;
+  acd = acd_of frame;
+  dfc = dfc_of frame;
+  offered = s.offered;
+  session = session_answered s.session request answer;
+}
 
 -- The exchange of the station whose turn it is ends by an answer.
 abbrev pub answered : Primary → Asked → Frame → Answer → Primary
@@ -194,13 +219,29 @@ abbrev pub outcome_of : (station : ℕ) → Asked → Option Answer → Outcome
 outcome_of station request None = outcome.None
 outcome_of station request (Some answer) = outcome_by station request answer
 
+-- the number of the session that a start ends, where that has a gap
+abbrev pub gap_of : SessionState → Option ℕ
+gap_of s = if s.has_gap then Some s.number else None
+
+abbrev pub turn_gap : Primary → Option ℕ
+turn_gap p = gap_of (station_at p.stations p.turn).session
+
+-- A start that ends a session with a gap tells its number.
+abbrev pub started : (station : ℕ) → (gap : Option ℕ) → Outcome
+started station None = outcome.Started station
+started station (Some session) = outcome.StartedGap station session
+
+abbrev pub with_gap : (gap : Option ℕ) → Outcome → Outcome
+with_gap gap (outcome.Started station) = started station gap
+with_gap gap other = other
+
 abbrev pub outcome_at : Primary → Outstanding → Option Frame → Outcome
 outcome_at p o None = outcome.None
-outcome_at p o (Some frame) = outcome_of p.turn o.request (answer_at p o frame)
+outcome_at p o (Some frame) = with_gap (turn_gap p) (outcome_of p.turn o.request (answer_at p o frame))
 
 abbrev pub heard_outcome : Primary → Option Outstanding → Frame → Outcome
 heard_outcome p None frame = outcome.None
-heard_outcome p (Some o) frame = outcome_of p.turn o.request (answer_at p o frame)
+heard_outcome p (Some o) frame = with_gap (turn_gap p) (outcome_of p.turn o.request (answer_at p o frame))
 
 abbrev pub outcome_after : (front : List ℕ → Front) → Primary → Outstanding → Option (List ℕ) → List ℕ → Outcome
 outcome_after front p o None octets = outcome.None
@@ -218,7 +259,7 @@ received_outcome front p octets = outcome_from front p p.outstanding octets
 
 abbrev pub station_unanswered : LinkSettings → StationState → Asked → StationState
 station_unanswered settings s request =
-    record { address = s.address; link = after_silence settings request true s.link; acd = s.acd; dfc = s.dfc; offered = s.offered }
+    record { address = s.address; link = after_silence settings request true s.link; acd = s.acd; dfc = s.dfc; offered = s.offered; session = s.session }
 
 -- The exchange of the station whose turn it is ends with no answer, and is spoilt where octets came in it. The turn is over, save
 -- where the service is sent again at once.
@@ -276,7 +317,7 @@ may_offer p station =
     && not ((p.turn == station) && is_sending_command p.outstanding))
 
 abbrev pub with_offer : StationState → Option (List ℕ) → StationState
-with_offer s offered = record { address = s.address; link = s.link; acd = s.acd; dfc = s.dfc; offered = offered }
+with_offer s offered = record { address = s.address; link = s.link; acd = s.acd; dfc = s.dfc; offered = offered; session = s.session }
 
 -- the primary after `offer`
 abbrev pub offered_to : Primary → (station : ℕ) → List ℕ → Primary

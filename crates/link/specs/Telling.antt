@@ -1,5 +1,5 @@
 -- What the state of a primary station says of the exchanges of its line.
-use Rattle.std.specs.Prelude.{◌≡◌, ℕ, ◌<◌, ◌==◌, ◌⊎◌, not, true, false, List, [], ◌∷◌, ◌++◌, length, slice_index, Option, Some, None, option_and_then}
+use Rattle.std.specs.Prelude.{◌≡◌, ℕ, ◌<◌, ◌==◌, ◌⊎◌, not, true, false, List, [], ◌∷◌, ◌++◌, length, slice_index, Option, Some, None, option_and_then, if◌then◌else◌}
 use Rattle.ft12.specs.declared.frame.Front.{Front}
 use Rattle.ft12.specs.declared.frame.Front.TheVariants.{Whole, More, Never}
 use Rattle.ft12.specs.declared.frame.Frame.{Frame}
@@ -7,11 +7,13 @@ use Rattle.ft12.specs.declared.frame.Why.{Why}
 use Rattle.ft12.specs.Fronts.{front_of}
 use Rattle.link.specs.Answers.{Answer, answer_of}
 use Rattle.link.specs.Counts.{saturated}
-use Rattle.link.specs.Exchanges.{Sending, OpenExchange, Exchanges, all_of, whole_of, views, with_station, spoilt_count}
+use Rattle.link.specs.Delivery.{is_gap, pending_after}
+use Rattle.link.specs.Exchanges.{Sending, Exchange, OpenExchange, Exchanges, all_of, whole_of, views, with_station, spoilt_count}
 use Rattle.link.specs.Flags.{Flags, clear, flags_after}
+use Rattle.link.specs.Gaps.{resets_in}
 use Rattle.link.specs.Procedure.{LinkSettings, Down, MaySend, KeepsFrameCountBit, link_after}
 use Rattle.link.specs.Requests.{FitsAddress, FitsAsked}
-use Rattle.link.specs.Turns.{StationState, station_at}
+use Rattle.link.specs.Turns.{StationState, SessionState, station_at}
 use Rattle.link.specs.Primary.{Outstanding, Primary, Outcome}
 use Rattle.link.specs.declared.outcome.Outcome.TheVariants as outcome
 use Rattle.link.specs.Holding.{IsFitting}
@@ -81,6 +83,15 @@ abbrev pub AreFlags : (front : List ℕ → Front) → (addresses : List ℕ) �
 AreFlags front addresses stations xs =
     (i : ℕ) → flags_after (slice_index addresses i) clear (with_station i (views front xs)) ≡ flags_of (station_at stations i)
 
+-- the session that these exchanges with a station leave
+abbrev pub session_in : (station : ℕ) → List Exchange → SessionState
+session_in station xs = record { number = saturated (resets_in station xs); has_gap = is_gap (pending_after station None xs) }
+
+-- The stations' sessions are those that these exchanges leave.
+abbrev pub AreSessions : (front : List ℕ → Front) → (addresses : List ℕ) → List StationState → List OpenExchange → Type 0
+AreSessions front addresses stations xs =
+    (i : ℕ) → session_in (slice_index addresses i) (with_station i (views front xs)) ≡ (station_at stations i).session
+
 -- the same by any reader of fronts
 pub record TellsBy (front : List ℕ → Front) (settings : LinkSettings) (addresses : List ℕ) (p : Primary) (e : Exchanges) : Type 0 where
   pub settings_are : p.settings ≡ settings
@@ -92,6 +103,7 @@ pub record TellsBy (front : List ℕ → Front) (settings : LinkSettings) (addre
   pub keeps : AreKept front settings addresses (all_of e)
   pub links : AreLinks front settings addresses p.stations (past p.outstanding e)
   pub flags : AreFlags front addresses p.stations (all_of e)
+  pub sessions : AreSessions front addresses p.stations (all_of e)
   pub spoilt : AreSpoilt front addresses p.spoilt (all_of e)
 
 -- The primary's state is what these exchanges make it, and they keep the frame count bit of each station.
@@ -102,6 +114,11 @@ Tells settings addresses p e = TellsBy (front_of settings.size) settings address
 abbrev pub report_in : Outcome → List (ℕ × List ℕ)
 report_in (outcome.Report station asdu) = (station, asdu.items) ∷ []
 report_in other = []
+
+-- the session of this station that an outcome tells the gap of
+abbrev pub gap_in_outcome : (station : ℕ) → Outcome → List ℕ
+gap_in_outcome station (outcome.StartedGap other session) = if other == station then session ∷ [] else []
+gap_in_outcome station other = []
 
 -- The request is to one of the stations, and fits the line.
 pub record IsFittingSending (settings : LinkSettings) (addresses : List ℕ) (s : Sending) : Type 0 where

@@ -4,14 +4,19 @@ use Rattle.std.specs.Prelude.{ℕ, zero, suc, ◌&&◌, ◌||◌, nat_lt, Bool, 
 use Rattle.link.specs.Answers.{Service, Class1, Class2, Command, Asked, Status, Reset, Counted}
 use Rattle.link.specs.Procedure.{Link, Down, Available, Next, Held}
 pub use Rattle.link.specs.declared.turn.StationState.{StationState}
+pub use Rattle.link.specs.declared.session.SessionState.{SessionState}
 pub use Rattle.link.specs.declared.turn.Phase.{Phase}
 pub use Rattle.link.specs.declared.turn.Phase.TheVariants.{Starting, Commanding, Polling, Class1Polling, Over}
 pub use Rattle.link.specs.declared.turn.Wanted.{Wanted}
 pub use Rattle.link.specs.declared.turn.Chosen.{Chosen}
 
+-- before the first answered reset
+abbrev pub no_session : SessionState
+no_session = record { number = 0; has_gap = false }
+
 -- a station that isn't there
 abbrev pub no_station : StationState
-no_station = record { address = 0; link = Down; acd = false; dfc = false; offered = None }
+no_station = record { address = 0; link = Down; acd = false; dfc = false; offered = None; session = no_session }
 
 abbrev pub station_at : List StationState → ℕ → StationState
 station_at stations i = slice_index_or stations i no_station

@@ -7,7 +7,7 @@ ghost use Rattle.link.specs.Procedure.{Down, Available, Next, Held};
 ghost use Rattle.link.specs.Requests.{Foreign, Unknown, Asks, request_frame, reading_of};
 ghost use Rattle.link.specs.Secondary.{data_frame};
 ghost use Rattle.link.specs.Turns.{Starting, Commanding, Polling, Class1Polling, Over, wants, wanted};
-ghost use Rattle.link.specs.Primary.{outcome_by};
+ghost use Rattle.link.specs.Primary.{outcome_by, with_gap};
 ghost use Rattle.link.specs.declared.outcome.Outcome.TheVariants as outcome;
 
 /// What a secondary station's frames say in answer to each request (IEC 60870-5-2, 5.1: the functions of a secondary station;
@@ -66,6 +66,10 @@ pub fn answers_by_example()
         × (outcome_by 3 Status Ready ≡ outcome.None)
         × (outcome_by 3 Status Unable ≡ outcome.Down 3)
         × (outcome_by 3 (Counted false Class2) Unable ≡ outcome.Down 3) }
+    ensures gaps { (with_gap None (outcome_by 3 Reset Confirmed) ≡ outcome.Started 3)
+        × (with_gap (Some 2) (outcome_by 3 Reset Confirmed) ≡ outcome.StartedGap 3 2)
+        × (with_gap (Some 2) (outcome_by 3 (Counted true Class1) NoData) ≡ outcome.Empty 3)
+        × (with_gap (Some 2) (outcome_by 3 Status Unable) ≡ outcome.Down 3) }
 {}
 
 /// What each request looks like, and what a frame asks for (IEC 60870-5-2, 5.1: PRM 1, and FCV 1 with the frame count bit for

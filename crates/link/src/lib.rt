@@ -29,6 +29,7 @@ mod asking;
 mod awaited;
 mod examples;
 mod flags;
+mod gaps;
 mod laws;
 mod leave;
 mod life;
@@ -41,6 +42,7 @@ mod refinement;
 mod request;
 mod runs;
 mod service;
+mod session;
 mod settings;
 mod station;
 mod turn;
@@ -51,6 +53,7 @@ pub use asdu::Asdu;
 pub use asking::next_changes_nothing;
 pub use examples::{answers_by_example, requests_by_example, turns_by_example};
 pub use flags::flags_are_heeded;
+pub use gaps::gaps_are_told;
 pub use laws::{
     master_tells_the_log, outcomes_bear_the_reports, requests_are_read_back,
     requests_wait_their_turn, services_need_a_station_that_is_up,
@@ -72,6 +75,7 @@ pub use runs::{
     outcomes_are_answers, spoilt_exchanges_are_counted,
 };
 pub use service::{Asked, Service};
+pub use session::SessionState;
 pub use settings::LinkSettings;
 pub use station::Station;
 pub use visits::{no_station_starves, turns_end};

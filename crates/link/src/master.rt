@@ -15,6 +15,7 @@ use crate::outcome::{Outcome, told};
 use crate::procedure::Link;
 use crate::request::Request;
 use crate::service::{Asked, Service};
+use crate::session::SessionState;
 use crate::settings::LinkSettings;
 use crate::turn::{Chosen, Phase, StationState, first_wanted, nth_station};
 use ft12::{Assembler, Frame, Heard, front_is_computed};
@@ -68,9 +69,10 @@ impl Model for Master {
 
 impl StationState {
     /// A command that is put on the line isn't offered any more.
-    fn take_offer(&mut self, request: &Asked)
+    fn ask(&mut self, request: &Asked)
         ensures { self.new ≡ station_asked self.old request.now }
     {
+        self.session.ask(request);
         if let Asked::Counted(_, Service::Command(_)) = request {
             self.offered = None;
         }
@@ -82,6 +84,7 @@ impl StationState {
         self.link.answer(request, answer);
         self.acd = class1_waits(frame);
         self.dfc = is_full(frame);
+        self.session.answer(request, answer);
     }
 
     fn miss(&mut self, settings: LinkSettings, request: &Asked)
@@ -180,6 +183,10 @@ impl Master {
                 acd: false,
                 dfc: false,
                 offered: None,
+                session: SessionState {
+                    number: 0,
+                    has_gap: false,
+                },
             };
             if stations.push(station).is_err() {
                 return Err(NoMemory);
@@ -258,7 +265,7 @@ impl Master {
             kind: wanted.request.kind(),
             again: there.link.is_held(),
         };
-        self.stations[station].take_offer(&wanted.request);
+        self.stations[station].ask(&wanted.request);
         self.turn = station;
         self.phase = wanted.following;
         self.again = false;
@@ -310,8 +317,9 @@ impl Master {
         ensures outcome { result ≡ heard_outcome self.old (Some (outstanding_of awaited None)) frame.now }
     {
         let place = self.turn;
-        let address = nth_station(&self.stations, place).address;
-        match awaited.request.answered_by(address, frame) {
+        let there = nth_station(&self.stations, place);
+        let gap = there.session.gap();
+        match awaited.request.answered_by(there.address, frame) {
             None => {
                 self.outstanding = Some(Awaited {
                     request: awaited.request,
@@ -324,7 +332,7 @@ impl Master {
             Some(answer) => {
                 self.stations[place].answer(&awaited.request, frame, &answer);
                 self.phase = phase_of(&answer, self.phase);
-                told(place, &awaited.request, answer)
+                told(place, gap, &awaited.request, answer)
             }
         }
     }

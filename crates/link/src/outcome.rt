@@ -1,6 +1,6 @@
 //! What the caller of a primary station is told of an exchange.
 ghost use Rattle.std.specs.Prelude.{◌≡◌};
-ghost use Rattle.link.specs.Primary.{outcome_by};
+ghost use Rattle.link.specs.Primary.{outcome_by, with_gap};
 
 use crate::answer::Answer;
 use crate::service::Asked;
@@ -11,8 +11,11 @@ use arrayvec::ArrayVec;
 pub enum Outcome {
     /// Nothing that the caller has to know.
     None,
-    /// The link to the station was reset: it is up.
+    /// The link to the station was reset: it is up. No report is lost.
     Started(usize),
+    /// The link to the station was reset: it is up. The session with this number (from 1, at most `u64::MAX`) ended with a poll
+    /// that wasn't answered by data or that there are none: its last report may be lost.
+    StartedGap(usize, u64),
     /// A poll was answered with these data.
     Report(usize, ArrayVec<u8, 253>),
     /// A poll was answered that there are no data.
@@ -25,12 +28,15 @@ pub enum Outcome {
     Down(usize),
 }
 
-/// What an answer to the request is told as.
-pub(crate) fn told(station: usize, request: &Asked, answer: Answer) -> Outcome
-    ensures { result ≡ outcome_by station request.now answer }
+/// What an answer to the request is told as, where the station's session has this gap.
+pub(crate) fn told(station: usize, gap: Option<u64>, request: &Asked, answer: Answer) -> Outcome
+    ensures { result ≡ with_gap gap (outcome_by station request.now answer) }
 {
     match (request, answer) {
-        (Asked::Reset, Answer::Confirmed) => Outcome::Started(station),
+        (Asked::Reset, Answer::Confirmed) => match gap {
+            Some(session) => Outcome::StartedGap(station, session),
+            None => Outcome::Started(station),
+        },
         (Asked::Counted(_, _), Answer::Confirmed) => Outcome::Accepted(station),
         (_, Answer::Busy) => Outcome::Busy(station),
         (_, Answer::Report(asdu)) => Outcome::Report(station, asdu.into_octets()),

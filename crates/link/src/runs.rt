@@ -4,10 +4,11 @@ ghost use Rattle.ft12.specs.declared.frame.Front.{Front};
 ghost use Rattle.ft12.specs.Fronts.{front_of};
 ghost use Rattle.link.specs.Counts.{saturated};
 ghost use Rattle.link.specs.Exchanges.{Exchanges, OpenExchange, Sending, IsOutstanding, IsUnanswered, no_exchanges, answer_to, all_of, view, views, with_station, heard_octets, timed, is_spoilt, spoilt_count};
+ghost use Rattle.link.specs.Gaps.{gap_at};
 ghost use Rattle.link.specs.Procedure.{LinkSettings, Down, KeepsFrameCountBit, after_silence, link_after};
 ghost use Rattle.link.specs.Requests.{FitsAddress};
 ghost use Rattle.link.specs.Turns.{Wanted, station_at, wanted};
-ghost use Rattle.link.specs.Primary.{Primary, start, sending, received, outcome_of, received_outcome, timed_out, due_outcome};
+ghost use Rattle.link.specs.Primary.{Primary, start, sending, received, outcome_of, with_gap, received_outcome, timed_out, due_outcome};
 ghost use Rattle.link.specs.declared.outcome.Outcome.TheVariants as outcome;
 ghost use Rattle.link.specs.Telling.{Tells};
 ghost use Rattle.link.specs.Runs.{Call, MayCallAll, called_all, exchanged_all, all_deeds, AreInOrder, BeginsTurn, HaveNone, silence_outcome};
@@ -44,7 +45,8 @@ pub fn outcomes_are_answers()
         Tells settings addresses p e → e.current ≡ Some x →
         IsOutstanding (slice_index addresses x.station) (view (front_of settings.size) x).exchange →
         received_outcome (front_of settings.size) p octets
-        ≡ outcome_of x.station x.request (answer_to (slice_index addresses x.station) (view (front_of settings.size) (heard_octets octets x)).exchange) }
+        ≡ with_gap (gap_at (front_of settings.size) addresses x.station e)
+        (outcome_of x.station x.request (answer_to (slice_index addresses x.station) (view (front_of settings.size) (heard_octets octets x)).exchange)) }
     ensures due { (settings : LinkSettings) (addresses : List ℕ) (p : Primary) (e : Exchanges) (at : ℕ) (x : OpenExchange) →
         Tells settings addresses p e → e.current ≡ Some x →
         IsOutstanding (slice_index addresses x.station) (view (front_of settings.size) x).exchange → (timed settings.answer_ms at x).closed ≡ true →

@@ -3,6 +3,7 @@
 mod bench;
 mod lines;
 mod losses;
+mod resets;
 mod spoilt;
 mod starts;
 mod stations;

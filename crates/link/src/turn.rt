@@ -5,6 +5,7 @@ ghost use Rattle.link.specs.Turns.{is_poll, wanted_poll, polls_from, commands_fr
 use crate::asdu::Asdu;
 use crate::procedure::Link;
 use crate::service::{Asked, Service};
+use crate::session::SessionState;
 
 /// How far the present turn is.
 #[derive(Clone, Copy)]
@@ -32,6 +33,8 @@ pub struct StationState {
     pub dfc: bool,
     /// The command that is offered to it.
     pub offered: Option<Asdu>,
+    /// Its latest session.
+    pub session: SessionState,
 }
 
 /// What is wanted next of a station, and the phase that follows once it is answered.
@@ -48,7 +51,8 @@ pub struct Chosen {
     pub wanted: Wanted,
 }
 
-fn poll_service(service: &Service) -> bool
+/// Whether the service is a poll.
+pub(crate) fn poll_service(service: &Service) -> bool
     ensures { result ≡ is_poll service.now }
 {
     match service {

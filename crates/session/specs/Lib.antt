@@ -5,3 +5,4 @@ pub mod Runs
 pub mod Laws
 pub mod Rules
 pub mod Ends
+pub mod SessionLaws

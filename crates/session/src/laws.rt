@@ -11,6 +11,7 @@ ghost use Rattle.session.specs.Session.{Session, is_running, may_send, outcome_o
 ghost use Rattle.session.specs.History.{IsNumbered, sent_frames, received_count, reached, still_unacknowledged, is_started, verdict_on, confirmation_of, confirmation_owed, confirmations_due, confirmations_sent, has_timed_out, frame_due};
 ghost use Rattle.session.specs.Laws.{AfterEachRun, Acknowledges};
 ghost use Rattle.session.specs.Rules.{KeepsRules};
+ghost use Rattle.session.specs.SessionLaws.{SessionLaws};
 ghost use Rattle.session.specs.Ends.{after_confirm, after_pull, IsConfirmed, IsInTime, AreInOrder};
 
 /// N(R) is judged by the least number that isn't below the acknowledged count and equals it modulo 32768.
@@ -79,3 +80,14 @@ pub fn frames_stay_in_order()
     ensures sent { (kind : Kind) (now : ℕ) (s : Session) → AreInOrder 0 s.unacknowledged now → AreInOrder 0 (sent kind now s).unacknowledged now }
     ensures taken { (frame : Apdu) (now : ℕ) (s : Session) → AreInOrder 0 s.unacknowledged now → AreInOrder 0 (taken frame now s).unacknowledged now }
 {}
+
+/// What a crate that keeps a session needs of it, in one: the rules of clause 5, and what each call answers by the
+/// frames that came and went out.
+pub fn session_keeps_the_standard()
+    ensures { SessionLaws }
+{
+    histories_keep_the_rules();
+    transfer_is_controlled();
+    window_is_kept();
+    timers_are_kept();
+}

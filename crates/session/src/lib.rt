@@ -22,8 +22,8 @@ pub use connection::{NoMemory, Session};
 pub use kinds::{Close, Kind, Taken, Unacknowledged};
 pub use laws::{
     calls_come_to_an_end, frames_are_judged, frames_are_numbered, frames_stay_in_order,
-    histories_keep_the_rules, reached_is_least, timers_are_kept, transfer_is_controlled,
-    window_is_kept,
+    histories_keep_the_rules, reached_is_least, session_keeps_the_standard, timers_are_kept,
+    transfer_is_controlled, window_is_kept,
 };
 
 #[cfg(test)]

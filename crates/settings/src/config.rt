@@ -42,7 +42,8 @@ pub fn read_live_config(alloc: Global, text: &[u8]) -> Result<(Config, LiveSetti
 
 /// The document that octets are.
 fn root_of(alloc: Global, text: &[u8]) -> Result<Table, ConfigFault>
-    ensures { MatchResult result (λ root. IsDocument text.now (table_view root)) (IsRootFault text.now) }
+    ensures { MatchResult result (λ root. IsDocument text.now (table_view root))
+        (IsRootFault text.now) }
 {
     match toml::table_from_slice(alloc, text) {
         Ok(root) => Ok(root),
@@ -53,7 +54,8 @@ fn root_of(alloc: Global, text: &[u8]) -> Result<Table, ConfigFault>
 
 /// Reads each key in its order, and then looks for unknown ones.
 fn read_table(alloc: Global, root: &Table) -> Result<Config, ConfigFault>
-    ensures { IsReadOf (known_settings (table_view root.now)) values_of (table_view root.now) result }
+    ensures { IsReadOf (known_settings (table_view root.now)) values_of
+        (table_view root.now) result }
 {
     let config = read_known(alloc, root)?;
     refuse_unknown(alloc, root)?;
@@ -62,7 +64,8 @@ fn read_table(alloc: Global, root: &Table) -> Result<Config, ConfigFault>
 
 /// The same for a live run.
 fn read_live_table(alloc: Global, root: &Table) -> Result<(Config, LiveSettings), ConfigFault>
-    ensures { IsReadOf (known_live (table_view root.now)) live_values_of (table_view root.now) result }
+    ensures { IsReadOf (known_live (table_view root.now)) live_values_of
+        (table_view root.now) result }
 {
     let both = read_known_live(alloc, root)?;
     refuse_unknown(alloc, root)?;

@@ -87,7 +87,8 @@ pub(crate) struct Flag {
 impl Flag {
     /// What the table gives, or `false`.
     pub(crate) fn read(&self, table: Option<&Table>) -> Result<bool, WrongKey>
-        ensures { seen result ≡ flag_of self.now.key.now self.now.path.now (members_in table.entry) }
+        ensures { seen result
+            ≡ flag_of self.now.key.now self.now.path.now (members_in table.entry) }
     {
         match given(table, self.key) {
             None => Ok(false),

@@ -84,7 +84,8 @@ fn listen_place<'a>(table: Option<&'a Table>) -> Result<&'a str, WrongKey>
 
 /// The text at a key, where it is there and is one.
 fn text_at<'a>(table: Option<&'a Table>, key: &str) -> Option<&'a str>
-    ensures { option_map (λ text. text.now) result ≡ text_of (given_at key.now (members_in table.entry)) }
+    ensures { option_map (λ text. text.now) result
+        ≡ text_of (given_at key.now (members_in table.entry)) }
 {
     match given(table, key) {
         Some(value) => value.as_str(),

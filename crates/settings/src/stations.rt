@@ -55,7 +55,8 @@ pub(crate) fn read_stations(
     link: LinkSize,
     ca: CaSize,
 ) -> Result<Vec<Station>, ConfigFault>
-    ensures value { IsAsExpected (stations_of link ca (option_map (λ v. view v.now) value.entry)) result }
+    ensures value { IsAsExpected
+        (stations_of link ca (option_map (λ v. view v.now) value.entry)) result }
     ensures limits { IfOk result (λ stations. AreStations link ca stations.items) }
 {
     let Some(value) = value else {

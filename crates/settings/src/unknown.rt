@@ -94,7 +94,8 @@ fn least(paths: Vec<String>) -> Option<String>
 /// The dotted paths of all unknown keys.
 #[tactic(auto, using(crate::proofs::UnknownLemmas::keys_of_table))]
 fn unknown_paths(alloc: Global, root: &Table) -> Result<Vec<String>, AllocError>
-    ensures { IfOk result (λ paths. map string_bytes paths.items ≡ unknown_paths (table_view root.now)) }
+    ensures { IfOk result (λ paths.
+        map string_bytes paths.items ≡ unknown_paths (table_view root.now)) }
 {
     let mut paths = Vec::new(alloc);
     push_unknown(alloc, &mut paths, Section::Root, root)?;

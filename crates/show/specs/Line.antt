@@ -1,5 +1,5 @@
--- The lines that show octets of the serial line (texts of this gateway's own profile; the frames and the
--- fields of the control octet are those of IEC 60870-5-1, 6.2.4.2 and IEC 60870-5-2, 5.1).
+-- The lines that show octets of the serial line (texts of this gateway's own profile; the frames
+-- and the fields of the control octet are those of IEC 60870-5-1, 6.2.4.2 and IEC 60870-5-2, 5.1).
 use Rattle.std.specs.Prelude.{◌≡◌, ℕ, ◌-◌, ◌%◌, ◌==◌, if◌then◌else◌, codes, List, [], ◌∷◌, ◌++◌, length}
 use Rattle.std.specs.Fmt.{decimal}
 use Rattle.hex.specs.Hex.{encode_upper}
@@ -17,24 +17,25 @@ use Rattle.show.specs.declared.sizes.LineSizes.{LineSizes}
 use Rattle.show.specs.declared.outcome.Outcome.{Outcome}
 use Rattle.show.specs.declared.outcome.Outcome.TheVariants as outcome
 
--- The control octet and its fields. Of a primary station (PRM, bit 6, is 1) bits 5 and 4 are FCB and FCV, of a
--- secondary one ACD and DFC; bits 3 to 0 are the function.
+-- The control octet and its fields. Of a primary station (PRM, bit 6, is 1) bits 5 and 4 are FCB
+-- and FCV, of a secondary one ACD and DFC; bits 3 to 0 are the function.
 abbrev pub primary_text : ℕ → List ℕ
 primary_text c =
-    codes "c=" ++ encode_upper (c ∷ []) ++ codes " prm=1 fcb=" ++ decimal (bit 5 c) ++ codes " fcv=" ++ decimal (bit 4 c)
-    ++ codes " function=" ++ decimal (c % 16)
+    codes "c=" ++ encode_upper (c ∷ []) ++ codes " prm=1 fcb=" ++ decimal (bit 5 c)
+    ++ codes " fcv=" ++ decimal (bit 4 c) ++ codes " function=" ++ decimal (c % 16)
 
 abbrev pub secondary_text : ℕ → List ℕ
 secondary_text c =
-    codes "c=" ++ encode_upper (c ∷ []) ++ codes " prm=0 acd=" ++ decimal (bit 5 c) ++ codes " dfc=" ++ decimal (bit 4 c)
-    ++ codes " function=" ++ decimal (c % 16)
+    codes "c=" ++ encode_upper (c ∷ []) ++ codes " prm=0 acd=" ++ decimal (bit 5 c)
+    ++ codes " dfc=" ++ decimal (bit 4 c) ++ codes " function=" ++ decimal (c % 16)
 
 abbrev pub control_text : ℕ → List ℕ
 control_text c = if bit 6 c == 1 then primary_text c else secondary_text c
 
 abbrev pub frame_line : Frame → List ℕ
 frame_line Single = codes "single" ++ 10 ∷ []
-frame_line (Fixed c a) = codes "fixed " ++ control_text c ++ codes " address=" ++ decimal a ++ 10 ∷ []
+frame_line (Fixed c a) =
+    codes "fixed " ++ control_text c ++ codes " address=" ++ decimal a ++ 10 ∷ []
 frame_line (Data c a body) =
     codes "data " ++ control_text c ++ codes " address=" ++ decimal a
     ++ codes " octets=" ++ decimal (length body.items) ++ 10 ∷ []
@@ -63,7 +64,8 @@ frame_outcome s (Fixed c a) = outcome.Good
 abbrev pub front_lines : LineSizes → ℕ → Front → List ℕ
 front_lines s n (Whole frame len) = frame_lines s frame ++ rest_line (n - len)
 front_lines s n More = codes "truncated" ++ 10 ∷ []
-front_lines s n (Never place w) = codes "refused " ++ decimal (number_of w) ++ codes " at " ++ decimal place ++ 10 ∷ []
+front_lines s n (Never place w) =
+    codes "refused " ++ decimal (number_of w) ++ codes " at " ++ decimal place ++ 10 ∷ []
 
 abbrev pub front_outcome : LineSizes → ℕ → Front → Outcome
 front_outcome s n (Whole frame len) = with_rest (n - len) (frame_outcome s frame)

@@ -1,5 +1,5 @@
--- Four digits that name the sizes of a line (this gateway's own profile): link address, cause, common
--- address, object address, each by its number of octets.
+-- Four digits that name the sizes of a line (this gateway's own profile): link address, cause,
+-- common address, object address, each by its number of octets.
 use Rattle.std.specs.Prelude.{ℕ, ◌==◌, if◌then◌else◌, List, [], ◌∷◌, Option, Some, None}
 use Rattle.ft12.specs.declared.frame.LinkSize.{LinkSize}
 use Rattle.ft12.specs.declared.frame.LinkSize.TheVariants as link
@@ -22,13 +22,20 @@ abbrev pub ca_size_of : ℕ → Option CaSize
 ca_size_of d = if d == 49 then Some ca.One else if d == 50 then Some ca.Two else None
 
 abbrev pub ioa_size_of : ℕ → Option IoaSize
-ioa_size_of d = if d == 49 then Some ioa.One else if d == 50 then Some ioa.Two else if d == 51 then Some ioa.Three else None
+ioa_size_of d =
+    if d == 49 then Some ioa.One
+    else if d == 50 then Some ioa.Two
+    else if d == 51 then Some ioa.Three
+    else None
 
 -- the sizes, where each digit names one
-abbrev pub sizes_from : Option LinkSize → Option CauseSize → Option CaSize → Option IoaSize → Option LineSizes
-sizes_from (Some l) (Some c) (Some a) (Some i) = Some (record { link = l; asdu = record { cause = c; ca = a; ioa = i } })
+abbrev pub sizes_from : Option LinkSize → Option CauseSize → Option CaSize → Option IoaSize →
+    Option LineSizes
+sizes_from (Some l) (Some c) (Some a) (Some i) =
+    Some (record { link = l; asdu = record { cause = c; ca = a; ioa = i } })
 sizes_from _ _ _ _ = None
 
 abbrev pub sizes_of : List ℕ → Option LineSizes
-sizes_of (l ∷ c ∷ a ∷ i ∷ []) = sizes_from (link_size_of l) (cause_size_of c) (ca_size_of a) (ioa_size_of i)
+sizes_of (l ∷ c ∷ a ∷ i ∷ []) =
+    sizes_from (link_size_of l) (cause_size_of c) (ca_size_of a) (ioa_size_of i)
 sizes_of _ = None

@@ -1,5 +1,5 @@
--- The lines that show octets of the connection (texts of this gateway's own profile; the formats are those of
--- IEC 60870-5-104, 5.1).
+-- The lines that show octets of the connection (texts of this gateway's own profile; the formats
+-- are those of IEC 60870-5-104, 5.1).
 use Rattle.std.specs.Prelude.{◌≡◌, ℕ, ◌-◌, codes, List, [], ◌∷◌, ◌++◌, length}
 use Rattle.std.specs.Fmt.{decimal}
 use Rattle.apci.specs.declared.apdu.Uf.{Uf}
@@ -27,7 +27,8 @@ function_text TestCon = codes "TESTFR con"
 
 abbrev pub apdu_line : Apdu → List ℕ
 apdu_line (I ns nr asdu) =
-    codes "I ns=" ++ decimal ns ++ codes " nr=" ++ decimal nr ++ codes " octets=" ++ decimal (length asdu.items) ++ 10 ∷ []
+    codes "I ns=" ++ decimal ns ++ codes " nr=" ++ decimal nr
+    ++ codes " octets=" ++ decimal (length asdu.items) ++ 10 ∷ []
 apdu_line (S nr) = codes "S nr=" ++ decimal nr ++ 10 ∷ []
 apdu_line (U f) = codes "U " ++ function_text f ++ 10 ∷ []
 
@@ -54,7 +55,8 @@ apdu_outcome (U f) = outcome.Good
 abbrev pub front_lines : ℕ → Front → List ℕ
 front_lines n (Whole apdu len) = apdu_lines apdu ++ rest_line (n - len)
 front_lines n More = codes "truncated" ++ 10 ∷ []
-front_lines n (Never place w) = codes "refused " ++ decimal (number_of w) ++ codes " at " ++ decimal place ++ 10 ∷ []
+front_lines n (Never place w) =
+    codes "refused " ++ decimal (number_of w) ++ codes " at " ++ decimal place ++ 10 ∷ []
 
 abbrev pub front_outcome : ℕ → Front → Outcome
 front_outcome n (Whole apdu len) = with_rest (n - len) (apdu_outcome apdu)

@@ -1,5 +1,5 @@
--- The lines that show an ASDU and its objects (texts of this gateway's own profile; the fields are those of
--- IEC 60870-5-101, 7.2).
+-- The lines that show an ASDU and its objects (texts of this gateway's own profile; the fields are
+-- those of IEC 60870-5-101, 7.2).
 use Rattle.std.specs.Prelude.{ℕ, ℤ, ◌%◌, codes, List, [], ◌∷◌, ◌++◌, length, slice_index, Option, Some, None}
 use Rattle.std.specs.List.{flat_map}
 use Rattle.std.specs.Fmt.{decimal, signed_decimal}
@@ -26,7 +26,8 @@ verdict_text WrongWeekday = codes "wrong weekday"
 
 -- a time tag in hexadecimal, and the verdict on it
 abbrev pub judged_text : List ℕ → List ℕ
-judged_text octets = codes " tag=" ++ encode_upper octets ++ codes " " ++ verdict_text (verdict_of octets)
+judged_text octets =
+    codes " tag=" ++ encode_upper octets ++ codes " " ++ verdict_text (verdict_of octets)
 
 abbrev pub tag_text : Option (List ℕ) → List ℕ
 tag_text None = []
@@ -34,7 +35,8 @@ tag_text (Some octets) = judged_text octets
 
 -- the address and the value of an object
 abbrev pub value_text : ℕ → ℤ → List ℕ
-value_text address value = codes "object address=" ++ decimal address ++ codes " value=" ++ signed_decimal value
+value_text address value =
+    codes "object address=" ++ decimal address ++ codes " value=" ++ signed_decimal value
 
 -- the octets of its element, and its tag, if it has one
 abbrev pub content_text : Info → List ℕ
@@ -57,7 +59,8 @@ cause_text octet =
 
 -- originator and common address (7.2.3, 7.2.4)
 abbrev pub addresses_text : AsduValue → List ℕ
-addresses_text u = codes " originator=" ++ decimal u.originator ++ codes " ca=" ++ decimal u.ca ++ 10 ∷ []
+addresses_text u =
+    codes " originator=" ++ decimal u.originator ++ codes " ca=" ++ decimal u.ca ++ 10 ∷ []
 
 abbrev pub header_line : AsduValue → List ℕ
 header_line u = structure_text u ++ (cause_text u.cause ++ addresses_text u)

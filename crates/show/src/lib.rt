@@ -1,12 +1,14 @@
-//! Octets in words: what stands at the front of octets of the line (IEC 60870-5-1, 6.2.4.2) or of the connection
-//! (IEC 60870-5-104, 5.1), and the ASDU in it (IEC 60870-5-101, 7), one fact a line.
+//! Octets in words: what stands at the front of octets of the line (IEC 60870-5-1, 6.2.4.2) or of
+//! the connection (IEC 60870-5-104, 5.1), and the ASDU in it (IEC 60870-5-101, 7), one fact a line.
 //!
-//! `show_line` and `show_tcp` answer a `Shown`: the lines, and whether the octets are one whole frame as it should be.
-//! Frames are read where they stand, and no data of them is copied. `read_sizes` reads the sizes of a line's addresses.
-//! Nothing is printed here, and octets in hexadecimal are read elsewhere.
+//! `show_line` and `show_tcp` answer a `Shown`: the lines, and whether the octets are one whole
+//! frame as it should be. Frames are read where they stand, and no data of them is copied.
+//! `read_sizes` reads the sizes of a line's addresses. Nothing is printed here, and octets in
+//! hexadecimal are read elsewhere.
 //!
-//! Proved: the lines and the outcome are those of the frame that stands at the front (`IsLineShown`, `IsTcpShown`), every
-//! field, object, value and time tag with its verdict; an `Err` is want of memory alone.
+//! Proved: the lines and the outcome are those of the frame that stands at the front
+//! (`IsLineShown`, `IsTcpShown`), every field, object, value and time tag with its verdict; an
+//! `Err` is want of memory alone.
 #![tactic(auto)]
 
 mod bits;

@@ -10,10 +10,11 @@ use crate::{LineSizes, Outcome, Shown};
 use ft12::{FrameRef, FrontRef, Why, front_ref};
 use std::alloc::{AllocError, Global};
 
-/// Shows what stands at the front of octets of the line: the frame and its ASDU, and how many octets follow;
-/// or that they begin a frame, or why they begin none.
+/// Shows what stands at the front of octets of the line: the frame and its ASDU, and how many
+/// octets follow; or that they begin a frame, or why they begin none.
 pub fn show_line(alloc: Global, sizes: LineSizes, octets: &[u8]) -> Result<Shown, AllocError>
-    ensures { IfOk result (λ shown. IsLineShown sizes octets.now (string_bytes shown.lines) shown.outcome) }
+    ensures { IfOk result (λ shown.
+        IsLineShown sizes octets.now (string_bytes shown.lines) shown.outcome) }
 {
     let front = front_ref(sizes.link, octets);
     let mut lines = String::new(alloc);
@@ -29,8 +30,10 @@ fn push_front(
     count: usize,
     front: FrontRef<'_>,
 ) -> Result<Outcome, AllocError>
-    ensures lines { OnOk result (string_bytes lines.new ≡ string_bytes lines.old ++ front_lines sizes count (owned_front front.entry)) }
-    ensures outcome { IfOk result (λ outcome. outcome ≡ front_outcome sizes count (owned_front front.entry)) }
+    ensures lines { OnOk result (string_bytes lines.new
+        ≡ string_bytes lines.old ++ front_lines sizes count (owned_front front.entry)) }
+    ensures outcome { IfOk result (λ outcome.
+        outcome ≡ front_outcome sizes count (owned_front front.entry)) }
 {
     match front {
         FrontRef::Whole(frame, len) => {
@@ -58,7 +61,8 @@ fn push_frame(
     sizes: LineSizes,
     frame: FrameRef<'_>,
 ) -> Result<Outcome, AllocError>
-    ensures lines { OnOk result (string_bytes lines.new ≡ string_bytes lines.old ++ frame_lines sizes (owned frame.entry)) }
+    ensures lines { OnOk result (string_bytes lines.new
+        ≡ string_bytes lines.old ++ frame_lines sizes (owned frame.entry)) }
     ensures outcome { IfOk result (λ outcome. outcome ≡ frame_outcome sizes (owned frame.entry)) }
 {
     match frame {

@@ -57,7 +57,8 @@ pub(crate) fn push_object(
     object: &Object<'_>,
 ) -> Result<(), AllocError>
     requires { length object.now.element.now ≡ (row kind).size }
-    ensures { OnOk result (string_bytes lines.new ≡ string_bytes lines.old ++ object_line kind (info_of object.now)) }
+    ensures { OnOk result (string_bytes lines.new
+        ≡ string_bytes lines.old ++ object_line kind (info_of object.now)) }
 {
     push_value(lines, object.address, kind.value(object.element))?;
     push_content(alloc, lines, object)
@@ -65,14 +66,16 @@ pub(crate) fn push_object(
 
 /// Appends the address and the value of an object.
 fn push_value(lines: &mut String, address: u32, value: i64) -> Result<(), AllocError>
-    ensures { OnOk result (string_bytes lines.new ≡ string_bytes lines.old ++ value_text address value) }
+    ensures { OnOk result (string_bytes lines.new
+        ≡ string_bytes lines.old ++ value_text address value) }
 {
     write!(lines, "object address={address} value={value}")
 }
 
 /// Appends the octets of an object's element, and its tag.
 fn push_content(alloc: Global, lines: &mut String, object: &Object<'_>) -> Result<(), AllocError>
-    ensures { OnOk result (string_bytes lines.new ≡ string_bytes lines.old ++ content_text (info_of object.now)) }
+    ensures { OnOk result (string_bytes lines.new
+        ≡ string_bytes lines.old ++ content_text (info_of object.now)) }
 {
     let element = hex::encode_upper(alloc, object.element)?;
     let tag = tag_text(alloc, object.tag)?;

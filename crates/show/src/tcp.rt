@@ -10,10 +10,11 @@ use apci::{ApduRef, FrontRef, Uf, Why, front_ref};
 use asdu::Sizes;
 use std::alloc::{AllocError, Global};
 
-/// Shows what stands at the front of octets of the connection: the APDU and its ASDU, and how many octets follow;
-/// or that they begin an APDU, or why they begin none.
+/// Shows what stands at the front of octets of the connection: the APDU and its ASDU, and how many
+/// octets follow; or that they begin an APDU, or why they begin none.
 pub fn show_tcp(alloc: Global, octets: &[u8]) -> Result<Shown, AllocError>
-    ensures { IfOk result (λ shown. IsTcpShown octets.now (string_bytes shown.lines) shown.outcome) }
+    ensures { IfOk result (λ shown.
+        IsTcpShown octets.now (string_bytes shown.lines) shown.outcome) }
 {
     let front = front_ref(octets);
     let mut lines = String::new(alloc);
@@ -28,8 +29,10 @@ fn push_front(
     count: usize,
     front: FrontRef<'_>,
 ) -> Result<Outcome, AllocError>
-    ensures lines { OnOk result (string_bytes lines.new ≡ string_bytes lines.old ++ front_lines count (owned_front front.entry)) }
-    ensures outcome { IfOk result (λ outcome. outcome ≡ front_outcome count (owned_front front.entry)) }
+    ensures lines { OnOk result (string_bytes lines.new
+        ≡ string_bytes lines.old ++ front_lines count (owned_front front.entry)) }
+    ensures outcome { IfOk result (λ outcome.
+        outcome ≡ front_outcome count (owned_front front.entry)) }
 {
     match front {
         FrontRef::Whole(apdu, len) => {
@@ -52,7 +55,8 @@ fn push_front(
 
 /// Appends the lines of an APDU and of its ASDU.
 fn push_apdu(alloc: Global, lines: &mut String, apdu: ApduRef<'_>) -> Result<Outcome, AllocError>
-    ensures lines { OnOk result (string_bytes lines.new ≡ string_bytes lines.old ++ apdu_lines (owned apdu.entry)) }
+    ensures lines { OnOk result (string_bytes lines.new
+        ≡ string_bytes lines.old ++ apdu_lines (owned apdu.entry)) }
     ensures outcome { IfOk result (λ outcome. outcome ≡ apdu_outcome (owned apdu.entry)) }
 {
     match apdu {

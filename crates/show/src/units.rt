@@ -19,7 +19,8 @@ pub(crate) fn push_unit(
     sizes: Sizes,
     octets: &[u8],
 ) -> Result<Outcome, AllocError>
-    ensures lines { OnOk result (string_bytes lines.new ≡ string_bytes lines.old ++ unit_lines sizes octets.now) }
+    ensures lines { OnOk result (string_bytes lines.new
+        ≡ string_bytes lines.old ++ unit_lines sizes octets.now) }
     ensures outcome { IfOk result (λ outcome. outcome ≡ unit_outcome sizes octets.now) }
 {
     if octets.is_empty() {
@@ -39,7 +40,8 @@ pub(crate) fn push_unit(
 
 fn push_asdu(alloc: Global, lines: &mut String, asdu: &Asdu<'_>) -> Result<(), AllocError>
     requires { IsAsdu asdu.now.sizes (value_of asdu.now) asdu.now.octets.now }
-    ensures { OnOk result (string_bytes lines.new ≡ string_bytes lines.old ++ asdu_lines (value_of asdu.now)) }
+    ensures { OnOk result (string_bytes lines.new
+        ≡ string_bytes lines.old ++ asdu_lines (value_of asdu.now)) }
 {
     push_header(lines, asdu)?;
     push_objects(alloc, lines, asdu)
@@ -47,7 +49,8 @@ fn push_asdu(alloc: Global, lines: &mut String, asdu: &Asdu<'_>) -> Result<(), A
 
 fn push_header(lines: &mut String, asdu: &Asdu<'_>) -> Result<(), AllocError>
     requires { IsAsdu asdu.now.sizes (value_of asdu.now) asdu.now.octets.now }
-    ensures { OnOk result (string_bytes lines.new ≡ string_bytes lines.old ++ header_line (value_of asdu.now)) }
+    ensures { OnOk result (string_bytes lines.new
+        ≡ string_bytes lines.old ++ header_line (value_of asdu.now)) }
 {
     push_structure(lines, asdu)?;
     push_cause(lines, asdu.cause())?;
@@ -57,7 +60,8 @@ fn push_header(lines: &mut String, asdu: &Asdu<'_>) -> Result<(), AllocError>
 /// Appends type, SQ and number of objects.
 fn push_structure(lines: &mut String, asdu: &Asdu<'_>) -> Result<(), AllocError>
     requires { IsAsdu asdu.now.sizes (value_of asdu.now) asdu.now.octets.now }
-    ensures { OnOk result (string_bytes lines.new ≡ string_bytes lines.old ++ structure_text (value_of asdu.now)) }
+    ensures { OnOk result (string_bytes lines.new
+        ≡ string_bytes lines.old ++ structure_text (value_of asdu.now)) }
 {
     let kind = type_number(asdu);
     let sequence = flag(asdu.is_sequence());
@@ -67,7 +71,8 @@ fn push_structure(lines: &mut String, asdu: &Asdu<'_>) -> Result<(), AllocError>
 
 /// Appends originator and common address.
 fn push_addresses(lines: &mut String, asdu: &Asdu<'_>) -> Result<(), AllocError>
-    ensures { OnOk result (string_bytes lines.new ≡ string_bytes lines.old ++ addresses_text (value_of asdu.now)) }
+    ensures { OnOk result (string_bytes lines.new
+        ≡ string_bytes lines.old ++ addresses_text (value_of asdu.now)) }
 {
     let originator = asdu.originator();
     let ca = asdu.ca();
@@ -94,7 +99,9 @@ fn type_number(asdu: &Asdu<'_>) -> u8
 
 fn push_objects(alloc: Global, lines: &mut String, asdu: &Asdu<'_>) -> Result<(), AllocError>
     requires { IsAsdu asdu.now.sizes (value_of asdu.now) asdu.now.octets.now }
-    ensures { OnOk result (string_bytes lines.new ≡ string_bytes lines.old ++ flat_map (object_line asdu.now.kind) (value_of asdu.now).infos) }
+    ensures { OnOk result (string_bytes lines.new
+        ≡ string_bytes lines.old
+        ++ flat_map (object_line asdu.now.kind) (value_of asdu.now).infos) }
 {
     for object in asdu.objects() {
         push_object(alloc, lines, asdu.kind, &object)?;

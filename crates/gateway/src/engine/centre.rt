@@ -1,23 +1,52 @@
 //! The control centre's side: the connection's session, its octets, and the pieces that go up to it.
-ghost use Rattle.std.specs.Prelude.{◌≡◌, ◌<◌, ◌≤◌, true, [], length, IfSome, IfNone, Some, None, if◌then◌else◌};
+ghost use Rattle.std.specs.Prelude.{◌≡◌, ◌<◌, ◌≤◌, true, List, [], length, IfSome, IfNone};
+ghost use Rattle.std.specs.Prelude.{Some, None, if◌then◌else◌};
 ghost use Rattle.apci.specs.Spelling.{Fits};
 ghost use Rattle.apci.specs.Borrowed.{owned};
-ghost use Rattle.session.specs.Session.{confirmed, pulled, may_send, outcome_of, timed_out as answers_late};
-ghost use Rattle.command.specs.State.{oldest};
-ghost use Rattle.command.specs.Judging.{judged};
-ghost use Rattle.events.specs.Queue.{kept};
+ghost use Rattle.session.specs.Session.{confirmed, pulled, may_send, is_running, outcome_of};
+ghost use Rattle.session.specs.Session.{timed_out as answers_late};
+ghost use Rattle.events.specs.Pieces.{AreAsdus};
+ghost use Rattle.events.specs.Queue.{free_places, octets_of};
 ghost use Rattle.gateway.specs.Agrees.{IsSpent};
-ghost use Rattle.gateway.specs.Works.{kept_until, all_kept, listed};
-ghost use Rattle.gateway.specs.State.{disconnected, connected, received as frame_received, heard_commands, has_place};
-ghost use Rattle.gateway.specs.Steps.{Judged, SendsPiece, SendsOwn, SendsData};
+ghost use Rattle.gateway.specs.Centre.{closed, opened, taken, pushed, next_frame, own_sent};
+ghost use Rattle.gateway.specs.Serial.{judged, has_place};
+ghost use Rattle.gateway.specs.State.{disconnected, connected, received as frame_received};
+ghost use Rattle.gateway.specs.State.{with_serial, with_centre, with_session};
+ghost use Rattle.gateway.specs.Steps.{Judged, SendsPiece, SendsData};
 ghost use Rattle.gateway.specs.Finding.{Finds};
+ghost use Rattle.gateway.specs.Polls.{has_room};
 
 use super::{Found, Gateway};
-use apci::{Apdu, ApduRef, FrontRef, Heard, front_ref};
+use apci::{Apdu, ApduRef, Assembler, FrontRef, Heard, front_ref};
 use arrayvec::ArrayVec;
-use command::Act;
-use link::polls_wait_for_leave;
-use session::{Close, Kind, Taken};
+use asdu::Pieces;
+use events::Events;
+use session::{Close, Kind, Session, Taken};
+use std::marker::Model;
+
+/// The session of the connection, the octets of a frame that isn't whole, and the pieces that no
+/// connection has acknowledged.
+#[derive(Drop)]
+pub(crate) struct CentreSide {
+    pub(crate) session: Session,
+    pub(crate) assembler: Assembler,
+    pub(crate) queue: Events,
+}
+
+impl Model for CentreSide {
+    ghost use Rattle.gateway.specs.Centre.{Centre, IsWhole};
+
+    ghost Value = { Centre };
+
+    ghost view = { λ a. record {
+      session = a.session;
+      so_far = a.assembler.so_far;
+      queue = a.queue;
+    } };
+
+    // The pieces sent are those that the session counts as the queue's; and the assembler isn't deaf.
+    ghost invariant = { λ a. IsWhole a.session a.assembler.so_far a.queue };
+}
 
 /// The I frame with these counters.
 fn data_frame(ns: u16, nr: u16, asdu: &[u8]) -> Apdu
@@ -31,35 +60,55 @@ fn data_frame(ns: u16, nr: u16, asdu: &[u8]) -> Apdu
     Apdu::I { ns, nr, asdu }
 }
 
-impl Gateway {
-    /// Nothing is left of the connection: all kept pieces are unsent again, and commands that were never put on the line are
-    /// taken back.
-    pub(crate) fn disconnect(&mut self)
-        ensures { self.new ≡ disconnected self.old }
+impl CentreSide {
+    /// Nothing is left of the connection: all kept pieces are unsent again.
+    fn close(&mut self)
+        ensures { self.new ≡ closed self.old }
     {
-        polls_wait_for_leave();
-        self.line.withdraw();
-        self.commands.cut();
-        self.events.rewind();
+        self.queue.rewind();
         self.session.cut();
         self.assembler.clear();
     }
 
-    pub(crate) fn connect(&mut self)
+    fn open(&mut self, moment: u64)
         requires { self.old.queue.sent ≡ [] }
-        ensures { self.new ≡ connected self.old }
+        ensures { self.new ≡ opened moment self.old }
     {
-        self.session.open(self.moment);
+        self.session.open(moment);
     }
 
-    pub(crate) fn is_open(&self) -> bool
-        ensures { result ≡ self.now.session.connected }
+    /// One more I frame may go out.
+    pub(super) fn may_send(&self) -> bool
+        ensures { result ≡ may_send self.now.session }
     {
-        self.session.is_open()
+        self.session.may_send()
+    }
+
+    /// Data transfer runs.
+    pub(super) fn runs(&self) -> bool
+        ensures { result ≡ is_running self.now.session }
+    {
+        self.session.runs()
+    }
+
+    /// The pieces of any report have places.
+    pub(super) fn has_room(&self) -> bool
+        ensures { result ≡ has_room self.now.queue }
+    {
+        !self.queue.is_full()
+    }
+
+    /// Keeps the pieces of a report.
+    pub(super) fn push(&mut self, pieces: Pieces)
+        requires room { 3 ≤ free_places self.old.queue }
+        requires asdus { AreAsdus pieces.items }
+        ensures { self.new ≡ pushed (octets_of pieces.items) self.old }
+    {
+        self.queue.push(pieces);
     }
 
     /// Looks for an APDU in the octets that came. After a refusal the assembler begins afresh.
-    pub(crate) fn feed(&mut self, piece: &[u8]) -> Found
+    fn feed(&mut self, piece: &[u8]) -> Found
         requires { 0 < length piece.now }
         ensures { Finds self.old piece.now result self.new }
     {
@@ -78,11 +127,12 @@ impl Gateway {
         }
     }
 
-    /// A whole APDU at the front of octets that came, where none had come since the last one, and how many octets it has. Its ASDU is
-    /// lent where it stands.
-    pub(crate) fn find_whole<'a>(&self, piece: &'a [u8]) -> Option<(ApduRef<'a>, usize)>
+    /// A whole APDU at the front of octets that came, where none had come since the last one, and how
+    /// many octets it has. Its ASDU is lent where it stands.
+    fn find_whole<'a>(&self, piece: &'a [u8]) -> Option<(ApduRef<'a>, usize)>
         requires { 0 < length piece.now }
-        ensures { IfSome result (λ found. Finds self.now piece.now (Found.Apdu found.1 (owned found.0)) self.now) }
+        ensures { IfSome result (λ found.
+            Finds self.now piece.now (Found.Apdu found.1 (owned found.0)) self.now) }
     {
         if !self.assembler.is_empty() {
             return None;
@@ -92,6 +142,108 @@ impl Gateway {
             FrontRef::More => None,
             FrontRef::Never(_, _) => None,
         }
+    }
+
+    /// Takes an APDU, and frees the places that it acknowledges.
+    fn take_frame(&mut self, apdu: ApduRef<'_>, moment: u64) -> Taken
+        ensures outcome { result ≡ outcome_of self.old.session (owned apdu.entry) }
+        ensures state { self.new ≡ taken (owned apdu.entry) moment self.old }
+        ensures places { free_places self.old.queue ≤ free_places self.new.queue }
+    {
+        let taken = self.session.take_ref(apdu, moment);
+        let (pieces, _own) = self.session.acked();
+        self.queue.acknowledge(pieces);
+        taken
+    }
+
+    /// The next confirmation that is due.
+    fn confirm(&mut self) -> Option<Apdu>
+        ensures due { (result, self.new.session) ≡ confirmed self.old.session }
+        ensures rest { self.new ≡ record self.old { session = self.new.session } }
+        ensures fits { IfSome result Fits }
+    {
+        self.session.confirm()
+    }
+
+    /// The next S frame or TESTFR act that is due.
+    fn pull(&mut self, moment: u64) -> Option<Apdu>
+        ensures due { (result, self.new.session) ≡ pulled moment self.old.session }
+        ensures rest { self.new ≡ record self.old { session = self.new.session } }
+        ensures fits { IfSome result Fits }
+    {
+        self.session.pull(moment)
+    }
+
+    /// The frame of an own answer.
+    pub(super) fn own_frame(&mut self, asdu: &[u8], moment: u64) -> Apdu
+        requires may { may_send self.old.session ≡ true }
+        requires long { 9 ≤ length asdu.now }
+        requires short { length asdu.now ≤ 249 }
+        ensures frame { result ≡ next_frame self.old.session asdu.now }
+        ensures fits { Fits result }
+        ensures state { self.new ≡ own_sent moment self.old }
+    {
+        let (ns, nr) = self.session.sent(Kind::Own, moment);
+        data_frame(ns, nr, asdu)
+    }
+
+    /// The frame of the oldest piece that isn't sent, where one may be sent.
+    fn next_report(&mut self, moment: u64) -> Option<Apdu>
+        ensures some { IfSome result (λ frame. SendsPiece moment self.old frame self.new) }
+        ensures none { IfNone result ((self.new ≡ self.old)
+            × (may_send self.new.session ≡ true → self.new.queue.unsent ≡ [])) }
+    {
+        if !self.session.may_send() {
+            return None;
+        }
+        let asdu = self.queue.unsent()?;
+        let (ns, nr) = self.session.sent(Kind::Queue, moment);
+        let frame = data_frame(ns, nr, asdu);
+        self.queue.mark_sent();
+        Some(frame)
+    }
+}
+
+impl Gateway {
+    /// Nothing is left of the connection: all kept pieces are unsent again, and commands that were
+    /// never put on the line are taken back.
+    pub(crate) fn disconnect(&mut self)
+        ensures { self.new ≡ disconnected self.old }
+    {
+        self.serial.cut();
+        self.centre.close();
+    }
+
+    pub(crate) fn connect(&mut self)
+        requires { self.old.centre.queue.sent ≡ [] }
+        ensures { self.new ≡ connected self.old }
+    {
+        self.centre.open(self.moment);
+    }
+
+    pub(crate) fn is_open(&self) -> bool
+        ensures { result ≡ self.now.centre.session.connected }
+    {
+        self.centre.session.is_open()
+    }
+
+    /// Looks for an APDU in the octets that came.
+    pub(crate) fn feed(&mut self, piece: &[u8]) -> Found
+        requires { 0 < length piece.now }
+        ensures finds { Finds self.old.centre piece.now result self.new.centre }
+        ensures rest { self.new ≡ with_centre self.new.centre self.old }
+    {
+        self.centre.feed(piece)
+    }
+
+    /// A whole APDU at the front of octets that came, where none had come since the last one, and how
+    /// many octets it has.
+    pub(crate) fn find_whole<'a>(&self, piece: &'a [u8]) -> Option<(ApduRef<'a>, usize)>
+        requires { 0 < length piece.now }
+        ensures { IfSome result (λ found.
+            Finds self.now.centre piece.now (Found.Apdu found.1 (owned found.0)) self.now.centre) }
+    {
+        self.centre.find_whole(piece)
     }
 
     /// Takes an APDU, and judges its ASDU. Where it closes the connection, the cause is answered.
@@ -108,70 +260,53 @@ impl Gateway {
 
     /// Takes an APDU, and frees the places that it acknowledges.
     fn take_frame(&mut self, apdu: ApduRef<'_>) -> Taken
-        ensures outcome { result ≡ outcome_of self.old.session (owned apdu.entry) }
+        ensures outcome { result ≡ outcome_of self.old.centre.session (owned apdu.entry) }
         ensures state { self.new ≡ frame_received (owned apdu.entry) self.old }
     {
-        let taken = self.session.take_ref(apdu, self.moment);
-        let (pieces, _own) = self.session.acked();
-        self.events.acknowledge(pieces);
-        taken
+        self.centre.take_frame(apdu, self.moment)
     }
 
-    /// Judges the ASDU of an APDU, if it has one. Where its answer finds no place, that closes the connection.
+    /// Judges the ASDU of an APDU, if it has one. Where its answer finds no place, that closes the
+    /// connection.
     fn judge_data(&mut self, apdu: ApduRef<'_>) -> Option<Close>
         requires { Fits (owned apdu) }
-        ensures state { self.new ≡ record self.old { commands = heard_commands (owned apdu.entry) self.old.moment self.old.commands } }
-        ensures close { result ≡ (if has_place (owned apdu.entry) self.old.moment self.old.commands then None else Some Close.OwnAnswers) }
+        ensures state { self.new ≡ with_serial (judged (owned apdu.entry) self.old.moment self.old.serial) self.old }
+        ensures close { result ≡ (
+            if has_place (owned apdu.entry) self.old.moment self.old.serial.commands
+            then None else Some Close.OwnAnswers) }
     {
         match apdu {
-            ApduRef::I { asdu, .. } => self.judge_asdu(asdu),
+            ApduRef::I { asdu, .. } => self.serial.judge(asdu, self.moment),
             ApduRef::S { .. } => None,
             ApduRef::U(_) => None,
         }
     }
 
-    /// Judges an ASDU of the control centre.
-    fn judge_asdu(&mut self, octets: &[u8]) -> Option<Close>
-        requires long { 9 ≤ length octets.now }
-        requires short { length octets.now ≤ 249 }
-        ensures state { self.new ≡ record self.old { commands = kept_until (listed (judged octets.now self.old.moment self.old.commands).0) (judged octets.now self.old.moment self.old.commands).1 } }
-        ensures close { result ≡ (if all_kept (listed (judged octets.now self.old.moment self.old.commands).0) (judged octets.now self.old.moment self.old.commands).1 then None else Some Close.OwnAnswers) }
-    {
-        match self.commands.judge_command(octets, self.moment) {
-            Act::Forward => None,
-            Act::Own(answer) => {
-                if self.commands.own(&answer) {
-                    None
-                } else {
-                    Some(Close::OwnAnswers)
-                }
-            }
-        }
-    }
-
     /// The next confirmation that is due.
     pub(crate) fn confirm(&mut self) -> Option<Apdu>
-        ensures due { (result, self.new.session) ≡ confirmed self.old.session }
-        ensures rest { self.new ≡ record self.old { session = self.new.session } }
+        ensures due { (result, self.new.centre.session) ≡ confirmed self.old.centre.session }
+        ensures rest { self.new ≡ with_session self.new.centre.session self.old }
         ensures fits { IfSome result Fits }
     {
-        self.session.confirm()
+        self.centre.confirm()
     }
 
     /// The next S frame or TESTFR act that is due.
     pub(crate) fn pull(&mut self) -> Option<Apdu>
-        ensures due { (result, self.new.session) ≡ pulled self.old.moment self.old.session }
-        ensures rest { self.new ≡ record self.old { session = self.new.session } }
+        ensures due { (result, self.new.centre.session) ≡ pulled self.old.moment self.old.centre.session }
+        ensures rest { self.new ≡ with_session self.new.centre.session self.old }
         ensures fits { IfSome result Fits }
     {
-        self.session.pull(self.moment)
+        self.centre.pull(self.moment)
     }
 
     /// The cause to close the connection where a frame has been without an answer for t1.
     pub(crate) fn late(&self) -> Option<Close>
-        ensures { result ≡ (if answers_late self.now.moment self.now.session then Some Close.Timeout else None) }
+        ensures { result ≡ (
+            if answers_late self.now.moment self.now.centre.session
+            then Some Close.Timeout else None) }
     {
-        self.session.due(self.moment)
+        self.centre.session.due(self.moment)
     }
 
     /// The next I frame: own answers go before the queue's pieces.
@@ -179,39 +314,10 @@ impl Gateway {
         ensures some { IfSome result (λ frame. SendsData self.old frame self.new) }
         ensures none { IfNone result ((self.new ≡ self.old) × IsSpent self.new) }
     {
-        if let Some(frame) = self.next_own() {
+        let moment = self.moment;
+        if let Some(frame) = self.serial.next_own(&mut self.centre, moment) {
             return Some(frame);
         }
-        self.next_report()
-    }
-
-    /// The frame of the oldest own answer.
-    fn next_own(&mut self) -> Option<Apdu>
-        ensures some { IfSome result (λ frame. SendsOwn self.old frame self.new) }
-        ensures none { IfNone result ((self.new ≡ self.old) × (may_send self.new.session ≡ true → self.new.commands.answers ≡ [])) }
-    {
-        if !self.session.may_send() {
-            return None;
-        }
-        let asdu = self.commands.own_answer()?;
-        let (ns, nr) = self.session.sent(Kind::Own, self.moment);
-        let frame = data_frame(ns, nr, asdu);
-        self.commands.own_sent();
-        Some(frame)
-    }
-
-    /// The frame of the oldest piece that isn't sent.
-    fn next_report(&mut self) -> Option<Apdu>
-        ensures some { IfSome result (λ frame. SendsPiece self.old frame self.new) }
-        ensures none { IfNone result ((self.new ≡ self.old) × (may_send self.new.session ≡ true → self.new.queue.unsent ≡ [])) }
-    {
-        if !self.session.may_send() {
-            return None;
-        }
-        let asdu = self.events.unsent()?;
-        let (ns, nr) = self.session.sent(Kind::Queue, self.moment);
-        let frame = data_frame(ns, nr, asdu);
-        self.events.mark_sent();
-        Some(frame)
+        self.centre.next_report(moment)
     }
 }

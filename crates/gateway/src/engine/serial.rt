@@ -1,31 +1,68 @@
 //! The line's side: its primary station, what its octets bring, and the commands that go down to it.
-ghost use Rattle.std.specs.Prelude.{◌≡◌, ℕ, ◌<◌, ◌≤◌, true, false, List, [], length, Some, None, option_map};
-ghost use Rattle.link.specs.declared.settings.LinkSettings.{LinkSettings};
-ghost use Rattle.link.specs.Exchanges.{Sending, Exchanges};
-ghost use Rattle.link.specs.Telling.{Tells};
-ghost use Rattle.link.specs.Primary.{offered_to, sending, request_of};
-ghost use Rattle.command.specs.State.{oldest};
-ghost use Rattle.events.specs.Queue.{free_places, octets_of};
-ghost use Rattle.link.specs.Leave.{is_poll_request, is_polling, is_report};
+ghost use Rattle.std.specs.Prelude.{◌≡◌, ℕ, ◌<◌, ◌≤◌, true, false, List, [], length};
+ghost use Rattle.std.specs.Prelude.{Some, None, option_map, if◌then◌else◌, ◌⊎◌, IfSome, IfNone};
 ghost use Rattle.std.specs.List.{AllByRecursion};
 ghost use Rattle.asdu.specs.Asdu.{IsAsdu};
 ghost use Rattle.asdu.specs.InformationObjects.{monitor_objects_of};
 ghost use Rattle.asdu.specs.Reading.{value_of};
+ghost use Rattle.link.specs.declared.settings.LinkSettings.{LinkSettings};
+ghost use Rattle.link.specs.Exchanges.{Sending, Exchanges};
+ghost use Rattle.link.specs.Leave.{is_poll_request, is_polling, is_report};
+ghost use Rattle.link.specs.Primary.{offered_to, sending, request_of};
+ghost use Rattle.link.specs.Telling.{Tells};
+ghost use Rattle.command.specs.Judging.{judged};
+ghost use Rattle.command.specs.State.{oldest};
+ghost use Rattle.events.specs.Queue.{free_places, octets_of};
+ghost use Rattle.session.specs.Session.{may_send};
 ghost use Rattle.gateway.specs.Polls.{has_room};
 ghost use Rattle.gateway.specs.Counting.{is_answer_type, one_skipped, one_mirrored, one_lost};
-ghost use Rattle.gateway.specs.Works.{kept_until, all_kept, is_command_report, offered_by, offered_upto};
-ghost use Rattle.gateway.specs.State.{after_request};
-ghost use Rattle.gateway.specs.Steps.{Mirrors, LearnsReport, Hears, Learns, refused, refusal_fits, given_up, line_timed, settled};
+ghost use Rattle.gateway.specs.Serial.{kept_until, all_kept, listed, refused, refusal_fits};
+ghost use Rattle.gateway.specs.Serial.{heard, heard_outcome, accepted, given_up, with_gap, without_gap, timed, settled};
+ghost use Rattle.gateway.specs.Serial.{cut, offered_by, offered, asked};
+ghost use Rattle.gateway.specs.State.{line_timed, settled as after_timers, after_request};
+ghost use Rattle.gateway.specs.State.{with_serial};
+ghost use Rattle.gateway.specs.Steps.{Mirrors, LearnsReport, Hears, Learns, SendsOwn};
+ghost use Rattle.gateway.specs.Works.{is_command_report};
 
 use super::Gateway;
+use super::centre::CentreSide;
 use crate::counts::Tally;
+use crate::gaps::Gap;
+use apci::Apdu;
 use asdu::{Asdu, Piece, read, translate};
-use command::Commands;
+use command::{Act, Commands};
 use elements::TypeId;
 use link::{
-    Master, Outcome, Request, RequestKind, master_tells_the_log, next_changes_nothing, offers_wait,
-    polls_wait_for_leave,
+    Master, Outcome, Request, RequestKind, master_tells_the_log, offers_wait, polls_wait_for_leave,
 };
+use session::Close;
+use std::marker::Model;
+
+/// The primary station of the line, the commands that go down to it, and what is counted of both.
+#[derive(Drop)]
+pub(crate) struct SerialSide {
+    pub(crate) line: Master,
+    pub(crate) commands: Commands,
+    pub(crate) counts: Tally,
+    /// The station whose link the step's silence took down.
+    pub(crate) silent: Option<usize>,
+    /// The gap that is still to be told.
+    pub(crate) gap: Option<Gap>,
+}
+
+impl Model for SerialSide {
+    ghost use Rattle.gateway.specs.Serial.{Serial};
+
+    ghost Value = { Serial };
+
+    ghost view = { λ a. record {
+      line = a.line;
+      commands = a.commands;
+      counts = a.counts;
+      silent = a.silent;
+      gap = a.gap;
+    } };
+}
 
 impl Tally {
     /// One more report that isn't passed on.
@@ -63,7 +100,8 @@ fn offer_to(line: &mut Master, station: usize, octets: &[u8])
     requires some { 1 ≤ length octets.now }
     requires short { length octets.now ≤ 12 }
     ensures state { line.new ≡ offered_to line.old station octets.now }
-    ensures tells { (settings : LinkSettings) (addresses : List ℕ) (e : Exchanges) → Tells settings addresses line.old e → Tells settings addresses line.new e }
+    ensures tells { (settings : LinkSettings) (addresses : List ℕ) (e : Exchanges) →
+        Tells settings addresses line.old e → Tells settings addresses line.new e }
 {
     master_tells_the_log();
     let _is_new = line.offer(station, octets);
@@ -83,73 +121,51 @@ fn keep_all(commands: &mut Commands, pieces: &[Piece]) -> bool
     true
 }
 
-impl Gateway {
-    /// Takes octets of the line, and keeps what comes with them. `false` says that an own answer found no place.
-    pub(crate) fn hear(&mut self, octets: &[u8]) -> bool
-        ensures { Hears self.old octets.now result self.new }
+impl SerialSide {
+    /// Takes octets of the line, and answers what came of them.
+    fn hear(&mut self, octets: &[u8]) -> Outcome
+        ensures state { self.new ≡ heard octets.now self.old }
+        ensures outcome { result ≡ heard_outcome octets.now self.old }
+        ensures report { is_report result ≡ true →
+            (is_polling self.old.line ≡ true) × (is_polling self.new.line ≡ false) }
+        ensures polls { is_polling self.new.line ≡ true → is_polling self.old.line ≡ true }
     {
         polls_wait_for_leave();
-        next_changes_nothing();
-        let outcome = self.line.octets(octets);
-        self.learn(&outcome)
+        self.line.octets(octets)
     }
 
-    /// What came of an exchange.
-    fn learn(&mut self, outcome: &Outcome) -> bool
-        requires room { is_report outcome.now ≡ true → (3 ≤ free_places self.old.queue) × (is_polling self.old.line ≡ false) }
-        ensures { Learns self.old outcome.now result self.new }
+    /// The command on a station's line was accepted.
+    fn accept(&mut self, station: usize)
+        ensures { self.new ≡ accepted station self.old }
     {
-        match outcome {
-            Outcome::Report(_, report) => self.take_report(report),
-            Outcome::Accepted(station) => {
-                self.commands.accepted(*station);
-                true
-            }
-            Outcome::Busy(station) => self.refuse(*station),
-            Outcome::Down(station) => {
-                self.give_up(*station);
-                true
-            }
-            Outcome::None => true,
-            Outcome::Started(_) => true,
-            Outcome::Empty(_) => true,
-        }
+        self.commands.accepted(station);
     }
 
-    /// Keeps the pieces of a report that is passed on. An answer to a command is passed on as own answers while data transfer
-    /// runs, and any other report is counted.
-    fn take_report(&mut self, report: &[u8]) -> bool
-        requires short { length report.now ≤ 253 }
-        requires room { 3 ≤ free_places self.old.queue }
-        requires done { is_polling self.old.line ≡ false }
-        ensures { LearnsReport (is_command_report self.old.sizes report.now) self.old report.now result self.new }
+    /// A session of the station's link ended with a gap.
+    fn note_gap(&mut self, station: usize, session: u64)
+        ensures { self.new ≡ with_gap station session self.old }
     {
-        let Ok(asdu) = read(self.sizes, report) else {
-            self.counts.skip();
-            return true;
-        };
-        if asdu.is_passed_on() {
-            self.events.push(translate(&asdu));
-            return true;
-        }
-        if !is_answer(asdu.kind) {
-            self.counts.skip();
-            return true;
-        }
-        self.mirror(&asdu)
+        self.gap = Some(Gap { station, session });
     }
 
-    /// A station answered a command.
-    fn mirror(&mut self, asdu: &Asdu<'_>) -> bool
+    /// One more report that isn't passed on.
+    fn skip(&mut self)
+        ensures { self.new ≡ record self.old { counts = one_skipped self.old.counts } }
+    {
+        self.counts.skip();
+    }
+
+    /// A station answered a command: where data transfer runs the answer is passed on as own
+    /// answers. `false` says that one of these found no place.
+    fn mirror(&mut self, asdu: &Asdu<'_>, moment: u64, runs: bool) -> bool
         requires short { length asdu.now.octets.now ≤ 253 }
-        requires sizes { asdu.now.sizes ≡ self.old.sizes }
         requires found { IsAsdu asdu.now.sizes (value_of asdu.now) asdu.now.octets.now }
         requires plain { monitor_objects_of asdu.now.sizes asdu.now.octets.now ≡ [] }
-        ensures { Mirrors self.old asdu.now.octets.now result self.new }
+        ensures { Mirrors asdu.now.sizes moment runs self.old asdu.now.octets.now result self.new }
     {
-        self.commands.mirror(asdu, self.moment);
+        self.commands.mirror(asdu, moment);
         let pieces = translate(asdu);
-        if self.session.runs() {
+        if runs {
             return keep_all(&mut self.commands, &pieces);
         }
         self.counts.mirror();
@@ -177,31 +193,111 @@ impl Gateway {
     }
 
     /// Ends the line's exchange where its time is over.
-    pub(crate) fn time(&mut self)
-        ensures { self.new ≡ line_timed self.old }
+    fn time(&mut self, moment: u64)
+        ensures state { self.new ≡ timed moment self.old }
+        ensures polls { is_polling self.new.line ≡ true → is_polling self.old.line ≡ true }
     {
         polls_wait_for_leave();
-        self.silent = match self.line.due(self.moment) {
+        self.silent = match self.line.due(moment) {
             Outcome::Down(station) => Some(station),
             _ => None,
         };
     }
 
-    /// The timers of commands: the command of a station that fell silent is given up, and selections end.
-    pub(crate) fn settle(&mut self)
-        ensures { self.new ≡ settled self.old }
+    /// The timers of commands: the command of a station that fell silent is given up, and selections
+    /// end.
+    fn settle(&mut self, moment: u64)
+        ensures { self.new ≡ settled moment self.old }
     {
         if let Some(station) = self.silent {
             self.give_up(station);
         }
         self.silent = None;
-        self.commands.due(self.moment);
+        self.commands.due(moment);
+    }
+
+    /// The gap that is still to be told, if there is one.
+    fn take_gap(&mut self) -> Option<Gap>
+        ensures gap { result ≡ self.old.gap }
+        ensures state { self.new ≡ without_gap self.old }
+    {
+        self.gap.take()
+    }
+
+    /// Commands that were never put on the line are taken back, and selections and own answers go.
+    pub(super) fn cut(&mut self)
+        ensures state { self.new ≡ cut self.old }
+        ensures polls { is_polling self.new.line ≡ true → is_polling self.old.line ≡ true }
+    {
+        polls_wait_for_leave();
+        self.line.withdraw();
+        self.commands.cut();
+    }
+
+    /// Judges an ASDU of the control centre. Where its answer finds no place, that closes the
+    /// connection.
+    pub(super) fn judge(&mut self, octets: &[u8], moment: u64) -> Option<Close>
+        requires long { 9 ≤ length octets.now }
+        requires short { length octets.now ≤ 249 }
+        ensures state { self.new ≡ record self.old {
+          commands =
+              kept_until (listed (judged octets.now moment self.old.commands).0)
+              (judged octets.now moment self.old.commands).1;
+        } }
+        ensures close { result ≡ (
+            if all_kept (listed (judged octets.now moment self.old.commands).0)
+            (judged octets.now moment self.old.commands).1
+            then None else Some Close.OwnAnswers) }
+    {
+        match self.commands.judge_command(octets, moment) {
+            Act::Forward => None,
+            Act::Own(answer) => {
+                if self.commands.own(&answer) {
+                    None
+                } else {
+                    Some(Close::OwnAnswers)
+                }
+            }
+        }
+    }
+
+    /// The line's next request. A command that goes out for the first time waits no more.
+    fn next(&mut self, moment: u64, may_poll: bool) -> Option<Request>
+        ensures state { self.new ≡ asked moment may_poll (sending self.old.line may_poll) self.old }
+        ensures request { result ≡ option_map (request_of self.old.line) (sending self.old.line may_poll) }
+        ensures polls { is_polling self.new.line ≡ true →
+            (is_polling self.old.line ≡ true) ⊎ (may_poll ≡ true) }
+    {
+        polls_wait_for_leave();
+        let request = self.line.next(moment, may_poll)?;
+        if request.kind == RequestKind::Command && !request.again {
+            self.commands.on_line(request.station);
+        }
+        Some(request)
+    }
+
+    /// The frame of the oldest own answer.
+    pub(super) fn next_own(&mut self, centre: &mut CentreSide, moment: u64) -> Option<Apdu>
+        ensures some { IfSome result (λ frame.
+            SendsOwn moment self.old centre.old frame self.new centre.new) }
+        ensures none { IfNone result ((self.new ≡ self.old) × (centre.new ≡ centre.old)
+            × (may_send centre.new.session ≡ true → self.new.commands.answers ≡ [])) }
+    {
+        if !centre.may_send() {
+            return None;
+        }
+        let asdu = self.commands.own_answer()?;
+        let frame = centre.own_frame(asdu, moment);
+        self.commands.own_sent();
+        Some(frame)
     }
 
     /// Offers to each station the oldest command that waits for it.
-    pub(crate) fn offer_all(&mut self)
-        ensures state { self.new ≡ record self.old { line = offered_upto (length self.old.line.stations) self.old.commands.waiting self.old.line } }
-        ensures tells { (settings : LinkSettings) (addresses : List ℕ) (e : Exchanges) → Tells settings addresses self.old.line e → Tells settings addresses self.new.line e }
+    fn offer_all(&mut self)
+        ensures state { self.new ≡ offered self.old }
+        ensures tells { (settings : LinkSettings) (addresses : List ℕ) (e : Exchanges) →
+            Tells settings addresses self.old.line e → Tells settings addresses self.new.line e }
+        ensures polls { is_polling self.new.line ≡ true → is_polling self.old.line ≡ true }
     {
         offers_wait();
         for station in 0..self.line.count() {
@@ -212,28 +308,129 @@ impl Gateway {
     /// Offers to a station the oldest command that waits for it.
     fn offer(&mut self, station: usize)
         requires { station < length self.old.line.stations }
-        ensures state { self.new ≡ record self.old { line = offered_by (oldest station self.old.commands.waiting) station self.old.line } }
-        ensures tells { (settings : LinkSettings) (addresses : List ℕ) (e : Exchanges) → Tells settings addresses self.old.line e → Tells settings addresses self.new.line e }
+        ensures state { self.new ≡ record self.old {
+          line =
+              offered_by (oldest station self.old.commands.waiting) station self.old.line;
+        } }
+        ensures tells { (settings : LinkSettings) (addresses : List ℕ) (e : Exchanges) →
+            Tells settings addresses self.old.line e → Tells settings addresses self.new.line e }
+        ensures polls { is_polling self.new.line ≡ true → is_polling self.old.line ≡ true }
     {
         polls_wait_for_leave();
         if let Some(octets) = self.commands.waiting(station) {
             offer_to(&mut self.line, station, octets);
         }
     }
+}
 
-    /// The line's next request. It is a poll only where the queue has room, or where it is sent again at once. A command that
-    /// goes out for the first time waits no more.
+impl Gateway {
+    /// Takes octets of the line, and keeps what comes with them. `false` says that an own answer
+    /// found no place.
+    pub(crate) fn hear(&mut self, octets: &[u8]) -> bool
+        ensures { Hears self.old octets.now result self.new }
+    {
+        let outcome = self.serial.hear(octets);
+        self.learn(&outcome)
+    }
+
+    /// What came of an exchange.
+    fn learn(&mut self, outcome: &Outcome) -> bool
+        requires room { is_report outcome.now ≡ true →
+            (3 ≤ free_places self.old.centre.queue) × (is_polling self.old.serial.line ≡ false) }
+        ensures { Learns self.old outcome.now result self.new }
+    {
+        match outcome {
+            Outcome::Report(_, report) => self.take_report(report),
+            Outcome::Accepted(station) => {
+                self.serial.accept(*station);
+                true
+            }
+            Outcome::Busy(station) => self.serial.refuse(*station),
+            Outcome::Down(station) => {
+                self.serial.give_up(*station);
+                true
+            }
+            Outcome::StartedGap(station, session) => {
+                self.serial.note_gap(*station, *session);
+                true
+            }
+            Outcome::None => true,
+            Outcome::Started(_) => true,
+            Outcome::Empty(_) => true,
+        }
+    }
+
+    /// Keeps the pieces of a report that is passed on. An answer to a command is passed on as own
+    /// answers while data transfer runs, and any other report is counted.
+    fn take_report(&mut self, report: &[u8]) -> bool
+        requires short { length report.now ≤ 253 }
+        requires room { 3 ≤ free_places self.old.centre.queue }
+        requires done { is_polling self.old.serial.line ≡ false }
+        ensures { LearnsReport (is_command_report self.old.sizes report.now)
+            self.old report.now result self.new }
+    {
+        let Ok(asdu) = read(self.sizes, report) else {
+            self.serial.skip();
+            return true;
+        };
+        if asdu.is_passed_on() {
+            self.centre.push(translate(&asdu));
+            return true;
+        }
+        if !is_answer(asdu.kind) {
+            self.serial.skip();
+            return true;
+        }
+        let moment = self.moment;
+        let runs = self.centre.runs();
+        self.serial.mirror(&asdu, moment, runs)
+    }
+
+    /// Ends the line's exchange where its time is over.
+    pub(crate) fn time(&mut self)
+        ensures { self.new ≡ line_timed self.old }
+    {
+        self.serial.time(self.moment);
+    }
+
+    /// The timers of commands.
+    pub(crate) fn settle(&mut self)
+        ensures { self.new ≡ after_timers self.old }
+    {
+        self.serial.settle(self.moment);
+    }
+
+    /// The gap that is still to be told, if there is one: it is told now.
+    pub(crate) fn take_gap(&mut self) -> Option<Gap>
+        ensures gap { result ≡ self.old.serial.gap }
+        ensures state { self.new ≡ with_serial (without_gap self.old.serial) self.old }
+    {
+        self.serial.take_gap()
+    }
+
+    /// Offers to each station the oldest command that waits for it.
+    pub(crate) fn offer_all(&mut self)
+        ensures state { self.new ≡ with_serial (offered self.old.serial) self.old }
+        ensures tells { (settings : LinkSettings) (addresses : List ℕ) (e : Exchanges) →
+            Tells settings addresses self.old.serial.line e →
+            Tells settings addresses self.new.serial.line e }
+    {
+        self.serial.offer_all();
+    }
+
+    /// The line's next request. It is a poll only where the queue has room, or where it is sent again
+    /// at once. A command that goes out for the first time waits no more.
     pub(crate) fn next_request(&mut self) -> Option<Request>
-        ensures state { self.new ≡ after_request self.old (sending self.old.line (has_room self.old.queue)) }
-        ensures request { result ≡ option_map (request_of self.old.line) (sending self.old.line (has_room self.old.queue)) }
-        ensures room { (s : Sending) → sending self.old.line (has_room self.old.queue) ≡ Some s → is_poll_request s.request ≡ true → 3 ≤ free_places self.old.queue }
+        ensures state { self.new ≡ after_request self.old
+            (sending self.old.serial.line (has_room self.old.centre.queue)) }
+        ensures request { result ≡ option_map (request_of self.old.serial.line)
+            (sending self.old.serial.line (has_room self.old.centre.queue)) }
+        ensures room { (s : Sending) →
+            sending self.old.serial.line (has_room self.old.centre.queue) ≡ Some s →
+            is_poll_request s.request ≡ true → 3 ≤ free_places self.old.centre.queue }
     {
         polls_wait_for_leave();
-        let may_poll = !self.events.is_full();
-        let request = self.line.next(self.moment, may_poll)?;
-        if request.kind == RequestKind::Command && !request.again {
-            self.commands.on_line(request.station);
-        }
-        Some(request)
+        let may_poll = self.centre.has_room();
+        self.serial.next(self.moment, may_poll)
     }
 }

@@ -152,6 +152,7 @@ impl Keeper {
                 self.is_open = cause == 7;
                 Told::Close(now, cause)
             }
+            Action::Gap { station, session } => Told::Gap(now, *station, *session),
         };
         self.log.push(told)?;
         Ok(())

@@ -284,6 +284,7 @@ fn tallied(actions: &[Told]) -> Tally {
                 tally.closes = tally.closes.wrapping_add(1);
                 tally.cause = *cause;
             }
+            Told::Gap(_, _, _) => {}
         }
     }
     tally

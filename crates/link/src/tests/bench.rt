@@ -94,4 +94,17 @@ impl Bench {
         let reset = self.sends(10, &[0x10, 0x40, 0x01, 0x41, 0x16]);
         status && ready && reset && matches!(self.octets(&[0xE5]), Outcome::Started(0))
     }
+
+    /// The first station is asked for its status and reset again: whether that ends this session with a gap, or tells none.
+    pub(super) fn restarts(&mut self, now: u64, gap: Option<u64>) -> bool {
+        let status = self.sends(now, &[0x10, 0x49, 0x01, 0x4A, 0x16]);
+        let ready = matches!(self.octets(&[0x10, 0x0B, 0x01, 0x0C, 0x16]), Outcome::None);
+        let reset = self.sends(now, &[0x10, 0x40, 0x01, 0x41, 0x16]);
+        let told = match (self.octets(&[0xE5]), gap) {
+            (Outcome::Started(0), None) => true,
+            (Outcome::StartedGap(0, session), Some(ended)) => session == ended,
+            _ => false,
+        };
+        status && ready && reset && told
+    }
 }

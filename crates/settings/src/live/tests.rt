@@ -17,86 +17,76 @@ fn verdict(alloc: Global, live: &str) -> Result<String, Fail> {
     }
 }
 
-#[test]
-fn the_places_of_the_ends_are_read(rt: HostRuntime) -> Result<(), Fail> {
-    for (live, found) in [
-        (
-            "[live]\nline = \"tcp:server:4001\"\nlisten = \"0.0.0.0:2404\"",
-            "tcp:server:4001 0.0.0.0:2404",
-        ),
-        (
-            "[live]\nline = \"unix:l\"\nlisten = \"[::1]:65535\"",
-            "unix:l [::1]:65535",
-        ),
-        (
-            "[live]\nline = \"tcp:::1\"\nlisten = \"h:1\"",
-            "tcp:::1 h:1",
-        ),
-    ] {
-        assert_eq!(rt; verdict(rt.alloc(), live)?.as_str(), found);
-    }
-    Ok(())
-}
+/// The table `live`, and the two places, or what is wrong.
+static PLACES: [(&'static str, &'static str); 26] = [
+    (
+        "[live]\nline = \"tcp:server:4001\"\nlisten = \"0.0.0.0:2404\"",
+        "tcp:server:4001 0.0.0.0:2404",
+    ),
+    (
+        "[live]\nline = \"unix:l\"\nlisten = \"[::1]:65535\"",
+        "unix:l [::1]:65535",
+    ),
+    (
+        "[live]\nline = \"tcp:::1\"\nlisten = \"h:1\"",
+        "tcp:::1 h:1",
+    ),
+    // No place of the line.
+    ("", "config: live.line"),
+    ("[[live]]", "config: live.line"),
+    ("[live]\nlisten = \"h:1\"", "config: live.line"),
+    ("[live]\nline = 1\nlisten = 1", "config: live.line"),
+    ("[live]\nline = \"h:1\"", "config: live.line"),
+    ("[live]\nline = \"tcp:h\"", "config: live.line"),
+    ("[live]\nline = \"tcp::1\"", "config: live.line"),
+    ("[live]\nline = \"tcp:h:0\"", "config: live.line"),
+    ("[live]\nline = \"tcp:h:65536\"", "config: live.line"),
+    ("[live]\nline = \"tcp:h:1x\"", "config: live.line"),
+    ("[live]\nline = \"tcp:h:\"", "config: live.line"),
+    ("[live]\nline = \"unix:\"", "config: live.line"),
+    ("[live]\nline = \"TCP:h:1\"", "config: live.line"),
+    ("[live]\nline = \"\"\nunknown = 1", "config: live.line"),
+    // No place to listen at.
+    ("[live]\nline = \"unix:/line\"\n", "config: live.listen"),
+    (
+        "[live]\nline = \"unix:/line\"\nlisten = true",
+        "config: live.listen",
+    ),
+    (
+        "[live]\nline = \"unix:/line\"\nlisten = \"2404\"",
+        "config: live.listen",
+    ),
+    (
+        "[live]\nline = \"unix:/line\"\nlisten = \":2404\"",
+        "config: live.listen",
+    ),
+    (
+        "[live]\nline = \"unix:/line\"\nlisten = \"h:+1\"",
+        "config: live.listen",
+    ),
+    (
+        "[live]\nline = \"unix:/line\"\nlisten = \"h:1 \"",
+        "config: live.listen",
+    ),
+    (
+        "[live]\nline = \"unix:/line\"\nlisten = \"tcp:h:\"\nunknown = 1",
+        "config: live.listen",
+    ),
+    // Other faults keep their order.
+    (
+        "[live]\nline = \"unix:/line\"\nlisten = \"h:1\"\nunknown = 1",
+        "config: unknown live.unknown",
+    ),
+    (
+        "[[station]]\naddress = 1\nca = 2\n[live]\nline = 1",
+        "config: station.address",
+    ),
+];
 
 #[test]
-fn a_wrong_line_is_told(rt: HostRuntime) -> Result<(), Fail> {
-    for live in [
-        "",
-        "[[live]]",
-        "[live]\nlisten = \"h:1\"",
-        "[live]\nline = 1\nlisten = 1",
-        "[live]\nline = \"h:1\"",
-        "[live]\nline = \"tcp:h\"",
-        "[live]\nline = \"tcp::1\"",
-        "[live]\nline = \"tcp:h:0\"",
-        "[live]\nline = \"tcp:h:65536\"",
-        "[live]\nline = \"tcp:h:1x\"",
-        "[live]\nline = \"tcp:h:\"",
-        "[live]\nline = \"unix:\"",
-        "[live]\nline = \"TCP:h:1\"",
-        "[live]\nline = \"\"\nunknown = 1",
-    ] {
-        assert_eq!(rt;
-            verdict(rt.alloc(), live)?.as_str(),
-            "config: live.line",
-            "{live}"
-        );
+fn the_ends_of_a_live_run_are_read(rt: HostRuntime) -> Result<(), Fail> {
+    for (live, want) in &PLACES {
+        assert_eq!(rt; verdict(rt.alloc(), *live)?.as_str(), *want, "{live}");
     }
-    Ok(())
-}
-
-#[test]
-fn a_wrong_door_is_told(rt: HostRuntime) -> Result<(), Fail> {
-    for listen in [
-        "",
-        "listen = true",
-        "listen = \"2404\"",
-        "listen = \":2404\"",
-        "listen = \"h:+1\"",
-        "listen = \"h:1 \"",
-        "listen = \"tcp:h:\"\nunknown = 1",
-    ] {
-        let live = format!(in rt.alloc(); "[live]\nline = \"unix:/line\"\n{listen}")?;
-        assert_eq!(rt;
-            verdict(rt.alloc(), live.as_str())?.as_str(),
-            "config: live.listen",
-            "{listen}"
-        );
-    }
-    Ok(())
-}
-
-#[test]
-fn other_faults_keep_their_order(rt: HostRuntime) -> Result<(), Fail> {
-    let live = "[live]\nline = \"unix:/line\"\nlisten = \"h:1\"\nunknown = 1";
-    assert_eq!(rt;
-        verdict(rt.alloc(), live)?.as_str(),
-        "config: unknown live.unknown"
-    );
-    let wrong = "[[station]]\naddress = 1\nca = 2\n[live]\nline = 1";
-    assert_eq!(rt;
-        verdict(rt.alloc(), wrong)?.as_str(),
-        "config: station.address"
-    );
     Ok(())
 }

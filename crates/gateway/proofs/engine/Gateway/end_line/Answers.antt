@@ -9,7 +9,7 @@ returns-then-fits-clause-kept g c = λ p s now b h. told_line p _ s c.args.self.
 
 pub returns-then-not-is_open-clause-kept : goal.returns-then-not-is_open-clause-kept
 returns-then-not-is_open-clause-kept g c = λ p s now b h.
-    let shut : c.args.self.now.session.connected ≡ false = sym c.is_open.ensures ∙ c.if-not-is_open.true in
+    let shut : c.args.self.now.centre.session.connected ≡ false = sym c.is_open.ensures ∙ c.if-not-is_open.true in
     told_line p _ s c.args.self.now now c.args.octets.now c.args.fits c.line_is_told.ensures (λ on. absurd (false≢true (sym shut ∙ on))) b h
 
 pub returns-clause-kept : goal.returns-clause-kept

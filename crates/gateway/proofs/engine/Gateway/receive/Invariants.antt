@@ -7,7 +7,7 @@ use Rattle.gateway.proofs.engine.Gateway.receive.Given as goal
 abbrev pub invariant-loop-done : goal.invariant-loop-done
 invariant-loop-done g l = record {
   kept : (p : Setup) → Awaits p l.fn.self (g.P.Port.log l.fn.port) l.octets → Awaits p l.self (g.P.Port.log l.port) (drop l.done l.octets);
-  on : l.self.session.connected ≡ true;
+  on : l.self.centre.session.connected ≡ true;
   within : l.done ≤ length l.octets;
   events : events_told (g.P.Port.log l.port) ≡ events_told (g.P.Port.log l.fn.port);
   script : g.P.Port.script l.port ≡ g.P.Port.script l.fn.port;

@@ -8,14 +8,14 @@ use Rattle.gateway.proofs.engine.Gateway.send_data.Given as goal
 
 abbrev pub invariant-loop-apdu : goal.invariant-loop-apdu
 invariant-loop-apdu g l = record {
-  kept : (p : Setup) (unjudged : List ℕ) (phase : Phase) → IsFlushing phase → IsConfirmed l.fn.self.session → Tracks p l.fn.self (g.P.Port.log l.fn.port) unjudged phase → Tracks p l.self (g.P.Port.log l.port) unjudged phase;
-  confirmed : IsConfirmed l.fn.self.session → IsConfirmed l.self.session;
+  kept : (p : Setup) (unjudged : List ℕ) (phase : Phase) → IsFlushing phase → IsConfirmed l.fn.self.centre.session → Tracks p l.fn.self (g.P.Port.log l.fn.port) unjudged phase → Tracks p l.self (g.P.Port.log l.port) unjudged phase;
+  confirmed : IsConfirmed l.fn.self.centre.session → IsConfirmed l.self.centre.session;
   in_time : StaysInTime l.fn.self l.self;
-  on : l.self.session.connected ≡ l.fn.self.session.connected;
+  on : l.self.centre.session.connected ≡ l.fn.self.centre.session.connected;
   events : events_told (g.P.Port.log l.port) ≡ events_told (g.P.Port.log l.fn.port);
   script : g.P.Port.script l.port ≡ g.P.Port.script l.fn.port;
   cause : g.P.Port.failed l.port ≡ g.P.Port.failed l.fn.port;
 }
 
 abbrev pub decreases-loop-apdu : goal.decreases-loop-apdu
-decreases-loop-apdu g l = length l.self.commands.answers + length l.self.queue.unsent
+decreases-loop-apdu g l = length l.self.serial.commands.answers + length l.self.centre.queue.unsent

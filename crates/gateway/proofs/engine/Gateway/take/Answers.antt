@@ -9,7 +9,7 @@ returns-in-Open-clause-kept g c = λ p s now b h. c.begin.ensures.kept p s now c
 
 pub returns-in-Bytes-clause-kept : goal.returns-in-Bytes-clause-kept
 returns-in-Bytes-clause-kept g c = λ p s now b h.
-    c.take_bytes.ensures.kept p (told_bytes c.args.self.now.session.connected p _ s c.args.self.now now c.in-Bytes.octets.now c.args.fits c.line_is_told.ensures (rw c.in-Bytes.is at b) Rattle.std.proofs.Common.refl (rw c.in-Bytes.is at h))
+    c.take_bytes.ensures.kept p (told_bytes c.args.self.now.centre.session.connected p _ s c.args.self.now now c.in-Bytes.octets.now c.args.fits c.line_is_told.ensures (rw c.in-Bytes.is at b) Rattle.std.proofs.Common.refl (rw c.in-Bytes.is at h))
 
 pub returns-in-Cut-clause-kept : goal.returns-in-Cut-clause-kept
 returns-in-Cut-clause-kept g c = λ p s now b h.

@@ -1,7 +1,7 @@
 use Rattle.std.proofs.Common.{◌≡◌, ◌≤◌, length, drop}
 use Rattle.std.specs.List.{AllByRecursion}
 use Rattle.events.specs.Queue.{octets_of}
-use Rattle.gateway.specs.Works.{kept_until, all_kept}
+use Rattle.gateway.specs.Serial.{kept_until, all_kept}
 use Rattle.gateway.proofs.engine.serial.keep_all.Given as goal
 
 abbrev pub invariant-loop-piece : goal.invariant-loop-piece

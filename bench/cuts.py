@@ -1,0 +1,103 @@
+#!/usr/bin/env python3
+"""Replays a trace with each of its frames cut at each place: what comes of it is the same.
+
+    bench/cuts.py [--program FILE]
+
+A command is selected and confirmed, the control centre goes and comes again, and its execute is refused, since a selection ends with its
+connection. Each frame of the trace, of the line and of TCP, is cut in two pieces at each of its places, both at the same moment; then each
+comes octet by octet; and then all frames do. Each time `telegate replay` is to print what is written here, worked out by hand (IEC
+60870-5-2; IEC 60870-5-104, 5.1 and 5.3; docs/PROFILE.md on selections). The last line is `N passed, M failed`; the exit status is 1 where one failed. The program is the one that ./build makes.
+"""
+import argparse
+import os
+import subprocess
+import sys
+import tempfile
+
+import ends
+
+SETTINGS = """[line]
+link = 1
+cause = 1
+ca = 1
+ioa = 2
+queue = 100
+[[station]]
+address = 1
+ca = 1
+select = true
+"""
+
+TRACE = [
+    (10, "S", "100B010C16"),
+    (20, "S", "E5"),
+    (30, "O", ""),
+    (40, "R", "680407000000"),
+    (50, "R", "680E000000002D01060001000A000081"),
+    (60, "S", "E5"),
+    (70, "S", "E5"),
+    (80, "S", "6809096808012D0107010A0081CA16"),
+    (85, "C", ""),
+    (86, "O", ""),
+    (87, "R", "680407000000"),
+    (88, "R", "680E000000002D01060001000A000001"),
+]
+
+PRINTED = """0 > S 1049014A16
+10 > S 1040014116
+20 > S 107B017C16
+40 > T 68040B000000
+60 > S 6809096853012D0106010A00811416
+70 > S 107B017C16
+80 > S 105B015C16
+80 > T 680E000002002D01070001000A000081
+87 > T 68040B000000
+88 > T 680E000002002D01470001000A000001
+"""
+
+
+def cut(entry, places):
+    """An entry as pieces at the same moment, cut behind so many octets each."""
+    now, what, digits = entry
+    edges = [0, *(2 * place for place in places), len(digits)]
+    return [(now, what, digits[first:last]) for first, last in zip(edges, edges[1:])]
+
+
+def size(entry):
+    return len(entry[2]) // 2
+
+
+def cases():
+    """Each way to cut the trace, with its name."""
+    yield "whole", TRACE
+    for at, entry in enumerate(TRACE):
+        for place in range(1, size(entry)):
+            yield f"{entry} cut behind {place} octets", TRACE[:at] + cut(entry, [place]) + TRACE[at + 1 :]
+        if size(entry) > 2:
+            yield f"{entry} octet by octet", TRACE[:at] + cut(entry, range(1, size(entry))) + TRACE[at + 1 :]
+    yield "all octet by octet", [piece for entry in TRACE for piece in cut(entry, range(1, size(entry)))]
+
+
+def main():
+    words = argparse.ArgumentParser()
+    words.add_argument("--program", default=ends.PROGRAM)
+    program = words.parse_args().program
+    passed = failed = 0
+    with tempfile.TemporaryDirectory() as folder:
+        settings, trace = os.path.join(folder, "config.toml"), os.path.join(folder, "cut.trace")
+        with open(settings, "w") as file:
+            file.write(SETTINGS)
+        for name, entries in cases():
+            with open(trace, "w") as file:
+                file.write("".join(f"{now} {what} {digits}".strip() + "\n" for now, what, digits in entries))
+            done = subprocess.run([program, "replay", settings, trace], capture_output=True, text=True, timeout=60)
+            holds = (done.returncode, done.stdout, done.stderr) == (0, PRINTED, "")
+            passed, failed = passed + holds, failed + (not holds)
+            if not holds:
+                print(f"FAILED, {name}: status {done.returncode}, {done.stderr}\n{done.stdout}")
+    print(f"{passed} passed, {failed} failed")
+    sys.exit(1 if failed else 0)
+
+
+if __name__ == "__main__":
+    main()

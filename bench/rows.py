@@ -1,0 +1,66 @@
+#!/usr/bin/env python3
+"""Replays the traces in bench/rows.txt, each of which tells one misreading that could be made in code and definitions alike.
+
+    bench/rows.py [--program FILE]
+
+The file says in its first lines what a row is. The last line is `N passed, M failed`; the exit status is 1 where one failed. The program
+is the one that ./build makes.
+"""
+import argparse
+import os
+import re
+import subprocess
+import sys
+import tempfile
+
+import ends
+
+BASE = {"line.link": "1", "line.cause": "1", "line.ca": "1", "line.ioa": "2", "line.queue": "100", "station1.address": "1", "station1.ca": "1"}
+ROW = re.compile(r"^row (\S+)\n((?:.*\n)*?)trace\n((?:.*\n)*?)prints\n((?:.+\n)*)", re.M)
+
+
+def rows():
+    """The name, the settings, the trace and what is printed, of each row."""
+    with open(os.path.join(os.path.dirname(os.path.abspath(__file__)), "rows.txt")) as file:
+        text = file.read()
+    for name, settings, trace, printed in ROW.findall(text):
+        keys = dict(BASE)
+        for line in settings.splitlines():
+            if not line.startswith("#"):
+                key, _, value = line.partition(" = ")
+                keys[key] = value
+        yield name, document(keys), trace, printed
+
+
+def document(keys):
+    """A file of settings with these keys, by their dotted paths."""
+    tables = {}
+    for path, value in keys.items():
+        table, _, key = path.partition(".")
+        tables.setdefault(table, []).append(f"{key} = {value}\n")
+    return "".join((f"[{name}]\n" if name in ("line", "tcp") else "[[station]]\n") + "".join(tables[name]) for name in sorted(tables))
+
+
+def main():
+    words = argparse.ArgumentParser()
+    words.add_argument("--program", default=ends.PROGRAM)
+    program = words.parse_args().program
+    passed = failed = 0
+    with tempfile.TemporaryDirectory() as folder:
+        files = [os.path.join(folder, name) for name in ("config.toml", "row.trace")]
+        for name, *texts, printed in rows():
+            for path, text in zip(files, texts):
+                with open(path, "w") as file:
+                    file.write(text)
+            flags = [f"--{flag}" for flag in ("left", "counts") if any(line.startswith(f"{flag} ") for line in printed.splitlines())]
+            done = subprocess.run([program, "replay", *flags, *files], capture_output=True, text=True, timeout=60)
+            holds = (done.returncode, done.stdout, done.stderr) == (0, printed, "")
+            passed, failed = passed + holds, failed + (not holds)
+            if not holds:
+                print(f"FAILED, {name}: status {done.returncode}, {done.stderr}\n{done.stdout}")
+    print(f"{passed} passed, {failed} failed")
+    sys.exit(1 if failed or not passed else 0)
+
+
+if __name__ == "__main__":
+    main()

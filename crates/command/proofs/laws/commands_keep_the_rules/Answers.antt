@@ -1,0 +1,53 @@
+use Rattle.std.proofs.Common.{◌≡◌, ℕ, List, [], ◌∷◌, ap, refl, subst}
+use Rattle.asdu.specs.declared.sizes.Sizes.{Sizes}
+use Rattle.command.specs.declared.station.StationInfo.{StationInfo}
+use Rattle.command.specs.State.{State}
+use Rattle.command.specs.History.{History}
+use Rattle.command.specs.Calls.{Run, run, after_call}
+use Rattle.command.specs.CommandLaws.{CommandLaws}
+use Rattle.command.specs.Laws.{AfterEachRun, OfEachRun}
+use Rattle.command.proofs.Runs.{run_holds}
+use Rattle.command.proofs.Bridge.{executes_selected}
+use Rattle.command.proofs.OwnAnswers.{of_judging, of_busy}
+use Rattle.command.proofs.Staying.{judging_leaves_waiting, judging_leaves_answers, mirroring_leaves_waiting, mirroring_leaves_answers, sending_leaves_others, sending_leaves_answers}
+use Rattle.command.proofs.laws.commands_keep_the_rules.Goals as goal
+
+-- what holds after each list of calls holds of the state and the history that it leaves
+of_runs : (P : List StationInfo → Sizes → ℕ → State → History → Type 0) → AfterEachRun P → OfEachRun P
+of_runs P after stations sizes select_ms r is = subst (λ (x : Run). P stations sizes select_ms x.state x.history) is.1 (after stations sizes select_ms is.0)
+
+told : CommandLaws
+told = record {
+  forwarded = λ stations sizes select_ms calls. (run_holds sizes stations select_ms calls).keeps.queue.sends;
+  selected = λ stations sizes select_ms calls.
+      executes_selected sizes stations select_ms (run stations sizes select_ms calls).history (run_holds sizes stations select_ms calls).keeps.rightly (run_holds sizes stations select_ms calls).keeps.executes;
+  right = λ stations sizes select_ms calls. (run_holds sizes stations select_ms calls).keeps.rightly;
+  in_turn = λ stations sizes select_ms calls. (run_holds sizes stations select_ms calls).keeps.own.in_turn;
+  kept = λ stations sizes select_ms calls. (run_holds sizes stations select_ms calls).keeps.own.kept;
+  judged_waits = judging_leaves_waiting;
+  mirrored_waits = mirroring_leaves_waiting;
+  sent_waits = sending_leaves_others;
+  judged_answers = judging_leaves_answers;
+  mirrored_answers = mirroring_leaves_answers;
+  sent_answers = sending_leaves_answers;
+  judged_plain = of_judging;
+  busy_plain = λ stations sizes select_ms calls. of_busy sizes stations select_ms calls;
+}
+
+pub returns-clause-calls : goal.returns-clause-calls
+returns-clause-calls c = told
+
+pub returns-clause-runs : goal.returns-clause-runs
+returns-clause-runs c = record {
+  first = λ stations sizes select_ms. ([], refl);
+  next = λ stations sizes select_ms call r is. (call ∷ is.0, ap (after_call call) is.1);
+  stations = of_runs _ (λ stations sizes select_ms calls. (run_holds sizes stations select_ms calls).same_stations);
+  sizes = of_runs _ (λ stations sizes select_ms calls. (run_holds sizes stations select_ms calls).same_sizes);
+  select_ms = of_runs _ (λ stations sizes select_ms calls. (run_holds sizes stations select_ms calls).same_time);
+  forwarded = of_runs _ told.forwarded;
+  selected = of_runs _ told.selected;
+  right = of_runs _ told.right;
+  in_turn = of_runs _ told.in_turn;
+  kept = of_runs _ told.kept;
+  busy_plain = of_runs _ told.busy_plain;
+}

@@ -1,0 +1,157 @@
+-- What the standard's own tables say of the types (IEC 60870-5-101, 7.2.1 and 7.3), and elements
+-- and time tags worked by hand (7.2.6).
+use Rattle.std.specs.Prelude.{◌≡◌, ℕ, zero, suc, ℤ, pos, ◌-ℤ◌, Bool, false, ◌&&◌, ◌||◌, ◌==◌, nat_le, List, [], ◌∷◌, Option, Some, None, filter, map}
+use Rattle.elements.specs.Layouts.{short, word, long}
+use Rattle.elements.specs.Types.{row, type_of, value_shown}
+use Rattle.elements.specs.TimeTag.{verdict_of}
+use Rattle.elements.specs.declared.types.TypeId.{TypeId}
+use Rattle.elements.specs.declared.types.TypeId.TheVariants.{MSpNa1, MDpNa1, MStNa1, MBoNa1, MMeNa1, MMeNb1, MMeNc1, MItNa1, MSpTb1, MDpTb1, MStTb1, MBoTb1, MMeTd1, MMeTe1, MMeTf1, MItTb1, MEiNa1, CScNa1, CDcNa1, CRcNa1, CSeNa1, CSeNb1, CIcNa1, CScTa1, CDcTa1, CRcTa1, CSeTa1, CSeTb1}
+use Rattle.elements.specs.declared.tag.Verdict.{Verdict}
+use Rattle.elements.specs.declared.tag.Verdict.TheVariants.{Good, MarkedInvalid, OutOfRange, NoSuchDay, WrongWeekday}
+
+-- ---- Types
+
+-- Types 1 to 44 and 70 to 99 are process and system information in monitor direction; 45 to 69 and
+-- 100 to 109 are those in control direction (7.2.1.1).
+abbrev pub is_monitor_type : ℕ → Bool
+is_monitor_type code = (nat_le 1 code && nat_le code 44) || (nat_le 70 code && nat_le code 99)
+
+-- With CP56Time2a behind each element are types 30 to 40 and 58 to 64 (7.2.1.1).
+abbrev pub is_type_with_tag : ℕ → Bool
+is_type_with_tag code = (nat_le 30 code && nat_le code 40) || (nat_le 58 code && nat_le code 64)
+
+-- the numbers from n down to 0, behind those given
+abbrev pub down_from : ℕ → List ℕ → List ℕ
+down_from zero above = 0 ∷ above
+down_from (suc n) above = down_from n (suc n ∷ above)
+
+abbrev pub holds_of : Option TypeId → (TypeId → Bool) → Bool
+holds_of None test = false
+holds_of (Some t) test = test t
+
+-- the octets that name a type which passes the test
+abbrev pub octets_with : (TypeId → Bool) → List ℕ
+octets_with test = filter (λ code. holds_of (type_of code) test) (down_from 255 [])
+
+-- the octets that name a type whose element has so many octets
+abbrev pub octets_of_size : ℕ → List ℕ
+octets_of_size n = octets_with (λ t. (row t).size == n)
+
+abbrev pub codes_of : List TypeId → List ℕ
+codes_of types = map (λ t. (row t).code) types
+
+pub record TypesAreTheStandards : Type 0 where
+  pub monitor : (t : TypeId) → (row t).monitor ≡ is_monitor_type (row t).code
+  pub tagged : (t : TypeId) → (row t).tagged ≡ is_type_with_tag (row t).code
+  -- single, double, step, bitstring, normalised, scaled, float, total: without and with a tag
+  -- (7.3.1)
+  pub reports : codes_of
+      (MSpNa1 ∷ MDpNa1 ∷ MStNa1 ∷ MBoNa1 ∷ MMeNa1 ∷ MMeNb1 ∷ MMeNc1 ∷ MItNa1 ∷ [])
+      ≡ 1 ∷ 3 ∷ 5 ∷ 7 ∷ 9 ∷ 11 ∷ 13 ∷ 15 ∷ []
+  pub tagged_reports : codes_of
+      (MSpTb1 ∷ MDpTb1 ∷ MStTb1 ∷ MBoTb1 ∷ MMeTd1 ∷ MMeTe1 ∷ MMeTf1 ∷ MItTb1 ∷ [])
+      ≡ 30 ∷ 31 ∷ 32 ∷ 33 ∷ 34 ∷ 35 ∷ 36 ∷ 37 ∷ []
+  -- single, double, step, set points normalised and scaled: without and with a tag (7.3.2)
+  pub commands : codes_of (CScNa1 ∷ CDcNa1 ∷ CRcNa1 ∷ CSeNa1 ∷ CSeNb1 ∷ [])
+      ≡ 45 ∷ 46 ∷ 47 ∷ 48 ∷ 49 ∷ []
+  pub tagged_commands : codes_of (CScTa1 ∷ CDcTa1 ∷ CRcTa1 ∷ CSeTa1 ∷ CSeTb1 ∷ [])
+      ≡ 58 ∷ 59 ∷ 60 ∷ 61 ∷ 62 ∷ []
+  -- end of initialisation (7.3.3) and interrogation (7.3.4)
+  pub system : codes_of (MEiNa1 ∷ CIcNa1 ∷ []) ≡ 70 ∷ 100 ∷ []
+  -- SIQ, DIQ, COI, SCO, DCO, RCO and QOI have an octet (7.2.6.1, 2, 15 to 17, 21 and 22)
+  pub of_one_octet : octets_of_size 1
+      ≡ 1 ∷ 3 ∷ 30 ∷ 31 ∷ 45 ∷ 46 ∷ 47 ∷ 58 ∷ 59 ∷ 60 ∷ 70 ∷ 100 ∷ []
+  -- VTI with QDS (7.2.6.3 and 5)
+  pub of_two_octets : octets_of_size 2 ≡ 5 ∷ 32 ∷ []
+  -- NVA and SVA with QDS, or with QOS (7.2.6.5 to 7 and 39)
+  pub of_three_octets : octets_of_size 3 ≡ 9 ∷ 11 ∷ 34 ∷ 35 ∷ 48 ∷ 49 ∷ 61 ∷ 62 ∷ []
+  -- BSI and R32-IEEE STD 754 with QDS, and BCR (7.2.6.5, 8, 9 and 13)
+  pub of_five_octets : octets_of_size 5 ≡ 7 ∷ 13 ∷ 15 ∷ 33 ∷ 36 ∷ 37 ∷ []
+
+-- ---- Elements
+
+-- numbers stand low octet first, in two's complement, before their qualifier
+pub record LayoutExamples : Type 0 where
+  pub short : short (pos 258 -ℤ pos 32768) 0x0E ≡ 0x02 ∷ 0x81 ∷ 0x0E ∷ []
+  pub word : word 0xF2345678 0x81 ≡ 0x78 ∷ 0x56 ∷ 0x34 ∷ 0xF2 ∷ 0x81 ∷ []
+  pub long : long (pos 0 -ℤ pos 2147483647) 0xFF ≡ 0x01 ∷ 0x00 ∷ 0x00 ∷ 0x80 ∷ 0xFF ∷ []
+
+pub record Shown : Type 0 where
+  pub kinds : List TypeId
+  pub octets : List ℕ
+  pub value : ℤ
+
+abbrev pub shows : List TypeId → List ℕ → ℤ → Shown
+shows kinds octets value = record { kinds = kinds; octets = octets; value = value }
+
+abbrev pub IsShownSo : Shown → Type 0
+IsShownSo e = map (λ t. value_shown t e.octets) e.kinds ≡ map (λ t. e.value) e.kinds
+
+-- the values of elements in the standard's bits; quality, select and reserved bits are set and show
+-- nothing
+abbrev pub value_examples : List Shown
+value_examples =
+    -- SPI in bit 0, DPI in bits 1 and 0
+    shows (MSpNa1 ∷ MSpTb1 ∷ []) (0xF1 ∷ []) (pos 1)
+    ∷ shows (MSpNa1 ∷ MSpTb1 ∷ []) (0xFE ∷ []) (pos 0)
+    ∷ shows (MDpNa1 ∷ MDpTb1 ∷ []) (0xF2 ∷ []) (pos 2)
+    ∷ shows (MDpNa1 ∷ MDpTb1 ∷ []) (0xFD ∷ []) (pos 1)
+    -- a step position of 7 bits, from -64 to 63, with the transient bit beside it
+    ∷ shows (MStNa1 ∷ MStTb1 ∷ []) (0xBF ∷ 0xFF ∷ []) (pos 63)
+    ∷ shows (MStNa1 ∷ MStTb1 ∷ []) (0x40 ∷ 0x00 ∷ []) (pos 0 -ℤ pos 64)
+    -- bits, also those of a float
+    ∷ shows (MBoNa1 ∷ MBoTb1 ∷ MMeNc1 ∷ MMeTf1 ∷ []) (0x78 ∷ 0x56 ∷ 0x34 ∷ 0xF2 ∷ 0xFF ∷ [])
+    (pos 0xF2345678)
+    -- NVA and SVA of 16 bits, BCR of 32
+    ∷ shows (MMeNa1 ∷ MMeTd1 ∷ MMeNb1 ∷ MMeTe1 ∷ CSeNa1 ∷ CSeNb1 ∷ CSeTa1 ∷ CSeTb1 ∷ [])
+    (0x02 ∷ 0x01 ∷ 0xFF ∷ []) (pos 258)
+    ∷ shows (MMeNa1 ∷ MMeTd1 ∷ MMeNb1 ∷ MMeTe1 ∷ CSeNa1 ∷ CSeNb1 ∷ CSeTa1 ∷ CSeTb1 ∷ [])
+    (0x00 ∷ 0x80 ∷ 0x00 ∷ [])
+    (pos 0 -ℤ pos 32768)
+    ∷ shows (MItNa1 ∷ MItTb1 ∷ []) (0xFE ∷ 0xFF ∷ 0xFF ∷ 0xFF ∷ 0x1F ∷ []) (pos 0 -ℤ pos 2)
+    -- a cause of initialisation in bits 6 to 0
+    ∷ shows (MEiNa1 ∷ []) (0xC2 ∷ []) (pos 66)
+    -- SCS in bit 0, DCS and RCS in bits 1 and 0, QOI in all
+    ∷ shows (CScNa1 ∷ CScTa1 ∷ []) (0x81 ∷ []) (pos 1)
+    ∷ shows (CDcNa1 ∷ CDcTa1 ∷ CRcNa1 ∷ CRcTa1 ∷ []) (0xFE ∷ []) (pos 2)
+    ∷ shows (CIcNa1 ∷ []) (0xA4 ∷ []) (pos 164)
+    ∷ []
+
+-- ---- Time tags
+
+pub record Judged : Type 0 where
+  pub octets : List ℕ
+  pub verdict : Verdict
+
+abbrev pub is_judged : List ℕ → Verdict → Judged
+is_judged octets verdict = record { octets = octets; verdict = verdict }
+
+abbrev pub IsJudgedSo : Judged → Type 0
+IsJudgedSo e = verdict_of e.octets ≡ e.verdict
+
+abbrev pub tag_examples : List Judged
+tag_examples =
+    -- Thursday 2024-02-29 12:34:56.789 UTC; without a day of the week; with SU and all reserved
+    -- bits set
+    is_judged (0xD5 ∷ 0xDD ∷ 0x22 ∷ 0x0C ∷ 0x9D ∷ 0x02 ∷ 0x18 ∷ []) (Good 1709210096789)
+    ∷ is_judged (0xD5 ∷ 0xDD ∷ 0x22 ∷ 0x0C ∷ 0x1D ∷ 0x02 ∷ 0x18 ∷ []) (Good 1709210096789)
+    ∷ is_judged (0xD5 ∷ 0xDD ∷ 0x62 ∷ 0xEC ∷ 0x9D ∷ 0xF2 ∷ 0x98 ∷ []) (Good 1709210096789)
+    -- Saturday 2000-01-01 00:00, and the last millisecond of Thursday 2099-12-31
+    ∷ is_judged (0x00 ∷ 0x00 ∷ 0x00 ∷ 0x00 ∷ 0xC1 ∷ 0x01 ∷ 0x00 ∷ []) (Good 946684800000)
+    ∷ is_judged (0x5F ∷ 0xEA ∷ 0x3B ∷ 0x17 ∷ 0x9F ∷ 0x0C ∷ 0x63 ∷ []) (Good 4102444799999)
+    -- marked invalid
+    ∷ is_judged (0xD5 ∷ 0xDD ∷ 0xA2 ∷ 0x0C ∷ 0x9D ∷ 0x02 ∷ 0x18 ∷ []) MarkedInvalid
+    -- no 29th of February in 2023, a Friday; in 2024 it was no Friday
+    ∷ is_judged (0xD5 ∷ 0xDD ∷ 0xA2 ∷ 0x0C ∷ 0xBD ∷ 0x02 ∷ 0x17 ∷ []) NoSuchDay
+    ∷ is_judged (0x00 ∷ 0x00 ∷ 0x00 ∷ 0x00 ∷ 0x1F ∷ 0x04 ∷ 0x18 ∷ []) NoSuchDay
+    ∷ is_judged (0xD5 ∷ 0xDD ∷ 0xA2 ∷ 0x0C ∷ 0xBD ∷ 0x02 ∷ 0x18 ∷ []) WrongWeekday
+    -- 60000 ms, minute 60, hour 24, day 0, months 0 and 13, year 100, also where it is marked
+    -- invalid
+    ∷ is_judged (0x60 ∷ 0xEA ∷ 0xA2 ∷ 0x0C ∷ 0x9D ∷ 0x02 ∷ 0x18 ∷ []) OutOfRange
+    ∷ is_judged (0xD5 ∷ 0xDD ∷ 0x3C ∷ 0x0C ∷ 0x9D ∷ 0x02 ∷ 0x18 ∷ []) OutOfRange
+    ∷ is_judged (0xD5 ∷ 0xDD ∷ 0x22 ∷ 0x18 ∷ 0x9D ∷ 0x02 ∷ 0x18 ∷ []) OutOfRange
+    ∷ is_judged (0xD5 ∷ 0xDD ∷ 0x22 ∷ 0x0C ∷ 0x80 ∷ 0x02 ∷ 0x18 ∷ []) OutOfRange
+    ∷ is_judged (0xD5 ∷ 0xDD ∷ 0x22 ∷ 0x0C ∷ 0x9D ∷ 0x00 ∷ 0x18 ∷ []) OutOfRange
+    ∷ is_judged (0xD5 ∷ 0xDD ∷ 0x22 ∷ 0x0C ∷ 0x9D ∷ 0x0D ∷ 0x18 ∷ []) OutOfRange
+    ∷ is_judged (0xD5 ∷ 0xDD ∷ 0x22 ∷ 0x0C ∷ 0x9D ∷ 0x02 ∷ 0x64 ∷ []) OutOfRange
+    ∷ []

@@ -1,0 +1,17 @@
+//! What the standard says of types, elements and time tags, each law called for its contract.
+ghost use Rattle.std.specs.List.{AllByRecursion};
+ghost use Rattle.elements.specs.Standard.{TypesAreTheStandards, LayoutExamples, IsShownSo, IsJudgedSo, value_examples, tag_examples};
+
+/// The table of types is that of IEC 60870-5-101, 7.2.1 and 7.3: which octet names which type,
+/// which go in monitor direction, which have a time tag, and how many octets their elements have.
+pub fn types_are_the_standards()
+    ensures { TypesAreTheStandards }
+{}
+
+/// Elements and time tags worked by hand from 7.2.6: their octets, the values that they show, and
+/// what tags are worth.
+pub fn worked_examples_hold()
+    ensures layouts { LayoutExamples }
+    ensures values { AllByRecursion IsShownSo value_examples }
+    ensures tags { AllByRecursion IsJudgedSo tag_examples }
+{}

@@ -1,0 +1,5 @@
+use Rattle.ft12.proofs.Examples.{spellings_hold, refusals_hold}
+use Rattle.ft12.proofs.laws.worked_examples_hold.Goals as goal
+
+pub returns : goal.returns
+returns c = record { spellings = spellings_hold; refusals = refusals_hold }

@@ -1,0 +1,33 @@
+//! Gaps told: which answered resets end a session whose last report may be lost.
+ghost use Rattle.std.specs.Prelude.{◌≡◌, ◌++◌, ℕ, List, Option};
+ghost use Rattle.ft12.specs.declared.frame.LinkSize.{LinkSize};
+ghost use Rattle.ft12.specs.Fronts.{front_of};
+ghost use Rattle.link.specs.Exchanges.{Exchanges, Sending, heard_current, timed_current, begun_by};
+ghost use Rattle.link.specs.Gaps.{gaps_at};
+ghost use Rattle.link.specs.Procedure.{LinkSettings};
+ghost use Rattle.link.specs.Primary.{Primary, received, received_outcome};
+ghost use Rattle.link.specs.Telling.{Tells, gap_in_outcome};
+
+use ft12::front_is_computed;
+
+/// Through the calls of a primary station, the sessions of a station that ended with a gap, by its exchanges, grow by exactly those
+/// that the outcomes tell. (That an answered reset without a gap is told as a start is said of all outcomes, by
+/// `outcomes_are_answers`.)
+pub fn gaps_are_told()
+    ensures octets { (settings : LinkSettings) (addresses : List ℕ) (p : Primary) (e : Exchanges)
+        (octets : List ℕ) (station : ℕ) → Tells settings addresses p e →
+        gaps_at (front_of settings.size) addresses station
+        (record { ended = e.ended; current = heard_current octets e.current })
+        ≡ gaps_at (front_of settings.size) addresses station e
+        ++ gap_in_outcome station (received_outcome (front_of p.settings.size) p octets) }
+    ensures due { (size : LinkSize) (addresses : List ℕ) (answer_ms at : ℕ) (e : Exchanges) (station : ℕ) →
+        gaps_at (front_of size) addresses station
+        (record { ended = e.ended; current = timed_current answer_ms at e.current })
+        ≡ gaps_at (front_of size) addresses station e }
+    ensures next { (size : LinkSize) (addresses : List ℕ) (now : ℕ) (s : Option Sending) (e : Exchanges)
+        (station : ℕ) →
+        gaps_at (front_of size) addresses station (begun_by now s e)
+        ≡ gaps_at (front_of size) addresses station e }
+{
+    front_is_computed();
+}
