@@ -1,8 +1,10 @@
 -- Sessions of a station's link, from one answered reset to the next (IEC 60870-5-2, link reset in
 -- unbalanced transmission), as an operator is told of them (this gateway's own profile).
-use Rattle.std.specs.Prelude.{ℕ, ◌+◌, ◌-◌, List, [], ◌∷◌, length, None, if◌then◌else◌}
+use Rattle.std.specs.Prelude.{◌≡◌, ◌⊎◌, ℕ, suc, ◌+◌, ◌-◌, List, [], ◌∷◌, length, None}
+use Rattle.std.specs.Prelude.{if◌then◌else◌}
+use Rattle.link.specs.Counts.{saturated}
 use Rattle.link.specs.Outstation.{Turn, all_done}
-use Rattle.link.specs.Delivery.{Session, learnt, reports, is_gap, pending_after}
+use Rattle.link.specs.Delivery.{Session, learnt, reports, is_gap, pending_after, IsAllOrButLast}
 use Rattle.gateway.specs.Log.{Log}
 use Rattle.gateway.specs.Reports.{Setup, address_at}
 use Rattle.delivery.specs.Delivery.{sessions_of}
@@ -12,6 +14,26 @@ abbrev pub ended : List Session → List Session
 ended [] = []
 ended (session ∷ []) = []
 ended (session ∷ (next ∷ later)) = session ∷ ended (next ∷ later)
+
+-- the outstation's reports in a session were all taken
+abbrev pub LosesNone : (station : ℕ) → Session → Type 0
+LosesNone station s = reports (learnt station s.exchanges) ≡ reports (all_done s.turns)
+
+-- or all but the last
+abbrev pub LosesLastAtMost : (station : ℕ) → Session → Type 0
+LosesLastAtMost station s =
+    IsAllOrButLast (reports (all_done s.turns)) (reports (learnt station s.exchanges))
+
+-- Of these sessions, the first with this number, each that ended lost no report, or its number is
+-- told as a gap and it lost its last report at most; and no others are told. (A session goes on
+-- until its next answered reset: of the latest nothing is told.)
+abbrev pub LoseAsTold : (station number : ℕ) → List Session → (told : List ℕ) → Type 0
+LoseAsTold station number [] told = told ≡ []
+LoseAsTold station number (session ∷ []) told = told ≡ []
+LoseAsTold station number (session ∷ (next ∷ later)) told =
+    (LosesNone station session × LoseAsTold station (suc number) (next ∷ later) told)
+    ⊎ ((others : List ℕ) × (told ≡ saturated number ∷ others) × LosesLastAtMost station session
+    × LoseAsTold station (suc number) (next ∷ later) others)
 
 -- how many of these have a gap: their latest request with a valid frame count bit is a poll that
 -- wasn't answered that it is served (functions 8 and 9, or the single character)

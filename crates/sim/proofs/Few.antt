@@ -8,7 +8,7 @@ use Rattle.link.specs.declared.service.Asked.TheVariants.{Status, Reset, Counted
 use Rattle.link.specs.Delivery.{requests_of, reports}
 use Rattle.link.specs.Exchanges.{Exchange, Sending}
 use Rattle.link.specs.Outstation.{Outstation, Turn, OutstationStep, OutstationRun, Serves, unheard, unable, heard, effects_of, all_done}
-use Rattle.gateway.specs.Log.{Log, Came, Went, LineOut, TcpOut, Closed}
+use Rattle.gateway.specs.Log.{Log, Came, Went, LineOut, TcpOut, Closed, GapOut}
 use Rattle.gateway.specs.Reports.{Setup, sending_in, exchanges_with}
 use Rattle.sim.specs.declared.directive.Directive.{Directive}
 use Rattle.sim.specs.Losses.{fate_of}
@@ -33,10 +33,15 @@ requests_few : (p : Setup) (ds : List Directive) (i : ℕ) (log : Log) → lengt
 requests_few p ds i [] = omega arith
 requests_few p ds i (Came now event ∷ log) = omega (arith, requests_few p ds i log)
 requests_few p ds i (Went now (LineOut octets) ∷ log) =
-    omega (arith, requests_few p ds i log, one_request i (is_heard (fate_of ds (requests_in log + 1))) (sending_in p octets),
-    length-append (requests_to p ds i log) (request_to i (is_heard (fate_of ds (requests_in log + 1))) (sending_in p octets)))
+    omega (
+      arith,
+      requests_few p ds i log,
+      one_request i (is_heard (fate_of ds (requests_in log + 1))) (sending_in p octets),
+      length-append (requests_to p ds i log) (request_to i (is_heard (fate_of ds (requests_in log + 1))) (sending_in p octets)),
+    )
 requests_few p ds i (Went now (TcpOut octets) ∷ log) = omega (arith, requests_few p ds i log)
 requests_few p ds i (Went now (Closed cause) ∷ log) = omega (arith, requests_few p ds i log)
+requests_few p ds i (Went now (GapOut station session) ∷ log) = omega (arith, requests_few p ds i log)
 
 length-requests : (xs : List Exchange) → length (requests_of xs) ≡ length xs
 length-requests [] = refl

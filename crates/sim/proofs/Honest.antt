@@ -16,7 +16,7 @@ use Rattle.link.specs.Exchanges.{Exchange, Exchanges, OpenExchange, Sending, as_
 use Rattle.link.specs.Outstation.{Turn, silent, all_done}
 use Rattle.link.specs.Requests.{request_in}
 use Rattle.link.specs.Secondary.{Secondary, HearsOctets, served}
-use Rattle.gateway.specs.Log.{Log, Came, Went, LineIn, Opened, TcpIn, CutOff, Ticked, LineOut, TcpOut, Closed, latest}
+use Rattle.gateway.specs.Log.{Log, Came, Went, LineIn, Opened, TcpIn, CutOff, Ticked, LineOut, TcpOut, Closed, GapOut, latest}
 use Rattle.gateway.specs.Line.{IsWaiting}
 use Rattle.gateway.specs.Reports.{Setup, address_at, index_of, AreFound, sending_in, exchanges_of, exchanges_with}
 use Rattle.gateway.specs.Traffic.{ActsRightly}
@@ -85,6 +85,7 @@ these_lived laws p plan (Went now (LineOut octets) ∷ log) (a ∷ answers) stat
     these_out laws p plan.size (fate_of plan.directives (requests_in log + 1)) octets h.0 stations a h.1 (these_lived laws p plan log answers h.0 k h.2)
 these_lived laws p plan (Went now (TcpOut octets) ∷ log) answers stations k h = these_lived laws p plan log answers stations k h
 these_lived laws p plan (Went now (Closed cause) ∷ log) answers stations k h = these_lived laws p plan log answers stations k h
+these_lived laws p plan (Went now (GapOut station session) ∷ log) answers stations k h = these_lived laws p plan log answers stations k h
 
 -- What a request makes of a station
 
@@ -257,6 +258,7 @@ same_asked p ds i (Went now (LineOut octets) ∷ log) =
     ∙ sym (asked-append (requests_to p ds i log) (request_to i heard (sending_in p octets)))
 same_asked p ds i (Went now (TcpOut octets) ∷ log) = same_asked p ds i log
 same_asked p ds i (Went now (Closed cause) ∷ log) = same_asked p ds i log
+same_asked p ds i (Went now (GapOut station session) ∷ log) = same_asked p ds i log
 
 -- The station has served
 
@@ -427,3 +429,4 @@ serves laws plan (Went now (LineOut octets) ∷ log) (a ∷ answers) stations i 
     (serves laws plan log answers lived.0 i d none fits lt lived.2 fit.1 follows acts.1))
 serves laws plan (Went now (TcpOut octets) ∷ log) answers stations i d none fits lt lived fit follows acts = serves laws plan log answers stations i d none fits lt lived fit follows acts.1
 serves laws plan (Went now (Closed cause) ∷ log) answers stations i d none fits lt lived fit follows acts = serves laws plan log answers stations i d none fits lt lived fit follows acts.1
+serves laws plan (Went now (GapOut station session) ∷ log) answers stations i d none fits lt lived fit follows acts = serves laws plan log answers stations i d none fits lt lived fit follows acts.1

@@ -5,7 +5,7 @@ use Rattle.std.proofs.lemmas.List.{take_at}
 use Rattle.ft12.specs.declared.frame.Frame.{Frame}
 use Rattle.ft12.specs.Spelling.{Fits}
 use Rattle.link.specs.Secondary.{Secondary}
-use Rattle.gateway.specs.Log.{Log, Came, Went, Input, LineOut, TcpOut, Closed, last_moment}
+use Rattle.gateway.specs.Log.{Log, Came, Went, Input, LineOut, TcpOut, Closed, GapOut, last_moment}
 use Rattle.gateway.specs.declared.entries.Entry.{Entry}
 use Rattle.gateway.specs.declared.entries.Told.{Told}
 use Rattle.gateway.specs.declared.entries.Told.TheVariants as told
@@ -20,7 +20,7 @@ use Rattle.sim.specs.Calls.{event_at, lasting}
 use Rattle.sim.specs.Played.{Standing, Stands, Simulated, coming, centre_after, moment_at, is_given}
 use Rattle.sim.specs.Tallies.{Tallied, fresh_tally, tallied_after, tallied_asked}
 use Rattle.sim.proofs.Steps.{pushed}
-use Rattle.sim.proofs.Standing.{stands_came, stands_asked, stands_handed, stands_closed, stands_fresh}
+use Rattle.sim.proofs.Standing.{stands_came, stands_asked, stands_handed, stands_closed, stands_told, stands_fresh}
 use Rattle.sim.proofs.Below.{KeepsSize}
 use Rattle.sim.proofs.HearingLemmas.{sizes_out}
 
@@ -70,6 +70,11 @@ close_kept plan items new stations at now number cause centre push e c k =
     cause_is Timeout = refl
     cause_is OwnAnswers = refl
     cause_is Replaced = refl
+
+pub tell_kept : (plan : Plan) (items new : List Told) (stations : List Secondary) (at : Standing) (now station session : ℕ) →
+    new ≡ items ++ told.Gap now station session ∷ [] → Stands plan (log_of items) stations at → Stands plan (log_of new) stations at
+tell_kept plan items new stations at now station session push k =
+    subst (λ (l : Log). Stands plan l stations at) (sym (pushed items new (told.Gap now station session) (Went now (GapOut station session)) push refl)) (stands_told plan (log_of items) stations at now station session k)
 
 pub ask_kept : KeepsSize → (plan : Plan) (items new : List Told) (stations after written : List Secondary) (at : Standing) (now : ℕ) (copy : Vec ℕ Global) (octets : List ℕ) (answer : Option Frame) (waiting : Option (List ℕ)) (tallied : Tallied) →
     new ≡ items ++ told.Line now copy ∷ [] → copy.items ≡ octets → IsPutOut (fate_of plan.directives (at.requests + 1)) octets stations answer after → written ≡ after →

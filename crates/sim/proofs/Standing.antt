@@ -5,7 +5,7 @@ use Rattle.std.specs.List.{AllByRecursion}
 use Rattle.ft12.specs.declared.frame.Frame.{Frame}
 use Rattle.ft12.specs.Spelling.{Fits}
 use Rattle.link.specs.Secondary.{Secondary}
-use Rattle.gateway.specs.Log.{Log, LogEntry, Came, Went, Input, LineIn, Opened, TcpIn, CutOff, Ticked, LineOut, TcpOut, Closed, last_moment, latest}
+use Rattle.gateway.specs.Log.{Log, LogEntry, Came, Went, Input, LineIn, Opened, TcpIn, CutOff, Ticked, LineOut, TcpOut, Closed, GapOut, last_moment, latest}
 use Rattle.gateway.specs.Reports.{Setup, sending_in, exchanges_of}
 use Rattle.link.specs.Exchanges.{OpenExchange, Exchanges, Sending, heard_octets, heard_current, timed, timed_current, begun_by}
 use Rattle.sim.specs.declared.tally.Tally.{Tally}
@@ -254,6 +254,28 @@ stands_closed plan log stations at now cause k = record {
   in_time = k.in_time;
   sent = omega arith;
   received = omega arith;
+  few = let le : at.requests ≤ length log = k.few in omega arith;
+  in_turns = k.in_turns;
+  sizes = k.sizes;
+}
+
+-- a gap
+pub stands_told : (plan : Plan) (log : Log) (stations : List Secondary) (at : Standing) (now station session : ℕ) → Stands plan log stations at →
+    Stands plan (Went now (GapOut station session) ∷ log) stations at
+stands_told plan log stations at now station session k = record {
+  answers = k.answers;
+  played = record { lived = k.played.lived; fit = k.played.fit; follows = k.played.follows };
+  waiting = k.waiting;
+  centre = k.centre;
+  call = k.call;
+  moment = k.moment;
+  requests = k.requests;
+  latest = k.latest;
+  awaited = k.awaited;
+  each = k.each;
+  in_time = k.in_time;
+  sent = let le : at.centre.sent ≤ length log = k.sent in omega arith;
+  received = let le : at.centre.received ≤ length log = k.received in omega arith;
   few = let le : at.requests ≤ length log = k.few in omega arith;
   in_turns = k.in_turns;
   sizes = k.sizes;

@@ -1,6 +1,6 @@
 //! The port of a simulated line.
 ghost use Rattle.std.specs.Prelude.{◌≡◌, ℕ, ◌+◌, ◌<◌, ◌≤◌, ◌^◌, min, Bool, true, false, List, [], ◌∷◌, ◌++◌, length, take, IfOk, OnOk, OnErr, Option, Some, None, if◌then◌else◌, option_map, nat_le};
-ghost use Rattle.gateway.specs.Log.{LogEntry, Came, Went, LineOut, TcpOut, Closed, Input, tell, last_moment};
+ghost use Rattle.gateway.specs.Log.{LogEntry, Came, Went, LineOut, TcpOut, Closed, GapOut, Input, tell, last_moment};
 ghost use Rattle.gateway.specs.Ports.{told_by, output_of, FitsBuffer, faults_of};
 ghost use Rattle.gateway.specs.Entries.{FitsPort, event_of, log_of, number_of, told_of};
 ghost use Rattle.sim.specs.Lives.{Plan, plan_of};
@@ -272,7 +272,8 @@ impl<'a> Sim<'a> {
         let copy = Vec::from_slice(self.alloc, octets)?;
         keep(&mut self.log, Told::Line(now, copy))?;
         self.requests += 1;
-        self.tallies.ask(self.config, self.stations.as_slice(), now, octets);
+        self.tallies
+            .ask(self.config, self.stations.as_slice(), now, octets);
         let fate = self.script.fate(self.requests);
         let answer = put_out(self.stations.as_mut_slice(), fate, octets);
         self.waiting = arriving(self.config.line().link, fate, answer);
@@ -303,6 +304,18 @@ impl<'a> Sim<'a> {
     {
         keep(&mut self.log, Told::Close(now, number(cause)))?;
         self.centre = Centre::shut();
+        Ok(())
+    }
+
+    /// A gap is told: nobody on the line or at the control centre hears of it.
+    #[tactic(auto, using(crate::proofs::Steps::stored_push))]
+    fn tell(&mut self, now: u64, station: usize, session: u64) -> Result<(), AllocError>
+        ensures ok { OnOk result (self.new.log ≡ Went now (GapOut station session) ∷ self.old.log) }
+        ensures err { OnErr result (self.new.log ≡ self.old.log) }
+        ensures plan { self.new.plan ≡ self.old.plan }
+        ensures failed { self.new.failed ≡ self.old.failed }
+    {
+        keep(&mut self.log, Told::Gap(now, station, session))?;
         Ok(())
     }
 
@@ -363,6 +376,7 @@ impl<'a> Port for Sim<'a> {
             Action::Line(octets) => self.ask(now, octets),
             Action::Tcp(octets) => self.hand(now, octets),
             Action::Close(cause) => self.close(now, *cause),
+            Action::Gap { station, session } => self.tell(now, *station, *session),
         };
         match told {
             Ok(()) => true,

@@ -3,6 +3,7 @@ mod closings;
 mod commands;
 mod connection_types;
 mod faults;
+mod gaps;
 mod line_types;
 mod losses;
 mod misreadings;
