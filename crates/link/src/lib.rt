@@ -53,10 +53,10 @@ pub use asdu::Asdu;
 pub use asking::next_changes_nothing;
 pub use examples::{answers_by_example, requests_by_example, turns_by_example};
 pub use flags::flags_are_heeded;
-pub use gaps::gaps_are_told;
+pub use gaps::{gaps_are_ended_sessions, gaps_are_told};
 pub use laws::{
-    master_tells_the_log, outcomes_bear_the_reports, requests_are_read_back,
-    requests_wait_their_turn, services_need_a_station_that_is_up,
+    line_keeps_the_procedures, master_tells_the_log, outcomes_bear_the_reports,
+    requests_are_read_back, requests_wait_their_turn, services_need_a_station_that_is_up,
 };
 pub use leave::{polls_wait_for_leave, rests_mean};
 pub use life::{station_is_an_outstation, station_tells_what_waits};
