@@ -21,4 +21,6 @@ mod commands;
 mod laws;
 
 pub use commands::{each_command_is_given_once, settings_are_set_up, the_course_is_the_logs};
-pub use laws::{each_session_is_known, losses_have_gaps, nothing_is_lost, silence_is_no_reset};
+pub use laws::{
+    each_session_is_known, losses_are_told, losses_have_gaps, nothing_is_lost, silence_is_no_reset,
+};
