@@ -17,7 +17,10 @@ use Rattle.link.specs.Exchanges.{Exchange, OpenExchange, Exchanges, Sending, IsO
 use Rattle.link.specs.Procedure.{MaySend, KeepsFrameCountBit, is_held, link_after}
 use Rattle.link.specs.Requests.{request_frame, request_in, FitsAddress, FitsAsked, IsUserData}
 use Rattle.link.specs.Turns.{station_at}
-use Rattle.link.specs.Primary.{Outstanding, Primary, start, asked, sending, sending_from, received, received_outcome, outcome_from, outcome_of, timed_out, is_command, offered_to, withdrawn}
+use Rattle.link.specs.Gaps.{gap_at}
+use Rattle.link.specs.declared.outcome.Outcome.{Outcome}
+use Rattle.link.specs.declared.outcome.Outcome.TheVariants as outcome
+use Rattle.link.specs.Primary.{Outstanding, Primary, start, asked, sending, sending_from, received, received_outcome, outcome_from, outcome_of, started, with_gap, timed_out, is_command, offered_to, withdrawn}
 use Rattle.link.specs.Telling.{Tells, IsCurrent, IsAwaited, IsHeard, IsOver, AreLinks, past, report_in, IsFittingSending}
 use Rattle.command.specs.History.{History}
 use Rattle.gateway.specs.Reports.{Setup, address_at}
@@ -54,7 +57,23 @@ pub record LinkLaws : Type 0 where
       Tells settings addresses q e → e.current ≡ Some x →
       IsOutstanding (slice_index addresses x.station) (view (front_of settings.size) x).exchange →
       received_outcome (front_of settings.size) q octets
-      ≡ outcome_of x.station x.request (answer_to (slice_index addresses x.station) (view (front_of settings.size) (heard_octets octets x)).exchange)
+      ≡ with_gap (gap_at (front_of settings.size) addresses x.station e)
+      (outcome_of x.station x.request (answer_to (slice_index addresses x.station) (view (front_of settings.size) (heard_octets octets x)).exchange))
+
+-- of commands a gap tells nothing
+started_tells : (gap : Option ℕ) (station : ℕ) (h : History) → told_by (started station gap) h ≡ h
+started_tells None station h = refl
+started_tells (Some session) station h = refl
+
+gap_tells_nothing : (gap : Option ℕ) (o : Outcome) (h : History) → told_by (with_gap gap o) h ≡ told_by o h
+gap_tells_nothing gap (outcome.Started station) h = started_tells gap station h
+gap_tells_nothing gap (outcome.StartedGap station session) h = refl
+gap_tells_nothing gap (outcome.Report station asdu) h = refl
+gap_tells_nothing gap (outcome.Accepted station) h = refl
+gap_tells_nothing gap (outcome.Busy station) h = refl
+gap_tells_nothing gap (outcome.Down station) h = refl
+gap_tells_nothing gap (outcome.Empty station) h = refl
+gap_tells_nothing gap outcome.None h = refl
 
 -- an exchange with a station is the latest, or with another one
 at_last : (a k : ℕ) (xs : List Exchange) (station : ℕ) (x y : Exchange) (h new : History) →
@@ -123,7 +142,8 @@ module _ (laws : LinkLaws) (p : Setup) (q : Primary) (e : Exchanges) (tells : Te
       awaited o x is w t =
           let none : answer_to (address x.station) (view front x).exchange ≡ None = ap (λ (i : ℕ). answer_to (address i) (view front x).exchange) w.station ∙ nothing_said front (address q.turn) x o.heard w.heard in
           let told : line_told k new ≡ line_told k (told_by (outcome_of x.station x.request (answer_to (address x.station) (view front (heard_octets octets x)).exchange)) h) =
-          said ∙ ap (λ o. line_told k (told_by o h)) (laws.answered p.link p.addresses q e octets x tells is (none, w.waits)) in
+          said ∙ ap (λ o. line_told k (told_by o h)) (laws.answered p.link p.addresses q e octets x tells is (none, w.waits))
+          ∙ ap (line_told k) (gap_tells_nothing (gap_at front p.addresses x.station e) _ h) in
           subst (λ (l : List Exchange). IsTold (address k) l k new) (sym (split k (heard_octets octets x)))
           (at_last (address k) k (with_station k (views front e.ended)) x.station (view front x).exchange (view front (heard_octets octets x)).exchange h new
           (λ here before. heard_one (address k) k (with_station k (views front e.ended)) x.request (view front x).exchange.front (view front (heard_octets octets x)).exchange.front x.closed x.closed

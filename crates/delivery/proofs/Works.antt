@@ -97,14 +97,14 @@ busy_learnt : (stay : AnswersStay) (p : Setup) (station : ℕ) (w : Works) → I
 busy_learnt stay p station w =
     let s : State = given_up station w.serial.commands in
     let own : List (List ℕ) = refusals station w.serial in
-    let h : History = told (Busy station) w in
+    let tells : History = told (Busy station) w in
     record {
       line = refl;
-      told = λ k. keeping (line_told k) (line_ignores k) own s h;
+      told = λ k. keeping (line_told k) (line_ignores k) own s tells;
       fits = λ f. kept_fit stay p own s (one_fits stay p (Busy station) (tasks_of w) tt f);
-      mirrors = λ rs h. subst (λ (vs : List AsduValue). AreValues p.sizes vs (command_reports p.sizes (rs ++ []))) (sym (keeping mirrored_in mirrors_ignore own s h))
+      mirrors = λ rs h. subst (λ (vs : List AsduValue). AreValues p.sizes vs (command_reports p.sizes (rs ++ []))) (sym (keeping mirrored_in mirrors_ignore own s tells))
           (no_report p.sizes (mirrored_in w.history) rs h);
-      judged = keeping asdus_judged judged_ignore own s h;
+      judged = keeping asdus_judged judged_ignore own s tells;
     }
 
 down_learnt : (stay : AnswersStay) (p : Setup) (station : ℕ) (w : Works) → IsLearnt p (outcome.Down station) w (given_up_works station w)
@@ -139,13 +139,13 @@ module _ (stay : AnswersStay) (p : Setup) (at : ℕ) (station : ℕ) (asdu : Arr
   command_report : (running : Bool) (v : AsduValue) (pieces : List (List ℕ)) → is_command_report p.sizes asdu.items ≡ true → IsAsdu p.sizes v asdu.items → IsLearnt p said w (mirrored_works at running v pieces w)
   command_report true v pieces command value =
       let s : State = mirrored v at w.serial.commands in
-      let h : History = told (Mirror v at) w in
+      let tells : History = told (Mirror v at) w in
       record {
         line = refl;
-        told = λ k. keeping (line_told k) (line_ignores k) pieces s h;
+        told = λ k. keeping (line_told k) (line_ignores k) pieces s tells;
         fits = λ f. kept_fit stay p pieces s (one_fits stay p (Mirror v at) (tasks_of w) tt f);
-        mirrors = λ rs h. subst (λ (vs : List AsduValue). AreValues p.sizes vs (command_reports p.sizes (rs ++ (station, asdu.items) ∷ []))) (sym (keeping mirrored_in mirrors_ignore pieces s h)) (more_mirrored v rs command value h);
-        judged = keeping asdus_judged judged_ignore pieces s h;
+        mirrors = λ rs h. subst (λ (vs : List AsduValue). AreValues p.sizes vs (command_reports p.sizes (rs ++ (station, asdu.items) ∷ []))) (sym (keeping mirrored_in mirrors_ignore pieces s tells)) (more_mirrored v rs command value h);
+        judged = keeping asdus_judged judged_ignore pieces s tells;
       }
   command_report false v pieces command value = record {
     line = refl;

@@ -13,7 +13,8 @@ ghost use Rattle.delivery.specs.Commands.{first_sendings, AreCommandsOf};
 ghost use Rattle.delivery.specs.Delivery.{IsHonest};
 ghost use Rattle.delivery.specs.Joined.{IsSetUp, IsJoined};
 
-use command::{commands_are_forwarded, own_answers_are_given, waiting_commands_stay};
+use command::waiting_commands_stay;
+use gateway::courses_keep_commands;
 use link::{
     commands_are_accepted, master_tells_the_log, offers_wait, outcomes_are_answers,
     outcomes_bear_the_reports, requests_are_read_back, requests_wait_their_turn,
@@ -58,8 +59,7 @@ pub fn each_command_is_given_once()
         AreCommandsOf p i (here_of f.course ∷ f.course.earlier) (commands (all_done turns)) }
 {
     the_course_is_the_logs();
-    commands_are_forwarded();
-    own_answers_are_given();
+    courses_keep_commands();
     sessions_are_known();
     commands_are_accepted();
 }

@@ -1,5 +1,6 @@
--- What contracts see of the queue, and what each call makes of it: a list with two marks, its oldest piece and its
--- first unsent one (this gateway's own profile; IEC 60870-5-104, 5.1, keeps what is sent until it is acknowledged).
+-- What contracts see of the queue, and what each call makes of it: a list with two marks, its
+-- oldest piece and its first unsent one (this gateway's own profile; IEC 60870-5-104, 5.1, keeps
+-- what is sent until it is acknowledged).
 use Rattle.std.specs.Prelude.{ℕ, ◌-◌, List, [], ◌++◌, length, take, drop, map}
 use Rattle.arrayvec.specs.ArrayVec.{ArrayVec}
 
@@ -24,7 +25,8 @@ pushed pieces q = record { sent = q.sent; unsent = q.unsent ++ pieces; places = 
 
 -- the oldest unsent piece, if any, is a sent one
 abbrev pub marked_sent : Queue → Queue
-marked_sent q = record { sent = q.sent ++ take 1 q.unsent; unsent = drop 1 q.unsent; places = q.places }
+marked_sent q =
+    record { sent = q.sent ++ take 1 q.unsent; unsent = drop 1 q.unsent; places = q.places }
 
 -- without the n oldest
 abbrev pub acknowledged : ℕ → Queue → Queue

@@ -1,13 +1,16 @@
-//! The queue of ASDUs that wait for the control centre: the pieces of reports, from `push` until a connection
-//! acknowledged them (this gateway's own profile; IEC 60870-5-104, 5.1, for what acknowledging is).
+//! The queue of ASDUs that wait for the control centre: the pieces of reports, from `push` until a
+//! connection acknowledged them (this gateway's own profile; IEC 60870-5-104, 5.1, for what
+//! acknowledging is).
 //!
-//! [`Events`] is a list with two marks, its oldest piece and its first unsent one, in a ring of fixed places. Pieces go
-//! behind the newest, are lent to be sent from the mark on, and leave from the oldest. What is sent and not
-//! acknowledged when a connection ends is unsent again ([`Events::rewind`]). What pieces say, and which frames
-//! acknowledge them, is no matter of this crate.
+//! [`Events`] is a list with two marks, its oldest piece and its first unsent one, in a ring of
+//! fixed places. Pieces go behind the newest, are lent to be sent from the mark on, and leave from
+//! the oldest. What is sent and not acknowledged when a connection ends is unsent again
+//! ([`Events::rewind`]). What pieces say, and which frames acknowledge them, is no matter of this
+//! crate.
 //!
-//! Proved: each call is one small function on the two lists, and nothing is overwritten or lost. Only `new` takes
-//! memory, and after it no call can fail.
+//! Proved: each call is one small function on the two lists. Above it, after every list of calls
+//! the queue keeps what was pushed and isn't acknowledged, in its order: nothing is overwritten or
+//! lost. Only `new` takes memory, and after it no call can fail.
 #![tactic(auto)]
 
 ghost use Rattle.std.specs.Map.Iter.{TakesFirst, deref};
@@ -15,8 +18,11 @@ ghost use Rattle.std.specs.Iterator.{at_most};
 ghost use Rattle.std.specs.Prelude.{◌≡◌, ◌<◌, ◌≤◌, ◌↔◌, [], ◌∷◌, length, drop, IfOk, IfSome, IfNone, IsTrue};
 ghost use Rattle.events.specs.Pieces.{AreAsdus};
 
+mod laws;
+
 use asdu::{Piece, Pieces};
 use circular_buffer::{HeapCircularBuffer, Iter};
+pub use laws::pieces_are_kept_in_order;
 use std::alloc::Global;
 use std::marker::Model;
 use thiserror::Error;
@@ -72,7 +78,8 @@ impl Events {
         self.free() < MOST_PIECES
     }
 
-    /// Appends the pieces of a report, unsent. The queue may not be full, and each piece has 9 to 249 octets.
+    /// Appends the pieces of a report, unsent. The queue may not be full, and each piece has 9 to
+    /// 249 octets.
     pub fn push(&mut self, pieces: Pieces)
         requires room { 3 ≤ free_places self.old }
         requires asdus { AreAsdus pieces.items }
@@ -87,7 +94,8 @@ impl Events {
 
     /// The oldest piece that isn't sent, of 9 to 249 octets.
     pub fn unsent(&self) -> Option<&[u8]>
-        ensures some { IfSome result (λ piece. self.now.unsent ≡ piece.now ∷ drop 1 self.now.unsent) }
+        ensures some { IfSome result (λ piece.
+            self.now.unsent ≡ piece.now ∷ drop 1 self.now.unsent) }
         ensures none { IfNone result (self.now.unsent ≡ []) }
         ensures fits { IfSome result (λ piece. (9 ≤ length piece.now) × (length piece.now ≤ 249)) }
     {
@@ -139,7 +147,8 @@ impl Events {
     }
 }
 
-/// An iterator that lends the kept pieces, oldest first. Contracts see it as the list of those to come.
+/// An iterator that lends the kept pieces, oldest first. Contracts see it as the list of those to
+/// come.
 #[derive(Drop)]
 pub struct Kept<'a> {
     pieces: Iter<'a, Piece>,

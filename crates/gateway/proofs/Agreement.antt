@@ -56,7 +56,7 @@ use Rattle.session.specs.History as talk
 use Rattle.session.specs.History.{History, frame_due, has_timed_out}
 use Rattle.session.specs.Runs.{Call, Send, after_call}
 use Rattle.session.specs.Ends.{IsConfirmed}
-use Rattle.gateway.specs.Conversation.{KeepsTalk}
+use Rattle.gateway.specs.Conversation.{KeepsRulesSoFar}
 use Rattle.gateway.specs.Agrees.{IsAt, Presently, Carries, Past, Talks, Agrees, Tied, ArePlain, IsSpent, IsClear, IsUndue, IsQuiet, pending, pieces_of}
 use Rattle.gateway.proofs.Working.{answers_in, gap_in, own_serial, asked_own, own_placed, heard_placed}
 use Rattle.gateway.proofs.Offering.{count_upto, offers_heard, offers_cut, heard_plain}
@@ -240,7 +240,7 @@ went_out s t octets unjudged c fs f h fits on same so bears more tied numbered =
 }
 
 -- what goes out changes no connection but the open one
-past_put : (p : Setup) (log : Log) (earlier : List Connection) (now : ℕ) (f : Apdu) → now ≡ latest log → is_replaced log ≡ false → (present log).is_open ≡ true → Fits f → KeepsTalk p (Went now (TcpOut (spelling f)) ∷ log) → Past p log earlier → Past p (Went now (TcpOut (spelling f)) ∷ log) earlier
+past_put : (p : Setup) (log : Log) (earlier : List Connection) (now : ℕ) (f : Apdu) → now ≡ latest log → is_replaced log ≡ false → (present log).is_open ≡ true → Fits f → KeepsRulesSoFar p (Went now (TcpOut (spelling f)) ∷ log) → Past p log earlier → Past p (Went now (TcpOut (spelling f)) ∷ log) earlier
 past_put p log earlier now f e settled on fits talk b = record {
   are = b.are;
   orders = b.orders;

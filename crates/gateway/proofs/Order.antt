@@ -23,7 +23,7 @@ use Rattle.gateway.specs.Reports.{Setup}
 use Rattle.gateway.specs.Works.{Works, is_overfull, answered_works, sent_works, ready_works}
 use Rattle.gateway.specs.Serial.{is_first_command}
 use Rattle.gateway.specs.Course.{Course, came_frames, with_frames, told_sent, closed_course, Runs}
-use Rattle.gateway.specs.Conversation.{KeepsTalk, KeepsTimes}
+use Rattle.gateway.specs.Conversation.{KeepsRulesSoFar, KeepsRulesThroughout}
 use Rattle.gateway.specs.Traffic.{HasCause, replaces, GoesOut, ActsRightly}
 use Rattle.gateway.specs.Order.{step_actions, is_request, is_close, MayFollow, KeepsOrder}
 use Rattle.gateway.proofs.Working.{settled_placed, put_placed}
@@ -147,7 +147,7 @@ unruly p at (S nr) some long r = undue p at (S nr) some long r.0
 unruly p at (U u) some long r = undue p at (U u) some long r.0
 
 -- so nothing goes to TCP
-unsaid : (p : Setup) (log : Log) (now : ℕ) (octets : List ℕ) → 0 < p.session.w → 0 < p.session.t3 → OnlyOpened p log → KeepsTalk p (Went now (TcpOut octets) ∷ log) → ⊥
+unsaid : (p : Setup) (log : Log) (now : ℕ) (octets : List ℕ) → 0 < p.session.w → 0 < p.session.t3 → OnlyOpened p log → KeepsRulesSoFar p (Went now (TcpOut octets) ∷ log) → ⊥
 unsaid p log now octets some long h k =
     let r = k.runs in
     let none : came_frames k.course.talk ≡ [] = no_frames (came_frames k.course.talk) r.4.rest (ap (λ (c : Channel). c.received) (sym h.channel) ∙ r.4.joined) in
@@ -233,7 +233,7 @@ settled_after [] h = refl
 settled_after (Came now event ∷ log) h = absurd (cc)
 settled_after (Went now action ∷ log) h = refl
 
-no_octets : (p : Setup) (log : Log) (now : ℕ) (octets : List ℕ) → 0 < p.session.w → 0 < p.session.t3 → IsUnsaid p log → KeepsTalk p (Went now (TcpOut octets) ∷ log) → GoesOut p log now (TcpOut octets) → ⊥
+no_octets : (p : Setup) (log : Log) (now : ℕ) (octets : List ℕ) → 0 < p.session.w → 0 < p.session.t3 → IsUnsaid p log → KeepsRulesSoFar p (Went now (TcpOut octets) ∷ log) → GoesOut p log now (TcpOut octets) → ⊥
 no_octets p log now octets some long (inl off) k g = let no : false ≡ true = sym off ∙ g.may.0 in cc
 no_octets p log now octets some long (inr h) k g = unsaid p log now octets some long h k
 
@@ -256,7 +256,7 @@ not_true : (b : Bool) → (b ≡ true → ⊥) → b ≡ false
 not_true true h = absurd (h refl)
 not_true false h = refl
 
-may_follow : (p : Setup) (log : Log) (now : ℕ) (action : Output) → 0 < p.session.w → 0 < p.session.t3 → KeepsTalk p (Went now action ∷ log) → GoesOut p log now action → ActsRightly p log → KeepsOrder log → MayFollow (step_actions log) action
+may_follow : (p : Setup) (log : Log) (now : ℕ) (action : Output) → 0 < p.session.w → 0 < p.session.t3 → KeepsRulesSoFar p (Went now action ∷ log) → GoesOut p log now action → ActsRightly p log → KeepsOrder log → MayFollow (step_actions log) action
 may_follow p log now (LineOut octets) some long k g acts order =
     not_true (list_any is_request (step_actions log)) (λ h. let no : false ≡ true = sym (none_due p log k.runs.0 k.runs.1 h) ∙ k.runs.2.due in absurd (cc))
 may_follow p log now (GapOut station session) some long k g acts order =
@@ -266,7 +266,7 @@ may_follow p log now (TcpOut octets) some long k g acts order =
 may_follow p log now (Closed cause) some long k g acts order =
     not_true (list_any is_close (step_actions log)) (λ h. no_close p log now cause (settled_after log h) (after_close p log acts order h) g)
 
-pub keeps_order : (p : Setup) → 0 < p.session.w → 0 < p.session.t3 → (log : Log) → KeepsTimes p log → ActsRightly p log → KeepsOrder log
+pub keeps_order : (p : Setup) → 0 < p.session.w → 0 < p.session.t3 → (log : Log) → KeepsRulesThroughout p log → ActsRightly p log → KeepsOrder log
 keeps_order p some long [] times acts = tt
 keeps_order p some long (Came now event ∷ log) times acts = keeps_order p some long log times.1 acts
 keeps_order p some long (Went now action ∷ log) times acts =

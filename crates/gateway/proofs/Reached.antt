@@ -16,12 +16,14 @@ use Rattle.command.specs.Judging.{judged}
 use Rattle.command.specs.History.{Offered, History}
 use Rattle.command.specs.Calls.{Call, Judge, PutOnLine, Accept, Busy, Lose, Mirror, Own, SendOwn, Cut, Due, Run, after_call, after_answer, after_sending}
 use Rattle.command.specs.Laws.{IsRun}
+use Rattle.command.specs.CommandLaws.{CommandLaws}
 use Rattle.gateway.specs.Objects.{has_objects}
 use Rattle.gateway.specs.Log.{Log, LineIn, Opened, TcpIn, CutOff, Ticked, Came, Went, LineOut, TcpOut, Closed, GapOut, latest}
 use Rattle.gateway.specs.Connections.{present}
 use Rattle.gateway.specs.Reports.{Setup}
 use Rattle.gateway.specs.Serial.{kept_until, listed, refusals, is_first_command, put_on_line, unless_silent}
 use Rattle.gateway.specs.Works.{Works, tasks_of, told_kept, is_command_report, mirrored_works, LearnsReport, LearnsOf, heard_works, answered_works, told_silent, settled_works, ready_works, unasked_works, done_works, told_put, asked_works}
+use Rattle.gateway.specs.Conversation.{KeepsCommands}
 use Rattle.gateway.specs.Course.{Course, with_frames, with_sent, IsNext, closed_course, IsLeft, room_in, Runs}
 
 abbrev pub IsCalled : Setup → Run → Type 0
@@ -162,3 +164,15 @@ module _ (p : Setup) where
   -- and once the step before an event is done
   pub left_reached : (log : Log) (before after : Course) → Runs p log before → IsLeft p log before after → IsReached p after.works
   left_reached log before after r l = left log before after l (reached log before r)
+
+  -- so they keep the rules
+  pub kept_commands : CommandLaws → (log : Log) (c : Course) → Runs p log c → KeepsCommands p (tasks_of c.works)
+  kept_commands laws log c r =
+      let calls : IsReached p c.works = reached log c r in
+      subst (KeepsCommands p) calls.1 (record {
+        forwarded = laws.forwarded p.stations p.sizes p.select_ms calls.0;
+        selected = laws.selected p.stations p.sizes p.select_ms calls.0;
+        answered = laws.right p.stations p.sizes p.select_ms calls.0;
+        in_turn = laws.in_turn p.stations p.sizes p.select_ms calls.0;
+        kept = laws.kept p.stations p.sizes p.select_ms calls.0;
+      })

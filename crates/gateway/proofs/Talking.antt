@@ -29,8 +29,8 @@ use Rattle.gateway.specs.LineLaws.{LineLaws}
 use Rattle.gateway.specs.Reports.{Setup, address_at, exchanges_of, taken_objects}
 use Rattle.gateway.specs.Works.{is_overfull}
 use Rattle.gateway.specs.Course.{Course, first_course, came_frames, kind_of, told_sent, with_frame, with_sent, IsFlushed, IsUntouched, HasBegun, MayTake, TakesFrames, HasTakenAll, IsNext, Runs}
-use Rattle.gateway.specs.Conversation.{KeepsCommands, KeepsTalk}
-use Rattle.gateway.proofs.Reached.{IsReached, reached}
+use Rattle.gateway.specs.Conversation.{KeepsRulesSoFar}
+use Rattle.gateway.proofs.Reached.{kept_commands}
 use Rattle.gateway.specs.Phases.{IsTaking}
 use Rattle.command.specs.CommandLaws.{CommandLaws}
 use Rattle.session.specs.SessionLaws.{SessionLaws}
@@ -123,22 +123,13 @@ same_came (I ns nr asdu) now h = refl
 same_came (S nr) now h = refl
 same_came (U u) now h = refl
 
-pub kept_talk : (p : Setup) (s : Session) (log : Log) (c : Course) → Talks p s log c → KeepsTalk p log
+pub kept_talk : (p : Setup) (s : Session) (log : Log) (c : Course) → Talks p s log c → KeepsRulesSoFar p log
 kept_talk p s log c k = record {
   course = c;
   runs = k.course_runs;
   rules = subst (λ (r : Run). KeepsRules p.session r.history) k.called (k.laws.rules p.session k.calls k.timely.range);
-  commands = subst (KeepsCommands p) calls.1 (record {
-    forwarded = k.command_laws.forwarded p.stations p.sizes p.select_ms calls.0;
-    selected = k.command_laws.selected p.stations p.sizes p.select_ms calls.0;
-    answered = k.command_laws.right p.stations p.sizes p.select_ms calls.0;
-    in_turn = k.command_laws.in_turn p.stations p.sizes p.select_ms calls.0;
-    kept = k.command_laws.kept p.stations p.sizes p.select_ms calls.0;
-  });
+  commands = kept_commands p k.command_laws log c k.course_runs;
 }
-  where
-    calls : IsReached p c.works
-    calls = reached p log c k.course_runs
 
 -- the octets received begin with the frames
 abbrev pub Begins : Channel → Course → Type 0

@@ -23,7 +23,7 @@ use Rattle.gateway.specs.Connections.{Channel, no_channel, present, past, receiv
 use Rattle.gateway.specs.Reports.{Setup, AreFound, exchanges_of, taken_objects, reports_in, parts_of_all}
 use Rattle.gateway.specs.Traffic.{ActsRightly, RestsBetweenSteps, HasRested, IsFaithful}
 use Rattle.gateway.specs.Course.{Course, here_of, room_in, Runs}
-use Rattle.gateway.specs.Conversation.{KeepsTimes}
+use Rattle.gateway.specs.Conversation.{KeepsRulesThroughout}
 use Rattle.gateway.specs.Phases.{Phase, Taking, resting, IsPhase, works_in, IsAsked, IsPlaced, IsPast, IsLeftIn}
 use Rattle.command.specs.CommandLaws.{CommandLaws}
 use Rattle.gateway.specs.LineLaws.{LineLaws}
@@ -42,11 +42,13 @@ pub record IsAt (p : Setup) (log : Log) (phase : Phase) (s : State) (c : Course)
 
 -- what is offered to a station is the oldest command that waits for it
 abbrev pub OffersWait : Primary → tasks.State → Type 0
-OffersWait q s = (k : ℕ) (octets : List ℕ) → offered_at q k ≡ Some octets → octets_waiting k s ≡ Some octets
+OffersWait q s = (k : ℕ) (octets : List ℕ) → offered_at q k ≡ Some octets →
+    octets_waiting k s ≡ Some octets
 
 -- what was told of gaps, and the one that is still to be told, are those of the exchanges
 abbrev pub GapsTold : Setup → Log → Option Gap → Type 0
-GapsTold p log gap = (station : ℕ) → gaps_told station log ++ gap_for station gap ≡ gaps_of p station log
+GapsTold p log gap = (station : ℕ) → gaps_told station log ++ gap_for station gap
+    ≡ gaps_of p station log
 
 -- own answers have no objects of the queue's
 abbrev pub ArePlain : List (List ℕ) → Type 0
@@ -59,8 +61,10 @@ abbrev pub pieces_of : List Sent → List (List ℕ)
 pieces_of [] = []
 pieces_of (f ∷ fs) = cond (has_objects f.asdu) (f.asdu ∷ pieces_of fs) (pieces_of fs)
 
--- The sent frames behind the first n are those that aren't acknowledged, and the pieces are the reports among them.
-pub record Unconfirmed (n : ℕ) (sent : List Sent) (us : List Unacknowledged) (pieces : List (List ℕ)) : Type 0 where
+-- The sent frames behind the first n are those that aren't acknowledged, and the pieces are the
+-- reports among them.
+pub record Unconfirmed (n : ℕ) (sent : List Sent) (us : List Unacknowledged)
+    (pieces : List (List ℕ)) : Type 0 where
   pub count : n + length us ≡ length sent
   pub kinds : map (λ u. is_from_queue u.kind) us ≡ map (λ f. has_objects f.asdu) (drop n sent)
   pub pieces_are : pieces ≡ pieces_of (drop n sent)
@@ -72,11 +76,14 @@ pub record Tied (c : Connection) (s : Session) (pieces : List (List ℕ)) : Type
   pub next : s.next_sent ≡ length c.sent_frames % 32768
   pub small : s.k < 32768
   pub bound : length s.unacknowledged ≤ s.k
-  pub unconfirmed : Unconfirmed (acknowledged_count c.received_frames) c.sent_frames s.unacknowledged pieces
+  pub unconfirmed : Unconfirmed
+      (acknowledged_count c.received_frames) c.sent_frames s.unacknowledged pieces
 
--- The control centre's side agrees with the open connection, as if of its octets the last ones had not been received: the step has
--- not judged them yet. Without a connection nothing is sent and nothing received.
-pub record Presently (s : Centre) (octets : Channel) (unjudged : List ℕ) (c : Connection) : Type 0 where
+-- The control centre's side agrees with the open connection, as if of its octets the last ones had
+-- not been received: the step has not judged them yet. Without a connection nothing is sent and
+-- nothing received.
+pub record Presently (s : Centre) (octets : Channel) (unjudged : List ℕ)
+    (c : Connection) : Type 0 where
   pub link : s.session.connected ≡ octets.is_open
   pub none : octets.is_open ≡ false → (octets ≡ no_channel) × (c ≡ new_connection)
   pub put : List Apdu
@@ -93,9 +100,10 @@ pub record Presently (s : Centre) (octets : Channel) (unjudged : List ℕ) (c : 
 
 -- The queue
 
--- What was taken: acknowledged on earlier connections, sent on this one, and unsent. Each piece has a place until it is
--- acknowledged.
-pub record Carries (objs : List InformationObject) (parts : ℕ) (earlier : List Connection) (sent : List Sent) (unsent : List (List ℕ)) : Type 0 where
+-- What was taken: acknowledged on earlier connections, sent on this one, and unsent. Each piece has
+-- a place until it is acknowledged.
+pub record Carries (objs : List InformationObject) (parts : ℕ) (earlier : List Connection)
+    (sent : List Sent) (unsent : List (List ℕ)) : Type 0 where
   pub whole : list_all has_objects unsent ≡ true
   pub gone : List InformationObject
   pub front : length gone ≡ first_unacknowledged earlier
@@ -113,7 +121,7 @@ pub record IsTimely (p : Settings) : Type 0 where
 pub record Past (p : Setup) (log : Log) (earlier : List Connection) : Type 0 where
   pub are : AreConnections (past log) earlier
   pub orders : AreInOrder (taken_objects p log) earlier
-  pub times : KeepsTimes p log
+  pub times : KeepsRulesThroughout p log
   pub acts : ActsRightly p log
   pub rests : RestsBetweenSteps p log
 
@@ -134,8 +142,10 @@ abbrev pub pending : Option (List ℕ) → List ℕ
 pending None = []
 pending (Some octets) = octets
 
--- The state agrees with the log, as if these octets of the open connection had not come yet, so far in a step.
-pub record Agrees (p : Setup) (s : State) (log : Log) (unjudged : List ℕ) (phase : Phase) : Type 0 where
+-- The state agrees with the log, as if these octets of the open connection had not come yet, so far
+-- in a step.
+pub record Agrees (p : Setup) (s : State) (log : Log) (unjudged : List ℕ)
+    (phase : Phase) : Type 0 where
   pub k : s.centre.session.k ≡ p.session.k
   pub sizes : s.sizes ≡ p.sizes
   pub places : s.centre.queue.places ≡ p.places
@@ -151,7 +161,8 @@ pub record Agrees (p : Setup) (s : State) (log : Log) (unjudged : List ℕ) (pha
   pub gaps : GapsTold p log s.serial.gap
   pub offers : OffersWait s.serial.line s.serial.commands
   pub plain : ArePlain s.serial.commands.answers
-  pub carries : Carries (taken_objects p log) (parts_of_all p.sizes (reports_in p log)) course.earlier course.sent s.centre.queue.unsent
+  pub carries : Carries (taken_objects p log) (parts_of_all p.sizes (reports_in p log))
+      course.earlier course.sent s.centre.queue.unsent
   pub before : Past p log course.earlier
 
 -- the same where the port tells its log
@@ -160,7 +171,8 @@ Tracks p s told unjudged phase = IfSome told (λ log. Agrees p s log unjudged ph
 
 -- nothing can be sent any more
 abbrev pub IsSpent : State → Type 0
-IsSpent s = may_send s.centre.session ≡ true → (s.centre.queue.unsent ≡ []) × (s.serial.commands.answers ≡ [])
+IsSpent s = may_send s.centre.session ≡ true →
+    (s.centre.queue.unsent ≡ []) × (s.serial.commands.answers ≡ [])
 
 -- no confirmation is due, and nothing can be sent any more
 pub record IsClear (s : State) : Type 0 where
@@ -170,17 +182,23 @@ pub record IsClear (s : State) : Type 0 where
 -- no frame of the event is taken yet, or no S frame and no test is due
 abbrev pub IsUndue : State → Log → List ℕ → Type 0
 IsUndue s log unjudged =
-    (length (present log).received ≤ length (received_before log) + length (pending s.centre.so_far ++ unjudged)) ⊎ ((pulled s.moment s.centre.session).0 ≡ None)
+    (length (present log).received
+    ≤ length (received_before log) + length (pending s.centre.so_far ++ unjudged))
+    ⊎ ((pulled s.moment s.centre.session).0 ≡ None)
 
 -- the same where all that may go out has gone out, and these octets of the event are to be judged
 abbrev pub Awaits : Setup → State → Option Log → List ℕ → Type 0
-Awaits p s told unjudged = IfSome told (λ log. Agrees p s log unjudged Taking × IsClear s × IsUndue s log unjudged × (length (received_before log) + length unjudged ≤ length (present log).received))
+Awaits p s told unjudged = IfSome told (λ log. Agrees p s log unjudged Taking × IsClear s
+    × IsUndue s log unjudged
+    × (length (received_before log) + length unjudged ≤ length (present log).received))
 
 -- the same where a frame stands before this rest of them
 abbrev pub Meets : Setup → State → Option Log → (unjudged rest : List ℕ) → Type 0
-Meets p s told unjudged rest = IfSome told (λ log. Agrees p s log unjudged Taking × IsClear s × IsUndue s log unjudged × IsPast log (length rest))
+Meets p s told unjudged rest = IfSome told (λ log. Agrees p s log unjudged Taking × IsClear s
+    × IsUndue s log unjudged × IsPast log (length rest))
 
--- what is left of the log by a call that puts actions out: all of it went out, or the log is faithful so far
+-- what is left of the log by a call that puts actions out: all of it went out, or the log is
+-- faithful so far
 abbrev pub Leaves : Bool → Setup → State → Option Log → List ℕ → Phase → Type 0
 Leaves true p s told unjudged phase = Tracks p s told unjudged phase
 Leaves false p s told unjudged phase = IfSome told (IsFaithful p)
@@ -189,7 +207,8 @@ Leaves false p s told unjudged phase = IfSome told (IsFaithful p)
 abbrev pub Follows : Setup → State → Option Log → Type 0
 Follows p s told = IfSome told (λ log. Agrees p s log [] (resting log) × IsClear s)
 
--- the log ends with this event, and before it the state agreed with the log and had done all that it could
+-- the log ends with this event, and before it the state agreed with the log and had done all that
+-- it could
 pub record HasCome (p : Setup) (s : State) (now : ℕ) (event : Input) (log : Log) : Type 0 where
   pub before : Log
   pub is : log ≡ Came now event ∷ before
@@ -209,4 +228,5 @@ pub record IsQuiet (s : State) : Type 0 where
 
 -- where no answer was late, none is late
 abbrev pub StaysInTime : (before after : State) → Type 0
-StaysInTime s t = 0 < s.centre.session.t1 → IsInTime s.moment s.centre.session → IsInTime t.moment t.centre.session × (0 < t.centre.session.t1)
+StaysInTime s t = 0 < s.centre.session.t1 → IsInTime s.moment s.centre.session →
+    IsInTime t.moment t.centre.session × (0 < t.centre.session.t1)

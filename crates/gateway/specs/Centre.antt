@@ -1,5 +1,6 @@
--- The control centre's side of a gateway: the connection's session, the octets of a frame that isn't whole, and the pieces that go up;
--- and what each thing that happens makes of them (IEC 60870-5-104, 5).
+-- The control centre's side of a gateway: the connection's session, the octets of a frame that
+-- isn't whole, and the pieces that go up; and what each thing that happens makes of them (IEC
+-- 60870-5-104, 5).
 use Rattle.std.specs.Prelude.{◌≡◌, ℕ, is_some, true, List, [], length, Option, Some}
 use Rattle.apci.specs.declared.apdu.Apdu.{Apdu}
 use Rattle.apci.specs.declared.apdu.Apdu.TheVariants.{I}
@@ -23,11 +24,20 @@ pub record IsWhole (s : Session) (so_far : Option (List ℕ)) (q : Queue) : Type
   pub listens : is_some so_far ≡ true
 
 abbrev pub first_centre : Settings → (places : ℕ) → Centre
-first_centre p places = record { session = session.new_session p.k p.w p.t1 p.t2 p.t3; so_far = Some []; queue = queue.empty places }
+first_centre p places =
+    record {
+      session = session.new_session p.k p.w p.t1 p.t2 p.t3;
+      so_far = Some [];
+      queue = queue.empty places;
+    }
 
 -- no connection: all kept pieces are unsent again
 abbrev pub closed : Centre → Centre
-closed s = record { session = session.closed s.session; so_far = Some []; queue = queue.rewound s.queue }
+closed s = record {
+  session = session.closed s.session;
+  so_far = Some [];
+  queue = queue.rewound s.queue;
+}
 
 abbrev pub opened : (at : ℕ) → Centre → Centre
 opened at s = record s { session = session.opened at s.session }
@@ -49,7 +59,8 @@ next_frame s asdu = I s.next_sent s.next_received (record { items = asdu })
 
 -- the oldest unsent piece has gone out
 abbrev pub piece_sent : (at : ℕ) → Centre → Centre
-piece_sent at s = record s { session = session.sent FromQueue at s.session; queue = queue.marked_sent s.queue }
+piece_sent at s =
+    record s { session = session.sent FromQueue at s.session; queue = queue.marked_sent s.queue }
 
 -- an own answer has gone out
 abbrev pub own_sent : (at : ℕ) → Centre → Centre

@@ -1,4 +1,5 @@
--- The connections of a log (IEC 60870-5-104, 5; which event begins and ends one is this gateway's profile).
+-- The connections of a log (IEC 60870-5-104, 5; which event begins and ends one is this gateway's
+-- profile).
 use Rattle.std.specs.Prelude.{◌≡◌, ℕ, Bool, true, false, if◌then◌else◌, List, [], ◌∷◌, ◌++◌, length, Option, Some, None}
 use Rattle.apci.specs.declared.apdu.Apdu.{Apdu}
 use Rattle.apci.specs.Spelling.{spelling, Fits}
@@ -26,12 +27,24 @@ new_channel = record { is_open = true; sent = []; received = []; overfull = fals
 
 -- octets of no connection count for nothing
 abbrev pub receiving : Channel → List ℕ → Channel
-receiving c octets = if c.is_open then record { is_open = true; sent = c.sent; received = c.received ++ octets; overfull = c.overfull } else c
+receiving c octets =
+    if c.is_open then record {
+      is_open = true;
+      sent = c.sent;
+      received = c.received ++ octets;
+      overfull = c.overfull;
+    } else c
 
 abbrev pub sending : Channel → List ℕ → Channel
-sending c octets = record { is_open = c.is_open; sent = c.sent ++ octets; received = c.received; overfull = c.overfull }
+sending c octets = record {
+  is_open = c.is_open;
+  sent = c.sent ++ octets;
+  received = c.received;
+  overfull = c.overfull;
+}
 
--- the causes 1 to 6 end the connection of their step, and 7 the one before it, which the new one has ended
+-- the causes 1 to 6 end the connection of their step, and 7 the one before it, which the new one
+-- has ended
 abbrev pub ends : Close → Bool
 ends Replaced = false
 ends cause = true
@@ -63,7 +76,8 @@ over c past = if c.is_open then c ∷ past else past
 
 -- the gateway closes it with this cause
 abbrev pub closed_by : Close → Channel → Channel
-closed_by OwnAnswers c = record { is_open = c.is_open; sent = c.sent; received = c.received; overfull = true }
+closed_by OwnAnswers c =
+    record { is_open = c.is_open; sent = c.sent; received = c.received; overfull = true }
 closed_by cause c = c
 
 -- the connections that are over, the newest first
@@ -71,7 +85,8 @@ abbrev pub past : Log → List Channel
 past [] = []
 past (Came now Opened ∷ log) = over (present log) (past log)
 past (Came now CutOff ∷ log) = over (present log) (past log)
-past (Went now (Closed cause) ∷ log) = if ends cause then over (closed_by cause (present log)) (past log) else past log
+past (Went now (Closed cause) ∷ log) =
+    if ends cause then over (closed_by cause (present log)) (past log) else past log
 past (entry ∷ log) = past log
 
 -- each of the frames came without fault
@@ -80,25 +95,28 @@ Passes sent [] = Unit {0}
 Passes sent (frame ∷ older) = (fault_of sent older frame ≡ None) × Passes sent older
 
 -- the octets begin with a frame that has this fault
-pub record BeginsWithFault (sent : ℕ) (received : List Apdu) (cause : Close) (rest : List ℕ) : Type 0 where
+pub record BeginsWithFault (sent : ℕ) (received : List Apdu) (cause : Close)
+    (rest : List ℕ) : Type 0 where
   pub frame : Apdu
   pub more : List ℕ
   pub fits : Fits frame
   pub joined : rest ≡ spelling frame ++ more
   pub fault : fault_of sent received frame ≡ Some cause
 
--- What stands behind the frames received: the beginning of a frame, or what closes the connection. Where that is an own answer
--- without a place, what is left of the octets was dropped; which frames came, the log's one course tells (the law `one_course`).
+-- What stands behind the frames received: the beginning of a frame, or what closes the connection.
+-- Where that is an own answer without a place, what is left of the octets was dropped; which frames
+-- came, the log's one course tells (the law `one_course`).
 abbrev pub IsBehind : Bool → ℕ → List Apdu → Option Close → List ℕ → Type 0
 IsBehind overfull sent received None rest = IsMore rest
 IsBehind overfull sent received (Some Grammar) rest = IsRefused rest
 IsBehind overfull sent received (Some OwnAnswers) rest = overfull ≡ true
 IsBehind overfull sent received (Some cause) rest = BeginsWithFault sent received cause rest
 
--- The frames of a connection are those that the grammar finds, one after another, in its joined octets. In the octets
--- handed to TCP there is nothing else. In those received they go up to what closes the connection, if anything does.
--- (The law `one_reading`: there are no other frames, and no other cause, but for want of a place for an own answer, where the octets
--- alone don't tell them.)
+-- The frames of a connection are those that the grammar finds, one after another, in its joined
+-- octets. In the octets handed to TCP there is nothing else. In those received they go up to what
+-- closes the connection, if anything does. (The law `one_reading`: there are no other frames, and
+-- no other cause, but for want of a place for an own answer, where the octets alone don't tell
+-- them.)
 pub record IsConnection (octets : Channel) (c : Connection) (fault : Option Close) : Type 0 where
   pub put : List Apdu
   pub handed : AreFrames octets.sent put
@@ -112,10 +130,12 @@ pub record IsConnection (octets : Channel) (c : Connection) (fault : Option Clos
 -- the frames of each
 abbrev pub AreConnections : List Channel → List Connection → Type 0
 AreConnections [] [] = Unit {0}
-AreConnections (octets ∷ past) (c ∷ before) = (fault : Option Close) × IsConnection octets c fault × AreConnections past before
+AreConnections (octets ∷ past) (c ∷ before) = (fault : Option Close) × IsConnection octets c fault
+    × AreConnections past before
 AreConnections _ _ = ⊥
 
--- The connection's frames so far: of what it received perhaps only the first ones, where a step is not done.
+-- The connection's frames so far: of what it received perhaps only the first ones, where a step is
+-- not done.
 pub record IsBegun (octets : Channel) (c : Connection) : Type 0 where
   pub put : List Apdu
   pub handed : AreFrames octets.sent put

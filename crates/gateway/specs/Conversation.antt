@@ -1,4 +1,5 @@
--- What holds at each point of a run's course (IEC 60870-5-104, 5; IEC 60870-5-101, 7.2.3 and 7.2.6).
+-- What holds at each point of a run's course (IEC 60870-5-104, 5; IEC 60870-5-101, 7.2.3 and
+-- 7.2.6).
 use Rattle.std.specs.Prelude.{◌≡◌, false, [], ◌∷◌, ◌++◌, None}
 use Rattle.session.specs.History.{confirmation_of, frame_due, has_timed_out}
 use Rattle.session.specs.Rules.{KeepsRules}
@@ -10,9 +11,10 @@ use Rattle.gateway.specs.Reports.{Setup}
 use Rattle.gateway.specs.Works.{tasks_of}
 use Rattle.gateway.specs.Course.{Course, HasTakenAll, Runs}
 
--- What was done with commands so far: each first sending is the oldest command forwarded to its station on the open connection that
--- wasn't sent yet; before each execute to a guarded station stands its select, confirmed in time; each answer is that of the first
--- rule that applies; own answers go out first in, first out, and at most 16 wait.
+-- What was done with commands so far: each first sending is the oldest command forwarded to its
+-- station on the open connection that wasn't sent yet; before each execute to a guarded station
+-- stands its select, confirmed in time; each answer is that of the first rule that applies; own
+-- answers go out first in, first out, and at most 16 wait.
 pub record KeepsCommands (p : Setup) (r : Run) : Type 0 where
   pub forwarded : ForwardsCommands p.sizes p.stations p.select_ms r.history
   pub selected : ExecutesAreSelected p.sizes p.stations p.select_ms r.history
@@ -20,18 +22,18 @@ pub record KeepsCommands (p : Setup) (r : Run) : Type 0 where
   pub in_turn : own_kept r.history ≡ own_sent r.history ++ r.state.answers
   pub kept : KeepsOwnAnswers r.history
 
--- The course so far keeps the rules: each frame that came was free of faults, and each that went out bore the counts, and was due
--- (5.1 to 5.5); and commands are kept.
-pub record KeepsTalk (p : Setup) (log : Log) : Type 0 where
+-- The course so far keeps the rules: each frame that came was free of faults, and each that went
+-- out bore the counts, and was due (5.1 to 5.5); and commands are kept.
+pub record KeepsRulesSoFar (p : Setup) (log : Log) : Type 0 where
   pub course : Course
   pub runs : Runs p log course
   pub rules : KeepsRules p.session course.talk
   pub commands : KeepsCommands p (tasks_of course.works)
 
 -- and so at each point of the log
-abbrev pub KeepsTimes : Setup → Log → Type 0
-KeepsTimes p [] = Unit {0}
-KeepsTimes p (entry ∷ log) = KeepsTalk p (entry ∷ log) × KeepsTimes p log
+abbrev pub KeepsRulesThroughout : Setup → Log → Type 0
+KeepsRulesThroughout p [] = Unit {0}
+KeepsRulesThroughout p (entry ∷ log) = KeepsRulesSoFar p (entry ∷ log) × KeepsRulesThroughout p log
 
 -- No confirmation, no S frame and no test is due, and no answer is late.
 pub record IsTalkAtRest (p : Setup) (log : Log) (c : Course) : Type 0 where

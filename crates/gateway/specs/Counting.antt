@@ -22,15 +22,17 @@ one_mirrored c = record { skipped = c.skipped; mirrors = one_more c.mirrors; los
 abbrev pub one_lost : Tally → Tally
 one_lost c = record { skipped = c.skipped; mirrors = c.mirrors; lost = one_more c.lost }
 
--- A station answers a command by the same type, and on this line none has a time tag (profile): types 45 to 49 and 100.
+-- A station answers a command by the same type, and on this line none has a time tag (profile):
+-- types 45 to 49 and 100.
 abbrev pub is_answer_type : TypeId → Bool
 is_answer_type t = not (row t).monitor && not (row t).tagged
 
--- By the first object of the report: one that can't be read has none. Those of monitor types are passed on, save for a
--- negative 'unknown type'; answers to commands are none of the queue's.
+-- By the first object of the report: one that can't be read has none. Those of monitor types are
+-- passed on, save for a negative 'unknown type'; answers to commands are none of the queue's.
 abbrev pub counted_by : List InformationObject → Tally → Tally
 counted_by [] c = one_skipped c
-counted_by (o ∷ objects) c = if is_answer_type o.kind then c else (if is_passed_on o.kind o.cause then c else one_skipped c)
+counted_by (o ∷ objects) c =
+    if is_answer_type o.kind then c else (if is_passed_on o.kind o.cause then c else one_skipped c)
 
 abbrev pub counted : Sizes → List ℕ → Tally → Tally
 counted sizes report c = counted_by (objects_of sizes report) c

@@ -1,6 +1,7 @@
--- The course of a run, as its log shows it: what was said on the open connection, what the connections before it were, the line's
--- primary station and what became of commands (IEC 60870-5-104, 5; IEC 60870-5-2, unbalanced transmission procedures; when a step
--- takes a frame and whose turn it is, is this gateway's own profile).
+-- The course of a run, as its log shows it: what was said on the open connection, what the
+-- connections before it were, the line's primary station and what became of commands (IEC
+-- 60870-5-104, 5; IEC 60870-5-2, unbalanced transmission procedures; when a step takes a frame and
+-- whose turn it is, is this gateway's own profile).
 use Rattle.std.specs.Prelude.{◌≡◌, ℕ, ◌+◌, ◌<◌, ◌≤◌, ◌⊎◌, Bool, true, false, not, nat_lt, if◌then◌else◌, List, [], ◌∷◌, ◌++◌, length, take, drop, Some, None}
 use Rattle.ft12.specs.Spelling as line
 use Rattle.apci.specs.declared.apdu.Apdu.{Apdu}
@@ -30,7 +31,8 @@ use Rattle.gateway.specs.Serial.{is_first_command, heard_outcome}
 use Rattle.gateway.specs.Works.{Works, first_works, is_overfull, LearnsOf, heard_works, sent_works, cut_works, octets_works, begun_works, settled_works, ready_works, gapless_works, asked_works, done_works}
 
 pub record Course : Type 0 where
-  -- what was said on the open connection: frames that came and frames that went out, each with its moment, the latest first
+  -- what was said on the open connection: frames that came and frames that went out, each with its
+  -- moment, the latest first
   pub talk : History
   -- its I frames that went out, the oldest first
   pub sent : List Sent
@@ -51,16 +53,19 @@ came_frames (_ ∷ older) = came_frames older
 abbrev pub here_of : Course → Connection
 here_of c = record { sent_frames = c.sent; received_frames = came_frames c.talk }
 
--- There are places for the pieces of any report: each piece of a report taken has one until it is acknowledged.
+-- There are places for the pieces of any report: each piece of a report taken has one until it is
+-- acknowledged.
 abbrev pub room_by : Setup → (parts : ℕ) → Connection → List Connection → Bool
-room_by p parts here earlier = not (nat_lt (p.places + acknowledged_reports (here ∷ earlier)) (parts + 3))
+room_by p parts here earlier =
+    not (nat_lt (p.places + acknowledged_reports (here ∷ earlier)) (parts + 3))
 
 abbrev pub room_in : Setup → Log → Course → Bool
 room_in p log c = room_by p (parts_of_all p.sizes (reports_in p log)) (here_of c) c.earlier
 
 -- What is left to be sent
 
--- how many of the objects taken have gone out: those acknowledged on earlier connections, and those sent on the open one
+-- how many of the objects taken have gone out: those acknowledged on earlier connections, and those
+-- sent on the open one
 abbrev pub sent_objects : Course → ℕ
 sent_objects c = first_unacknowledged c.earlier + length (monitor_objects_sent (here_of c))
 
@@ -69,9 +74,11 @@ pub record HasSentAll (p : Setup) (log : Log) (c : Course) : Type 0 where
   pub objects : sent_objects c ≡ length (taken_objects p log)
   pub answers : c.works.serial.commands.answers ≡ []
 
--- where data transfer runs and fewer than k I frames are unacknowledged, all has gone out (5.3, 5.5)
+-- where data transfer runs and fewer than k I frames are unacknowledged, all has gone out (5.3,
+-- 5.5)
 abbrev pub IsFlushed : Setup → Log → Course → Type 0
-IsFlushed p log c = is_started c.talk ≡ true → length (still_unacknowledged c.talk) < p.session.k → HasSentAll p log c
+IsFlushed p log c = is_started c.talk ≡ true → length (still_unacknowledged c.talk) < p.session.k →
+    HasSentAll p log c
 
 -- Frames that come
 
@@ -87,19 +94,27 @@ pub record HasTakenAll (octets : Channel) (h : History) : Type 0 where
 
 -- one of them is taken, or there are none
 abbrev pub HasBegun : Log → Course → Type 0
-HasBegun log c = (length (received_before log) < length (spelled (came_frames c.talk))) ⊎ HasTakenAll (present log) c.talk
+HasBegun log c = (length (received_before log) < length (spelled (came_frames c.talk)))
+    ⊎ HasTakenAll (present log) c.talk
 
 abbrev pub with_frame : Setup → Apdu → (now : ℕ) → Course → Course
-with_frame p frame now c = record { talk = talk.Came frame now ∷ c.talk; sent = c.sent; earlier = c.earlier; works = heard_works frame now c.works }
+with_frame p frame now c =
+    record {
+      talk = talk.Came frame now ∷ c.talk;
+      sent = c.sent;
+      earlier = c.earlier;
+      works = heard_works frame now c.works;
+    }
 
 -- frames come at a moment, the latest first
 abbrev pub with_frames : Setup → List Apdu → (now : ℕ) → Course → Course
 with_frames p [] now c = c
 with_frames p (frame ∷ frames) now c = with_frame p frame now (with_frames p frames now c)
 
--- A frame is taken where it is the next of the octets received, and comes without fault once all confirmations are out (5.1, 5.3); and
--- only where each own answer found a place, and all that may go out has gone out: what the moment of the event makes due goes out
--- behind its first frame (profile).
+-- A frame is taken where it is the next of the octets received, and comes without fault once all
+-- confirmations are out (5.1, 5.3); and only where each own answer found a place, and all that may
+-- go out has gone out: what the moment of the event makes due goes out behind its first frame
+-- (profile).
 pub record MayTake (p : Setup) (log : Log) (now : ℕ) (frame : Apdu) (c : Course) : Type 0 where
   pub fits : Fits frame
   pub rest : List ℕ
@@ -107,12 +122,14 @@ pub record MayTake (p : Setup) (log : Log) (now : ℕ) (frame : Apdu) (c : Cours
   pub rules : KeepsRules p.session (talk.Came frame now ∷ c.talk)
   pub placed : is_overfull c.works.history ≡ false
   pub flushed : IsFlushed p log c
-  pub undue : IsUntouched log c ⊎ (frame_due p.session.w p.session.t2 p.session.t3 now c.talk ≡ None)
+  pub undue : IsUntouched log c ⊎ (frame_due p.session.w p.session.t2 p.session.t3 now c.talk
+      ≡ None)
 
 -- each of these frames, the latest first
 abbrev pub AreTaken : Setup → Log → (now : ℕ) → List Apdu → Course → Type 0
 AreTaken p log now [] c = Unit {0}
-AreTaken p log now (frame ∷ older) c = MayTake p log now frame (with_frames p older now c) × AreTaken p log now older c
+AreTaken p log now (frame ∷ older) c = MayTake p log now frame (with_frames p older now c)
+    × AreTaken p log now older c
 
 -- Frames are taken, one after another, of the octets received.
 pub record TakesFrames (p : Setup) (log : Log) (now : ℕ) (before after : Course) : Type 0 where
@@ -138,24 +155,35 @@ more_sent (I ns nr asdu) sent = sent ++ record { ns = ns; nr = nr; asdu = asdu.i
 more_sent frame sent = sent
 
 abbrev pub with_sent : Apdu → (now : ℕ) → Course → Course
-with_sent frame now c = record { talk = told_sent frame now c.talk; sent = more_sent frame c.sent; earlier = c.earlier; works = sent_works frame c.works }
+with_sent frame now c =
+    record {
+      talk = told_sent frame now c.talk;
+      sent = more_sent frame c.sent;
+      earlier = c.earlier;
+      works = sent_works frame c.works;
+    }
 
--- An I frame goes out once all confirmations are out. It bears the next of the objects taken, once no own answer waits; or it is the
--- oldest own answer (5.3; profile).
+-- An I frame goes out once all confirmations are out. It bears the next of the objects taken, once
+-- no own answer waits; or it is the oldest own answer (5.3; profile).
 pub record IsNextData (p : Setup) (log : Log) (asdu : List ℕ) (c : Course) : Type 0 where
   pub confirmed : confirmation_of c.talk ≡ None
   pub own : has_objects asdu ≡ false → first_answer c.works.serial.commands.answers ≡ Some asdu
   pub none : has_objects asdu ≡ true → c.works.serial.commands.answers ≡ []
-  pub report : has_objects asdu ≡ true → objects asdu ≡ take (length (objects asdu)) (drop (sent_objects c) (taken_objects p log))
+  pub report : has_objects asdu ≡ true → objects asdu
+      ≡ take (length (objects asdu)) (drop (sent_objects c) (taken_objects p log))
 
--- An S frame or a test goes out once all other frames that may have gone out, since an I frame bears N(R) too, and behind the first frame
--- of the event; but for a confirmation (5.1, 5.3; profile).
+-- An S frame or a test goes out once all other frames that may have gone out, since an I frame
+-- bears N(R) too, and behind the first frame of the event; but for a confirmation (5.1, 5.3;
+-- profile).
 abbrev pub IsNext : Setup → Log → Apdu → Course → Type 0
 IsNext p log (I ns nr asdu) c = IsNextData p log asdu.items c
-IsNext p log frame c = (confirmation_of c.talk ≡ Some frame) ⊎ ((confirmation_of c.talk ≡ None) × IsFlushed p log c × HasBegun log c)
+IsNext p log frame c = (confirmation_of c.talk ≡ Some frame)
+    ⊎ ((confirmation_of c.talk ≡ None) × IsFlushed p log c × HasBegun log c)
 
--- These octets go out: one frame, the next one, by the rules of 5.1 to 5.5; and none once an own answer found no place.
-pub record HandsOver (p : Setup) (log : Log) (octets : List ℕ) (now : ℕ) (before after : Course) : Type 0 where
+-- These octets go out: one frame, the next one, by the rules of 5.1 to 5.5; and none once an own
+-- answer found no place.
+pub record HandsOver (p : Setup) (log : Log) (octets : List ℕ) (now : ℕ)
+    (before after : Course) : Type 0 where
   pub frame : Apdu
   pub fits : Fits frame
   pub spelled_so : octets ≡ spelling frame
@@ -166,23 +194,24 @@ pub record HandsOver (p : Setup) (log : Log) (octets : List ℕ) (now : ℕ) (be
 
 -- The ends of connections
 
--- What is next in the octets received closes the connection with this cause: all before it was taken and confirmed (5.1, 5.3), what may
--- go out has gone out, and each own answer found a place.
+-- What is next in the octets received closes the connection with this cause: all before it was
+-- taken and confirmed (5.1, 5.3), what may go out has gone out, and each own answer found a place.
 pub record StandsNext (p : Setup) (log : Log) (cause : Close) (c : Course) : Type 0 where
   pub next : IsConnection (present log) (here_of c) (Some cause)
   pub confirmed : confirmation_of c.talk ≡ None
   pub flushed : IsFlushed p log c
   pub placed : is_overfull c.works.history ≡ false
 
--- An I frame or a test has been without an answer for t1 (5.2), and no cause stands before it: all that came was taken without fault, and
--- each own answer found a place.
+-- An I frame or a test has been without an answer for t1 (5.2), and no cause stands before it: all
+-- that came was taken without fault, and each own answer found a place.
 pub record IsLate (p : Setup) (log : Log) (c : Course) : Type 0 where
   pub all : HasTakenAll (present log) c.talk
   pub placed : is_overfull c.works.history ≡ false
   pub late : has_timed_out p.session.t1 (latest log) c.talk ≡ true
 
--- Why a connection is closed, where the course is so far: an answer is late; the own answer of the frame taken last, or of the line's
--- octets, found no place; or what is next in the octets. The connection before an `Open` has ended with it.
+-- Why a connection is closed, where the course is so far: an answer is late; the own answer of the
+-- frame taken last, or of the line's octets, found no place; or what is next in the octets. The
+-- connection before an `Open` has ended with it.
 abbrev pub IsCause : Setup → Log → Close → Course → Type 0
 IsCause p log Replaced c = is_replaced log ≡ true
 IsCause p log Timeout c = IsLate p log c
@@ -191,10 +220,17 @@ IsCause p log cause c = StandsNext p log cause c
 
 -- the connection that was open, if any, is over
 abbrev pub ended_course : (is_open : Bool) → Works → Course → Course
-ended_course is_open w c = record { talk = []; sent = []; earlier = if is_open then here_of c ∷ c.earlier else c.earlier; works = cut_works w }
+ended_course is_open w c =
+    record {
+      talk = [];
+      sent = [];
+      earlier = if is_open then here_of c ∷ c.earlier else c.earlier;
+      works = cut_works w;
+    }
 
 abbrev pub opened_course : (now : ℕ) → Course → Course
-opened_course now c = record { talk = talk.Opened now ∷ []; sent = c.sent; earlier = c.earlier; works = c.works }
+opened_course now c =
+    record { talk = talk.Opened now ∷ []; sent = c.sent; earlier = c.earlier; works = c.works }
 
 -- where an answer was late, the step's timers come first
 abbrev pub works_at : Close → (at : ℕ) → Works → Works
@@ -207,12 +243,18 @@ closed_course p cause is_open at c = ended_course is_open (works_at cause at c.w
 
 -- Steps
 
--- What the step before leaves when an event comes: its timers are done, its gap is told, and no request is left that may go out. A turn
--- that has none ends.
+-- What the step before leaves when an event comes: its timers are done, its gap is told, and no
+-- request is left that may go out. A turn that has none ends.
 pub record IsLeft (p : Setup) (log : Log) (before after : Course) : Type 0 where
   pub told : before.works.serial.gap ≡ None
-  pub none : before.works.is_due ≡ true → sending (ready_works (latest log) before.works).serial.line (room_in p log before) ≡ None
-  pub is : after ≡ record { talk = before.talk; sent = before.sent; earlier = before.earlier; works = done_works (latest log) (room_in p log before) before.works }
+  pub none : before.works.is_due ≡ true →
+      sending (ready_works (latest log) before.works).serial.line (room_in p log before) ≡ None
+  pub is : after ≡ record {
+    talk = before.talk;
+    sent = before.sent;
+    earlier = before.earlier;
+    works = done_works (latest log) (room_in p log before) before.works;
+  }
 
 abbrev pub with_works : Works → Course → Course
 with_works w c = record { talk = c.talk; sent = c.sent; earlier = c.earlier; works = w }
@@ -220,44 +262,63 @@ with_works w c = record { talk = c.talk; sent = c.sent; earlier = c.earlier; wor
 -- what an event brings
 abbrev pub Comes : Setup → Log → (at : ℕ) → Input → (before after : Course) → Type 0
 Comes p log at (LineIn octets) c d =
-    (z : Works) × LearnsOf p at (runs (came_frames c.talk)) (heard_outcome octets c.works.serial) (octets_works octets c.works) z
+    (z : Works) × LearnsOf p at (runs (came_frames c.talk)) (heard_outcome octets c.works.serial)
+    (octets_works octets c.works) z
     × (d ≡ with_works (begun_works at z) c)
-Comes p log at (TcpIn octets) c d = TakesFrames p (Came at (TcpIn octets) ∷ log) at (with_works (begun_works at c.works) c) d
+Comes p log at (TcpIn octets) c d =
+    TakesFrames p (Came at (TcpIn octets) ∷ log) at (with_works (begun_works at c.works) c) d
 Comes p log at Ticked c d = d ≡ with_works (begun_works at c.works) c
-Comes p log at Opened c d = d ≡ opened_course at (ended_course (present log).is_open (begun_works at c.works) c)
+Comes p log at Opened c d = d
+    ≡ opened_course at (ended_course (present log).is_open (begun_works at c.works) c)
 Comes p log at CutOff c d = d ≡ ended_course (present log).is_open (begun_works at c.works) c
 
--- The gap of the session that the event's octets have ended is told, once all that came is taken and before the step's request.
+-- The gap of the session that the event's octets have ended is told, once all that came is taken
+-- and before the step's request.
 pub record TellsGap (log : Log) (station session : ℕ) (before after : Course) : Type 0 where
   pub all : HasTakenAll (present log) before.talk
   pub due : before.works.is_due ≡ true
   pub gap : before.works.serial.gap ≡ Some (record { station = station; session = session })
   pub is : after ≡ with_works (gapless_works before.works) before
 
--- The octets are the request that is next, its gap told, where the queue has the room that the log shows, once all that came is taken; and a command
--- that goes out for the first time is the oldest that waits for its station.
-pub record SendsNext (p : Setup) (log : Log) (octets : List ℕ) (before after : Course) : Type 0 where
+-- The octets are the request that is next, its gap told, where the queue has the room that the log
+-- shows, once all that came is taken; and a command that goes out for the first time is the oldest
+-- that waits for its station.
+pub record SendsNext (p : Setup) (log : Log) (octets : List ℕ)
+    (before after : Course) : Type 0 where
   pub all : HasTakenAll (present log) before.talk
   pub placed : (present log).is_open ≡ true → is_overfull before.works.history ≡ false
   pub due : before.works.is_due ≡ true
   pub told : before.works.serial.gap ≡ None
   pub request : Sending
-  pub next : sending (ready_works (latest log) before.works).serial.line (room_in p log before) ≡ Some request
-  pub spelled_so : octets ≡ line.spelling p.link.size (request_frame (address_at p.addresses request.station) request.request)
-  pub waits : (fcb : Bool) (asdu : List ℕ) → request.request ≡ Counted fcb (Command asdu) → is_first_command (ready_works (latest log) before.works).serial.line request ≡ true →
-      octets_waiting request.station (ready_works (latest log) before.works).serial.commands ≡ Some asdu
-  pub is : after ≡ with_works (asked_works (latest log) (room_in p log before) request (ready_works (latest log) before.works)) before
+  pub next : sending (ready_works (latest log) before.works).serial.line (room_in p log before)
+      ≡ Some request
+  pub spelled_so : octets ≡ line.spelling p.link.size
+      (request_frame (address_at p.addresses request.station) request.request)
+  pub waits : (fcb : Bool) (asdu : List ℕ) → request.request ≡ Counted fcb (Command asdu) →
+      is_first_command (ready_works (latest log) before.works).serial.line request ≡ true →
+      octets_waiting request.station (ready_works (latest log) before.works).serial.commands
+      ≡ Some asdu
+  pub is : after
+      ≡ with_works (asked_works (latest log) (room_in p log before) request
+      (ready_works (latest log) before.works)) before
 
--- The course that the log shows. When an event comes all whole frames received before are taken, and the step before has done what
--- was due. Frames are taken of an event's octets, before and between the frames that go out in its step. A connection is closed where the
--- cause stands.
+-- The course that the log shows. When an event comes all whole frames received before are taken,
+-- and the step before has done what was due. Frames are taken of an event's octets, before and
+-- between the frames that go out in its step. A connection is closed where the cause stands.
 abbrev pub Runs : Setup → Log → Course → Type 0
 Runs p [] c = c ≡ first_course p
 Runs p (Came now event ∷ log) c =
-    (before : Course) × (left : Course) × Runs p log before × HasTakenAll (present log) before.talk × IsLeft p log before left × Comes p log (latest (Came now event ∷ log)) event left c
+    (before : Course) × (left : Course) × Runs p log before × HasTakenAll (present log) before.talk
+    × IsLeft p log before left × Comes p log (latest (Came now event ∷ log)) event left c
 Runs p (Went now (TcpOut octets) ∷ log) c =
-    (before : Course) × (after : Course) × Runs p log before × HandsOver p log octets (latest log) before after × TakesFrames p (Went now (TcpOut octets) ∷ log) (latest log) after c
-Runs p (Went now (LineOut octets) ∷ log) c = (before : Course) × Runs p log before × SendsNext p log octets before c
-Runs p (Went now (GapOut station session) ∷ log) c = (before : Course) × Runs p log before × TellsGap log station session before c
+    (before : Course) × (after : Course) × Runs p log before
+    × HandsOver p log octets (latest log) before after
+    × TakesFrames p (Went now (TcpOut octets) ∷ log) (latest log) after c
+Runs p (Went now (LineOut octets) ∷ log) c = (before : Course) × Runs p log before
+    × SendsNext p log octets before c
+Runs p (Went now (GapOut station session) ∷ log) c = (before : Course) × Runs p log before
+    × TellsGap log station session before c
 Runs p (Went now (Closed cause) ∷ log) c =
-    (before : Course) × Runs p log before × (c ≡ closed_course p cause (present log).is_open (latest log) before) × IsCause p log cause before
+    (before : Course) × Runs p log before × (c
+    ≡ closed_course p cause (present log).is_open (latest log) before)
+    × IsCause p log cause before

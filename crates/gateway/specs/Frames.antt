@@ -28,7 +28,8 @@ new_connection = record { sent_frames = []; received_frames = [] }
 -- the I frames among frames handed to TCP, oldest first
 abbrev pub data_frames : List Apdu → List Sent
 data_frames [] = []
-data_frames (I ns nr asdu ∷ older) = data_frames older ++ record { ns = ns; nr = nr; asdu = asdu.items } ∷ []
+data_frames (I ns nr asdu ∷ older) = data_frames older
+    ++ record { ns = ns; nr = nr; asdu = asdu.items } ∷ []
 data_frames (_ ∷ older) = data_frames older
 
 -- each bears the next N(S), from n on (5.1)
@@ -48,8 +49,8 @@ i_frames [] = 0
 i_frames (I ns nr asdu ∷ older) = suc (i_frames older)
 i_frames (_ ∷ older) = i_frames older
 
--- How many sent I frames these frames acknowledge: each N(R) moves the count to the least number that isn't below it and equals
--- N(R) modulo 32768 (5.1).
+-- How many sent I frames these frames acknowledge: each N(R) moves the count to the least number
+-- that isn't below it and equals N(R) modulo 32768 (5.1).
 abbrev pub acknowledged_count : List Apdu → ℕ
 acknowledged_count [] = 0
 acknowledged_count (I ns nr asdu ∷ older) = reached (acknowledged_count older) nr
@@ -58,10 +59,11 @@ acknowledged_count (U u ∷ older) = acknowledged_count older
 
 -- more I frames would be acknowledged than were sent
 abbrev pub receive_fault : ℕ → List Apdu → ℕ → Option Close
-receive_fault sent older nr = if nat_lt sent (reached (acknowledged_count older) nr) then Some ReceiveNumber else None
+receive_fault sent older nr =
+    if nat_lt sent (reached (acknowledged_count older) nr) then Some ReceiveNumber else None
 
--- The fault of a frame behind these, where so many I frames were sent: an I frame while data transfer is stopped (5.3), an
--- N(S) that isn't the next, or an N(R) that isn't valid (5.1).
+-- The fault of a frame behind these, where so many I frames were sent: an I frame while data
+-- transfer is stopped (5.3), an N(S) that isn't the next, or an N(R) that isn't valid (5.1).
 abbrev pub fault_of : ℕ → List Apdu → Apdu → Option Close
 fault_of sent older (I ns nr asdu) =
     if not (runs older) then Some Stopped
@@ -80,10 +82,12 @@ monitor_objects_sent c = objects_of_frames c.sent_frames
 abbrev pub acknowledged_frames : Connection → List Sent
 acknowledged_frames c = take (acknowledged_count c.received_frames) c.sent_frames
 
--- the place of the first object that none of these connections acknowledged, among all objects taken
+-- the place of the first object that none of these connections acknowledged, among all objects
+-- taken
 abbrev pub first_unacknowledged : List Connection → ℕ
 first_unacknowledged [] = 0
-first_unacknowledged (c ∷ before) = length (objects_of_frames (acknowledged_frames c)) + first_unacknowledged before
+first_unacknowledged (c ∷ before) =
+    length (objects_of_frames (acknowledged_frames c)) + first_unacknowledged before
 
 -- how many frames have monitor objects
 abbrev pub reports_among : List Sent → ℕ
@@ -93,12 +97,15 @@ reports_among (f ∷ fs) = if has_objects f.asdu then suc (reports_among fs) els
 -- how many of these connections' frames with monitor objects were acknowledged
 abbrev pub acknowledged_reports : List Connection → ℕ
 acknowledged_reports [] = 0
-acknowledged_reports (c ∷ before) = reports_among (acknowledged_frames c) + acknowledged_reports before
+acknowledged_reports (c ∷ before) =
+    reports_among (acknowledged_frames c) + acknowledged_reports before
 
--- What a connection sent is a contiguous run of what was taken, from the first object on that no connection before it
--- acknowledged; and its I frames are numbered.
-pub record IsInOrder (taken : List InformationObject) (c : Connection) (before : List Connection) : Type 0 where
-  pub run : monitor_objects_sent c ≡ take (length (monitor_objects_sent c)) (drop (first_unacknowledged before) taken)
+-- What a connection sent is a contiguous run of what was taken, from the first object on that no
+-- connection before it acknowledged; and its I frames are numbered.
+pub record IsInOrder (taken : List InformationObject) (c : Connection)
+    (before : List Connection) : Type 0 where
+  pub run : monitor_objects_sent c
+      ≡ take (length (monitor_objects_sent c)) (drop (first_unacknowledged before) taken)
   pub numbered : IsNumberedFrom 0 c.sent_frames
 
 -- each connection, the newest first

@@ -1,5 +1,5 @@
--- Gaps that are told: which sessions of a station's link ended so that a report may be lost (IEC 60870-5-2, reset of remote link; that
--- they are told is this gateway's own profile).
+-- Gaps that are told: which sessions of a station's link ended so that a report may be lost (IEC
+-- 60870-5-2, reset of remote link; that they are told is this gateway's own profile).
 use Rattle.std.specs.Prelude.{◌≡◌, ℕ, ◌==◌, if◌then◌else◌, List, [], ◌∷◌, ◌++◌, Option, Some, None}
 use Rattle.ft12.specs.Fronts.{front_of}
 use Rattle.link.specs.Gaps.{gaps_at}
@@ -7,15 +7,17 @@ use Rattle.gateway.specs.declared.gaps.Gap.{Gap}
 use Rattle.gateway.specs.Log.{Log, Went, GapOut}
 use Rattle.gateway.specs.Reports.{Setup, exchanges_of}
 
--- The sessions of a station that ended with a gap, by the exchanges of the log, in order: the reset that ended them was answered, and
--- their latest request with a valid frame count bit was a poll that wasn't answered by 8, 9 or E5.
+-- The sessions of a station that ended with a gap, by the exchanges of the log, in order: the reset
+-- that ended them was answered, and their latest request with a valid frame count bit was a poll
+-- that wasn't answered by 8, 9 or E5.
 abbrev pub gaps_of : Setup → (station : ℕ) → Log → List ℕ
 gaps_of p station log = gaps_at (front_of p.link.size) p.addresses station (exchanges_of p log)
 
 -- the sessions of a station that the log tells as ended with a gap, in order
 abbrev pub gaps_told : (station : ℕ) → Log → List ℕ
 gaps_told station [] = []
-gaps_told station (Went now (GapOut other session) ∷ log) = if other == station then gaps_told station log ++ session ∷ [] else gaps_told station log
+gaps_told station (Went now (GapOut other session) ∷ log) =
+    if other == station then gaps_told station log ++ session ∷ [] else gaps_told station log
 gaps_told station (entry ∷ log) = gaps_told station log
 
 -- each gap is told, and nothing else is

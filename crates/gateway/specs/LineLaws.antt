@@ -21,49 +21,98 @@ use Rattle.link.specs.Telling.{Tells, report_in, gap_in_outcome, IsFittingSendin
 use Rattle.link.specs.Gaps.{gaps_at}
 
 pub record LineLaws : Type 0 where
-  pub octets : (settings : LinkSettings) (addresses : List ℕ) (q : Primary) (e : Exchanges) (octets : List ℕ) → Tells settings addresses q e →
-      Tells settings addresses (received (front_of q.settings.size) q octets) (record { ended = e.ended; current = heard_current octets e.current })
-  pub due : (settings : LinkSettings) (addresses : List ℕ) (q : Primary) (e : Exchanges) (at : ℕ) → Tells settings addresses q e →
-      Tells settings addresses (timed_out q at) (record { ended = e.ended; current = timed_current settings.answer_ms at e.current })
-  pub next : (settings : LinkSettings) (addresses : List ℕ) (q : Primary) (e : Exchanges) (now : ℕ) (may_poll : Bool) → Tells settings addresses q e →
+  pub octets : (settings : LinkSettings) (addresses : List ℕ) (q : Primary) (e : Exchanges)
+      (octets : List ℕ) → Tells settings addresses q e →
+      Tells settings addresses (received (front_of q.settings.size) q octets)
+      (record { ended = e.ended; current = heard_current octets e.current })
+  pub due : (settings : LinkSettings) (addresses : List ℕ) (q : Primary) (e : Exchanges) (at : ℕ) →
+      Tells settings addresses q e →
+      Tells settings addresses (timed_out q at) (record {
+        ended = e.ended;
+        current = timed_current settings.answer_ms at e.current;
+      })
+  pub next : (settings : LinkSettings) (addresses : List ℕ) (q : Primary) (e : Exchanges) (now : ℕ)
+      (may_poll : Bool) → Tells settings addresses q e →
       Tells settings addresses (asked q now may_poll) (begun_by now (sending q may_poll) e)
-  pub octets_report : (settings : LinkSettings) (addresses : List ℕ) (q : Primary) (e : Exchanges) (octets : List ℕ) → Tells settings addresses q e →
-      reports_of_exchanges (front_of settings.size) (λ i. slice_index addresses i) (record { ended = e.ended; current = heard_current octets e.current })
-      ≡ reports_of_exchanges (front_of settings.size) (λ i. slice_index addresses i) e ++ report_in (received_outcome (front_of q.settings.size) q octets)
+  pub octets_report : (settings : LinkSettings) (addresses : List ℕ) (q : Primary) (e : Exchanges)
+      (octets : List ℕ) → Tells settings addresses q e →
+      reports_of_exchanges (front_of settings.size) (λ i. slice_index addresses i)
+      (record { ended = e.ended; current = heard_current octets e.current })
+      ≡ reports_of_exchanges (front_of settings.size) (λ i. slice_index addresses i) e
+      ++ report_in (received_outcome (front_of q.settings.size) q octets)
   pub due_reports : (size : LinkSize) (address : ℕ → ℕ) (answer_ms at : ℕ) (e : Exchanges) →
-      reports_of_exchanges (front_of size) address (record { ended = e.ended; current = timed_current answer_ms at e.current })
+      reports_of_exchanges (front_of size) address
+      (record { ended = e.ended; current = timed_current answer_ms at e.current })
       ≡ reports_of_exchanges (front_of size) address e
-  pub next_reports : (size : LinkSize) (address : ℕ → ℕ) (now : ℕ) (s : Option Sending) (e : Exchanges) →
-      reports_of_exchanges (front_of size) address (begun_by now s e) ≡ reports_of_exchanges (front_of size) address e
-  pub fit : (settings : LinkSettings) (addresses : List ℕ) (q : Primary) (e : Exchanges) (may_poll : Bool) (s : Sending) → Tells settings addresses q e →
+  pub next_reports : (size : LinkSize) (address : ℕ →
+      ℕ) (now : ℕ) (s : Option Sending) (e : Exchanges) →
+      reports_of_exchanges (front_of size) address (begun_by now s e)
+      ≡ reports_of_exchanges (front_of size) address e
+  pub fit : (settings : LinkSettings) (addresses : List ℕ) (q : Primary) (e : Exchanges)
+      (may_poll : Bool) (s : Sending) → Tells settings addresses q e →
       sending q may_poll ≡ Some s → IsFittingSending settings addresses s
-  pub spelled : (settings : LinkSettings) (addresses : List ℕ) (q : Primary) (e : Exchanges) (s : Sending) → Tells settings addresses q e →
-      (request_of q s).octets.items ≡ spelling settings.size (request_frame (slice_index addresses s.station) s.request)
-  pub alone : (settings : LinkSettings) (addresses : List ℕ) (q : Primary) (e : Exchanges) (may_poll : Bool) (s : Sending) (x : OpenExchange) →
+  pub spelled : (settings : LinkSettings) (addresses : List ℕ) (q : Primary) (e : Exchanges)
+      (s : Sending) → Tells settings addresses q e →
+      (request_of q s).octets.items
+      ≡ spelling settings.size (request_frame (slice_index addresses s.station) s.request)
+  pub alone : (settings : LinkSettings) (addresses : List ℕ) (q : Primary) (e : Exchanges)
+      (may_poll : Bool) (s : Sending) (x : OpenExchange) →
       Tells settings addresses q e → sending q may_poll ≡ Some s → e.current ≡ Some x →
       IsOutstanding (slice_index addresses x.station) (view (front_of settings.size) x).exchange → ⊥
-  pub back : (size : LinkSize) (address : ℕ) (request : Asked) → FitsAddress size address → FitsAsked size request →
+  pub back : (size : LinkSize) (address : ℕ) (request : Asked) → FitsAddress size address →
+      FitsAsked size request →
       request_in size (spelling size (request_frame address request)) ≡ Some (address, request)
-  pub over : (q : Primary) (now : ℕ) (may_poll : Bool) → sending q may_poll ≡ None → sending (asked q now may_poll) may_poll ≡ None
-  pub leave : (q : Primary) (may_poll : Bool) → IsFitting q → q.outstanding ≡ None → sending q may_poll ≡ None → may_poll ≡ false
-  pub up : (q : Primary) (may_poll : Bool) → IsFitting q → q.outstanding ≡ None → sending q may_poll ≡ None → (i : ℕ) → i < length q.stations → is_up (station_at q.stations i).link ≡ true
-  pub free : (q : Primary) (may_poll : Bool) → IsFitting q → q.outstanding ≡ None → sending q may_poll ≡ None → (i : ℕ) → i < length q.stations → holds_command (station_at q.stations i).link ≡ false
-  pub left : (q : Primary) (may_poll : Bool) → IsFitting q → q.outstanding ≡ None → sending q may_poll ≡ None → (i : ℕ) → i < length q.stations → IsLeftToPolls (station_at q.stations i) (station_at q.stations i).link
-  pub offer : (settings : LinkSettings) (addresses : List ℕ) (q : Primary) (e : Exchanges) (station : ℕ) (asdu : List ℕ) →
-      station < length q.stations → IsUserData q.settings.size asdu → Tells settings addresses q e → Tells settings addresses (offered_to q station asdu) e
-  pub withdraw : (settings : LinkSettings) (addresses : List ℕ) (q : Primary) (e : Exchanges) → Tells settings addresses q e → Tells settings addresses (withdrawn q) e
-  pub heard_offers : (front : List ℕ → Front) (q : Primary) (octets : List ℕ) (k : ℕ) → offered_at (received front q octets) k ≡ offered_at q k
+  pub over : (q : Primary) (now : ℕ) (may_poll : Bool) → sending q may_poll ≡ None →
+      sending (asked q now may_poll) may_poll ≡ None
+  pub leave : (q : Primary) (may_poll : Bool) → IsFitting q → q.outstanding ≡ None →
+      sending q may_poll ≡ None → may_poll ≡ false
+  pub up : (q : Primary) (may_poll : Bool) → IsFitting q → q.outstanding ≡ None →
+      sending q may_poll ≡ None → (i : ℕ) → i < length q.stations →
+      is_up (station_at q.stations i).link ≡ true
+  pub free : (q : Primary) (may_poll : Bool) → IsFitting q → q.outstanding ≡ None →
+      sending q may_poll ≡ None → (i : ℕ) → i < length q.stations →
+      holds_command (station_at q.stations i).link ≡ false
+  pub left : (q : Primary) (may_poll : Bool) → IsFitting q → q.outstanding ≡ None →
+      sending q may_poll ≡ None → (i : ℕ) → i < length q.stations →
+      IsLeftToPolls (station_at q.stations i) (station_at q.stations i).link
+  pub offer : (settings : LinkSettings) (addresses : List ℕ) (q : Primary) (e : Exchanges)
+      (station : ℕ) (asdu : List ℕ) →
+      station < length q.stations → IsUserData q.settings.size asdu →
+      Tells settings addresses q e → Tells settings addresses (offered_to q station asdu) e
+  pub withdraw : (settings : LinkSettings) (addresses : List ℕ) (q : Primary) (e : Exchanges) →
+      Tells settings addresses q e → Tells settings addresses (withdrawn q) e
+  pub heard_offers : (front : List ℕ → Front) (q : Primary) (octets : List ℕ) (k : ℕ) →
+      offered_at (received front q octets) k ≡ offered_at q k
   pub timed_offers : (q : Primary) (at : ℕ) (k : ℕ) → offered_at (timed_out q at) k ≡ offered_at q k
-  pub new_offer : (q : Primary) (i : ℕ) (asdu : List ℕ) (k : ℕ) → i < length q.stations → offered_at (offered_to q i asdu) k ≡ (if k == i && may_offer q i then Some asdu else offered_at q k)
+  pub new_offer : (q : Primary) (i : ℕ) (asdu : List ℕ) (k : ℕ) → i < length q.stations →
+      offered_at (offered_to q i asdu) k
+      ≡ (if k == i && may_offer q i then Some asdu else offered_at q k)
   pub no_offer : (q : Primary) (k : ℕ) → offered_at (withdrawn q) k ≡ None
-  pub unasked_offers : (q : Primary) (now : ℕ) (may_poll : Bool) (k : ℕ) → sending q may_poll ≡ None → offered_at (asked q now may_poll) k ≡ offered_at q k
-  pub asked_offers : (q : Primary) (now : ℕ) (may_poll : Bool) (s : Sending) (k : ℕ) → sending q may_poll ≡ Some s → s.station < length q.stations → offered_at (asked q now may_poll) k ≡ (if k == s.station && is_command s.request then None else offered_at q k)
-  pub begun : (q : Primary) (may_poll : Bool) (s : Sending) (fcb : Bool) (asdu : List ℕ) → sending q may_poll ≡ Some s → s.request ≡ Counted fcb (Command asdu) → is_held (station_at q.stations s.station).link ≡ false → offered_at q s.station ≡ Some asdu
-  pub count : (q : Primary) (i : ℕ) (asdu : List ℕ) → length (offered_to q i asdu).stations ≡ length q.stations
-  pub gaps_octets : (settings : LinkSettings) (addresses : List ℕ) (q : Primary) (e : Exchanges) (octets : List ℕ) (station : ℕ) → Tells settings addresses q e →
-      gaps_at (front_of settings.size) addresses station (record { ended = e.ended; current = heard_current octets e.current })
-      ≡ gaps_at (front_of settings.size) addresses station e ++ gap_in_outcome station (received_outcome (front_of q.settings.size) q octets)
-  pub gaps_due : (size : LinkSize) (addresses : List ℕ) (answer_ms at : ℕ) (e : Exchanges) (station : ℕ) →
-      gaps_at (front_of size) addresses station (record { ended = e.ended; current = timed_current answer_ms at e.current }) ≡ gaps_at (front_of size) addresses station e
-  pub gaps_next : (size : LinkSize) (addresses : List ℕ) (now : ℕ) (s : Option Sending) (e : Exchanges) (station : ℕ) →
-      gaps_at (front_of size) addresses station (begun_by now s e) ≡ gaps_at (front_of size) addresses station e
+  pub unasked_offers : (q : Primary) (now : ℕ) (may_poll : Bool) (k : ℕ) →
+      sending q may_poll ≡ None → offered_at (asked q now may_poll) k ≡ offered_at q k
+  pub asked_offers : (q : Primary) (now : ℕ) (may_poll : Bool) (s : Sending) (k : ℕ) →
+      sending q may_poll ≡ Some s → s.station < length q.stations →
+      offered_at (asked q now may_poll) k
+      ≡ (if k == s.station && is_command s.request then None else offered_at q k)
+  pub begun : (q : Primary) (may_poll : Bool) (s : Sending) (fcb : Bool) (asdu : List ℕ) →
+      sending q may_poll ≡ Some s → s.request ≡ Counted fcb (Command asdu) →
+      is_held (station_at q.stations s.station).link ≡ false → offered_at q s.station ≡ Some asdu
+  pub count : (q : Primary) (i : ℕ) (asdu : List ℕ) →
+      length (offered_to q i asdu).stations ≡ length q.stations
+  pub gaps_octets : (settings : LinkSettings) (addresses : List ℕ) (q : Primary) (e : Exchanges)
+      (octets : List ℕ) (station : ℕ) → Tells settings addresses q e →
+      gaps_at (front_of settings.size) addresses station
+      (record { ended = e.ended; current = heard_current octets e.current })
+      ≡ gaps_at (front_of settings.size) addresses station e
+      ++ gap_in_outcome station (received_outcome (front_of q.settings.size) q octets)
+  pub gaps_due : (size : LinkSize) (addresses : List ℕ) (answer_ms at : ℕ) (e : Exchanges)
+      (station : ℕ) →
+      gaps_at (front_of size) addresses station (record {
+        ended = e.ended;
+        current = timed_current answer_ms at e.current;
+      })
+      ≡ gaps_at (front_of size) addresses station e
+  pub gaps_next : (size : LinkSize) (addresses : List ℕ) (now : ℕ) (s : Option Sending)
+      (e : Exchanges) (station : ℕ) →
+      gaps_at (front_of size) addresses station (begun_by now s e)
+      ≡ gaps_at (front_of size) addresses station e

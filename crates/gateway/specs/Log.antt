@@ -1,5 +1,5 @@
--- The log of a run: the events that came in and the actions that went out, the newest first (profile). Within a step the
--- event comes first, and then its actions.
+-- The log of a run: the events that came in and the actions that went out, the newest first
+-- (profile). Within a step the event comes first, and then its actions.
 use Rattle.std.specs.Prelude.{ℕ, min, max, List, [], ◌∷◌, ◌++◌, Option, Some, None}
 use Rattle.session.specs.declared.kinds.Close.{Close}
 
@@ -42,7 +42,8 @@ events_of (Went now action ∷ log) = events_of log
 abbrev pub last_moment : ℕ
 last_moment = 999999999999999
 
--- The moment of the latest step: one that goes back counts as the greatest so far, and one past the last as the last.
+-- The moment of the latest step: one that goes back counts as the greatest so far, and one past the
+-- last as the last.
 abbrev pub latest : Log → ℕ
 latest [] = 0
 latest (Came now event ∷ log) = max (latest log) (min now last_moment)

@@ -5,8 +5,8 @@ use Rattle.asdu.specs.Sizes.{tcp}
 use Rattle.asdu.specs.InformationObjects.{InformationObject, monitor_objects_of}
 use Rattle.asdu.specs.Translation.{parts}
 
--- the objects of an ASDU that are passed on to the control centre (profile: of monitor types, but for a negative
--- 'unknown type')
+-- the objects of an ASDU that are passed on to the control centre (profile: of monitor types, but
+-- for a negative 'unknown type')
 abbrev pub monitor_objects : Sizes → List ℕ → List InformationObject
 monitor_objects sizes asdu = monitor_objects_of sizes asdu
 

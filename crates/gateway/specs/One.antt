@@ -5,9 +5,11 @@ use Rattle.gateway.specs.Log.{Log, latest}
 use Rattle.gateway.specs.Reports.{Setup}
 use Rattle.gateway.specs.Course.{Course, with_frames, AreTaken}
 
--- One course goes on to the other by frames that may be taken: both connections, histories, works and counts are the same but for them.
+-- One course goes on to the other by frames that may be taken: both connections, histories, works
+-- and counts are the same but for them.
 abbrev pub GoesOn : Setup → Log → (before after : Course) → Type 0
-GoesOn p log c d = (frames : List Apdu) × (d ≡ with_frames p frames (latest log) c) × AreTaken p log (latest log) frames c
+GoesOn p log c d = (frames : List Apdu) × (d ≡ with_frames p frames (latest log) c)
+    × AreTaken p log (latest log) frames c
 
 -- Two courses differ only in how far the octets of the latest event were judged.
 abbrev pub AreOne : Setup → Log → Course → Course → Type 0

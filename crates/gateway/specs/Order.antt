@@ -18,8 +18,8 @@ abbrev pub is_close : Output → Bool
 is_close (Closed cause) = true
 is_close action = false
 
--- A request, and a gap, only where the step has put out no request yet; octets to TCP, and a close, only where it has closed no connection yet
--- (profile).
+-- A request, and a gap, only where the step has put out no request yet; octets to TCP, and a close,
+-- only where it has closed no connection yet (profile).
 abbrev pub MayFollow : (earlier : List Output) → Output → Type 0
 MayFollow earlier (LineOut octets) = list_any is_request earlier ≡ false
 MayFollow earlier (TcpOut octets) = list_any is_close earlier ≡ false

@@ -6,7 +6,9 @@ use Rattle.command.specs.History.{History}
 use Rattle.gateway.specs.Connections.{present, received_before}
 use Rattle.gateway.specs.Works.{Works, is_overfull, settled_works, ready_works, done_works}
 
--- nothing has come yet; octets of the connection are being taken; a frame of them was taken, and what follows goes out; the event is taken; an own answer of it found no place; the timers are done; the request is asked for
+-- nothing has come yet; octets of the connection are being taken; a frame of them was taken, and
+-- what follows goes out; the event is taken; an own answer of it found no place; the timers are
+-- done; the request is asked for
 pub data Phase : Type 0 where
   Fresh : Phase
   Taking : Phase
@@ -43,9 +45,11 @@ abbrev pub IsOut : Option Outstanding → Type 0
 IsOut None = ⊥
 IsOut (Some o) = Unit {0}
 
--- Until the request is asked for it is due. Then it is out, or there was none that might go out; and no gap is left to be told.
+-- Until the request is asked for it is due. Then it is out, or there was none that might go out;
+-- and no gap is left to be told.
 abbrev pub IsAsked : Phase → (at : ℕ) → (room : Bool) → Works → Type 0
-IsAsked Asked at room w = (w.is_due ≡ true → sending (ready_works at w).serial.line room ≡ None) × (w.is_due ≡ false → IsOut w.serial.line.outstanding) × (w.serial.gap ≡ None)
+IsAsked Asked at room w = (w.is_due ≡ true → sending (ready_works at w).serial.line room ≡ None)
+    × (w.is_due ≡ false → IsOut w.serial.line.outstanding) × (w.serial.gap ≡ None)
 IsAsked Fresh at room w = (w.is_due ≡ false) × (w.serial.gap ≡ None)
 IsAsked phase at room w = w.is_due ≡ true
 
@@ -72,8 +76,8 @@ after_frame false = Crowded
 abbrev pub IsPast : Log → (left : ℕ) → Type 0
 IsPast log left = length (received_before log) + left < length (present log).received
 
--- What is left of the octets received: where a frame was taken fewer than came, and where the event is taken none. What a close drops
--- may be anything.
+-- What is left of the octets received: where a frame was taken fewer than came, and where the event
+-- is taken none. What a close drops may be anything.
 abbrev pub IsLeftIn : Phase → Log → (so_far unjudged : List ℕ) → Type 0
 IsLeftIn Taking log so_far unjudged = Unit {0}
 IsLeftIn Crowded log so_far unjudged = Unit {0}

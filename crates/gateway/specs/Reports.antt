@@ -15,8 +15,9 @@ use Rattle.command.specs.declared.station.StationInfo.{StationInfo}
 use Rattle.gateway.specs.Log.{Log, Came, Went, LineIn, LineOut, latest}
 use Rattle.gateway.specs.Objects.{monitor_objects, parts_of}
 
--- What a gateway is set to: its line, the link addresses of its stations, the sizes of the line's ASDUs, the places of
--- its queue, the session's numbers and times (k, w, t1, t2, t3), what commands ask of the stations, and how long a selection lasts.
+-- What a gateway is set to: its line, the link addresses of its stations, the sizes of the line's
+-- ASDUs, the places of its queue, the session's numbers and times (k, w, t1, t2, t3), what commands
+-- ask of the stations, and how long a selection lasts.
 pub record Setup : Type 0 where
   pub link : LinkSettings
   pub addresses : List ℕ
@@ -32,31 +33,43 @@ address_at addresses i = slice_index addresses i
 -- the place of an address among the stations'
 abbrev pub index_of : ℕ → List ℕ → Option ℕ
 index_of address [] = None
-index_of address (a ∷ addresses) = if a == address then Some 0 else option_map suc (index_of address addresses)
+index_of address (a ∷ addresses) =
+    if a == address then Some 0 else option_map suc (index_of address addresses)
 
 -- each station is found by its address
 abbrev pub AreFound : List ℕ → Type 0
-AreFound addresses = (i : ℕ) → i < length addresses → index_of (address_at addresses i) addresses ≡ Some i
+AreFound addresses = (i : ℕ) → i < length addresses →
+    index_of (address_at addresses i) addresses ≡ Some i
 
 -- a request to the station with this address, if there is one
 abbrev pub sent_to : List ℕ → (ℕ × Asked) → Option Sending
-sent_to addresses request = option_map (λ i. record { station = i; request = request.1 }) (index_of request.0 addresses)
+sent_to addresses request =
+    option_map (λ i. record { station = i; request = request.1 }) (index_of request.0 addresses)
 
 -- the request that octets are, and the place of its station
 abbrev pub sending_in : Setup → List ℕ → Option Sending
 sending_in p octets = option_and_then (sent_to p.addresses) (request_in p.link.size octets)
 
--- The exchanges of a log (profile). Each request begins one. Its octets are those that come in later steps, up to and
--- with the step in which the next request goes out or whose moment is answer_ms past the request, and this moment closes it.
+-- The exchanges of a log (profile). Each request begins one. Its octets are those that come in
+-- later steps, up to and with the step in which the next request goes out or whose moment is
+-- answer_ms past the request, and this moment closes it.
 abbrev pub exchanges_of : Setup → Log → Exchanges
 exchanges_of p [] = no_exchanges
 exchanges_of p (Came now (LineIn octets) ∷ log) =
     let before = exchanges_of p log in
-    record { ended = before.ended; current = timed_current p.link.answer_ms (latest (Came now (LineIn octets) ∷ log)) (heard_current octets before.current) }
+    record {
+      ended = before.ended;
+      current = timed_current p.link.answer_ms (latest (Came now (LineIn octets) ∷ log))
+          (heard_current octets before.current);
+    }
 exchanges_of p (Came now event ∷ log) =
     let before = exchanges_of p log in
-    record { ended = before.ended; current = timed_current p.link.answer_ms (latest (Came now event ∷ log)) before.current }
-exchanges_of p (Went now (LineOut octets) ∷ log) = begun_by now (sending_in p octets) (exchanges_of p log)
+    record {
+      ended = before.ended;
+      current = timed_current p.link.answer_ms (latest (Came now event ∷ log)) before.current;
+    }
+exchanges_of p (Went now (LineOut octets) ∷ log) =
+    begun_by now (sending_in p octets) (exchanges_of p log)
 exchanges_of p (Went now action ∷ log) = exchanges_of p log
 
 -- the exchanges with one station, named by its index
@@ -65,7 +78,8 @@ exchanges_with p i log = with_station i (views (front_of p.link.size) (all_of (e
 
 -- the reports of the answered polls, in order
 abbrev pub reports_in : Setup → Log → List (ℕ × List ℕ)
-reports_in p log = reports_of_exchanges (front_of p.link.size) (address_at p.addresses) (exchanges_of p log)
+reports_in p log =
+    reports_of_exchanges (front_of p.link.size) (address_at p.addresses) (exchanges_of p log)
 
 -- the monitor objects of the reports taken, in order
 abbrev pub taken_objects : Setup → Log → List InformationObject
@@ -78,4 +92,5 @@ parts_of_all sizes (report ∷ reports) = parts_of sizes report.1 + parts_of_all
 
 -- Each station is asked as its link allows, with the frame count bit that is due (IEC 60870-5-2).
 abbrev pub KeepsLinks : Setup → Log → Type 0
-KeepsLinks p log = (i : ℕ) → i < length p.addresses → KeepsFrameCountBit p.link (address_at p.addresses i) Down (exchanges_with p i log)
+KeepsLinks p log = (i : ℕ) → i < length p.addresses →
+    KeepsFrameCountBit p.link (address_at p.addresses i) Down (exchanges_with p i log)

@@ -1,5 +1,5 @@
 -- How a run ends.
-use Rattle.std.specs.Prelude.{◌≡◌, ℕ, ◌+◌, List, length, Option, option_map}
+use Rattle.std.specs.Prelude.{◌≡◌, ℕ, ◌+◌, Bool, if◌then◌else◌, List, length, Option, option_map}
 use Rattle.gateway.specs.Log.{Log, LogEntry, events_of}
 use Rattle.gateway.specs.declared.runs.End.{End}
 use Rattle.gateway.specs.declared.runs.End.TheVariants.{Finished, Turns, Device}
@@ -22,4 +22,18 @@ events_told told = option_map events_of told
 
 -- where the log is told, so many more events have come
 abbrev pub MoreEvents : ℕ → Option Log → Option Log → Type 0
-MoreEvents n old new = option_map length (events_told new) ≡ option_map (λ events. length events + n) (events_told old)
+MoreEvents n old new = option_map length (events_told new)
+    ≡ option_map (λ events. length events + n) (events_told old)
+
+-- how many failures of the device a part of a step tells
+abbrev pub faults_unless : (went : Bool) → ℕ
+faults_unless went = if went then 0 else 1
+
+-- What a part of a step leaves of its port, which tells its log, what is fixed of it, and how often
+-- its device failed: no event has come, what is fixed stays, and the device has failed so many
+-- times more.
+pub record Puts {S F : Type 0} (log : S → Option Log) (fixed : S → F) (failed : S →
+    ℕ) (old new : S) (faults : ℕ) : Type 0 where
+  pub events : events_told (log new) ≡ events_told (log old)
+  pub script : fixed new ≡ fixed old
+  pub cause : failed new ≡ failed old + faults

@@ -1,5 +1,6 @@
--- The line's side of a gateway: its primary station, commands, and what is counted; and what each thing that happens makes of
--- them (IEC 60870-5-101, 7.2.3; when own answers are kept, and when a command is offered to the line, is this gateway's own profile).
+-- The line's side of a gateway: its primary station, commands, and what is counted; and what each
+-- thing that happens makes of them (IEC 60870-5-101, 7.2.3; when own answers are kept, and when a
+-- command is offered to the line, is this gateway's own profile).
 use Rattle.std.specs.Prelude.{ℕ, zero, suc, Bool, true, false, not, ◌&&◌, if◌then◌else◌, List, [], ◌∷◌, length, Option, Some, None}
 use Rattle.ft12.specs.Fronts.{front_of}
 use Rattle.asdu.specs.declared.sizes.Sizes.{Sizes}
@@ -29,9 +30,11 @@ pub record Serial : Type 0 where
   -- commands on their way, and own answers that wait
   pub commands : tasks.State
   pub counts : Tally
-  -- the station whose link this step's silence took down, which commands are told of once the event is taken
+  -- the station whose link this step's silence took down, which commands are told of once the event
+  -- is taken
   pub silent : Option ℕ
-  -- the gap of the session that the event's octets have ended, which is told before the step's request
+  -- the gap of the session that the event's octets have ended, which is told before the step's
+  -- request
   pub gap : Option Gap
 
 abbrev pub first_serial : Setup → Serial
@@ -78,25 +81,31 @@ refusals station s = listed (refusal_of (line_of station s.commands))
 
 -- a station was busy: its command is answered
 abbrev pub refused : (station : ℕ) → Serial → Serial
-refused station s = record s { commands = kept_until (refusals station s) (tasks.given_up station s.commands) }
+refused station s =
+    record s { commands = kept_until (refusals station s) (tasks.given_up station s.commands) }
 
 abbrev pub refusal_fits : (station : ℕ) → Serial → Bool
 refusal_fits station s = all_kept (refusals station s) (tasks.given_up station s.commands)
 
--- A station's answer to a command: what it does to selections; and where data transfer runs it is passed on as own answers, these
--- pieces. Else it is counted.
-abbrev pub mirrored : (at : ℕ) → (is_running : Bool) → AsduValue → (pieces : List (List ℕ)) → Serial → Serial
-mirrored at true v pieces s = record s { commands = kept_until pieces (mirrors.mirrored v at s.commands) }
-mirrored at false v pieces s = record s { commands = mirrors.mirrored v at s.commands; counts = one_mirrored s.counts }
+-- A station's answer to a command: what it does to selections; and where data transfer runs it is
+-- passed on as own answers, these pieces. Else it is counted.
+abbrev pub mirrored : (at : ℕ) → (is_running : Bool) → AsduValue → (pieces : List (List ℕ)) →
+    Serial → Serial
+mirrored at true v pieces s =
+    record s { commands = kept_until pieces (mirrors.mirrored v at s.commands) }
+mirrored at false v pieces s =
+    record s { commands = mirrors.mirrored v at s.commands; counts = one_mirrored s.counts }
 
 -- each piece finds a place
-abbrev pub mirror_fits : (at : ℕ) → (is_running : Bool) → AsduValue → (pieces : List (List ℕ)) → Serial → Bool
+abbrev pub mirror_fits : (at : ℕ) → (is_running : Bool) → AsduValue → (pieces : List (List ℕ)) →
+    Serial → Bool
 mirror_fits at true v pieces s = all_kept pieces (mirrors.mirrored v at s.commands)
 mirror_fits at false v pieces s = true
 
 -- a session ended with a gap
 abbrev pub with_gap : (station session : ℕ) → Serial → Serial
-with_gap station session s = record s { gap = Some (record { station = station; session = session }) }
+with_gap station session s =
+    record s { gap = Some (record { station = station; session = session }) }
 
 -- its gap is told
 abbrev pub without_gap : Serial → Serial
@@ -110,12 +119,14 @@ reported sizes report s = record s { counts = counted sizes report s.counts }
 
 -- the ASDU of a frame is judged, and its answer, if it has one, is kept
 abbrev pub heard_commands : Apdu → (at : ℕ) → tasks.State → tasks.State
-heard_commands (I ns nr asdu) at s = kept_until (listed (judging.judged asdu.items at s).0) (judging.judged asdu.items at s).1
+heard_commands (I ns nr asdu) at s =
+    kept_until (listed (judging.judged asdu.items at s).0) (judging.judged asdu.items at s).1
 heard_commands frame at s = s
 
 -- the answer finds a place
 abbrev pub has_place : Apdu → (at : ℕ) → tasks.State → Bool
-has_place (I ns nr asdu) at s = all_kept (listed (judging.judged asdu.items at s).0) (judging.judged asdu.items at s).1
+has_place (I ns nr asdu) at s =
+    all_kept (listed (judging.judged asdu.items at s).0) (judging.judged asdu.items at s).1
 has_place frame at s = true
 
 abbrev pub judged : Apdu → (at : ℕ) → Serial → Serial
@@ -153,7 +164,11 @@ unless_silent (Some station) s = given_up station s
 
 -- the timers: what the line's silence ended is told, and selections end
 abbrev pub settled : (at : ℕ) → Serial → Serial
-settled at s = let t : Serial = unless_silent s.silent s in record t { commands = tasks.timed at t.commands; silent = None }
+settled at s =
+    let t : Serial = unless_silent s.silent s in record t {
+      commands = tasks.timed at t.commands;
+      silent = None;
+    }
 
 -- the oldest command that waits for a station is offered to it
 abbrev pub offered_by : Option Waiting → (station : ℕ) → Primary → Primary
@@ -183,4 +198,8 @@ commands_after q (Some x) s = put_on_line (is_first_command q x) x.station s
 
 -- the line was asked for its next request, which is this, if there is one
 abbrev pub asked : (at : ℕ) → (room : Bool) → Option Sending → Serial → Serial
-asked at room next s = record s { line = primary.asked s.line at room; commands = commands_after s.line next s.commands }
+asked at room next s =
+    record s {
+      line = primary.asked s.line at room;
+      commands = commands_after s.line next s.commands;
+    }

@@ -16,7 +16,13 @@ holds Hold = true
 holds Reset = false
 
 abbrev pub link_of : LineSettings → LinkSettings
-link_of l = record { size = l.link; answer_ms = l.answer_ms; retries = l.retries; hold = holds l.silence; burst = l.burst }
+link_of l = record {
+  size = l.link;
+  answer_ms = l.answer_ms;
+  retries = l.retries;
+  hold = holds l.silence;
+  burst = l.burst;
+}
 
 abbrev pub session_of : TcpSettings → session.Settings
 session_of t = record { k = t.k; w = t.w; t1 = t.t1_ms; t2 = t.t2_ms; t3 = t.t3_ms }

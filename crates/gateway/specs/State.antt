@@ -79,7 +79,11 @@ received f s = record s { centre = centre.taken f s.moment s.centre }
 
 -- a frame without fault is taken, and its ASDU judged
 abbrev pub framed : Apdu → State → State
-framed f s = record s { serial = serial.judged f s.moment s.serial; centre = centre.taken f s.moment s.centre }
+framed f s =
+    record s {
+      serial = serial.judged f s.moment s.serial;
+      centre = centre.taken f s.moment s.centre;
+    }
 
 -- the oldest unsent piece has gone out
 abbrev pub piece_sent : State → State
@@ -87,7 +91,8 @@ piece_sent s = record s { centre = centre.piece_sent s.moment s.centre }
 
 -- the oldest own answer has gone out
 abbrev pub own_sent : State → State
-own_sent s = record s { serial = serial.answered s.serial; centre = centre.own_sent s.moment s.centre }
+own_sent s =
+    record s { serial = serial.answered s.serial; centre = centre.own_sent s.moment s.centre }
 
 -- the time to answer
 abbrev pub line_timed : State → State
@@ -99,4 +104,5 @@ settled s = record s { serial = serial.settled s.moment s.serial }
 
 -- a request, if one is next, goes out
 abbrev pub after_request : State → Option Sending → State
-after_request s next = record s { serial = serial.asked s.moment (has_room s.centre.queue) next s.serial }
+after_request s next =
+    record s { serial = serial.asked s.moment (has_room s.centre.queue) next s.serial }

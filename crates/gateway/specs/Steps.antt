@@ -30,10 +30,12 @@ pub record Keeps (s : State) (report : List ℕ) (t : State) : Type 0 where
   pub objects_are : flat_map objects pieces ≡ monitor_objects s.sizes report
   pub whole : list_all has_objects pieces ≡ true
   pub number : length pieces ≡ parts_of s.sizes report
-  pub after : t ≡ record s { serial = reported s.sizes report s.serial; centre = pushed pieces s.centre }
+  pub after : t
+      ≡ record s { serial = reported s.sizes report s.serial; centre = pushed pieces s.centre }
 
 -- a station's answer to a command, whose pieces are passed on where data transfer runs
-pub record Mirrors (sizes : Sizes) (at : ℕ) (runs : Bool) (s : Serial) (report : List ℕ) (fits : Bool) (t : Serial) : Type 0 where
+pub record Mirrors (sizes : Sizes) (at : ℕ) (runs : Bool) (s : Serial) (report : List ℕ)
+    (fits : Bool) (t : Serial) : Type 0 where
   pub v : AsduValue
   pub pieces : List (List ℕ)
   pub passed : IsPassedOn sizes v report pieces
@@ -44,21 +46,29 @@ pub record Mirrors (sizes : Sizes) (at : ℕ) (runs : Bool) (s : Serial) (report
   pub all : fits ≡ mirror_fits at runs v pieces s
 
 abbrev pub LearnsReport : (is_of_command : Bool) → State → List ℕ → (fits : Bool) → State → Type 0
-LearnsReport true s report fits t = Mirrors s.sizes s.moment (is_running s.centre.session) s.serial report fits t.serial × (t ≡ with_serial t.serial s)
+LearnsReport true s report fits t =
+    Mirrors s.sizes s.moment (is_running s.centre.session) s.serial report fits t.serial
+    × (t ≡ with_serial t.serial s)
 LearnsReport false s report fits t = Keeps s report t × (fits ≡ true)
 
 -- what comes of an exchange, and whether each own answer finds a place
 abbrev pub Learns : State → Outcome → (fits : Bool) → State → Type 0
-Learns s (outcome.Report station asdu) fits t = LearnsReport (is_command_report s.sizes asdu.items) s asdu.items fits t
-Learns s (outcome.Accepted station) fits t = (t ≡ with_serial (accepted station s.serial) s) × (fits ≡ true)
-Learns s (outcome.Busy station) fits t = (t ≡ with_serial (refused station s.serial) s) × (fits ≡ refusal_fits station s.serial)
-Learns s (outcome.Down station) fits t = (t ≡ with_serial (given_up station s.serial) s) × (fits ≡ true)
-Learns s (outcome.StartedGap station session) fits t = (t ≡ with_serial (with_gap station session s.serial) s) × (fits ≡ true)
+Learns s (outcome.Report station asdu) fits t =
+    LearnsReport (is_command_report s.sizes asdu.items) s asdu.items fits t
+Learns s (outcome.Accepted station) fits t = (t ≡ with_serial (accepted station s.serial) s)
+    × (fits ≡ true)
+Learns s (outcome.Busy station) fits t = (t ≡ with_serial (refused station s.serial) s)
+    × (fits ≡ refusal_fits station s.serial)
+Learns s (outcome.Down station) fits t = (t ≡ with_serial (given_up station s.serial) s)
+    × (fits ≡ true)
+Learns s (outcome.StartedGap station session) fits t = (t
+    ≡ with_serial (with_gap station session s.serial) s) × (fits ≡ true)
 Learns s other fits t = (t ≡ s) × (fits ≡ true)
 
 -- octets of the line came, and what they bring is kept
 abbrev pub Hears : State → List ℕ → (fits : Bool) → State → Type 0
-Hears s octets fits t = Learns (with_serial (heard octets s.serial) s) (heard_outcome octets s.serial) fits t
+Hears s octets fits t =
+    Learns (with_serial (heard octets s.serial) s) (heard_outcome octets s.serial) fits t
 
 -- the line's part of an event
 abbrev pub HearsEvent : State → Input → (fits : Bool) → State → Type 0
@@ -98,7 +108,8 @@ pub record SendsPiece (at : ℕ) (s : Centre) (f : Apdu) (t : Centre) : Type 0 w
   pub after : t ≡ piece_sent at s
 
 -- the oldest own answer goes out in this frame
-pub record SendsOwn (at : ℕ) (s : Serial) (c : Centre) (f : Apdu) (t : Serial) (d : Centre) : Type 0 where
+pub record SendsOwn (at : ℕ) (s : Serial) (c : Centre) (f : Apdu) (t : Serial)
+    (d : Centre) : Type 0 where
   pub may : may_send c.session ≡ true
   pub asdu : List ℕ
   pub first : first_answer s.commands.answers ≡ Some asdu
@@ -111,10 +122,11 @@ pub record SendsOwn (at : ℕ) (s : Serial) (c : Centre) (f : Apdu) (t : Serial)
 abbrev pub SendsData : State → Apdu → State → Type 0
 SendsData s f t =
     (SendsOwn s.moment s.serial s.centre f t.serial t.centre × (t ≡ with_sides t.serial t.centre s))
-    ⊎ ((s.serial.commands.answers ≡ []) × SendsPiece s.moment s.centre f t.centre × (t ≡ with_centre t.centre s))
+    ⊎ ((s.serial.commands.answers ≡ []) × SendsPiece s.moment s.centre f t.centre
+    × (t ≡ with_centre t.centre s))
 
--- An answer is late where the timers are done, an own answer finds no place where it is kept, and any other cause shows as octets are
--- taken.
+-- An answer is late where the timers are done, an own answer finds no place where it is kept, and
+-- any other cause shows as octets are taken.
 abbrev pub IsCloseAt : Close → Phase → Type 0
 IsCloseAt Timeout Timed = Unit {0}
 IsCloseAt Timeout phase = ⊥
@@ -129,9 +141,10 @@ after_closing Taking = Idle
 after_closing Crowded = Idle
 after_closing phase = phase
 
--- The cause to close the connection is there. The state that agrees with the log may differ from this one in what
--- the close drops.
-pub record MayClose (p : Setup) (s : State) (cause : Close) (later : Phase) (log : Log) : Type 0 where
+-- The cause to close the connection is there. The state that agrees with the log may differ from
+-- this one in what the close drops.
+pub record MayClose (p : Setup) (s : State) (cause : Close) (later : Phase)
+    (log : Log) : Type 0 where
   pub last : ends cause ≡ true
   pub state : State
   pub same : disconnected s ≡ disconnected state

@@ -1,4 +1,5 @@
--- APDUs one after another in joined octets (IEC 60870-5-104, 5). Lists of frames are the newest first.
+-- APDUs one after another in joined octets (IEC 60870-5-104, 5). Lists of frames are the newest
+-- first.
 use Rattle.std.specs.Prelude.{◌≡◌, ℕ, List, [], ◌∷◌, ◌++◌}
 use Rattle.apci.specs.declared.apdu.Apdu.{Apdu}
 use Rattle.apci.specs.declared.apdu.Front.TheVariants.{Never}

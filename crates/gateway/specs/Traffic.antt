@@ -15,29 +15,34 @@ use Rattle.link.specs.Leave.{is_poll_request}
 use Rattle.gateway.specs.Room.{AreConnectionsOf, HasRoom}
 use Rattle.gateway.specs.Works.{is_overfull}
 use Rattle.gateway.specs.Course.{Course, here_of, HasSentAll, IsCause, Runs}
-use Rattle.gateway.specs.Conversation.{KeepsTimes, IsTalkAtRest}
+use Rattle.gateway.specs.Conversation.{KeepsRulesThroughout, IsTalkAtRest}
 use Rattle.gateway.specs.Line.{IsWaiting, IsLineAtRest}
 
--- The octets are a request to a station, while no exchange is outstanding and each gap is told; and a poll only where there is room.
+-- The octets are a request to a station, while no exchange is outstanding and each gap is told; and
+-- a poll only where there is room.
 pub record IsRequest (p : Setup) (log : Log) (octets : List ℕ) : Type 0 where
   pub station : ℕ
   pub within : station < length p.addresses
   pub request : Asked
-  pub spelled : octets ≡ spelling p.link.size (request_frame (address_at p.addresses station) request)
+  pub spelled : octets
+      ≡ spelling p.link.size (request_frame (address_at p.addresses station) request)
   pub alone : IsWaiting p log → ⊥
   pub told : TellsGaps p log
   pub room : is_poll_request request ≡ true → HasRoom p log
 
 -- The connection is open, and its course gives the cause, the first that stands.
 abbrev pub HasCause : Setup → Close → Log → Type 0
-HasCause p cause log = ends cause ≡ true → ((present log).is_open ≡ true) × ((c : Course) × Runs p log c × IsCause p log cause c)
+HasCause p cause log = ends cause ≡ true → ((present log).is_open ≡ true) × ((c : Course)
+    × Runs p log c × IsCause p log cause c)
 
--- The session is the station's next one that ended with a gap. (Between steps each is told, so the reset was answered in this step; and
--- each is told before a request, so none went out since.)
+-- The session is the station's next one that ended with a gap. (Between steps each is told, so the
+-- reset was answered in this step; and each is told before a request, so none went out since.)
 abbrev pub IsNextGap : Setup → Log → (station session : ℕ) → Type 0
-IsNextGap p log station session = (other : ℕ) → gaps_told other (Went (latest log) (GapOut station session) ∷ log) ≡ gaps_of p other log
+IsNextGap p log station session = (other : ℕ) →
+    gaps_told other (Went (latest log) (GapOut station session) ∷ log) ≡ gaps_of p other log
 
--- to the line whole requests, to TCP one APDU at a time while a connection is open, a close with its cause, and a gap once
+-- to the line whole requests, to TCP one APDU at a time while a connection is open, a close with
+-- its cause, and a gap once
 abbrev pub MayGo : Setup → Log → Output → Type 0
 MayGo p log (LineOut octets) = IsRequest p log octets
 MayGo p log (TcpOut octets) = ((present log).is_open ≡ true) × IsOneFrame octets
@@ -48,8 +53,8 @@ abbrev pub replaces : Output → Bool
 replaces (Closed Replaced) = true
 replaces action = false
 
--- An action goes out at its step's moment, with its reason; and the close of a connection that was replaced, and nothing
--- else, comes right after the `Open`.
+-- An action goes out at its step's moment, with its reason; and the close of a connection that was
+-- replaced, and nothing else, comes right after the `Open`.
 pub record GoesOut (p : Setup) (log : Log) (now : ℕ) (action : Output) : Type 0 where
   pub moment : now ≡ latest log
   pub replaced : replaces action ≡ is_replaced log
@@ -61,9 +66,10 @@ ActsRightly p [] = Unit {0}
 ActsRightly p (Went now action ∷ log) = GoesOut p log now action × ActsRightly p log
 ActsRightly p (entry ∷ log) = ActsRightly p log
 
--- After a step nothing stands on the connection that closes it, and all that may be sent is sent: on the connection, where
--- data transfer is started and the window isn't full, all objects and own answers, and each confirmation, S frame and test that is
--- due; on the line, all but data for which there is no room; and each gap is told.
+-- After a step nothing stands on the connection that closes it, and all that may be sent is sent:
+-- on the connection, where data transfer is started and the window isn't full, all objects and own
+-- answers, and each confirmation, S frame and test that is due; on the line, all but data for which
+-- there is no room; and each gap is told.
 pub record IsAtRest (p : Setup) (log : Log) : Type 0 where
   pub course : Course
   pub course_runs : Runs p log course
@@ -71,7 +77,8 @@ pub record IsAtRest (p : Setup) (log : Log) : Type 0 where
   pub settled : is_replaced log ≡ false
   pub placed : (present log).is_open ≡ true → is_overfull course.works.history ≡ false
   pub eager : (present log).is_open ≡ true → runs (here_of course).received_frames ≡ true →
-      length (here_of course).sent_frames < acknowledged_count (here_of course).received_frames + p.session.k → HasSentAll p log course
+      length (here_of course).sent_frames < acknowledged_count (here_of course).received_frames
+      + p.session.k → HasSentAll p log course
   pub line : IsLineAtRest p log course (here_of course ∷ course.earlier)
   pub gaps : TellsGaps p log
   pub talk : IsTalkAtRest p log course
@@ -87,10 +94,12 @@ RestsBetweenSteps p [] = Unit {0}
 RestsBetweenSteps p (Came now event ∷ log) = HasRested p log × RestsBetweenSteps p log
 RestsBetweenSteps p (Went now action ∷ log) = RestsBetweenSteps p log
 
--- What holds of every log of a gateway. A log has one course (the law `one_course`), so the courses that its parts speak of are this one
--- and those before it. Of what the open connection received perhaps only the first frames are told here, where the device failed in
--- mid-step; `HasRested` tells them all.
+-- What holds of every log of a gateway. A log has one course (the law `one_course`), so the courses
+-- that its parts speak of are this one and those before it. Of what the open connection received
+-- perhaps only the first frames are told here, where the device failed in mid-step; `HasRested`
+-- tells them all.
 pub record IsFaithful (p : Setup) (log : Log) : Type 0 where
+  -- what the log shows of the connections, of the line and of commands
   pub course : Course
   pub course_runs : Runs p log course
   -- the open connection's frames are those of its octets, so far
@@ -102,7 +111,7 @@ pub record IsFaithful (p : Setup) (log : Log) : Type 0 where
   -- each station is asked as its link allows
   pub links : KeepsLinks p log
   -- at each point frames and commands kept the rules
-  pub times : KeepsTimes p log
+  pub times : KeepsRulesThroughout p log
   -- each action went out at its step's moment, for its reason
   pub acts : ActsRightly p log
   -- and each step had done all that it could when the next event came

@@ -1,5 +1,6 @@
--- What the gateway keeps beside the connection: the line's side, and what became of commands. Each entry of the log changes it
--- (IEC 60870-5-101, 7.2.3). What happens to the line's side is said in `Serial`; here it is told to the history of commands.
+-- What the gateway keeps beside the connection: the line's side, and what became of commands. Each
+-- entry of the log changes it (IEC 60870-5-101, 7.2.3). What happens to the line's side is said in
+-- `Serial`; here it is told to the history of commands.
 use Rattle.std.specs.Prelude.{◌≡◌, ℕ, Bool, true, false, if◌then◌else◌, List, [], ◌∷◌, length, Option, Some, None}
 use Rattle.std.specs.List.{flat_map, AllByRecursion}
 use Rattle.asdu.specs.declared.sizes.Sizes.{Sizes}
@@ -47,7 +48,9 @@ told call w = (after_call call (tasks_of w)).history
 -- answers are kept, one after another, up to the first that finds no place
 abbrev pub told_kept : List (List ℕ) → tasks.State → History → History
 told_kept [] s h = h
-told_kept (x ∷ xs) s h = if has_room s then told_kept xs (tasks.offered x s) (Offered x (has_room s) ∷ h) else Offered x (has_room s) ∷ h
+told_kept (x ∷ xs) s h =
+    if has_room s then told_kept xs (tasks.offered x s) (Offered x (has_room s) ∷ h)
+    else Offered x (has_room s) ∷ h
 
 -- an own answer of the open connection found no place
 abbrev pub is_overfull : History → Bool
@@ -66,8 +69,10 @@ is_command_by (o ∷ objects) = is_answer_type o.kind
 abbrev pub is_command_report : Sizes → List ℕ → Bool
 is_command_report sizes report = is_command_by (objects_of sizes report)
 
--- The pieces carry the report's objects to the connection, as many in each but the last as it takes.
-pub record IsPassedOn (sizes : Sizes) (v : AsduValue) (report : List ℕ) (pieces : List (List ℕ)) : Type 0 where
+-- The pieces carry the report's objects to the connection, as many in each but the last as it
+-- takes.
+pub record IsPassedOn (sizes : Sizes) (v : AsduValue) (report : List ℕ)
+    (pieces : List (List ℕ)) : Type 0 where
   pub value : IsAsdu sizes v report
   pub joined : flat_map (λ piece. objects_of tcp piece) pieces ≡ objects_of sizes report
   pub each : AllByRecursion (λ piece. IsPiece v piece) pieces
@@ -75,51 +80,70 @@ pub record IsPassedOn (sizes : Sizes) (v : AsduValue) (report : List ℕ) (piece
   pub number : length pieces ≡ parts sizes report
 
 -- a station's answer to a command
-abbrev pub told_mirror : (at : ℕ) → (is_running : Bool) → AsduValue → (pieces : List (List ℕ)) → Works → History
-told_mirror at true v pieces w = told_kept pieces (mirrors.mirrored v at w.serial.commands) (told (Mirror v at) w)
+abbrev pub told_mirror : (at : ℕ) → (is_running : Bool) → AsduValue → (pieces : List (List ℕ)) →
+    Works → History
+told_mirror at true v pieces w =
+    told_kept pieces (mirrors.mirrored v at w.serial.commands) (told (Mirror v at) w)
 told_mirror at false v pieces w = told (Mirror v at) w
 
-abbrev pub mirrored_works : (at : ℕ) → (is_running : Bool) → AsduValue → (pieces : List (List ℕ)) → Works → Works
-mirrored_works at is_running v pieces w = record w { serial = serial.mirrored at is_running v pieces w.serial; history = told_mirror at is_running v pieces w }
+abbrev pub mirrored_works : (at : ℕ) → (is_running : Bool) → AsduValue → (pieces : List (List ℕ)) →
+    Works → Works
+mirrored_works at is_running v pieces w =
+    record w {
+      serial = serial.mirrored at is_running v pieces w.serial;
+      history = told_mirror at is_running v pieces w;
+    }
 
-abbrev pub LearnsReport : Setup → (at : ℕ) → (is_running is_of_command : Bool) → List ℕ → (before after : Works) → Type 0
+abbrev pub LearnsReport : Setup → (at : ℕ) → (is_running is_of_command : Bool) → List ℕ →
+    (before after : Works) → Type 0
 LearnsReport p at is_running true report w z =
-    (v : AsduValue) × (pieces : List (List ℕ)) × IsPassedOn p.sizes v report pieces × (z ≡ mirrored_works at is_running v pieces w)
-LearnsReport p at is_running false report w z = z ≡ record w { serial = serial.reported p.sizes report w.serial }
+    (v : AsduValue) × (pieces : List (List ℕ)) × IsPassedOn p.sizes v report pieces
+    × (z ≡ mirrored_works at is_running v pieces w)
+LearnsReport p at is_running false report w z = z
+    ≡ record w { serial = serial.reported p.sizes report w.serial }
 
 abbrev pub accepted_works : (station : ℕ) → Works → Works
-accepted_works station w = record w { serial = serial.accepted station w.serial; history = told (Accept station) w }
+accepted_works station w =
+    record w { serial = serial.accepted station w.serial; history = told (Accept station) w }
 
 abbrev pub given_up_works : (station : ℕ) → Works → Works
-given_up_works station w = record w { serial = serial.given_up station w.serial; history = told (Lose station) w }
+given_up_works station w =
+    record w { serial = serial.given_up station w.serial; history = told (Lose station) w }
 
 -- a busy station's command is answered
 abbrev pub refused_works : (station : ℕ) → Works → Works
 refused_works station w = record w {
   serial = serial.refused station w.serial;
-  history = told_kept (refusals station w.serial) (tasks.given_up station w.serial.commands) (told (Busy station) w);
+  history = told_kept (refusals station w.serial) (tasks.given_up station w.serial.commands)
+      (told (Busy station) w);
 }
 
-abbrev pub LearnsOf : Setup → (at : ℕ) → (is_running : Bool) → Outcome → (before after : Works) → Type 0
-LearnsOf p at is_running (outcome.Report station asdu) w z = LearnsReport p at is_running (is_command_report p.sizes asdu.items) asdu.items w z
+abbrev pub LearnsOf : Setup → (at : ℕ) → (is_running : Bool) → Outcome → (before after : Works) →
+    Type 0
+LearnsOf p at is_running (outcome.Report station asdu) w z =
+    LearnsReport p at is_running (is_command_report p.sizes asdu.items) asdu.items w z
 LearnsOf p at is_running (outcome.Accepted station) w z = z ≡ accepted_works station w
 LearnsOf p at is_running (outcome.Busy station) w z = z ≡ refused_works station w
 LearnsOf p at is_running (outcome.Down station) w z = z ≡ given_up_works station w
-LearnsOf p at is_running (outcome.StartedGap station session) w z = z ≡ record w { serial = serial.with_gap station session w.serial }
+LearnsOf p at is_running (outcome.StartedGap station session) w z = z
+    ≡ record w { serial = serial.with_gap station session w.serial }
 LearnsOf p at is_running other w z = z ≡ w
 
 -- A frame that came, and one that goes out
 
 -- an ASDU of the connection is judged, and its answer, if it has one, is kept
 abbrev pub told_judged : List ℕ → (now : ℕ) → Works → History
-told_judged asdu now w = told_kept (listed (judged asdu now w.serial.commands).0) (judged asdu now w.serial.commands).1 (told (Judge asdu now) w)
+told_judged asdu now w =
+    told_kept (listed (judged asdu now w.serial.commands).0) (judged asdu now w.serial.commands).1
+    (told (Judge asdu now) w)
 
 abbrev pub told_frame : Apdu → (now : ℕ) → Works → History
 told_frame (I ns nr asdu) now w = told_judged asdu.items now w
 told_frame frame now w = w.history
 
 abbrev pub heard_works : Apdu → (now : ℕ) → Works → Works
-heard_works frame now w = record w { serial = serial.judged frame now w.serial; history = told_frame frame now w }
+heard_works frame now w =
+    record w { serial = serial.judged frame now w.serial; history = told_frame frame now w }
 
 -- an own answer has gone out
 abbrev pub answered_works : Works → Works
@@ -150,11 +174,13 @@ told_silent None w = w.history
 told_silent (Some station) w = told (Lose station) w
 
 abbrev pub settled_works : (at : ℕ) → Works → Works
-settled_works at w = record w { serial = serial.settled at w.serial; history = told_silent w.serial.silent w }
+settled_works at w =
+    record w { serial = serial.settled at w.serial; history = told_silent w.serial.silent w }
 
 -- all that comes before the step's request: commands are offered to the line
 abbrev pub ready_works : (at : ℕ) → Works → Works
-ready_works at w = let t : Works = settled_works at w in record t { serial = serial.offered t.serial }
+ready_works at w =
+    let t : Works = settled_works at w in record t { serial = serial.offered t.serial }
 
 -- the gap is told
 abbrev pub gapless_works : Works → Works

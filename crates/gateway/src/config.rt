@@ -4,8 +4,8 @@ ghost use Rattle.std.specs.Prelude.{◌≡◌};
 use crate::settings::{LineSettings, Station, TcpSettings};
 use std::marker::Model;
 
-/// The settings of a gateway: those of the line, of the connection, and the stations in the order of their turns.
-/// Contracts see them as a record of these.
+/// The settings of a gateway: those of the line, of the connection, and the stations in the order
+/// of their turns. Contracts see them as a record of these.
 #[derive(Drop)]
 pub struct Config {
     line: LineSettings,
@@ -27,8 +27,9 @@ impl Model for Config {
 impl Config {
     ghost use Rattle.gateway.specs.Config.{AreStations};
 
-    /// The settings with these values. A reader of settings makes sure of the stations before it calls: there are 1 to 32,
-    /// each has addresses that a station can have, and no two have the same link address or the same common address.
+    /// The settings with these values. A reader of settings makes sure of the stations before it
+    /// calls: there are 1 to 32, each has addresses that a station can have, and no two have the
+    /// same link address or the same common address.
     pub fn new(line: LineSettings, tcp: TcpSettings, stations: Vec<Station>) -> Config
         requires { AreStations line.link line.sizes.ca stations.items }
         ensures { result ≡ record { line = line; tcp = tcp; stations = stations.items } }

@@ -49,8 +49,8 @@ pub(crate) enum Found {
     Refused,
 }
 
-/// The gateway between a line and one connection at a time: what it keeps of the line, what it keeps
-/// of the control centre, and the greatest moment so far.
+/// The gateway between a line and one connection at a time: what it keeps of the line, what it
+/// keeps of the control centre, and the greatest moment so far.
 #[derive(Drop)]
 pub struct Gateway {
     serial: SerialSide,
@@ -223,7 +223,8 @@ impl Gateway {
         }
     }
 
-    /// The pieces that no connection has acknowledged, oldest first: ASDUs in the sizes of the connection.
+    /// The pieces that no connection has acknowledged, oldest first: ASDUs in the sizes of the
+    /// connection.
     pub fn kept(&self) -> Kept<'_>
         ensures { result ≡ kept self.now.centre.queue }
     {

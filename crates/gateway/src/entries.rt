@@ -27,6 +27,7 @@ pub enum Told {
     Tcp(u64, Vec<u8>),
     /// The connection was closed, with the number of the cause, 1 to 7.
     Close(u64, u8),
-    /// A session of a station's link ended with a gap: the station, from 0, and the session, from 1.
+    /// A session of a station's link ended with a gap: the station, from 0, and the session, from
+    /// 1.
     Gap(u64, usize, u64),
 }

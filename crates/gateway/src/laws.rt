@@ -6,32 +6,41 @@ ghost use Rattle.gateway.specs.Log.{Log};
 ghost use Rattle.gateway.specs.Reports.{Setup};
 ghost use Rattle.gateway.specs.Connections.{Channel, present, ends, IsConnection};
 ghost use Rattle.gateway.specs.Course.{Course, HasTakenAll, Runs};
+ghost use Rattle.gateway.specs.Conversation.{KeepsCommands};
 ghost use Rattle.gateway.specs.One.{AreOne};
+ghost use Rattle.gateway.specs.Works.{tasks_of};
 ghost use Rattle.gateway.specs.Traffic.{HasCause};
 ghost use Rattle.gateway.specs.LineLaws.{LineLaws};
 
 use apci::{one_front, spellings_cancel};
 use asdu::{objects_are_those_of_the_asdu, one_asdu_one_spelling};
+use command::commands_keep_the_rules;
 use link::{
     gaps_are_told, master_tells_the_log, next_changes_nothing, offers_wait,
     outcomes_bear_the_reports, requests_are_read_back, requests_wait_their_turn, rests_mean,
 };
 
-/// The octets of a connection have one reading: its frames, and what closes it, if anything does; but for a connection that was
-/// closed for want of a place for an own answer, whose octets alone don't tell at which frame: of a log `one_course` tells it.
+/// The octets of a connection have one reading: its frames, and what closes it, if anything does;
+/// but for a connection that was closed for want of a place for an own answer, whose octets alone
+/// don't tell at which frame: of a log `one_course` tells it.
 pub fn one_reading()
-    ensures { (octets : Channel) (c d : Connection) (fault other : Option Close) → octets.overfull ≡ false → IsConnection octets c fault → IsConnection octets d other → (c ≡ d) × (fault ≡ other) }
+    ensures { (octets : Channel) (c d : Connection) (fault other : Option Close) →
+        octets.overfull ≡ false → IsConnection octets c fault → IsConnection octets d other →
+        (c ≡ d) × (fault ≡ other) }
 {
     one_front();
     spellings_cancel();
 }
 
-/// A log has one course: of two courses one goes on from the other by frames of the latest event's octets, and where all whole frames
-/// that came are taken, as after each step, they are the same. So each promise about a log speaks of the same connections, the same
-/// history, and the same works of the line and of commands.
+/// A log has one course: of two courses one goes on from the other by frames of the latest event's
+/// octets, and where all whole frames that came are taken, as after each step, they are the same.
+/// So each promise about a log speaks of the same connections, the same history, and the same works
+/// of the line and of commands.
 pub fn one_course()
-    ensures so_far { (p : Setup) (log : Log) (c d : Course) → Runs p log c → Runs p log d → AreOne p log c d }
-    ensures whole { (p : Setup) (log : Log) (c d : Course) → Runs p log c → Runs p log d → HasTakenAll (present log) c.talk → HasTakenAll (present log) d.talk → c ≡ d }
+    ensures so_far { (p : Setup) (log : Log) (c d : Course) → Runs p log c → Runs p log d →
+        AreOne p log c d }
+    ensures whole { (p : Setup) (log : Log) (c d : Course) → Runs p log c → Runs p log d →
+        HasTakenAll (present log) c.talk → HasTakenAll (present log) d.talk → c ≡ d }
 {
     one_front();
     spellings_cancel();
@@ -40,15 +49,26 @@ pub fn one_course()
     line_is_told();
 }
 
-/// Of a log at most one cause to close the connection stands: so the one that is told is the first in the order of a step.
+/// Of a log at most one cause to close the connection stands: so the one that is told is the first
+/// in the order of a step.
 pub fn one_cause()
-    ensures { (p : Setup) (log : Log) (a b : Close) → ends a ≡ true → ends b ≡ true → HasCause p a log → HasCause p b log → a ≡ b }
+    ensures { (p : Setup) (log : Log) (a b : Close) → ends a ≡ true → ends b ≡ true →
+        HasCause p a log → HasCause p b log → a ≡ b }
 {
     one_front();
     spellings_cancel();
     one_asdu_one_spelling();
     objects_are_those_of_the_asdu();
     line_is_told();
+}
+
+/// What became of commands in a course keeps the rules: each went to the line in turn and once, and
+/// each was answered as the first rule that applies has it.
+pub fn courses_keep_commands()
+    ensures { (p : Setup) (log : Log) (c : Course) → Runs p log c →
+        KeepsCommands p (tasks_of c.works) }
+{
+    commands_keep_the_rules();
 }
 
 /// What holds of the line's primary station and the exchanges of its log.

@@ -1,22 +1,26 @@
-//! The gateway between an unbalanced IEC 60870-5-101 line, of which it is the primary station, and one IEC 60870-5-104
-//! connection at a time, of which it is the controlled station.
+//! The gateway between an unbalanced IEC 60870-5-101 line, of which it is the primary station, and
+//! one IEC 60870-5-104 connection at a time, of which it is the controlled station.
 //!
-//! A [`Gateway`] takes one event after another from a [`Port`] and puts out what follows from each: [`Gateway::step`],
-//! [`drive`], [`drive_on`].
+//! A [`Gateway`] takes one event after another from a [`Port`] and puts out what follows from each:
+//! [`Gateway::step`], [`drive`], [`drive_on`].
 //!
-//! Proved, of the log of a run, for any octets and moments: its events are those that came; each station is asked as its link
-//! allows, with the frame count bit that is due, and each request is the one that the stations' turns give; nothing is polled
-//! while the queue is full, and nothing else is kept back; commands go down in order, each once, an execute to a guarded
-//! station only where it was selected, and every other ASDU is answered. Of the connection a frame is taken only where it is the
-//! next of the octets and free of faults, and once all that may go out before it has gone out. To TCP goes one whole APDU at a
-//! time, only while a connection is open, numbered without a gap, each frame when it is due and with the number of the frames
-//! received, own answers before reports, and an S frame only where no I frame can bear its number. The monitor objects sent on each
-//! connection are a contiguous run of those taken from the line, from the first on that no connection before acknowledged; and a
-//! connection is closed where a cause stands, and for no other.
+//! Proved, of the log of a run, for any octets and moments: its events are those that came; each
+//! station is asked as its link allows, with the frame count bit that is due, and each request is
+//! the one that the stations' turns give; nothing is polled while the queue is full, and nothing
+//! else is kept back; commands go down in order, each once, an execute to a guarded station only
+//! where it was selected, and every other ASDU is answered. Of the connection a frame is taken only
+//! where it is the next of the octets and free of faults, and once all that may go out before it
+//! has gone out. To TCP goes one whole APDU at a time, only while a connection is open, numbered
+//! without a gap, each frame when it is due and with the number of the frames received, own answers
+//! before reports, and an S frame only where no I frame can bear its number. The monitor objects
+//! sent on each connection are a contiguous run of those taken from the line, from the first on
+//! that no connection before acknowledged; and a connection is closed where a cause stands, and for
+//! no other.
 //!
-//! All of these speak of one course of the log: there is no other ([`one_course`]), and of two causes never both stand
-//! ([`one_cause`]). What is free is only how far the octets of an event were judged where the device failed in its step. A port whose
-//! device fails breaks none of this for the log so far.
+//! All of these speak of one course of the log: there is no other ([`one_course`]), and of two
+//! causes never both stand ([`one_cause`]). What is free is only how far the octets of an event
+//! were judged where the device failed in its step. A port whose device fails breaks none of this
+//! for the log so far.
 #![tactic(auto)]
 
 mod config;
@@ -35,7 +39,7 @@ pub use config::Config;
 pub use counts::Counts;
 pub use engine::{Gateway, NoMemory};
 pub use entries::{Entry, Told};
-pub use laws::{one_cause, one_course, one_reading};
+pub use laws::{courses_keep_commands, one_cause, one_course, one_reading};
 pub use ordering::steps_keep_their_order;
 pub use ports::{Action, Event, Next, Port};
 pub use runs::{End, drive, drive_on};

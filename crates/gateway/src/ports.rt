@@ -33,7 +33,8 @@ pub enum Action<'a> {
     Gap { station: usize, session: u64 },
 }
 
-/// What a port has next: an event with its moment in milliseconds, whose octets are the front of the buffer, or none.
+/// What a port has next: an event with its moment in milliseconds, whose octets are the front of
+/// the buffer, or none.
 #[derive(Clone, Copy)]
 pub enum Next {
     /// So many octets came from the line.
@@ -52,8 +53,8 @@ pub enum Next {
     Fault,
 }
 
-/// Where events come from and actions go. A port that tells its log adds each event and each action to it; a call that
-/// fails adds nothing.
+/// Where events come from and actions go. A port that tells its log adds each event and each action
+/// to it; a call that fails adds nothing.
 pub trait Port {
     ghost use Rattle.gateway.specs.Ports.{told_by, output_of, FitsBuffer, faults_of};
 
@@ -66,7 +67,8 @@ pub trait Port {
     /// No event comes any more.
     ghost ended: { Self → Bool };
 
-    /// What is fixed from the start: where it is a list of events, those of a whole run, the oldest first.
+    /// What is fixed from the start: where it is a list of events, those of a whole run, the oldest
+    /// first.
     ghost Fixed: { Type 0 } = { List LogEntry };
 
     ghost script: { Self → Fixed };
@@ -83,7 +85,9 @@ pub trait Port {
     /// Puts an action out at a moment. `false` says that the device failed.
     fn put(&mut self, now: u64, action: &Action<'_>) -> bool
         requires { failed self.old < u64.MAX }
-        ensures told { log self.new ≡ (if result then tell (log self.old) (Went now (output_of action.now) ∷ []) else log self.old) }
+        ensures told { log self.new
+            ≡ (if result then tell (log self.old) (Went now (output_of action.now) ∷ [])
+            else log self.old) }
         ensures script { script self.new ≡ script self.old }
         ensures cause { failed self.new ≡ failed self.old + (if result then 0 else 1) };
 

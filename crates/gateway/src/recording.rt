@@ -14,7 +14,8 @@ use session::Close;
 use std::alloc::{AllocError, Global};
 use std::marker::Model;
 
-/// A port that gives a tick at 0 and then stored entries, and stores the log. A refused growth is a fault of the port.
+/// A port that gives a tick at 0 and then stored entries, and stores the log. A refused growth is a
+/// fault of the port.
 #[derive(Drop)]
 struct Recording<'a> {
     alloc: Global,
@@ -35,10 +36,17 @@ impl<'a> Model for Recording<'a> {
 
     ghost Value = { Recorded };
 
-    ghost view = { λ a. record { log = log_of a.log.items; failed = a.failures; started = a.is_started; left = a.left.now; script = script_of a.entries.now } };
+    ghost view = { λ a. record {
+      log = log_of a.log.items;
+      failed = a.failures;
+      started = a.is_started;
+      left = a.left.now;
+      script = script_of a.entries.now;
+    } };
 
     // The events stored are the first of the script, and the others fit the buffer.
-    ghost invariant = { λ a. (events_of (log_of a.log.items) ++ coming a.is_started a.left.now ≡ script_of a.entries.now) × AllByRecursion FitsPort a.left.now };
+    ghost invariant = { λ a. (events_of (log_of a.log.items) ++ coming a.is_started a.left.now
+        ≡ script_of a.entries.now) × AllByRecursion FitsPort a.left.now };
 }
 
 /// Copies the octets to the front.
@@ -120,7 +128,13 @@ impl<'a> Recording<'a> {
 
     fn new(alloc: Global, entries: &'a [Entry]) -> Recording<'a>
         requires { AllByRecursion FitsPort entries.now }
-        ensures { result ≡ record { log = []; failed = 0; started = false; left = entries.now; script = script_of entries.now } }
+        ensures { result ≡ record {
+          log = [];
+          failed = 0;
+          started = false;
+          left = entries.now;
+          script = script_of entries.now;
+        } }
     {
         Recording {
             alloc,
@@ -136,7 +150,8 @@ impl<'a> Recording<'a> {
     #[tactic(auto, using(crate::proofs::Stored::stored_push))]
     fn start(&mut self) -> Result<(), AllocError>
         requires { self.old.started ≡ false }
-        ensures ok { OnOk result (self.new ≡ record self.old { log = Came 0 Ticked ∷ self.old.log; started = true }) }
+        ensures ok { OnOk result (self.new
+            ≡ record self.old { log = Came 0 Ticked ∷ self.old.log; started = true }) }
         ensures err { OnErr result (self.new ≡ self.old) }
     {
         keep(&mut self.log, Told::Came(Entry::Tick(0)))?;
@@ -149,7 +164,8 @@ impl<'a> Recording<'a> {
     fn take(&mut self, entry: &'a Entry, left: &'a [Entry]) -> Result<(), AllocError>
         requires started { self.old.started ≡ true }
         requires first { self.old.left ≡ entry.now ∷ left.now }
-        ensures ok { OnOk result (self.new ≡ record self.old { log = event_of entry.now ∷ self.old.log; left = left.now }) }
+        ensures ok { OnOk result (self.new
+            ≡ record self.old { log = event_of entry.now ∷ self.old.log; left = left.now }) }
         ensures err { OnErr result (self.new ≡ self.old) }
     {
         let copy = entry.copied(self.alloc)?;
@@ -161,7 +177,8 @@ impl<'a> Recording<'a> {
     /// An action went out.
     #[tactic(auto, using(crate::proofs::Stored::stored_push))]
     fn store(&mut self, now: u64, action: &Action<'_>) -> Result<(), AllocError>
-        ensures ok { OnOk result (self.new ≡ record self.old { log = Went now (output_of action.now) ∷ self.old.log }) }
+        ensures ok { OnOk result (self.new
+            ≡ record self.old { log = Went now (output_of action.now) ∷ self.old.log }) }
         ensures err { OnErr result (self.new ≡ self.old) }
     {
         let told = stored(self.alloc, now, action)?;
@@ -180,7 +197,8 @@ impl<'a> Recording<'a> {
     /// The whole log, the oldest first.
     fn into_log(self) -> Vec<Told>
         ensures log { log_of result.items ≡ self.entry.log }
-        ensures events { has_ended self.entry ≡ true → events_of (log_of result.items) ≡ self.entry.script }
+        ensures events { has_ended self.entry ≡ true →
+            events_of (log_of result.items) ≡ self.entry.script }
     {
         let Recording {
             alloc: _,
@@ -236,8 +254,8 @@ impl<'a> Port for Recording<'a> {
     }
 }
 
-/// The log of a run whose events are a tick at moment 0 and then these entries: every event, and after it what went out at
-/// it. Only want of memory is answered by an `Err`.
+/// The log of a run whose events are a tick at moment 0 and then these entries: every event, and
+/// after it what went out at it. Only want of memory is answered by an `Err`.
 pub(crate) fn engine_log(
     alloc: Global,
     config: &Config,

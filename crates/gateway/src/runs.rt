@@ -24,15 +24,21 @@ pub enum End {
     Device,
 }
 
-/// Takes events from the port one after another, at most so many, and puts out what follows from each. After `Device`
-/// the gateway is given up.
+/// Takes events from the port one after another, at most so many, and puts out what follows from
+/// each. After `Device` the gateway is given up.
 pub fn drive_on<P: Port>(gateway: &mut Gateway, port: &mut P, turns: u64) -> End
     requires { P.failed port.old < u64.MAX }
-    ensures faithful { (p : Setup) → Follows p gateway.old (P.log port.old) → Rests p (P.log port.old) → IfSome (P.log port.new) (IsFaithful p) }
-    ensures rests { (p : Setup) → Follows p gateway.old (P.log port.old) → Rests p (P.log port.old) → UnlessDevice result (IfSome (P.log port.new) (HasRested p)) }
-    ensures kept { (p : Setup) → Follows p gateway.old (P.log port.old) → Rests p (P.log port.old) → UnlessDevice result (Follows p gateway.new (P.log port.new)) }
-    // What it then keeps is what was taken and not acknowledged, and what it has counted is what the log shows.
-    ensures accounts { (p : Setup) → Follows p gateway.old (P.log port.old) → Rests p (P.log port.old) → UnlessDevice result (IfSome (P.log port.new) (IsAccounted p gateway.new)) }
+    ensures faithful { (p : Setup) → Follows p gateway.old (P.log port.old) →
+        Rests p (P.log port.old) → IfSome (P.log port.new) (IsFaithful p) }
+    ensures rests { (p : Setup) → Follows p gateway.old (P.log port.old) →
+        Rests p (P.log port.old) → UnlessDevice result (IfSome (P.log port.new) (HasRested p)) }
+    ensures kept { (p : Setup) → Follows p gateway.old (P.log port.old) →
+        Rests p (P.log port.old) → UnlessDevice result (Follows p gateway.new (P.log port.new)) }
+    // What it then keeps is what was taken and not acknowledged, and what it has counted is what
+    // the log shows.
+    ensures accounts { (p : Setup) → Follows p gateway.old (P.log port.old) →
+        Rests p (P.log port.old) →
+        UnlessDevice result (IfSome (P.log port.new) (IsAccounted p gateway.new)) }
     ensures turns { result ≡ End.Turns → MoreEvents turns (P.log port.old) (P.log port.new) }
     ensures finished { result ≡ End.Finished → P.ended port.new ≡ true }
     ensures script { P.script port.new ≡ P.script port.old }
@@ -53,8 +59,9 @@ pub fn drive_on<P: Port>(gateway: &mut Gateway, port: &mut P, turns: u64) -> End
     End::Turns
 }
 
-/// A whole run of a gateway with these settings: takes events from the port one after another, at most so many, and puts
-/// out what follows from each. Only want of memory is answered by an `Err`, and then nothing was asked of the port.
+/// A whole run of a gateway with these settings: takes events from the port one after another, at
+/// most so many, and puts out what follows from each. Only want of memory is answered by an `Err`,
+/// and then nothing was asked of the port.
 pub fn drive<P: Port>(
     alloc: Global,
     config: &Config,
@@ -62,13 +69,18 @@ pub fn drive<P: Port>(
     turns: u64,
 ) -> Result<End, NoMemory>
     requires ready { P.failed port.old < u64.MAX }
-    // What the log shows of the line and of each connection keeps every promise of a gateway with these settings.
-    ensures faithful { P.log port.old ≡ Some [] → OnOk result (IfSome (P.log port.new) (IsFaithful (setup_of config.now))) }
+    // What the log shows of the line and of each connection keeps every promise of a gateway with
+    // these settings.
+    ensures faithful { P.log port.old ≡ Some [] →
+        OnOk result (IfSome (P.log port.new) (IsFaithful (setup_of config.now))) }
     // After the last step nothing that may be sent is left.
-    ensures rests { P.log port.old ≡ Some [] → IfOk result (λ end. UnlessDevice end (IfSome (P.log port.new) (HasRested (setup_of config.now)))) }
+    ensures rests { P.log port.old ≡ Some [] →
+        IfOk result (λ end. UnlessDevice end (IfSome (P.log port.new)
+        (HasRested (setup_of config.now)))) }
     // A step puts out at most one request and at most one close, and nothing to TCP after a close.
     ensures order { P.log port.old ≡ Some [] → OnOk result (IfSome (P.log port.new) KeepsOrder) }
-    ensures turns { IfOk result (λ end. end ≡ End.Turns → MoreEvents turns (P.log port.old) (P.log port.new)) }
+    ensures turns { IfOk result (λ end. end ≡ End.Turns →
+        MoreEvents turns (P.log port.old) (P.log port.new)) }
     ensures finished { IfOk result (λ end. end ≡ End.Finished → P.ended port.new ≡ true) }
     ensures device { IfOk result (λ end. P.failed port.new ≡ P.failed port.old + faults_at end) }
     ensures script { P.script port.new ≡ P.script port.old }
@@ -85,7 +97,8 @@ fn event_of(next: Next, buf: &[u8; 1024]) -> Result<(u64, Event<'_>), End>
     ensures came { IfOk result (λ come. told_by next buf.now ≡ Came come.0 (input_of come.1) ∷ []) }
     ensures healthy { OnOk result (faults_of next ≡ 0) }
     ensures none { OnErr result (told_by next buf.now ≡ []) }
-    ensures end { IfErr result (λ end. (faults_of next ≡ faults_at end) × (end ≡ End.Finished → next ≡ Next.Done) × (end ≡ End.Turns → ⊥)) }
+    ensures end { IfErr result (λ end. (faults_of next ≡ faults_at end)
+        × (end ≡ End.Finished → next ≡ Next.Done) × (end ≡ End.Turns → ⊥)) }
 {
     match next {
         Next::Line(now, len) => Ok((now, Event::Line(&buf[..len]))),

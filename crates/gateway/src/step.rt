@@ -14,7 +14,7 @@ ghost use Rattle.gateway.specs.Agrees.{IsClear, Tracks, Awaits, Meets, Leaves, F
 ghost use Rattle.gateway.specs.Steps.{MayClose, HearsEvent, Begins};
 ghost use Rattle.gateway.specs.Phases.{Phase, Idle, Timed, Asked, IsFlushing};
 ghost use Rattle.gateway.specs.Judging.{Goes, IsOnward, faults_in};
-ghost use Rattle.gateway.specs.Runs.{events_told};
+ghost use Rattle.gateway.specs.Runs.{Puts, faults_unless};
 
 use crate::engine::{Found, Gateway};
 use crate::laws::line_is_told;
@@ -38,10 +38,10 @@ impl Gateway {
     fn hand<P: Port>(&self, apdu: &Apdu, port: &mut P) -> bool
         requires ready { P.failed port.old < u64.MAX }
         requires fits { Fits apdu.now }
-        ensures told { P.log port.new ≡ (if result then tell (P.log port.old) (Went self.now.moment (TcpOut (spelling apdu.now)) ∷ []) else P.log port.old) }
-        ensures events { events_told (P.log port.new) ≡ events_told (P.log port.old) }
-        ensures script { P.script port.new ≡ P.script port.old }
-        ensures cause { P.failed port.new ≡ P.failed port.old + (if result then 0 else 1) }
+        ensures told { P.log port.new ≡ (if result
+            then tell (P.log port.old) (Went self.now.moment (TcpOut (spelling apdu.now)) ∷ [])
+            else P.log port.old) }
+        ensures puts { Puts P.log P.script P.failed port.old port.new (faults_unless result) }
     {
         port.put(self.moment(), &Action::Tcp(&encode(apdu)))
     }
@@ -49,12 +49,13 @@ impl Gateway {
     /// Sends the next confirmation, if one is due.
     fn send_confirmation<P: Port>(&mut self, port: &mut P) -> bool
         requires { P.failed port.old < u64.MAX }
-        ensures kept { (p : Setup) (unjudged : List ℕ) (phase : Phase) → IsFlushing phase → Tracks p self.old (P.log port.old) unjudged phase → Leaves result p self.new (P.log port.new) unjudged phase }
+        ensures kept { (p : Setup) (unjudged : List ℕ) (phase : Phase) → IsFlushing phase →
+            Tracks p self.old (P.log port.old) unjudged phase →
+            Leaves result p self.new (P.log port.new) unjudged phase }
         ensures open { self.new.centre.session.connected ≡ self.old.centre.session.connected }
-        ensures next { OnTrue result (self.new ≡ with_session (after_confirm self.old.centre.session) self.old) }
-        ensures events { events_told (P.log port.new) ≡ events_told (P.log port.old) }
-        ensures script { P.script port.new ≡ P.script port.old }
-        ensures cause { P.failed port.new ≡ P.failed port.old + (if result then 0 else 1) }
+        ensures next { OnTrue result (self.new
+            ≡ with_session (after_confirm self.old.centre.session) self.old) }
+        ensures puts { Puts P.log P.script P.failed port.old port.new (faults_unless result) }
     {
         match self.confirm() {
             None => true,
@@ -65,13 +66,13 @@ impl Gateway {
     /// Sends the confirmations that are due: an S frame, STARTDT con or TESTFR con, and STOPDT con.
     fn send_confirmations<P: Port>(&mut self, port: &mut P) -> bool
         requires { P.failed port.old < u64.MAX }
-        ensures kept { (p : Setup) (unjudged : List ℕ) (phase : Phase) → IsFlushing phase → Tracks p self.old (P.log port.old) unjudged phase → Leaves result p self.new (P.log port.new) unjudged phase }
+        ensures kept { (p : Setup) (unjudged : List ℕ) (phase : Phase) → IsFlushing phase →
+            Tracks p self.old (P.log port.old) unjudged phase →
+            Leaves result p self.new (P.log port.new) unjudged phase }
         ensures open { self.new.centre.session.connected ≡ self.old.centre.session.connected }
         ensures confirmed { OnTrue result (IsConfirmed self.new.centre.session) }
         ensures in_time { OnTrue result (StaysInTime self.old self.new) }
-        ensures events { events_told (P.log port.new) ≡ events_told (P.log port.old) }
-        ensures script { P.script port.new ≡ P.script port.old }
-        ensures cause { P.failed port.new ≡ P.failed port.old + (if result then 0 else 1) }
+        ensures puts { Puts P.log P.script P.failed port.old port.new (faults_unless result) }
     {
         calls_come_to_an_end();
         if !self.send_confirmation(port) {
@@ -86,14 +87,16 @@ impl Gateway {
     /// Sends own answers and reports while the window is open.
     fn send_data<P: Port>(&mut self, port: &mut P) -> bool
         requires { P.failed port.old < u64.MAX }
-        ensures kept { (p : Setup) (unjudged : List ℕ) (phase : Phase) → IsFlushing phase → IsConfirmed self.old.centre.session → Tracks p self.old (P.log port.old) unjudged phase → Leaves result p self.new (P.log port.new) unjudged phase }
+        ensures kept { (p : Setup) (unjudged : List ℕ) (phase : Phase) → IsFlushing phase →
+            IsConfirmed self.old.centre.session →
+            Tracks p self.old (P.log port.old) unjudged phase →
+            Leaves result p self.new (P.log port.new) unjudged phase }
         ensures open { self.new.centre.session.connected ≡ self.old.centre.session.connected }
         ensures spent { OnTrue result (IsSpent self.new) }
-        ensures confirmed { OnTrue result (IsConfirmed self.old.centre.session → IsConfirmed self.new.centre.session) }
+        ensures confirmed { OnTrue result (IsConfirmed self.old.centre.session →
+            IsConfirmed self.new.centre.session) }
         ensures in_time { OnTrue result (StaysInTime self.old self.new) }
-        ensures events { events_told (P.log port.new) ≡ events_told (P.log port.old) }
-        ensures script { P.script port.new ≡ P.script port.old }
-        ensures cause { P.failed port.new ≡ P.failed port.old + (if result then 0 else 1) }
+        ensures puts { Puts P.log P.script P.failed port.old port.new (faults_unless result) }
     {
         calls_come_to_an_end();
         while let Some(apdu) = self.next_data() {
@@ -107,12 +110,13 @@ impl Gateway {
     /// Sends the S frame, or else the TESTFR act, if one is due.
     fn send_due<P: Port>(&mut self, port: &mut P) -> bool
         requires { P.failed port.old < u64.MAX }
-        ensures kept { (p : Setup) (unjudged : List ℕ) (phase : Phase) → IsFlushing phase → IsClear self.old → Tracks p self.old (P.log port.old) unjudged phase → Leaves result p self.new (P.log port.new) unjudged phase }
+        ensures kept { (p : Setup) (unjudged : List ℕ) (phase : Phase) → IsFlushing phase →
+            IsClear self.old → Tracks p self.old (P.log port.old) unjudged phase →
+            Leaves result p self.new (P.log port.new) unjudged phase }
         ensures open { self.new.centre.session.connected ≡ self.old.centre.session.connected }
-        ensures next { OnTrue result (self.new ≡ with_session (after_pull self.old.moment self.old.centre.session) self.old) }
-        ensures events { events_told (P.log port.new) ≡ events_told (P.log port.old) }
-        ensures script { P.script port.new ≡ P.script port.old }
-        ensures cause { P.failed port.new ≡ P.failed port.old + (if result then 0 else 1) }
+        ensures next { OnTrue result (self.new
+            ≡ with_session (after_pull self.old.moment self.old.centre.session) self.old) }
+        ensures puts { Puts P.log P.script P.failed port.old port.new (faults_unless result) }
     {
         match self.pull() {
             None => true,
@@ -123,15 +127,16 @@ impl Gateway {
     /// Sends the S frame and the TESTFR act that are due.
     fn send_dues<P: Port>(&mut self, port: &mut P) -> bool
         requires { P.failed port.old < u64.MAX }
-        ensures kept { (p : Setup) (unjudged : List ℕ) (phase : Phase) → IsFlushing phase → IsClear self.old → Tracks p self.old (P.log port.old) unjudged phase → Leaves result p self.new (P.log port.new) unjudged phase }
+        ensures kept { (p : Setup) (unjudged : List ℕ) (phase : Phase) → IsFlushing phase →
+            IsClear self.old → Tracks p self.old (P.log port.old) unjudged phase →
+            Leaves result p self.new (P.log port.new) unjudged phase }
         ensures open { self.new.centre.session.connected ≡ self.old.centre.session.connected }
         ensures spent { OnTrue result (IsSpent self.old → IsSpent self.new) }
-        ensures confirmed { OnTrue result (IsConfirmed self.old.centre.session → IsConfirmed self.new.centre.session) }
+        ensures confirmed { OnTrue result (IsConfirmed self.old.centre.session →
+            IsConfirmed self.new.centre.session) }
         ensures pulled { OnTrue result ((pulled self.new.moment self.new.centre.session).0 ≡ None) }
         ensures in_time { OnTrue result (StaysInTime self.old self.new) }
-        ensures events { events_told (P.log port.new) ≡ events_told (P.log port.old) }
-        ensures script { P.script port.new ≡ P.script port.old }
-        ensures cause { P.failed port.new ≡ P.failed port.old + (if result then 0 else 1) }
+        ensures puts { Puts P.log P.script P.failed port.old port.new (faults_unless result) }
     {
         calls_come_to_an_end();
         if !self.send_due(port) {
@@ -143,15 +148,15 @@ impl Gateway {
     /// Sends what may be sent: confirmations, then reports, then what else is due.
     fn flush<P: Port>(&mut self, port: &mut P) -> bool
         requires { P.failed port.old < u64.MAX }
-        ensures kept { (p : Setup) (unjudged : List ℕ) (phase : Phase) → IsFlushing phase → Tracks p self.old (P.log port.old) unjudged phase → Leaves result p self.new (P.log port.new) unjudged phase }
+        ensures kept { (p : Setup) (unjudged : List ℕ) (phase : Phase) → IsFlushing phase →
+            Tracks p self.old (P.log port.old) unjudged phase →
+            Leaves result p self.new (P.log port.new) unjudged phase }
         ensures open { self.new.centre.session.connected ≡ self.old.centre.session.connected }
         ensures spent { OnTrue result (IsSpent self.new) }
         ensures confirmed { OnTrue result (IsConfirmed self.new.centre.session) }
         ensures pulled { OnTrue result ((pulled self.new.moment self.new.centre.session).0 ≡ None) }
         ensures in_time { OnTrue result (StaysInTime self.old self.new) }
-        ensures events { events_told (P.log port.new) ≡ events_told (P.log port.old) }
-        ensures script { P.script port.new ≡ P.script port.old }
-        ensures cause { P.failed port.new ≡ P.failed port.old + (if result then 0 else 1) }
+        ensures puts { Puts P.log P.script P.failed port.old port.new (faults_unless result) }
     {
         if !self.send_confirmations(port) {
             return false;
@@ -165,11 +170,11 @@ impl Gateway {
     /// Closes the connection.
     fn close<P: Port>(&mut self, cause: Close, port: &mut P) -> bool
         requires { P.failed port.old < u64.MAX }
-        ensures kept { (p : Setup) (phase : Phase) → IfSome (P.log port.old) (MayClose p self.old cause phase) → Leaves result p self.new (P.log port.new) [] phase }
+        ensures kept { (p : Setup) (phase : Phase) →
+            IfSome (P.log port.old) (MayClose p self.old cause phase) →
+            Leaves result p self.new (P.log port.new) [] phase }
         ensures closed { OnTrue result (self.new ≡ disconnected self.old) }
-        ensures events { events_told (P.log port.new) ≡ events_told (P.log port.old) }
-        ensures script { P.script port.new ≡ P.script port.old }
-        ensures cause { P.failed port.new ≡ P.failed port.old + (if result then 0 else 1) }
+        ensures puts { Puts P.log P.script P.failed port.old port.new (faults_unless result) }
     {
         line_is_told();
         let went = port.put(self.moment(), &Action::Close(cause));
@@ -185,11 +190,11 @@ impl Gateway {
         requires fits { Fits (owned apdu) }
         requires open { self.old.centre.session.connected ≡ true }
         requires whole { self.old.centre.so_far ≡ Some [] }
-        ensures kept { (p : Setup) (rest : List ℕ) → Meets p self.old (P.log port.old) (spelling (owned apdu.entry) ++ rest) rest → Goes result p self.new (P.log port.new) rest }
+        ensures kept { (p : Setup) (rest : List ℕ) →
+            Meets p self.old (P.log port.old) (spelling (owned apdu.entry) ++ rest) rest →
+            Goes result p self.new (P.log port.new) rest }
         ensures open { IsOnward result (self.new.centre.session.connected ≡ true) }
-        ensures events { events_told (P.log port.new) ≡ events_told (P.log port.old) }
-        ensures script { P.script port.new ≡ P.script port.old }
-        ensures cause { P.failed port.new ≡ P.failed port.old + faults_in result }
+        ensures puts { Puts P.log P.script P.failed port.old port.new (faults_in result) }
     {
         match self.judge(apdu) {
             Some(cause) => return self.shut(cause, port),
@@ -201,18 +206,17 @@ impl Gateway {
         Outcome::On
     }
 
-    /// Takes what stands at the front of the octets, and says how many that is. A whole APDU is read where it stands; the assembler
-    /// takes only what a piece leaves over.
+    /// Takes what stands at the front of the octets, and says how many that is. A whole APDU is
+    /// read where it stands; the assembler takes only what a piece leaves over.
     fn take_front<P: Port>(&mut self, octets: &[u8], port: &mut P) -> (usize, Outcome)
         requires ready { P.failed port.old < u64.MAX }
         requires some { 0 < length octets.now }
         requires open { self.old.centre.session.connected ≡ true }
-        ensures kept { (p : Setup) → Awaits p self.old (P.log port.old) octets.now → Goes result.1 p self.new (P.log port.new) (drop result.0 octets.now) }
+        ensures kept { (p : Setup) → Awaits p self.old (P.log port.old) octets.now →
+            Goes result.1 p self.new (P.log port.new) (drop result.0 octets.now) }
         ensures open { IsOnward result.1 (self.new.centre.session.connected ≡ true) }
         ensures progress { IsOnward result.1 ((0 < result.0) × (result.0 ≤ length octets.now)) }
-        ensures events { events_told (P.log port.new) ≡ events_told (P.log port.old) }
-        ensures script { P.script port.new ≡ P.script port.old }
-        ensures cause { P.failed port.new ≡ P.failed port.old + faults_in result.1 }
+        ensures puts { Puts P.log P.script P.failed port.old port.new (faults_in result.1) }
     {
         if let Some((apdu, count)) = self.find_whole(octets) {
             return (count, self.take_apdu(apdu, port));
@@ -227,11 +231,10 @@ impl Gateway {
     /// Closes the connection, and the octets that are left are dropped.
     fn shut<P: Port>(&mut self, cause: Close, port: &mut P) -> Outcome
         requires { P.failed port.old < u64.MAX }
-        ensures kept { (p : Setup) → IfSome (P.log port.old) (MayClose p self.old cause Idle) → (rest : List ℕ) → Goes result p self.new (P.log port.new) rest }
+        ensures kept { (p : Setup) → IfSome (P.log port.old) (MayClose p self.old cause Idle) →
+            (rest : List ℕ) → Goes result p self.new (P.log port.new) rest }
         ensures over { IsOnward result ⊥ }
-        ensures events { events_told (P.log port.new) ≡ events_told (P.log port.old) }
-        ensures script { P.script port.new ≡ P.script port.old }
-        ensures cause { P.failed port.new ≡ P.failed port.old + faults_in result }
+        ensures puts { Puts P.log P.script P.failed port.old port.new (faults_in result) }
     {
         if !self.close(cause, port) {
             return Outcome::Failed;
@@ -243,10 +246,9 @@ impl Gateway {
     fn receive<P: Port>(&mut self, octets: &[u8], port: &mut P) -> bool
         requires ready { P.failed port.old < u64.MAX }
         requires open { self.old.centre.session.connected ≡ true }
-        ensures kept { (p : Setup) → Awaits p self.old (P.log port.old) octets.now → Leaves result p self.new (P.log port.new) [] Idle }
-        ensures events { events_told (P.log port.new) ≡ events_told (P.log port.old) }
-        ensures script { P.script port.new ≡ P.script port.old }
-        ensures cause { P.failed port.new ≡ P.failed port.old + (if result then 0 else 1) }
+        ensures kept { (p : Setup) → Awaits p self.old (P.log port.old) octets.now →
+            Leaves result p self.new (P.log port.new) [] Idle }
+        ensures puts { Puts P.log P.script P.failed port.old port.new (faults_unless result) }
     {
         let mut done = 0;
         while done < octets.len() {
@@ -263,10 +265,10 @@ impl Gateway {
     /// Begins a connection, in place of one that is open.
     fn begin<P: Port>(&mut self, port: &mut P) -> bool
         requires { P.failed port.old < u64.MAX }
-        ensures kept { (p : Setup) (s : State) (now : ℕ) (fits : Bool) → Begins s now Opened fits self.old → IfSome (P.log port.old) (HasCome p s now Opened) → Leaves result p self.new (P.log port.new) [] Idle }
-        ensures events { events_told (P.log port.new) ≡ events_told (P.log port.old) }
-        ensures script { P.script port.new ≡ P.script port.old }
-        ensures cause { P.failed port.new ≡ P.failed port.old + (if result then 0 else 1) }
+        ensures kept { (p : Setup) (s : State) (now : ℕ) (fits : Bool) →
+            Begins s now Opened fits self.old → IfSome (P.log port.old) (HasCome p s now Opened) →
+            Leaves result p self.new (P.log port.new) [] Idle }
+        ensures puts { Puts P.log P.script P.failed port.old port.new (faults_unless result) }
     {
         if self.is_open() {
             return self.replace(port);
@@ -280,10 +282,10 @@ impl Gateway {
     fn replace<P: Port>(&mut self, port: &mut P) -> bool
         requires ready { P.failed port.old < u64.MAX }
         requires open { self.old.centre.session.connected ≡ true }
-        ensures kept { (p : Setup) (s : State) (now : ℕ) (fits : Bool) → Begins s now Opened fits self.old → IfSome (P.log port.old) (HasCome p s now Opened) → Leaves result p self.new (P.log port.new) [] Idle }
-        ensures events { events_told (P.log port.new) ≡ events_told (P.log port.old) }
-        ensures script { P.script port.new ≡ P.script port.old }
-        ensures cause { P.failed port.new ≡ P.failed port.old + (if result then 0 else 1) }
+        ensures kept { (p : Setup) (s : State) (now : ℕ) (fits : Bool) →
+            Begins s now Opened fits self.old → IfSome (P.log port.old) (HasCome p s now Opened) →
+            Leaves result p self.new (P.log port.new) [] Idle }
+        ensures puts { Puts P.log P.script P.failed port.old port.new (faults_unless result) }
     {
         line_is_told();
         if !port.put(self.moment(), &Action::Close(Close::Replaced)) {
@@ -313,13 +315,15 @@ impl Gateway {
         }
     }
 
-    /// Takes what an event means for the connection; `fits` says whether what the line brought of own answers found places.
+    /// Takes what an event means for the connection; `fits` says whether what the line brought of
+    /// own answers found places.
     fn take<P: Port>(&mut self, event: Event<'_>, fits: bool, port: &mut P) -> bool
         requires { P.failed port.old < u64.MAX }
-        ensures kept { (p : Setup) (s : State) (now : ℕ) → Begins s now (input_of event.entry) fits self.old → IfSome (P.log port.old) (HasCome p s now (input_of event.entry)) → Leaves result p self.new (P.log port.new) [] Idle }
-        ensures events { events_told (P.log port.new) ≡ events_told (P.log port.old) }
-        ensures script { P.script port.new ≡ P.script port.old }
-        ensures cause { P.failed port.new ≡ P.failed port.old + (if result then 0 else 1) }
+        ensures kept { (p : Setup) (s : State) (now : ℕ) →
+            Begins s now (input_of event.entry) fits self.old →
+            IfSome (P.log port.old) (HasCome p s now (input_of event.entry)) →
+            Leaves result p self.new (P.log port.new) [] Idle }
+        ensures puts { Puts P.log P.script P.failed port.old port.new (faults_unless result) }
     {
         line_is_told();
         match event {
@@ -337,10 +341,11 @@ impl Gateway {
     /// Closes the connection where the line brought an own answer that found no place.
     fn end_line<P: Port>(&mut self, octets: &[u8], fits: bool, port: &mut P) -> bool
         requires { P.failed port.old < u64.MAX }
-        ensures kept { (p : Setup) (s : State) (now : ℕ) → Begins s now (LineIn octets.now) fits self.old → IfSome (P.log port.old) (HasCome p s now (LineIn octets.now)) → Leaves result p self.new (P.log port.new) [] Idle }
-        ensures events { events_told (P.log port.new) ≡ events_told (P.log port.old) }
-        ensures script { P.script port.new ≡ P.script port.old }
-        ensures cause { P.failed port.new ≡ P.failed port.old + (if result then 0 else 1) }
+        ensures kept { (p : Setup) (s : State) (now : ℕ) →
+            Begins s now (LineIn octets.now) fits self.old →
+            IfSome (P.log port.old) (HasCome p s now (LineIn octets.now)) →
+            Leaves result p self.new (P.log port.new) [] Idle }
+        ensures puts { Puts P.log P.script P.failed port.old port.new (faults_unless result) }
     {
         line_is_told();
         if fits {
@@ -355,10 +360,10 @@ impl Gateway {
     /// Takes the octets of a piece, where a connection is open.
     fn take_bytes<P: Port>(&mut self, octets: &[u8], port: &mut P) -> bool
         requires { P.failed port.old < u64.MAX }
-        ensures kept { (p : Setup) → Awaits p self.old (P.log port.old) (if self.old.centre.session.connected then octets.now else []) → Leaves result p self.new (P.log port.new) [] Idle }
-        ensures events { events_told (P.log port.new) ≡ events_told (P.log port.old) }
-        ensures script { P.script port.new ≡ P.script port.old }
-        ensures cause { P.failed port.new ≡ P.failed port.old + (if result then 0 else 1) }
+        ensures kept { (p : Setup) →
+            Awaits p self.old (P.log port.old) (if self.old.centre.session.connected then octets.now
+            else []) → Leaves result p self.new (P.log port.new) [] Idle }
+        ensures puts { Puts P.log P.script P.failed port.old port.new (faults_unless result) }
     {
         if !self.is_open() {
             return true;
@@ -369,11 +374,10 @@ impl Gateway {
     /// Closes the connection where an answer is late.
     fn watch<P: Port>(&mut self, port: &mut P) -> bool
         requires { P.failed port.old < u64.MAX }
-        ensures kept { (p : Setup) → Tracks p self.old (P.log port.old) [] Timed → Leaves result p self.new (P.log port.new) [] Timed }
+        ensures kept { (p : Setup) → Tracks p self.old (P.log port.old) [] Timed →
+            Leaves result p self.new (P.log port.new) [] Timed }
         ensures in_time { OnTrue result (IsInTime self.new.moment self.new.centre.session) }
-        ensures events { events_told (P.log port.new) ≡ events_told (P.log port.old) }
-        ensures script { P.script port.new ≡ P.script port.old }
-        ensures cause { P.failed port.new ≡ P.failed port.old + (if result then 0 else 1) }
+        ensures puts { Puts P.log P.script P.failed port.old port.new (faults_unless result) }
     {
         match self.late() {
             None => true,
@@ -389,9 +393,7 @@ impl Gateway {
         ensures told { self.new.serial.gap ≡ None }
         ensures session { self.new.centre.session ≡ self.old.centre.session }
         ensures moment { self.new.moment ≡ self.old.moment }
-        ensures events { events_told (P.log port.new) ≡ events_told (P.log port.old) }
-        ensures script { P.script port.new ≡ P.script port.old }
-        ensures cause { P.failed port.new ≡ P.failed port.old + (if result then 0 else 1) }
+        ensures puts { Puts P.log P.script P.failed port.old port.new (faults_unless result) }
     {
         match self.take_gap() {
             None => true,
@@ -409,12 +411,11 @@ impl Gateway {
     fn ask<P: Port>(&mut self, port: &mut P) -> bool
         requires ready { P.failed port.old < u64.MAX }
         requires told { self.old.serial.gap ≡ None }
-        ensures kept { (p : Setup) → Tracks p self.old (P.log port.old) [] Timed → Leaves result p self.new (P.log port.new) [] Asked }
+        ensures kept { (p : Setup) → Tracks p self.old (P.log port.old) [] Timed →
+            Leaves result p self.new (P.log port.new) [] Asked }
         ensures session { self.new.centre.session ≡ self.old.centre.session }
         ensures moment { self.new.moment ≡ self.old.moment }
-        ensures events { events_told (P.log port.new) ≡ events_told (P.log port.old) }
-        ensures script { P.script port.new ≡ P.script port.old }
-        ensures cause { P.failed port.new ≡ P.failed port.old + (if result then 0 else 1) }
+        ensures puts { Puts P.log P.script P.failed port.old port.new (faults_unless result) }
     {
         line_is_told();
         self.offer_all();
@@ -424,16 +425,21 @@ impl Gateway {
         port.put(self.moment(), &Action::Line(&request.octets))
     }
 
-    /// Takes one event, and puts out what follows from it: of the connection, then of the line, then what else may be sent. After `false` the device
-    /// has failed, and the gateway is given up.
+    /// Takes one event, and puts out what follows from it: of the connection, then of the line,
+    /// then what else may be sent. After `false` the device has failed, and the gateway is given
+    /// up.
     pub fn step<P: Port>(&mut self, now: u64, event: Event<'_>, port: &mut P) -> bool
         requires { P.failed port.old < u64.MAX }
-        ensures kept { (p : Setup) → IfSome (P.log port.old) (HasCome p self.old now (input_of event.entry)) → OnTrue result (Follows p self.new (P.log port.new)) }
-        ensures rests { (p : Setup) → IfSome (P.log port.old) (HasCome p self.old now (input_of event.entry)) → OnTrue result (Rests p (P.log port.new)) }
-        ensures faithful { (p : Setup) → IfSome (P.log port.old) (HasCome p self.old now (input_of event.entry)) → IfSome (P.log port.new) (IsFaithful p) }
-        ensures events { events_told (P.log port.new) ≡ events_told (P.log port.old) }
-        ensures script { P.script port.new ≡ P.script port.old }
-        ensures cause { P.failed port.new ≡ P.failed port.old + (if result then 0 else 1) }
+        ensures kept { (p : Setup) →
+            IfSome (P.log port.old) (HasCome p self.old now (input_of event.entry)) →
+            OnTrue result (Follows p self.new (P.log port.new)) }
+        ensures rests { (p : Setup) →
+            IfSome (P.log port.old) (HasCome p self.old now (input_of event.entry)) →
+            OnTrue result (Rests p (P.log port.new)) }
+        ensures faithful { (p : Setup) →
+            IfSome (P.log port.old) (HasCome p self.old now (input_of event.entry)) →
+            IfSome (P.log port.new) (IsFaithful p) }
+        ensures puts { Puts P.log P.script P.failed port.old port.new (faults_unless result) }
     {
         line_is_told();
         self.advance_to(now);

@@ -1,4 +1,5 @@
-//! Runs with the logs that the standard's rules and this gateway's profile give, worked out by hand.
+//! Runs with the logs that the standard's rules and this gateway's profile give, worked out by
+//! hand.
 ghost use Rattle.std.specs.Prelude.{◌≡◌, ◌<◌, ◌≤◌, true, [], None};
 ghost use Rattle.std.specs.List.{AllByRecursion};
 ghost use Rattle.ft12.specs.declared.frame.LinkSize.TheVariants.{One};
@@ -19,7 +20,8 @@ use ft12::LinkSize;
 use std::alloc::{AllocError, Global};
 use std::test::Fail;
 
-/// An event or an action: its moment, what it is, and its octets in hexadecimal, or the number of a cause.
+/// An event or an action: its moment, what it is, and its octets in hexadecimal, or the number of a
+/// cause.
 type Row<'a> = (u64, char, &'a str);
 
 /// A station whose addresses are these.
@@ -244,8 +246,8 @@ fn runs<'a>(
     }
 }
 
-/// Whether, after the opening, these events lead to these actions. Object addresses have two octets, and the queue a
-/// hundred places.
+/// Whether, after the opening, these events lead to these actions. Object addresses have two
+/// octets, and the queue a hundred places.
 fn leads<'a>(alloc: Global, then: &[Row<'_>], out: &'a [Row<'a>]) -> Result<bool, AllocError> {
     let config = config_with(alloc, IoaSize::Two, 100)?;
     runs(alloc, &config, &OPENING, then, &OPENED, out)
@@ -531,7 +533,8 @@ fn timers_run_out(rt: HostRuntime) -> Result<(), Fail> {
             &[(10050, 'S', "107B017C16"), (10050, 'T', "680401000200")]
         )?
     );
-    // A connection without a frame for t3 is tested, and closed where the test has no answer for t1.
+    // A connection without a frame for t3 is tested, and closed where the test has no answer for
+    // t1.
     assert!(rt;
         leads(
             alloc,
@@ -584,7 +587,8 @@ fn each_act_is_confirmed(rt: HostRuntime) -> Result<(), Fail> {
     Ok(())
 }
 
-/// What goes out at thirteen reports without a connection, and then at one whose window is twelve frames.
+/// What goes out at thirteen reports without a connection, and then at one whose window is twelve
+/// frames.
 const WINDOW: [Row<'static>; 30] = [
     (0, 'S', "1049014A16"),
     (10, 'S', "1040014116"),

@@ -26,6 +26,8 @@ pub mod Resting
 pub mod Flagging
 pub mod OneMore
 pub mod GapsTold
+pub mod EndedGaps
+pub mod UnderWay
 pub mod Heeding
 pub mod Visiting
 pub mod VisitRuns

@@ -42,7 +42,7 @@ gap_is_poll Class1 = refl
 gap_is_poll Class2 = refl
 gap_is_poll (Command asdu) = refl
 
-pending_push : (a : ℕ) (pending : Option Service) (xs : List Exchange) (x : Exchange) →
+pub pending_push : (a : ℕ) (pending : Option Service) (xs : List Exchange) (x : Exchange) →
     pending_after a pending (xs ++ x ∷ []) ≡ pending_by x.request (answer_to a x) (pending_after a pending xs)
 pending_push a pending [] x = refl
 pending_push a pending (y ∷ ys) x = pending_push a (pending_by y.request (answer_to a y) pending) ys x

@@ -1,5 +1,5 @@
 -- What a `Master` holds, as the machine's state, and what fits the line.
-use Rattle.std.specs.Prelude.{ℕ, ◌<◌, List, All, length, ◌++◌, Option, Some, None, if◌then◌else◌}
+use Rattle.std.specs.Prelude.{ℕ, ◌<◌, ◌==◌, ◌||◌, not, List, All, length, ◌++◌, Option, Some, None, if◌then◌else◌}
 use Rattle.ft12.specs.declared.frame.LinkSize.{LinkSize}
 use Rattle.ft12.specs.declared.frame.Frame.{Frame}
 use Rattle.ft12.specs.declared.frame.Front.{Front}
@@ -9,6 +9,11 @@ use Rattle.link.specs.Requests.{IsUserData, FitsAddress, FitsService, FitsAsked}
 use Rattle.link.specs.Turns.{StationState, Chosen, station_at}
 use Rattle.link.specs.Primary.{Outstanding, Primary, open_octets}
 pub use Rattle.link.specs.declared.awaited.Awaited.{Awaited}
+
+-- octets come in the exchange
+abbrev pub awaited_with : List ℕ → Awaited → Awaited
+awaited_with octets a =
+    record { request = a.request; since = a.since; deaf = a.deaf; has_octets = a.has_octets || not (length octets == 0) }
 
 -- the outstanding request, with what the assembler has of its answer
 abbrev pub outstanding_of : Awaited → (so_far : Option (List ℕ)) → Outstanding

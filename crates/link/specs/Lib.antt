@@ -20,3 +20,4 @@ pub mod Visits
 pub mod Waits
 pub mod Tidings
 pub mod Examples
+pub mod LineLaws

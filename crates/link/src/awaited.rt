@@ -1,4 +1,6 @@
 //! The request whose answer is awaited.
+ghost use Rattle.std.specs.Prelude.{◌≡◌};
+ghost use Rattle.link.specs.Holding.{awaited_with};
 
 use crate::service::Asked;
 
@@ -10,4 +12,13 @@ pub struct Awaited {
     pub since: u64,
     pub deaf: bool,
     pub has_octets: bool,
+}
+
+impl Awaited {
+    /// Octets come in its exchange.
+    pub(crate) fn note(&mut self, octets: &[u8])
+        ensures { self.new ≡ awaited_with octets.now self.old }
+    {
+        self.has_octets = self.has_octets || !octets.is_empty();
+    }
 }

@@ -1,10 +1,12 @@
 //! Gaps told: which answered resets end a session whose last report may be lost.
-ghost use Rattle.std.specs.Prelude.{◌≡◌, ◌++◌, ℕ, List, Option};
+ghost use Rattle.std.specs.Prelude.{◌≡◌, ◌++◌, ℕ, List, length, Option};
 ghost use Rattle.ft12.specs.declared.frame.LinkSize.{LinkSize};
 ghost use Rattle.ft12.specs.Fronts.{front_of};
-ghost use Rattle.link.specs.Exchanges.{Exchanges, Sending, heard_current, timed_current, begun_by};
-ghost use Rattle.link.specs.Gaps.{gaps_at};
-ghost use Rattle.link.specs.Procedure.{LinkSettings};
+ghost use Rattle.link.specs.Delivery.{IsHonest, sessions};
+ghost use Rattle.link.specs.Exchanges.{Exchange, Exchanges, Sending, heard_current, timed_current, begun_by};
+ghost use Rattle.link.specs.Gaps.{gaps_in, gaps_at, ended_with_gap};
+ghost use Rattle.link.specs.Outstation.{Turn};
+ghost use Rattle.link.specs.Procedure.{LinkSettings, Down, KeepsFrameCountBit};
 ghost use Rattle.link.specs.Primary.{Primary, received, received_outcome};
 ghost use Rattle.link.specs.Telling.{Tells, gap_in_outcome};
 
@@ -31,3 +33,13 @@ pub fn gaps_are_told()
 {
     front_is_computed();
 }
+
+/// The sessions that ended with a gap are those, between two confirmed resets and counted from 1, whose latest service is a poll that
+/// wasn't answered by data or that there are none: what comes before the first reset is none of them.
+pub fn gaps_are_ended_sessions()
+    ensures ended { (settings : LinkSettings) (station : ℕ) (xs : List Exchange) (turns : List Turn) →
+        KeepsFrameCountBit settings station Down xs → length xs ≡ length turns →
+        gaps_in station xs ≡ ended_with_gap station 1 (sessions station xs turns) }
+    ensures honest { (station : ℕ) (xs : List Exchange) (turns : List Turn) →
+        IsHonest station xs turns → length xs ≡ length turns }
+{}

@@ -5,11 +5,17 @@ ghost use Rattle.ft12.specs.Fronts.{front_of};
 ghost use Rattle.ft12.specs.Spelling.{spelling};
 ghost use Rattle.link.specs.Answers.{Asked};
 ghost use Rattle.link.specs.Exchanges.{Exchange, Exchanges, OpenExchange, Sending, IsOutstanding, no_exchanges, heard_current, timed_current, begun_by, whole_of, view, reports_of_exchanges};
+ghost use Rattle.link.specs.LineLaws.{LineLaws};
 ghost use Rattle.link.specs.Procedure.{LinkSettings, Down, KeepsFrameCountBit, IsUp, is_service};
 ghost use Rattle.link.specs.Requests.{request_frame, IsUserData, FitsAddress, FitsAsked, asked_in, request_in};
 ghost use Rattle.link.specs.Primary.{Primary, start, asked, sending, request_of, received, received_outcome, timed_out, offered_to, withdrawn};
 ghost use Rattle.link.specs.Telling.{Tells, report_in, IsFittingSending};
 
+use crate::asking::next_changes_nothing;
+use crate::gaps::gaps_are_told;
+use crate::leave::rests_mean;
+use crate::offers::offers_wait;
+use crate::runs::outcomes_are_answers;
 use ft12::front_is_computed;
 
 /// What a request's octets ask for, and of whom, is the request.
@@ -74,3 +80,19 @@ pub fn services_need_a_station_that_is_up()
     ensures start { (settings : LinkSettings) (station : ℕ) (xs : List Exchange) (x : Exchange) →
         KeepsFrameCountBit settings station Down (xs ++ x ∷ []) → is_service x.request ≡ false → IsUp settings station xs → ⊥ }
 {}
+
+/// What holds of a primary station and of the exchanges of its line, call by call: what the laws above and those of offers, rests,
+/// outcomes and gaps say, in one record.
+pub fn line_keeps_the_procedures()
+    ensures { LineLaws }
+{
+    master_tells_the_log();
+    outcomes_bear_the_reports();
+    gaps_are_told();
+    outcomes_are_answers();
+    requests_wait_their_turn();
+    requests_are_read_back();
+    rests_mean();
+    next_changes_nothing();
+    offers_wait();
+}

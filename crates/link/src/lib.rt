@@ -9,11 +9,15 @@
 //! (`specs/Secondary.antt`). Above them stand laws, as public functions with no body:
 //! - over every list of calls the exchanges of the line keep the frame count bit of each station
 //!   ([`frame_count_bits_are_kept`], [`master_tells_the_log`]), no request goes out while one is outstanding
-//!   ([`requests_wait_their_turn`]), each station has its turn ([`each_station_has_its_turn`]), a turn ends ([`turns_end`]) and
+//!   ([`requests_wait_their_turn`]), turns go round the stations ([`turns_go_round`]), a turn ends ([`turns_end`]) and
 //!   no station starves ([`no_station_starves`]), polls and commands go by ACD and DFC ([`flags_are_heeded`]), a command is sent
-//!   for the first time once, in order ([`commands_are_sent_in_order`]), what is offered waits until then ([`offers_wait`]), what
+//!   for the first time once, in order ([`commands_are_sent_in_order`]), what is offered waits until then ([`offers_wait`]) and is
+//!   taken where no other is under way ([`one_command_at_a_time`]), what
 //!   the caller is told is what the exchanges show ([`outcomes_are_answers`], [`outcomes_bear_the_reports`]), and those that
 //!   closed with octets but no answer are counted ([`spoilt_exchanges_are_counted`]);
+//! - a reset that ends a session whose last report may be lost is told, and no other ([`gaps_are_told`],
+//!   [`gaps_are_ended_sessions`]);
+//! - what the crates above go by is one record ([`line_keeps_the_procedures`]);
 //! - a station runs as an outstation that hears each request to it ([`station_is_an_outstation`]), and its answers say what
 //!   waits there ([`station_tells_what_waits`]);
 //! - the tables of requests, answers and turns have worked examples ([`answers_by_example`], [`requests_by_example`],
@@ -53,16 +57,16 @@ pub use asdu::Asdu;
 pub use asking::next_changes_nothing;
 pub use examples::{answers_by_example, requests_by_example, turns_by_example};
 pub use flags::flags_are_heeded;
-pub use gaps::gaps_are_told;
+pub use gaps::{gaps_are_ended_sessions, gaps_are_told};
 pub use laws::{
-    master_tells_the_log, outcomes_bear_the_reports, requests_are_read_back,
-    requests_wait_their_turn, services_need_a_station_that_is_up,
+    line_keeps_the_procedures, master_tells_the_log, outcomes_bear_the_reports,
+    requests_are_read_back, requests_wait_their_turn, services_need_a_station_that_is_up,
 };
 pub use leave::{polls_wait_for_leave, rests_mean};
 pub use life::{station_is_an_outstation, station_tells_what_waits};
 pub use master::Master;
 pub use no_memory::NoMemory;
-pub use offers::offers_wait;
+pub use offers::{offers_wait, one_command_at_a_time};
 pub use outcome::Outcome;
 pub use procedure::Link;
 pub use refinement::{
@@ -71,8 +75,8 @@ pub use refinement::{
 };
 pub use request::{Reading, Request, RequestKind, read_request};
 pub use runs::{
-    commands_are_sent_in_order, each_station_has_its_turn, frame_count_bits_are_kept,
-    outcomes_are_answers, spoilt_exchanges_are_counted,
+    commands_are_sent_in_order, frame_count_bits_are_kept, outcomes_are_answers,
+    spoilt_exchanges_are_counted, turns_go_round,
 };
 pub use service::{Asked, Service};
 pub use session::SessionState;

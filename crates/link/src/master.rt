@@ -289,7 +289,7 @@ impl Master {
         let Some(awaited) = &mut self.outstanding else {
             return Outcome::None;
         };
-        awaited.has_octets = awaited.has_octets || !octets.is_empty();
+        awaited.note(octets);
         if awaited.deaf {
             return Outcome::None;
         }

@@ -26,9 +26,9 @@ pub fn frame_count_bits_are_kept()
     front_is_computed();
 }
 
-/// Each station has its turn: the present turn goes on as long as it has a request. Then the first station has its turn, round
+/// Turns go round: the present turn goes on as long as it has a request. Then the first station has its turn, round
 /// from the one after the last served, that has a request. Where none goes out, none has one.
-pub fn each_station_has_its_turn()
+pub fn turns_go_round()
     ensures goes_on { (p : Primary) (may_poll : Bool) (w : Wanted) → p.outstanding ≡ None →
         wanted p.settings.burst may_poll p.again (station_at p.stations p.turn) p.phase ≡ Some w →
         sending p may_poll ≡ Some (record { station = p.turn; request = w.request }) }

@@ -1,5 +1,6 @@
--- What has happened on a connection, and what IEC 60870-5-104, clause 5, makes of it. Histories are newest first.
--- All counts are numbers that never fall; only the N(S) and N(R) that frames bear run modulo 32768.
+-- What has happened on a connection, and what IEC 60870-5-104, clause 5, makes of it. Histories are
+-- newest first. All counts are numbers that never fall; only the N(S) and N(R) that frames bear run
+-- modulo 32768.
 use Rattle.std.specs.Prelude.{◌≡◌, ℕ, suc, ◌+◌, ◌-◌, ◌%◌, Bool, true, false, not, ◌&&◌, ◌||◌, ◌==◌, nat_lt, nat_le, if◌then◌else◌, List, [], ◌∷◌, ◌++◌, length, take, drop, is_none, Option, Some, None}
 use Rattle.apci.specs.declared.apdu.Apdu.{Apdu}
 use Rattle.apci.specs.declared.apdu.Apdu.TheVariants.{I, S, U}
@@ -36,7 +37,8 @@ is_open (_ ∷ _) = true
 -- the I frames sent, oldest first
 abbrev pub sent_frames : History → List Unacknowledged
 sent_frames [] = []
-sent_frames (Sent ns nr kind now ∷ older) = sent_frames older ++ record { kind = kind; moment = now } ∷ []
+sent_frames (Sent ns nr kind now ∷ older) =
+    sent_frames older ++ record { kind = kind; moment = now } ∷ []
 sent_frames (_ ∷ older) = sent_frames older
 
 -- how many I frames were received
@@ -56,10 +58,13 @@ acknowledged_count (Came (I ns nr asdu) now ∷ older) = reached (acknowledged_c
 acknowledged_count (Came (S nr) now ∷ older) = reached (acknowledged_count older) nr
 acknowledged_count (_ ∷ older) = acknowledged_count older
 
--- Each frame that went out bears the counts before it: N(S) that of the I frames sent, N(R) that of those received.
+-- Each frame that went out bears the counts before it: N(S) that of the I frames sent, N(R) that of
+-- those received.
 abbrev pub IsNumbered : History → Type 0
 IsNumbered [] = Unit {0}
-IsNumbered (Sent ns nr kind now ∷ older) = (ns ≡ length (sent_frames older) % 32768) × (nr ≡ received_count older % 32768) × IsNumbered older
+IsNumbered (Sent ns nr kind now ∷ older) =
+    (ns ≡ length (sent_frames older) % 32768) × (nr ≡ received_count older % 32768)
+    × IsNumbered older
 IsNumbered (Went (S nr) now ∷ older) = (nr ≡ received_count older % 32768) × IsNumbered older
 IsNumbered (_ ∷ older) = IsNumbered older
 
@@ -69,7 +74,8 @@ is_valid_receive_number nr h = nat_le (reached (acknowledged_count h) nr) (lengt
 
 -- the frames that N(R) newly acknowledges, oldest first
 abbrev pub newly_acknowledged : ℕ → History → List Unacknowledged
-newly_acknowledged nr h = drop (acknowledged_count h) (take (reached (acknowledged_count h) nr) (sent_frames h))
+newly_acknowledged nr h =
+    drop (acknowledged_count h) (take (reached (acknowledged_count h) nr) (sent_frames h))
 
 -- the sent frames that aren't acknowledged, oldest first
 abbrev pub still_unacknowledged : History → List Unacknowledged
@@ -104,7 +110,8 @@ verdict_on (U function) h = Nothing
 
 -- ---- confirmations of U frames
 
--- the confirmations of STARTDT act and TESTFR act that are due to what came, and those that went out
+-- the confirmations of STARTDT act and TESTFR act that are due to what came, and those that went
+-- out
 abbrev pub confirmations_due : History → List Uf
 confirmations_due [] = []
 confirmations_due (Came (U StartAct) now ∷ older) = StartCon ∷ confirmations_due older
@@ -128,7 +135,8 @@ confirmation_owed (_ ∷ older) = confirmation_owed older
 
 -- ---- 5.2, 5.5 and 9.6: timers
 
--- when the received I frames came that neither an I frame nor an S frame acknowledged since, oldest first
+-- when the received I frames came that neither an I frame nor an S frame acknowledged since, oldest
+-- first
 abbrev pub unconfirmed_moments : History → List ℕ
 unconfirmed_moments [] = []
 unconfirmed_moments (Came (I ns nr asdu) now ∷ older) = unconfirmed_moments older ++ now ∷ []
@@ -166,11 +174,14 @@ moment_of (Some moment) = moment ∷ []
 
 -- the oldest unacknowledged I frame, or the outstanding test, went out t1 ago
 abbrev pub has_timed_out : ℕ → ℕ → History → Bool
-has_timed_out t1 now h = has_passed t1 now (moments_of (still_unacknowledged h)) || has_passed t1 now (moment_of (outstanding_test h))
+has_timed_out t1 now h =
+    has_passed t1 now (moments_of (still_unacknowledged h))
+    || has_passed t1 now (moment_of (outstanding_test h))
 
 -- w received I frames aren't acknowledged, or the oldest of them came t2 ago
 abbrev pub is_acknowledgement_due : ℕ → ℕ → ℕ → History → Bool
-is_acknowledgement_due w t2 now h = nat_le w (length (unconfirmed_moments h)) || has_passed t2 now (unconfirmed_moments h)
+is_acknowledgement_due w t2 now h =
+    nat_le w (length (unconfirmed_moments h)) || has_passed t2 now (unconfirmed_moments h)
 
 -- no frame came for t3, and no test is outstanding
 abbrev pub is_test_due : ℕ → ℕ → History → Bool
@@ -183,16 +194,19 @@ abbrev pub acknowledgement_of : History → Apdu
 acknowledgement_of h = S (received_count h % 32768)
 
 abbrev pub stop_confirmation_of : History → Option Apdu
-stop_confirmation_of h = if is_stop_pending h && length (still_unacknowledged h) == 0 then Some (U StopCon) else None
+stop_confirmation_of h =
+    if is_stop_pending h && length (still_unacknowledged h) == 0 then Some (U StopCon) else None
 
 abbrev pub function_of : Option Uf → Option Apdu → Option Apdu
 function_of None other = other
 function_of (Some function) other = Some (U function)
 
--- A pending STOPDT act has its S frame first, and its STOPDT con last, once no sent frame is unacknowledged.
+-- A pending STOPDT act has its S frame first, and its STOPDT con last, once no sent frame is
+-- unacknowledged.
 abbrev pub confirmation_of : History → Option Apdu
 confirmation_of h =
-    if is_stop_pending h && nat_lt 0 (length (unconfirmed_moments h)) then Some (acknowledgement_of h)
+    if is_stop_pending h && nat_lt 0 (length (unconfirmed_moments h))
+    then Some (acknowledgement_of h)
     else function_of (confirmation_owed h) (stop_confirmation_of h)
 
 -- the S frame, and else the TESTFR act

@@ -8,7 +8,9 @@ use Rattle.session.specs.History.{History, newly_acknowledged}
 use Rattle.session.specs.Runs.{Settings, IsInRange, Call, run}
 
 abbrev pub AfterEachRun : (Settings → Session → History → Type 0) → Type 0
-AfterEachRun Holds = (p : Settings) (calls : List Call) → IsInRange p → Holds p (run p calls).session (run p calls).history
+AfterEachRun Holds =
+    (p : Settings) (calls : List Call) → IsInRange p →
+    Holds p (run p calls).session (run p calls).history
 
 -- the sent frames that a frame newly acknowledges
 abbrev pub newly_acknowledged_by : Apdu → History → List Unacknowledged
@@ -18,8 +20,11 @@ newly_acknowledged_by (U function) h = []
 
 -- so many frames of the queue, and so many own ones, are told as acknowledged
 abbrev pub TellsAcknowledged : List Unacknowledged → Session → Type 0
-TellsAcknowledged frames s = (s.acked_queue ≡ from_queue frames) × (s.acked_own ≡ length frames - from_queue frames)
+TellsAcknowledged frames s =
+    (s.acked_queue ≡ from_queue frames) × (s.acked_own ≡ length frames - from_queue frames)
 
 -- a frame that is taken acknowledges what its N(R) counts
 abbrev pub Acknowledges : Session → History → Type 0
-Acknowledges s h = (frame : Apdu) (now : ℕ) → refuses s frame ≡ false → TellsAcknowledged (newly_acknowledged_by frame h) (taken frame now s)
+Acknowledges s h =
+    (frame : Apdu) (now : ℕ) → refuses s frame ≡ false →
+    TellsAcknowledged (newly_acknowledged_by frame h) (taken frame now s)

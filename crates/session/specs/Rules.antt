@@ -1,4 +1,5 @@
--- The rules of IEC 60870-5-104, clause 5, that each entry of a history keeps with what came before it.
+-- The rules of IEC 60870-5-104, clause 5, that each entry of a history keeps with what came before
+-- it.
 use Rattle.std.specs.Prelude.{◌≡◌, ℕ, ◌%◌, ◌<◌, ◌⊎◌, true, false, [], ◌∷◌, length, Some, None}
 use Rattle.apci.specs.declared.apdu.Apdu.{Apdu}
 use Rattle.session.specs.Session.{is_close}
@@ -10,8 +11,8 @@ pub record IsHeard (older : History) : Type 0 where
   pub connected : is_open older ≡ true
   pub confirmed : confirmation_of older ≡ None
 
--- An I frame bears the counts modulo 32768, and goes out while data transfer runs and fewer than k are unacknowledged
--- (5.1, 5.3, 5.5).
+-- An I frame bears the counts modulo 32768, and goes out while data transfer runs and fewer than k
+-- are unacknowledged (5.1, 5.3, 5.5).
 pub record MaySend (p : Settings) (ns nr : ℕ) (older : History) : Type 0 where
   pub send_number : ns ≡ length (sent_frames older) % 32768
   pub receive_number : nr ≡ received_count older % 32768
@@ -22,10 +23,12 @@ abbrev pub KeepsRule : Settings → Happened → History → Type 0
 KeepsRule p (Opened now) older = older ≡ []
 KeepsRule p (Came frame now) older = IsHeard older × (is_close (verdict_on frame older) ≡ false)
 -- some frame came that closes the connection
-KeepsRule p (Refused now) older = IsHeard older × ((frame : Apdu) × (is_close (verdict_on frame older) ≡ true))
+KeepsRule p (Refused now) older =
+    IsHeard older × ((frame : Apdu) × (is_close (verdict_on frame older) ≡ true))
 KeepsRule p (Sent ns nr kind now) older = MaySend p ns nr older
 -- a confirmation that was due, or a frame that a timer or the window w asked for
-KeepsRule p (Went frame now) older = (confirmation_of older ≡ Some frame) ⊎ (frame_due p.w p.t2 p.t3 now older ≡ Some frame)
+KeepsRule p (Went frame now) older =
+    (confirmation_of older ≡ Some frame) ⊎ (frame_due p.w p.t2 p.t3 now older ≡ Some frame)
 
 abbrev pub KeepsRules : Settings → History → Type 0
 KeepsRules p [] = Unit {0}

@@ -56,11 +56,18 @@ after_call (Open now) r = record { session = opened now r.session; history = Ope
 after_call Cut r = record { session = closed r.session; history = [] }
 after_call (Take frame now) r =
     if may_take r.session
-    then record { session = taken frame now r.session; history = told (outcome_of r.session frame) frame now ∷ r.history }
+    then record {
+      session = taken frame now r.session;
+      history = told
+          (outcome_of r.session frame) frame now ∷ r.history;
+    }
     else r
 after_call (Send kind now) r =
     if may_send r.session
-    then record { session = sent kind now r.session; history = Sent r.session.next_sent r.session.next_received kind now ∷ r.history }
+    then record {
+      session = sent kind now r.session;
+      history = Sent r.session.next_sent r.session.next_received kind now ∷ r.history;
+    }
     else r
 after_call (Confirm now) r = gone (confirmed r.session) now r
 after_call (Pull now) r = gone (pulled now r.session) now r

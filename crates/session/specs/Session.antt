@@ -31,7 +31,8 @@ pub record Session : Type 0 where
   pub next_sent : ℕ
   -- N(S) of the next I frame to receive
   pub next_received : ℕ
-  -- how many received I frames are not acknowledged, counted up to w, and when the oldest of them came
+  -- how many received I frames are not acknowledged, counted up to w, and when the oldest of them
+  -- came
   pub unconfirmed : ℕ
   pub unconfirmed_since : ℕ
   -- when the latest frame came
@@ -200,7 +201,8 @@ confirmed s =
     else replied s.reply s)
 
 abbrev pub is_s_due : ℕ → Session → Bool
-is_s_due now s = nat_lt 0 s.unconfirmed && (nat_le s.w s.unconfirmed || nat_le s.t2 (now - s.unconfirmed_since))
+is_s_due now s =
+    nat_lt 0 s.unconfirmed && (nat_le s.w s.unconfirmed || nat_le s.t2 (now - s.unconfirmed_since))
 
 abbrev pub is_test_due : ℕ → Session → Bool
 is_test_due now s = is_none s.test_sent && nat_le s.t3 (now - s.last_frame)

@@ -20,8 +20,9 @@ pub struct NoMemory;
 /// The counters N(S) and N(R) run modulo this.
 const MODULUS: u16 = 32768;
 
-/// One connection at a time, as the controlled station keeps it: the counters N(S) and N(R), the windows k and w,
-/// the timers t1, t2 and t3, and start and stop of data transfer. Moments are in ms and never fall from call to call.
+/// One connection at a time, as the controlled station keeps it: the counters N(S) and N(R), the
+/// windows k and w, the timers t1, t2 and t3, and start and stop of data transfer. Moments are in
+/// ms and never fall from call to call.
 #[derive(Drop)]
 pub struct Session {
     k: u16,
@@ -39,7 +40,8 @@ pub struct Session {
     acked_own: usize,
     next_sent: u16,
     next_received: u16,
-    /// How many received I frames aren't acknowledged, counted up to w, and when the oldest of them came.
+    /// How many received I frames aren't acknowledged, counted up to w, and when the oldest of them
+    /// came.
     unconfirmed: u16,
     unconfirmed_since: u64,
     last_frame: u64,
@@ -66,9 +68,10 @@ impl Session {
 
     /// A session without a connection. This alone takes memory: room for k frames.
     ///
-    /// k is the most I frames that are sent and not acknowledged, w after how many received ones an S frame is due, both
-    /// 1 to 32767. t1 is how long an I frame or a TESTFR act may wait, t2 how long a received I frame may, t3 after how
-    /// long without a frame the connection is tested, all in ms (IEC 60870-5-104, 5.2, 5.5 and 9.6).
+    /// k is the most I frames that are sent and not acknowledged, w after how many received ones an
+    /// S frame is due, both 1 to 32767. t1 is how long an I frame or a TESTFR act may wait, t2 how
+    /// long a received I frame may, t3 after how long without a frame the connection is tested, all
+    /// in ms (IEC 60870-5-104, 5.2, 5.5 and 9.6).
     pub fn new(
         alloc: Global,
         k: u16,
@@ -196,9 +199,11 @@ impl Session {
         self.acked_own = count - queue;
     }
 
-    /// An APDU came. Where the answer is a close, nothing is acknowledged, and the connection is to be cut.
+    /// An APDU came. Where the answer is a close, nothing is acknowledged, and the connection is to
+    /// be cut.
     ///
-    /// It is meant for an open connection, once `confirm` has answered None since the `take` before.
+    /// It is meant for an open connection, once `confirm` has answered None since the `take`
+    /// before.
     pub fn take(&mut self, apdu: &Apdu, now: u64) -> Taken
         ensures outcome { result ≡ outcome_of self.old apdu.now }
         ensures session { self.new ≡ taken apdu.now now self.old }
@@ -324,8 +329,8 @@ impl Session {
         }
     }
 
-    /// The next confirmation that is due, if any. A STOPDT act has an S frame first, where received I frames aren't
-    /// acknowledged, and its STOPDT con once no sent I frame is unacknowledged.
+    /// The next confirmation that is due, if any. A STOPDT act has an S frame first, where received
+    /// I frames aren't acknowledged, and its STOPDT con once no sent I frame is unacknowledged.
     pub fn confirm(&mut self) -> Option<Apdu>
         ensures due { (result, self.new) ≡ confirmed self.old }
         ensures fits { IfSome result Fits }

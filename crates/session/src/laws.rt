@@ -1,7 +1,7 @@
 //! What IEC 60870-5-104, clause 5, says of a connection, for every list of calls of a session.
 //!
-//! The history of a connection has what came and what went out. Each law says what a session's calls answer by what the
-//! standard makes of that history.
+//! The history of a connection has what came and what went out. Each law says what a session's
+//! calls answer by what the standard makes of that history.
 
 ghost use Rattle.std.specs.Prelude.{◌≡◌, ℕ, ◌%◌, ◌<◌, ◌≤◌, ◌&&◌, ◌++◌, List, true, None, nat_lt, length, option_to_list};
 ghost use Rattle.apci.specs.declared.apdu.Apdu.{Apdu};
@@ -14,7 +14,8 @@ ghost use Rattle.session.specs.Rules.{KeepsRules};
 ghost use Rattle.session.specs.SessionLaws.{SessionLaws};
 ghost use Rattle.session.specs.Ends.{after_confirm, after_pull, IsConfirmed, IsInTime, AreInOrder};
 
-/// N(R) is judged by the least number that isn't below the acknowledged count and equals it modulo 32768.
+/// N(R) is judged by the least number that isn't below the acknowledged count and equals it modulo
+/// 32768.
 pub fn reached_is_least()
     ensures above { (n nr : ℕ) → n ≤ reached n nr }
     ensures equal { (n nr : ℕ) → reached n nr % 32768 ≡ nr % 32768 }
@@ -28,61 +29,80 @@ pub fn frames_are_numbered()
     ensures next_received { AfterEachRun (λ p s h. s.next_received ≡ received_count h % 32768) }
 {}
 
-/// At most k I frames are unacknowledged, and one may go out exactly where data transfer runs and fewer are (5.5).
+/// At most k I frames are unacknowledged, and one may go out exactly where data transfer runs and
+/// fewer are (5.5).
 pub fn window_is_kept()
     ensures at_most_k { AfterEachRun (λ p s h. length (still_unacknowledged h) ≤ p.k) }
-    ensures may_send { AfterEachRun (λ p s h. may_send s ≡ (is_started h && nat_lt (length (still_unacknowledged h)) p.k)) }
+    ensures may_send { AfterEachRun (λ p s h.
+        may_send s ≡ (is_started h && nat_lt (length (still_unacknowledged h)) p.k)) }
 {}
 
-/// A frame closes the connection by the first of its faults, and else acknowledges what its N(R) counts (5.1, 5.3).
+/// A frame closes the connection by the first of its faults, and else acknowledges what its N(R)
+/// counts (5.1, 5.3).
 pub fn frames_are_judged()
-    ensures verdict { AfterEachRun (λ p s h. (frame : Apdu) → outcome_of s frame ≡ verdict_on frame h) }
+    ensures verdict { AfterEachRun (λ p s h.
+        (frame : Apdu) → outcome_of s frame ≡ verdict_on frame h) }
     ensures acknowledged { AfterEachRun (λ p s h. Acknowledges s h) }
 {}
 
-/// Data transfer runs where the latest STARTDT act or STOPDT act is a STARTDT act. Each STARTDT act and TESTFR act is
-/// confirmed once, and a STOPDT act once no sent frame is unacknowledged (5.3).
+/// Data transfer runs where the latest STARTDT act or STOPDT act is a STARTDT act. Each STARTDT act
+/// and TESTFR act is confirmed once, and a STOPDT act once no sent frame is unacknowledged (5.3).
 pub fn transfer_is_controlled()
     ensures runs { AfterEachRun (λ p s h. is_running s ≡ is_started h) }
     ensures confirm { AfterEachRun (λ p s h. (confirmed s).0 ≡ confirmation_of h) }
-    ensures once { AfterEachRun (λ p s h. confirmations_due h ≡ option_to_list (confirmation_owed h) ++ confirmations_sent h) }
+    ensures once { AfterEachRun (λ p s h.
+        confirmations_due h ≡ option_to_list (confirmation_owed h) ++ confirmations_sent h) }
 {}
 
 /// S frames, tests and the close by t1 come exactly when they are due (5.2, 5.5).
 pub fn timers_are_kept()
     ensures t1 { AfterEachRun (λ p s h. (now : ℕ) → timed_out now s ≡ has_timed_out p.t1 now h) }
-    ensures w_t2_t3 { AfterEachRun (λ p s h. (now : ℕ) → (pulled now s).0 ≡ frame_due p.w p.t2 p.t3 now h) }
+    ensures w_t2_t3 { AfterEachRun (λ p s h.
+        (now : ℕ) → (pulled now s).0 ≡ frame_due p.w p.t2 p.t3 now h) }
 {}
 
-/// Each entry of a history keeps the rules with what came before it: a frame is heard once all confirmations are out,
-/// an I frame goes out where it may, and another frame where it was due (5.1 to 5.5).
+/// Each entry of a history keeps the rules with what came before it: a frame is heard once all
+/// confirmations are out, an I frame goes out where it may, and another frame where it was due (5.1
+/// to 5.5).
 pub fn histories_keep_the_rules()
     ensures rules { AfterEachRun (λ p s h. KeepsRules p h) }
 {}
 
-/// Calls that are made until they answer nothing come to an end: three confirmations and two frames of `pull` are the
-/// most that are due at a moment. What goes out makes no confirmation due, and lets no time run out.
+/// Calls that are made until they answer nothing come to an end: three confirmations and two frames
+/// of `pull` are the most that are due at a moment. What goes out makes no confirmation due, and
+/// lets no time run out.
 pub fn calls_come_to_an_end()
-    ensures confirmations { (s : Session) → IsConfirmed (after_confirm (after_confirm (after_confirm s))) }
-    ensures pulls { (now : ℕ) (s : Session) → (pulled now (after_pull now (after_pull now s))).0 ≡ None }
-    ensures confirmed_sent { (kind : Kind) (now : ℕ) (s : Session) → may_send s ≡ true → IsConfirmed s → IsConfirmed (sent kind now s) }
-    ensures confirmed_pull { (now : ℕ) (s : Session) → IsConfirmed s → IsConfirmed (after_pull now s) }
-    ensures in_time_sent { (kind : Kind) (now : ℕ) (s : Session) → 0 < s.t1 → IsInTime now s → IsInTime now (sent kind now s) }
-    ensures in_time_confirm { (now : ℕ) (s : Session) → IsInTime now s → IsInTime now (after_confirm s) }
-    ensures in_time_pull { (now : ℕ) (s : Session) → 0 < s.t1 → IsInTime now s → IsInTime now (after_pull now s) }
-    ensures in_time_take { (frame : Apdu) (now : ℕ) (s : Session) → AreInOrder 0 s.unacknowledged now → IsInTime now s → IsInTime now (taken frame now s) }
+    ensures confirmations { (s : Session) →
+        IsConfirmed (after_confirm (after_confirm (after_confirm s))) }
+    ensures pulls { (now : ℕ) (s : Session) →
+        (pulled now (after_pull now (after_pull now s))).0 ≡ None }
+    ensures confirmed_sent { (kind : Kind) (now : ℕ) (s : Session) → may_send s ≡ true →
+        IsConfirmed s → IsConfirmed (sent kind now s) }
+    ensures confirmed_pull { (now : ℕ) (s : Session) → IsConfirmed s →
+        IsConfirmed (after_pull now s) }
+    ensures in_time_sent { (kind : Kind) (now : ℕ) (s : Session) → 0 < s.t1 → IsInTime now s →
+        IsInTime now (sent kind now s) }
+    ensures in_time_confirm { (now : ℕ) (s : Session) → IsInTime now s →
+        IsInTime now (after_confirm s) }
+    ensures in_time_pull { (now : ℕ) (s : Session) → 0 < s.t1 → IsInTime now s →
+        IsInTime now (after_pull now s) }
+    ensures in_time_take { (frame : Apdu) (now : ℕ) (s : Session) →
+        AreInOrder 0 s.unacknowledged now → IsInTime now s → IsInTime now (taken frame now s) }
     ensures may_send { (now : ℕ) (s : Session) → may_send (after_pull now s) ≡ may_send s }
 {}
 
 /// The unacknowledged frames stay in the order of their moments, where moments never fall.
 pub fn frames_stay_in_order()
-    ensures later { (frames : List Unacknowledged) (before now : ℕ) → before ≤ now → AreInOrder 0 frames before → AreInOrder 0 frames now }
-    ensures sent { (kind : Kind) (now : ℕ) (s : Session) → AreInOrder 0 s.unacknowledged now → AreInOrder 0 (sent kind now s).unacknowledged now }
-    ensures taken { (frame : Apdu) (now : ℕ) (s : Session) → AreInOrder 0 s.unacknowledged now → AreInOrder 0 (taken frame now s).unacknowledged now }
+    ensures later { (frames : List Unacknowledged) (before now : ℕ) → before ≤ now →
+        AreInOrder 0 frames before → AreInOrder 0 frames now }
+    ensures sent { (kind : Kind) (now : ℕ) (s : Session) → AreInOrder 0 s.unacknowledged now →
+        AreInOrder 0 (sent kind now s).unacknowledged now }
+    ensures taken { (frame : Apdu) (now : ℕ) (s : Session) → AreInOrder 0 s.unacknowledged now →
+        AreInOrder 0 (taken frame now s).unacknowledged now }
 {}
 
-/// What a crate that keeps a session needs of it, in one: the rules of clause 5, and what each call answers by the
-/// frames that came and went out.
+/// What a crate that keeps a session needs of it, in one: the rules of clause 5, and what each call
+/// answers by the frames that came and went out.
 pub fn session_keeps_the_standard()
     ensures { SessionLaws }
 {

@@ -1,17 +1,19 @@
-//! One IEC 60870-5-104 connection at a time, as the controlled station keeps it (clause 5): counters, windows, timers,
-//! and start and stop of data transfer.
+//! One IEC 60870-5-104 connection at a time, as the controlled station keeps it (clause 5):
+//! counters, windows, timers, and start and stop of data transfer.
 //!
-//! A [`Session`] takes each [`Apdu`](apci::Apdu) that came, or a lent one where it stands, and says what it leads to
-//! ([`Taken`]); it tells which frames are due, and gives sent I frames their numbers. Time is handed in, in ms. Octets,
-//! ASDUs and sockets are no matter of this crate, and it closes nothing: it says why ([`Close`]).
+//! A [`Session`] takes each [`Apdu`](apci::Apdu) that came, or a lent one where it stands, and says
+//! what it leads to ([`Taken`]); it tells which frames are due, and gives sent I frames their
+//! numbers. Time is handed in, in ms. Octets, ASDUs and sockets are no matter of this crate, and it
+//! closes nothing: it says why ([`Close`]).
 //!
-//! Proved: each call is one small function on a record of plain fields. Above it, for every list of calls, what a
-//! session answers is what the standard makes of the frames that came and went out: N(S) and N(R) are the counts of I
-//! frames sent and received, modulo 32768; at most k are unacknowledged; an N(R) is valid where the least number that
-//! isn't below the acknowledged count and equals it modulo 32768 is at most the sent count; S frames, TESTFR act and
-//! the close by t1 come exactly when due; data transfer runs where the latest of STARTDT act and STOPDT act is a STARTDT
-//! act. Each entry of a history keeps these rules with what came before it, and calls that are made until they answer
-//! nothing come to an end. Only `new` takes memory.
+//! Proved: each call is one small function on a record of plain fields. Above it, for every list of
+//! calls, what a session answers is what the standard makes of the frames that came and went out:
+//! N(S) and N(R) are the counts of I frames sent and received, modulo 32768; at most k are
+//! unacknowledged; an N(R) is valid where the least number that isn't below the acknowledged count
+//! and equals it modulo 32768 is at most the sent count; S frames, TESTFR act and the close by t1
+//! come exactly when due; data transfer runs where the latest of STARTDT act and STOPDT act is a
+//! STARTDT act. Each entry of a history keeps these rules with what came before it, and calls that
+//! are made until they answer nothing come to an end. Only `new` takes memory.
 #![tactic(auto)]
 
 mod connection;

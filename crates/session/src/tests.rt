@@ -65,16 +65,9 @@ fn started(alloc: Global, k: u16) -> Result<Session, NoMemory>
     Ok(session)
 }
 
-/// How many of the calls, in their order, answer what they are to.
-fn count_of_answers(session: &mut Session, steps: &[Step]) -> usize {
-    let mut count: usize = 0;
-    for step in steps {
-        if !answers(session, step) {
-            return count;
-        }
-        count = count.wrapping_add(1);
-    }
-    count
+/// Whether the calls, in their order, answer what they are to.
+fn all_answer(session: &mut Session, steps: &[Step]) -> bool {
+    steps.iter().all(|step| answers(session, step))
 }
 
 /// An I frame. What its ASDU says is no matter here.
@@ -87,7 +80,8 @@ fn report(ns: u16, nr: u16) -> Apdu {
 }
 
 #[test]
-fn a_frame_waits_for_t1(rt: HostRuntime) -> Result<(), Fail> {
+fn timers_stops_and_cuts(rt: HostRuntime) -> Result<(), Fail> {
+    // A frame waits for t1.
     let steps = [
         Step::Open(0),
         Step::IsOpen(true),
@@ -100,74 +94,8 @@ fn a_frame_waits_for_t1(rt: HostRuntime) -> Result<(), Fail> {
         Step::Due(15005, None),
         Step::Due(15006, Some(Close::Timeout)),
     ];
-    assert_eq!(rt;
-        count_of_answers(&mut session(rt.alloc(), 12)?, &steps),
-        steps.len()
-    );
-    Ok(())
-}
-
-#[test]
-fn numbers_run_over(rt: HostRuntime) -> Result<(), Fail> {
-    let mut session = started(rt.alloc(), 12)?;
-    for number in 0..32768u16 {
-        let nr = (number + 1) % 32768;
-        assert!(rt; answers(&mut session, &Step::Send(Kind::Queue, 6, number, 0)));
-        assert!(rt; answers(&mut session, &Step::Take(Apdu::S { nr }, 6, Taken::Nothing)));
-        assert!(rt; answers(&mut session, &Step::Acked(1, 0)));
-    }
-    assert!(rt; answers(&mut session, &Step::Send(Kind::Queue, 6, 0, 0)));
-    Ok(())
-}
-
-#[test]
-fn received_numbers_run_over(rt: HostRuntime) -> Result<(), Fail> {
-    let mut session = started(rt.alloc(), 12)?;
-    for ns in 0..32768u16 {
-        let nr = (ns + 1) % 32768;
-        assert!(rt; answers(&mut session, &Step::Take(report(ns, 0), 6, Taken::Asdu)));
-        let due = if ns % 8 == 7 {
-            Some(Apdu::S { nr })
-        } else {
-            None
-        };
-        assert!(rt; answers(&mut session, &Step::Pull(6, due)));
-    }
-    assert!(rt; answers(&mut session, &Step::Take(report(0, 0), 6, Taken::Asdu)));
-    assert!(rt; answers(&mut session, &Step::Send(Kind::Own, 6, 0, 1)));
-    Ok(())
-}
-
-#[test]
-fn one_receive_number_acknowledges_the_whole_window(rt: HostRuntime) -> Result<(), Fail> {
-    let mut session = started(rt.alloc(), 32767)?;
-    assert!(rt; answers(&mut session, &Step::Send(Kind::Queue, 6, 0, 0)));
-    assert!(rt;
-        answers(
-            &mut session,
-            &Step::Take(Apdu::S { nr: 1 }, 6, Taken::Nothing)
-        )
-    );
-    for number in 1..=32767u16 {
-        let kind = if number % 3 == 0 {
-            Kind::Own
-        } else {
-            Kind::Queue
-        };
-        assert!(rt; answers(&mut session, &Step::Send(kind, 6, number, 0)));
-    }
-    let steps = [
-        Step::Holds,
-        Step::Take(Apdu::S { nr: 0 }, 6, Taken::Nothing),
-        Step::Acked(21845, 10922),
-        Step::Send(Kind::Queue, 6, 0, 0),
-    ];
-    assert_eq!(rt; count_of_answers(&mut session, &steps), steps.len());
-    Ok(())
-}
-
-#[test]
-fn a_stop_is_confirmed_last(rt: HostRuntime) -> Result<(), Fail> {
+    assert!(rt; all_answer(&mut session(rt.alloc(), 12)?, &steps));
+    // A stop is confirmed last.
     let steps = [
         Step::Send(Kind::Queue, 6, 0, 0),
         Step::Take(Apdu::U(Uf::StopAct), 7, Taken::Nothing),
@@ -197,10 +125,118 @@ fn a_stop_is_confirmed_last(rt: HostRuntime) -> Result<(), Fail> {
         Step::Confirm(None),
         Step::Runs(true),
     ];
-    assert_eq!(rt;
-        count_of_answers(&mut started(rt.alloc(), 12)?, &steps),
-        steps.len()
-    );
+    assert!(rt; all_answer(&mut started(rt.alloc(), 12)?, &steps));
+    // Timers run out.
+    let steps = [
+        // A test is due t3 after the latest frame, which came at 5, and waits for t1.
+        Step::Pull(20004, None),
+        Step::Pull(20005, Some(Apdu::U(Uf::TestAct))),
+        Step::Pull(20006, None),
+        Step::Due(35004, None),
+        Step::Due(35005, Some(Close::Timeout)),
+        Step::Take(Apdu::U(Uf::TestCon), 35005, Taken::Nothing),
+        Step::Due(35005, None),
+        Step::Take(Apdu::U(Uf::TestAct), 35006, Taken::Nothing),
+        Step::Confirm(Some(Apdu::U(Uf::TestCon))),
+        // A received frame is acknowledged after t2, or by an I frame.
+        Step::Take(report(0, 0), 40000, Taken::Asdu),
+        Step::Pull(49999, None),
+        Step::Pull(50000, Some(Apdu::S { nr: 1 })),
+        Step::Pull(50000, None),
+        Step::Take(report(1, 0), 50001, Taken::Asdu),
+        Step::Send(Kind::Own, 50002, 0, 2),
+        Step::Pull(60001, None),
+    ];
+    assert!(rt; all_answer(&mut started(rt.alloc(), 12)?, &steps));
+    // Nothing is left of a connection that was cut.
+    let steps = [
+        Step::Take(report(0, 0), 6, Taken::Asdu),
+        Step::Send(Kind::Queue, 6, 0, 1),
+        Step::Take(Apdu::U(Uf::TestAct), 7, Taken::Nothing),
+        Step::Cut,
+        Step::IsOpen(false),
+        Step::Runs(false),
+        Step::Holds,
+        Step::Due(99999, None),
+        Step::Confirm(None),
+        Step::Pull(99999, None),
+        Step::Open(100000),
+        Step::Confirm(None),
+        Step::Take(Apdu::U(Uf::StartAct), 100001, Taken::Nothing),
+        Step::Send(Kind::Queue, 100002, 0, 0),
+    ];
+    assert!(rt; all_answer(&mut started(rt.alloc(), 12)?, &steps));
+    Ok(())
+}
+
+#[test]
+fn closes_by_the_first_fault(rt: HostRuntime) -> Result<(), Fail> {
+    // The first is told before data transfer is started, the others after.
+    let steps = [
+        Step::Open(0),
+        Step::Take(report(7, 7), 1, Taken::Close(Close::Stopped)),
+        Step::Acked(0, 0),
+    ];
+    assert!(rt; all_answer(&mut session(rt.alloc(), 12)?, &steps));
+    let faults = [
+        (report(1, 7), Close::SendNumber),
+        (report(0, 1), Close::ReceiveNumber),
+        (Apdu::S { nr: 1 }, Close::ReceiveNumber),
+        (Apdu::S { nr: 32767 }, Close::ReceiveNumber),
+    ];
+    for (frame, close) in faults {
+        let step = Step::Take(frame, 6, Taken::Close(close));
+        assert!(rt; answers(&mut started(rt.alloc(), 12)?, &step));
+    }
+    let steps = [
+        // An N(R) may not go back behind what was acknowledged.
+        Step::Send(Kind::Queue, 6, 0, 0),
+        Step::Take(Apdu::S { nr: 1 }, 7, Taken::Nothing),
+        Step::Take(Apdu::S { nr: 0 }, 8, Taken::Close(Close::ReceiveNumber)),
+        Step::Acked(0, 0),
+        // No I frame may come behind a STOPDT act.
+        Step::Take(Apdu::U(Uf::StopAct), 9, Taken::Nothing),
+        Step::Take(report(0, 1), 10, Taken::Close(Close::Stopped)),
+    ];
+    assert!(rt; all_answer(&mut started(rt.alloc(), 12)?, &steps));
+    let causes = [
+        Close::Grammar,
+        Close::SendNumber,
+        Close::ReceiveNumber,
+        Close::Stopped,
+        Close::Timeout,
+        Close::OwnAnswers,
+        Close::Replaced,
+    ];
+    for (i, cause) in causes.iter().enumerate() {
+        assert!(rt; *cause as usize == i + 1);
+    }
+    Ok(())
+}
+
+#[test]
+fn numbers_run_over(rt: HostRuntime) -> Result<(), Fail> {
+    let mut session = started(rt.alloc(), 12)?;
+    for number in 0..32768u16 {
+        let nr = (number + 1) % 32768;
+        assert!(rt; answers(&mut session, &Step::Send(Kind::Queue, 6, number, 0)));
+        assert!(rt; answers(&mut session, &Step::Take(Apdu::S { nr }, 6, Taken::Nothing)));
+        assert!(rt; answers(&mut session, &Step::Acked(1, 0)));
+    }
+    assert!(rt; answers(&mut session, &Step::Send(Kind::Queue, 6, 0, 0)));
+    let mut session = started(rt.alloc(), 12)?;
+    for ns in 0..32768u16 {
+        let nr = (ns + 1) % 32768;
+        assert!(rt; answers(&mut session, &Step::Take(report(ns, 0), 6, Taken::Asdu)));
+        let due = if ns % 8 == 7 {
+            Some(Apdu::S { nr })
+        } else {
+            None
+        };
+        assert!(rt; answers(&mut session, &Step::Pull(6, due)));
+    }
+    assert!(rt; answers(&mut session, &Step::Take(report(0, 0), 6, Taken::Asdu)));
+    assert!(rt; answers(&mut session, &Step::Send(Kind::Own, 6, 0, 1)));
     Ok(())
 }
 
@@ -232,121 +268,36 @@ fn a_stop_is_pending_while_numbers_run_over(rt: HostRuntime) -> Result<(), Fail>
         Step::Acked(1, 0),
         Step::Confirm(Some(Apdu::U(Uf::StopCon))),
     ];
-    assert_eq!(rt; count_of_answers(&mut session, &steps), steps.len());
+    assert!(rt; all_answer(&mut session, &steps));
     Ok(())
 }
 
 #[test]
-fn closes_by_the_first_fault(rt: HostRuntime) -> Result<(), Fail> {
-    // The first is told before data transfer is started, the others after.
-    let steps = [
-        Step::Open(0),
-        Step::Take(report(7, 7), 1, Taken::Close(Close::Stopped)),
-        Step::Acked(0, 0),
-    ];
-    assert_eq!(rt;
-        count_of_answers(&mut session(rt.alloc(), 12)?, &steps),
-        steps.len()
+fn one_receive_number_acknowledges_the_whole_window(rt: HostRuntime) -> Result<(), Fail> {
+    let mut session = started(rt.alloc(), 32767)?;
+    assert!(rt; answers(&mut session, &Step::Send(Kind::Queue, 6, 0, 0)));
+    assert!(rt;
+        answers(
+            &mut session,
+            &Step::Take(Apdu::S { nr: 1 }, 6, Taken::Nothing)
+        )
     );
-    let faults = [
-        (report(1, 7), Close::SendNumber),
-        (report(0, 1), Close::ReceiveNumber),
-        (Apdu::S { nr: 1 }, Close::ReceiveNumber),
-        (Apdu::S { nr: 32767 }, Close::ReceiveNumber),
-    ];
-    for (frame, close) in faults {
-        let step = Step::Take(frame, 6, Taken::Close(close));
-        assert!(rt; answers(&mut started(rt.alloc(), 12)?, &step));
+    for number in 1..=32767u16 {
+        let kind = if number % 3 == 0 {
+            Kind::Own
+        } else {
+            Kind::Queue
+        };
+        assert!(rt; answers(&mut session, &Step::Send(kind, 6, number, 0)));
     }
     let steps = [
-        // An N(R) may not go back behind what was acknowledged.
-        Step::Send(Kind::Queue, 6, 0, 0),
-        Step::Take(Apdu::S { nr: 1 }, 7, Taken::Nothing),
-        Step::Take(Apdu::S { nr: 0 }, 8, Taken::Close(Close::ReceiveNumber)),
-        Step::Acked(0, 0),
-        // No I frame may come behind a STOPDT act.
-        Step::Take(Apdu::U(Uf::StopAct), 9, Taken::Nothing),
-        Step::Take(report(0, 1), 10, Taken::Close(Close::Stopped)),
-    ];
-    assert_eq!(rt;
-        count_of_answers(&mut started(rt.alloc(), 12)?, &steps),
-        steps.len()
-    );
-    Ok(())
-}
-
-#[test]
-fn close_causes_have_their_numbers(rt: HostRuntime) {
-    let causes = [
-        Close::Grammar,
-        Close::SendNumber,
-        Close::ReceiveNumber,
-        Close::Stopped,
-        Close::Timeout,
-        Close::OwnAnswers,
-        Close::Replaced,
-    ];
-    for (i, cause) in causes.iter().enumerate() {
-        assert_eq!(rt; *cause as usize, i + 1);
-    }
-}
-
-#[test]
-fn timers_run_out(rt: HostRuntime) -> Result<(), Fail> {
-    let steps = [
-        // A test is due t3 after the latest frame, which came at 5, and waits for t1.
-        Step::Pull(20004, None),
-        Step::Pull(20005, Some(Apdu::U(Uf::TestAct))),
-        Step::Pull(20006, None),
-        Step::Due(35004, None),
-        Step::Due(35005, Some(Close::Timeout)),
-        Step::Take(Apdu::U(Uf::TestCon), 35005, Taken::Nothing),
-        Step::Due(35005, None),
-        Step::Take(Apdu::U(Uf::TestAct), 35006, Taken::Nothing),
-        Step::Confirm(Some(Apdu::U(Uf::TestCon))),
-        // A received frame is acknowledged after t2, or by an I frame.
-        Step::Take(report(0, 0), 40000, Taken::Asdu),
-        Step::Pull(49999, None),
-        Step::Pull(50000, Some(Apdu::S { nr: 1 })),
-        Step::Pull(50000, None),
-        Step::Take(report(1, 0), 50001, Taken::Asdu),
-        Step::Send(Kind::Own, 50002, 0, 2),
-        Step::Pull(60001, None),
-    ];
-    assert_eq!(rt;
-        count_of_answers(&mut started(rt.alloc(), 12)?, &steps),
-        steps.len()
-    );
-    Ok(())
-}
-
-#[test]
-fn nothing_is_left_of_a_cut_connection(rt: HostRuntime) -> Result<(), Fail> {
-    let steps = [
-        Step::Take(report(0, 0), 6, Taken::Asdu),
-        Step::Send(Kind::Queue, 6, 0, 1),
-        Step::Take(Apdu::U(Uf::TestAct), 7, Taken::Nothing),
-        Step::Cut,
-        Step::IsOpen(false),
-        Step::Runs(false),
         Step::Holds,
-        Step::Due(99999, None),
-        Step::Confirm(None),
-        Step::Pull(99999, None),
-        Step::Open(100000),
-        Step::Confirm(None),
-        Step::Take(Apdu::U(Uf::StartAct), 100001, Taken::Nothing),
-        Step::Send(Kind::Queue, 100002, 0, 0),
+        Step::Take(Apdu::S { nr: 0 }, 6, Taken::Nothing),
+        Step::Acked(21845, 10922),
+        Step::Send(Kind::Queue, 6, 0, 0),
     ];
-    assert_eq!(rt;
-        count_of_answers(&mut started(rt.alloc(), 12)?, &steps),
-        steps.len()
-    );
-    Ok(())
-}
-
-#[test]
-fn the_ring_has_what_is_unacknowledged(rt: HostRuntime) -> Result<(), Fail> {
+    assert!(rt; all_answer(&mut session, &steps));
+    // The ring has what is unacknowledged.
     let mut session = started(rt.alloc(), 12)?;
     let steps = [
         Step::Send(Kind::Queue, 6, 0, 0),
@@ -355,15 +306,15 @@ fn the_ring_has_what_is_unacknowledged(rt: HostRuntime) -> Result<(), Fail> {
         Step::Take(Apdu::S { nr: 1 }, 8, Taken::Nothing),
         Step::Acked(1, 0),
     ];
-    assert_eq!(rt; count_of_answers(&mut session, &steps), steps.len());
+    assert!(rt; all_answer(&mut session, &steps));
     let own = Unacknowledged {
         kind: Kind::Own,
         moment: 7,
     };
     let ring = session.into_ring();
-    assert_eq!(rt; ring.len(), 2);
+    assert!(rt; ring.len() == 2);
     for frame in ring.iter() {
-        assert_eq!(rt; *frame, own);
+        assert!(rt; *frame == own);
     }
     Ok(())
 }
@@ -401,12 +352,14 @@ fn lent_frames_lead_to_the_same(rt: HostRuntime) -> Result<(), Fail> {
             assert!(rt; false, "no APDU");
             return Ok(());
         };
-        assert_eq!(rt; copy.as_ref(), frame);
-        assert_eq!(rt; lent.take_ref(frame, 7), taken);
-        assert_eq!(rt; kept.take(&copy, 7), taken);
-        assert_eq!(rt; lent.acked(), kept.acked());
-        assert_eq!(rt; lent.confirm(), kept.confirm());
-        assert_eq!(rt; lent.pull(10007), kept.pull(10007));
+        assert!(rt;
+            copy.as_ref() == frame
+                && lent.take_ref(frame, 7) == taken
+                && kept.take(&copy, 7) == taken
+                && lent.acked() == kept.acked()
+                && lent.confirm() == kept.confirm()
+                && lent.pull(10007) == kept.pull(10007)
+        );
     }
     Ok(())
 }

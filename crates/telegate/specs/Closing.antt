@@ -23,7 +23,7 @@ counts_line c = skipped_text c.skipped ++ others_text c.mirrors c.lost c.spoilt
 
 -- what is left, the oldest first, if it is asked for
 abbrev pub left_lines : (left : Bool) → State → List ℕ
-left_lines left s = if left then flat_map left_line (kept s.queue) else []
+left_lines left s = if left then flat_map left_line (kept s.centre.queue) else []
 
 -- what was counted, if it is asked for
 abbrev pub counts_lines : (counts : Bool) → State → List ℕ

@@ -1,4 +1,5 @@
-//! The control centre's side: the connection's session, its octets, and the pieces that go up to it.
+//! The control centre's side: the connection's session, its octets, and the pieces that go up to
+//! it.
 ghost use Rattle.std.specs.Prelude.{◌≡◌, ◌<◌, ◌≤◌, true, List, [], length, IfSome, IfNone};
 ghost use Rattle.std.specs.Prelude.{Some, None, if◌then◌else◌};
 ghost use Rattle.apci.specs.Spelling.{Fits};
@@ -44,7 +45,8 @@ impl Model for CentreSide {
       queue = a.queue;
     } };
 
-    // The pieces sent are those that the session counts as the queue's; and the assembler isn't deaf.
+    // The pieces sent are those that the session counts as the queue's; and the assembler isn't
+    // deaf.
     ghost invariant = { λ a. IsWhole a.session a.assembler.so_far a.queue };
 }
 
@@ -127,8 +129,8 @@ impl CentreSide {
         }
     }
 
-    /// A whole APDU at the front of octets that came, where none had come since the last one, and how
-    /// many octets it has. Its ASDU is lent where it stands.
+    /// A whole APDU at the front of octets that came, where none had come since the last one, and
+    /// how many octets it has. Its ASDU is lent where it stands.
     fn find_whole<'a>(&self, piece: &'a [u8]) -> Option<(ApduRef<'a>, usize)>
         requires { 0 < length piece.now }
         ensures { IfSome result (λ found.
@@ -236,8 +238,8 @@ impl Gateway {
         self.centre.feed(piece)
     }
 
-    /// A whole APDU at the front of octets that came, where none had come since the last one, and how
-    /// many octets it has.
+    /// A whole APDU at the front of octets that came, where none had come since the last one, and
+    /// how many octets it has.
     pub(crate) fn find_whole<'a>(&self, piece: &'a [u8]) -> Option<(ApduRef<'a>, usize)>
         requires { 0 < length piece.now }
         ensures { IfSome result (λ found.
@@ -270,7 +272,8 @@ impl Gateway {
     /// connection.
     fn judge_data(&mut self, apdu: ApduRef<'_>) -> Option<Close>
         requires { Fits (owned apdu) }
-        ensures state { self.new ≡ with_serial (judged (owned apdu.entry) self.old.moment self.old.serial) self.old }
+        ensures state { self.new
+            ≡ with_serial (judged (owned apdu.entry) self.old.moment self.old.serial) self.old }
         ensures close { result ≡ (
             if has_place (owned apdu.entry) self.old.moment self.old.serial.commands
             then None else Some Close.OwnAnswers) }
@@ -293,7 +296,8 @@ impl Gateway {
 
     /// The next S frame or TESTFR act that is due.
     pub(crate) fn pull(&mut self) -> Option<Apdu>
-        ensures due { (result, self.new.centre.session) ≡ pulled self.old.moment self.old.centre.session }
+        ensures due { (result, self.new.centre.session)
+            ≡ pulled self.old.moment self.old.centre.session }
         ensures rest { self.new ≡ with_session self.new.centre.session self.old }
         ensures fits { IfSome result Fits }
     {

@@ -1,4 +1,5 @@
-//! The line's side: its primary station, what its octets bring, and the commands that go down to it.
+//! The line's side: its primary station, what its octets bring, and the commands that go down to
+//! it.
 ghost use Rattle.std.specs.Prelude.{◌≡◌, ℕ, ◌<◌, ◌≤◌, true, false, List, [], length};
 ghost use Rattle.std.specs.Prelude.{Some, None, option_map, if◌then◌else◌, ◌⊎◌, IfSome, IfNone};
 ghost use Rattle.std.specs.List.{AllByRecursion};
@@ -204,8 +205,8 @@ impl SerialSide {
         };
     }
 
-    /// The timers of commands: the command of a station that fell silent is given up, and selections
-    /// end.
+    /// The timers of commands: the command of a station that fell silent is given up, and
+    /// selections end.
     fn settle(&mut self, moment: u64)
         ensures { self.new ≡ settled moment self.old }
     {
@@ -264,7 +265,8 @@ impl SerialSide {
     /// The line's next request. A command that goes out for the first time waits no more.
     fn next(&mut self, moment: u64, may_poll: bool) -> Option<Request>
         ensures state { self.new ≡ asked moment may_poll (sending self.old.line may_poll) self.old }
-        ensures request { result ≡ option_map (request_of self.old.line) (sending self.old.line may_poll) }
+        ensures request { result
+            ≡ option_map (request_of self.old.line) (sending self.old.line may_poll) }
         ensures polls { is_polling self.new.line ≡ true →
             (is_polling self.old.line ≡ true) ⊎ (may_poll ≡ true) }
     {
@@ -418,8 +420,8 @@ impl Gateway {
         self.serial.offer_all();
     }
 
-    /// The line's next request. It is a poll only where the queue has room, or where it is sent again
-    /// at once. A command that goes out for the first time waits no more.
+    /// The line's next request. It is a poll only where the queue has room, or where it is sent
+    /// again at once. A command that goes out for the first time waits no more.
     pub(crate) fn next_request(&mut self) -> Option<Request>
         ensures state { self.new ≡ after_request self.old
             (sending self.old.serial.line (has_room self.old.centre.queue)) }

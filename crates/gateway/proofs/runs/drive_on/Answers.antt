@@ -7,8 +7,8 @@ pub loop-preserved : goal.loop-preserved
 loop-preserved g c = record {
   kept = λ p t r. c.if-not-step.ensures.kept p (come p _ _ c.loop.gateway _ _ _ c.next-next.ensures.told c.in-Ok.ensures.came (c.loop.invariant.kept p t r) (c.loop.invariant.rests p t r));
   rests = λ p t r. c.if-not-step.ensures.rests p (come p _ _ c.loop.gateway _ _ _ c.next-next.ensures.told c.in-Ok.ensures.came (c.loop.invariant.kept p t r) (c.loop.invariant.rests p t r));
-  events = more_events c.loop.counter _ _ _ _ _ _ _ c.loop.invariant.events c.next-next.ensures.told c.in-Ok.ensures.came c.if-not-step.ensures.events;
-  script = c.if-not-step.ensures.script ∙ c.next-next.ensures.script ∙ c.loop.invariant.script;
+  events = more_events c.loop.counter _ _ _ _ _ _ _ c.loop.invariant.events c.next-next.ensures.told c.in-Ok.ensures.came c.if-not-step.ensures.puts.events;
+  script = c.if-not-step.ensures.puts.script ∙ c.next-next.ensures.script ∙ c.loop.invariant.script;
   ready = search rules;
 }
 

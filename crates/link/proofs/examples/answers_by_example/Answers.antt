@@ -24,3 +24,6 @@ returns-clause-flags c = (refl, refl, refl, refl, refl)
 
 pub returns-clause-told : goal.returns-clause-told
 returns-clause-told c = (refl, refl, refl, refl, refl, refl, refl, refl)
+
+pub returns-clause-gaps : goal.returns-clause-gaps
+returns-clause-gaps c = (refl, refl, refl, refl)

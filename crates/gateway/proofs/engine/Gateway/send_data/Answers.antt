@@ -17,7 +17,7 @@ loop-apdu-preserved g c =
       confirmed = λ h. data_confirmed c.calls_come_to_an_end.ensures.confirmed_sent c.loop-apdu.self c.next_data.new.self made.0 made.1 (c.loop-apdu.invariant.confirmed h);
       in_time = stays_after c.args.self.now c.loop-apdu.self c.next_data.new.self c.loop-apdu.invariant.in_time (data_in_time c.calls_come_to_an_end.ensures.in_time_sent c.loop-apdu.self c.next_data.new.self made.0 made.1);
       on = ap (λ (x : Session). x.connected) made.1.session ∙ c.loop-apdu.invariant.on;
-      events = c.if-not-hand.ensures.events ∙ c.loop-apdu.invariant.events;
-      script = c.if-not-hand.ensures.script ∙ c.loop-apdu.invariant.script;
+      events = c.if-not-hand.ensures.puts.events ∙ c.loop-apdu.invariant.events;
+      script = c.if-not-hand.ensures.puts.script ∙ c.loop-apdu.invariant.script;
       cause = search rules;
     }
