@@ -1,5 +1,5 @@
 #!/usr/bin/env python3
-"""Replays the traces in bench/rows.txt, each of which tells one misreading that could be made in code and definitions alike.
+"""Replays the traces in bench/rows.txt: the rules of the profile one by one, and misreadings that could be made in code and definitions alike.
 
     bench/rows.py [--program FILE]
 
@@ -16,14 +16,18 @@ import tempfile
 import ends
 
 BASE = {"line.link": "1", "line.cause": "1", "line.ca": "1", "line.ioa": "2", "line.queue": "100", "station1.address": "1", "station1.ca": "1"}
-ROW = re.compile(r"^row (\S+)\n((?:.*\n)*?)trace\n((?:.*\n)*?)prints\n((?:.+\n)*)", re.M)
+ROW = re.compile(r"^row (\S+)\n((?:.*\n)*?)(trace|opened)\n((?:.*\n)*?)prints\n((?:.+\n)*)", re.M)
+OPENING = "10 S 100B010C16\n20 S E5\n30 O\n40 R 680407000000\n"
+OPENED = "0 > S 1049014A16\n10 > S 1040014116\n20 > S 107B017C16\n40 > T 68040B000000\n"
 
 
 def rows():
     """The name, the settings, the trace and what is printed, of each row."""
     with open(os.path.join(os.path.dirname(os.path.abspath(__file__)), "rows.txt")) as file:
         text = file.read()
-    for name, settings, trace, printed in ROW.findall(text):
+    for name, settings, begins, trace, printed in ROW.findall(text):
+        if begins == "opened":
+            trace, printed = OPENING + trace, OPENED + printed
         keys = dict(BASE)
         for line in settings.splitlines():
             if not line.startswith("#"):
