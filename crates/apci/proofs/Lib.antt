@@ -4,3 +4,4 @@ pub mod Exact
 pub mod Stream
 pub mod EachOctet
 pub mod WorkedExamples
+pub mod Following

@@ -1,9 +1,11 @@
 -- APDUs out of pieces of a stream of octets (this gateway's own profile: TCP cuts octets anywhere).
 use Rattle.std.specs.Prelude.{◌≡◌, ℕ, ◌+◌, ◌-◌, ◌^◌, min, List, [], ◌++◌, length, Option, Some, None}
+use Rattle.apci.specs.declared.apdu.Apdu.{Apdu}
 use Rattle.apci.specs.declared.apdu.Front.TheVariants as front
 use Rattle.apci.specs.declared.assembling.Heard.{Heard}
 use Rattle.apci.specs.declared.assembling.Heard.TheVariants as heard
 use Rattle.apci.specs.Reading.{IsFront, IsDecidedAt}
+use Rattle.apci.specs.Spelling.{spelling}
 
 -- What contracts see of an assembler: the octets since the last APDU (none where it is deaf), and
 -- how many octets it has looked at.
@@ -32,3 +34,9 @@ HasLooked so_far piece before n (heard.Never place why) after =
     (decides : ℕ) × IsDecidedAt (so_far ++ piece) decides
     × (after ≡ min (2 ^ 64 - 1) (before + (decides + 1 - length so_far)))
 HasLooked so_far piece before n heard.Deaf after = ⊥
+
+-- The whole APDU is heard, its octets are taken, and the octets behind it begin the next one.
+pub record IsHeardWhole (a : Apdu) (n : ℕ) (h : Heard) (after : Option (List ℕ)) : Type 0 where
+  pub apdu_is : h ≡ heard.Apdu a
+  pub taken : n ≡ length (spelling a)
+  pub listening : after ≡ Some []

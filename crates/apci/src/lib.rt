@@ -22,8 +22,8 @@ mod writing;
 pub use apdu::{Apdu, ApduRef, Front, FrontRef, Uf, Why};
 pub use assembling::{Assembler, Heard};
 pub use laws::{
-    formats_are_told_apart, no_spelling_begins_another, one_front, one_spelling, spellings_cancel,
-    worked_examples_hold,
+    apdus_are_heard_one_after_another, formats_are_told_apart, no_spelling_begins_another,
+    one_front, one_spelling, spellings_cancel, worked_examples_hold,
 };
 pub use reading::{front, front_ref};
 pub use writing::encode;

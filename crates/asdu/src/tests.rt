@@ -1,11 +1,10 @@
 //! Worked ASDUs: read, cut into pieces, and written.
 use crate::{
-    Asdu, CaSize, CauseSize, Head, IoaSize, Object, Refused, Sizes, can_write, head,
-    is_plain_command, is_tagged_command, read, retag, translate, untag, write,
+    Asdu, CaSize, CauseSize, Head, IoaSize, Refused, Sizes, can_write, head, is_plain_command,
+    is_tagged_command, read, retag, translate, untag, write,
 };
 use arrayvec::ArrayVec;
 use elements::{Cp56, TypeId, Verdict, judge, kind};
-use std::process::Abort;
 
 const SMALL: Sizes = Sizes {
     cause: CauseSize::One,
@@ -29,10 +28,19 @@ fn extend(out: &mut Octets, octets: &[u8]) -> bool {
     out.try_extend_from_slice(octets).is_ok()
 }
 
-/// Appends an element of so many octets, and a tag.
-fn extend_content(out: &mut Octets, kind: TypeId, octet: u8) -> bool {
+/// The octets of an element, all the same, and those of a tag.
+fn content(kind: TypeId, octet: u8) -> Octets {
+    let mut out = Octets::new();
     let tag: &[u8] = if kind.tagged() { &THURSDAY } else { &[] };
-    (0..kind.size()).all(|_| out.try_push(octet).is_ok()) && extend(out, tag)
+    let _ = (0..kind.size()).all(|_| out.try_push(octet).is_ok()) && extend(&mut out, tag);
+    out
+}
+
+/// All octets, one after another.
+fn joined(parts: &[&[u8]]) -> Octets {
+    let mut out = Octets::new();
+    let _ = parts.iter().all(|part| extend(&mut out, part));
+    out
 }
 
 /// Two single points with SQ 0, sent as a test, of cause 3.
@@ -78,13 +86,10 @@ fn has_head(asdu: &Asdu, number: usize, head: &Head) -> bool {
 
 #[test]
 fn reads_asdus(rt: HostRuntime) {
-    let asdu = read(SMALL, &POINTS).expect(&rt, "two single points");
-    assert!(rt; has_objects(&asdu, &[(100, &[0x01]), (101, &[0xF0])]));
-    assert!(rt; asdu.sizes == SMALL);
-    assert!(rt; asdu.kind == TypeId::MSpNa1);
-    assert!(rt; asdu.octets == POINTS.as_slice());
-    assert!(rt; !asdu.is_sequence());
-    assert!(rt; asdu.is_passed_on());
+    let (Ok(points), Ok(values)) = (read(SMALL, &POINTS), read(Sizes::TCP, &VALUES)) else {
+        assert!(rt; false);
+        return;
+    };
     let wanted = Head {
         kind: 1,
         vsq: 2,
@@ -93,12 +98,14 @@ fn reads_asdus(rt: HostRuntime) {
         ca: 1,
         ioa: 100,
     };
-    assert!(rt; has_head(&asdu, 2, &wanted));
-    let asdu = read(Sizes::TCP, &VALUES).expect(&rt, "two normalised values");
-    let elements: [(u32, &[u8]); 2] = [(10, &[0x00, 0x80, 0x00]), (11, &[0xFF, 0xFF, 0x80])];
-    assert!(rt; has_objects(&asdu, &elements));
-    assert!(rt; shows(&asdu, &[-32_768, -1]));
-    assert!(rt; asdu.is_sequence());
+    assert!(rt;
+        has_objects(&points, &[(100, &[0x01]), (101, &[0xF0])])
+            && (points.sizes, points.kind) == (SMALL, TypeId::MSpNa1)
+            && points.octets == POINTS.as_slice()
+            && !points.is_sequence()
+            && points.is_passed_on()
+            && has_head(&points, 2, &wanted)
+    );
     let wanted = Head {
         kind: 9,
         vsq: 0x82,
@@ -107,7 +114,14 @@ fn reads_asdus(rt: HostRuntime) {
         ca: 1,
         ioa: 10,
     };
-    assert!(rt; has_head(&asdu, 2, &wanted));
+    assert!(rt;
+        has_objects(
+            &values,
+            &[(10, &[0x00, 0x80, 0x00]), (11, &[0xFF, 0xFF, 0x80])]
+        ) && shows(&values, &[-32_768, -1])
+            && values.is_sequence()
+            && has_head(&values, 2, &wanted)
+    );
     // Heads are not judged.
     let octets = [0xFF, 0x00, 0xC6, 0x34, 0x12, 0xCD, 0xAB];
     let wanted = Head {
@@ -118,9 +132,11 @@ fn reads_asdus(rt: HostRuntime) {
         ca: 0x1234,
         ioa: 0xABCD,
     };
-    assert!(rt; head(MIDDLE, &octets) == Some(wanted));
-    assert!(rt; head(MIDDLE, &octets[..6]) == None);
-    assert!(rt; head(Sizes::TCP, &octets) == None);
+    assert!(rt;
+        head(MIDDLE, &octets) == Some(wanted)
+            && head(MIDDLE, &octets[..6]).is_none()
+            && head(Sizes::TCP, &octets).is_none()
+    );
     let octets = [1, 2, 3, 4, 5, 6, 7, 8, 9];
     let wanted = Head {
         kind: 1,
@@ -130,9 +146,11 @@ fn reads_asdus(rt: HostRuntime) {
         ca: 0x0605,
         ioa: 0x09_0807,
     };
-    assert!(rt; head(Sizes::TCP, &octets) == Some(wanted));
-    assert!(rt; head(Sizes::TCP, &octets[..8]) == None);
-    assert!(rt; head(SMALL, &octets[..4]) == None);
+    assert!(rt;
+        head(Sizes::TCP, &octets) == Some(wanted)
+            && head(Sizes::TCP, &octets[..8]).is_none()
+            && head(SMALL, &octets[..4]).is_none()
+    );
 }
 
 #[test]
@@ -166,37 +184,83 @@ fn refuses_what_is_no_asdu(rt: HostRuntime) {
     assert!(rt; read(SMALL, &[0x01, 0x82, 0x03, 0x01, 0xFE, 0x01, 0x00]).is_ok());
     // A set point as a short float and a bitstring, each with a time tag, are not carried.
     for octet in 63..=64u8 {
-        let tagged = [
-            octet, 0x01, 6, 1, 10, 0x81, 0xD5, 0xDD, 0x22, 0x0C, 0x9D, 0x02, 0x18,
-        ];
+        let tagged = joined(&[&[octet, 0x01, 6, 1, 10, 0x81], &THURSDAY]);
         assert!(rt; read(SMALL, &tagged) == Err(Refused(2)));
     }
 }
 
-/// Two objects: their header and first address, their contents, and the second's address between
-/// them.
-fn two_objects(kind: TypeId, head: &[u8], address: &[u8]) -> Octets {
-    let mut out = Octets::new();
-    let _ = extend(&mut out, head)
-        && extend_content(&mut out, kind, 0xF1)
-        && extend(&mut out, address)
-        && extend_content(&mut out, kind, 0x8E);
-    out
+/// Whether the octets are cut into these pieces.
+fn is_cut_into(octets: &[u8], wanted: &[&[u8]]) -> bool {
+    let Ok(asdu) = read(SMALL, octets) else {
+        return false;
+    };
+    if asdu.octets.len() > 253 {
+        return false;
+    }
+    let pieces = translate(&asdu);
+    for (place, piece) in pieces.as_slice().iter().enumerate() {
+        if wanted
+            .get(place)
+            .is_none_or(|octets| piece.as_slice() != *octets)
+        {
+            return false;
+        }
+    }
+    pieces.len() == wanted.len()
 }
 
-/// Two objects at 16 and 17, as a line of one-octet sizes and as a connection has them.
+/// Whether it is written in these sizes, with these octets.
+fn is_written(asdu: &Asdu, sizes: Sizes, wanted: &[u8]) -> bool {
+    can_write(sizes, asdu) && write(sizes, asdu).as_slice() == wanted
+}
+
+/// Whether it has two objects at 16 and 17, the first of F1 and the second of 8E, as its type has.
+fn has_both(asdu: &Asdu) -> bool {
+    let mut address = 16;
+    let mut octet = 0xF1;
+    for object in asdu.objects() {
+        let tag = object.tag.unwrap_or(&[]);
+        let whole = joined(&[object.element, tag]);
+        if object.address != address || whole != content(asdu.kind, octet) {
+            return false;
+        }
+        address = 17;
+        octet = 0x8E;
+    }
+    asdu.number() == 2 && address == 17
+}
+
+/// Whether the type is carried: two objects as a line of one-octet sizes and as a connection has
+/// them.
+fn is_carried(kind: TypeId, small: &[u8], wide: &[u8]) -> bool {
+    let (Ok(line), Ok(connection)) = (read(SMALL, small), read(Sizes::TCP, wide)) else {
+        return false;
+    };
+    line.kind == kind
+        && line.is_passed_on() == kind.monitor()
+        && has_both(&line)
+        && has_both(&connection)
+        && is_cut_into(small, &[wide])
+        && is_written(&connection, SMALL, small)
+}
+
 #[test]
 fn carries_every_type(rt: HostRuntime) {
     let mut types = 0u32;
     for octet in 0..=255u8 {
         if let Some(kind) = kind(octet) {
             types = types.wrapping_add(1);
-            let small = two_objects(kind, &[octet, 0x02, 0x43, 9, 16], &[17]);
-            let wide = two_objects(kind, &[octet, 0x02, 0x43, 0, 9, 0, 16, 0, 0], &[17, 0, 0]);
-            check_carried(&rt, kind, small.as_slice(), wide.as_slice());
-            let small = two_objects(kind, &[octet, 0x82, 0x43, 9, 16], &[]);
-            let wide = two_objects(kind, &[octet, 0x82, 0x43, 0, 9, 0, 16, 0, 0], &[]);
-            check_carried(&rt, kind, small.as_slice(), wide.as_slice());
+            let (one, other) = (content(kind, 0xF1), content(kind, 0x8E));
+            let small = joined(&[&[octet, 0x02, 0x43, 9, 16], &one, &[17], &other]);
+            let wide = joined(&[
+                &[octet, 0x02, 0x43, 0, 9, 0, 16, 0, 0],
+                &one,
+                &[17, 0, 0],
+                &other,
+            ]);
+            let small_run = joined(&[&[octet, 0x82, 0x43, 9, 16], &one, &other]);
+            let wide_run = joined(&[&[octet, 0x82, 0x43, 0, 9, 0, 16, 0, 0], &one, &other]);
+            assert!(rt; is_carried(kind, &small, &wide) && is_carried(kind, &small_run, &wide_run));
         }
     }
     // Eight of reports without and with a tag, the end of initialisation, six of commands, and five
@@ -204,93 +268,44 @@ fn carries_every_type(rt: HostRuntime) {
     assert!(rt; types == 28);
 }
 
-fn check_carried<R: Abort>(rt: &R, kind: TypeId, small: &[u8], wide: &[u8]) {
-    let asdu = read(SMALL, small).expect(rt, "an ASDU of the line");
-    assert!(rt; asdu.kind == kind);
-    assert!(rt; asdu.is_passed_on() == kind.monitor());
-    check_objects(rt, &asdu);
-    check_piece(rt, &asdu, wide);
-    let asdu = read(Sizes::TCP, wide).expect(rt, "an ASDU of a connection");
-    check_objects(rt, &asdu);
-    check_written(rt, &asdu, SMALL, small);
+/// So many totals behind a header.
+fn totals(head: &[u8], number: u8) -> Octets {
+    let mut out = joined(&[head]);
+    let _ = (0..number).all(|_| extend(&mut out, &[0xFF, 0xFF, 0xFF, 0xFF, 0x80]));
+    out
 }
 
-/// It is translated into this piece alone.
-fn check_piece<R: Abort>(rt: &R, asdu: &Asdu, wanted: &[u8]) {
-    assert!(rt; asdu.octets.len() <= 253);
-    if asdu.octets.len() <= 253 {
-        let pieces = translate(asdu);
-        assert!(rt; pieces.len() == 1);
-        let piece = pieces.as_slice().first().expect(rt, "a piece");
-        assert!(rt; piece.as_slice() == wanted);
+/// So many single points behind a header, from this address on; the other octets of addresses.
+fn points(head: &[u8], first: u8, number: u8, high: &[u8]) -> Octets {
+    let mut out = joined(&[head]);
+    for place in 0..number {
+        let _ = extend(&mut out, &[place.wrapping_add(first)])
+            && extend(&mut out, high)
+            && extend(&mut out, &[0]);
     }
-}
-
-/// In these sizes it has these octets.
-fn check_written<R: Abort>(rt: &R, asdu: &Asdu, sizes: Sizes, wanted: &[u8]) {
-    let is_written = can_write(sizes, asdu) && write(sizes, asdu).as_slice() == wanted;
-    assert!(rt; is_written);
-}
-
-fn check_objects<R: Abort>(rt: &R, asdu: &Asdu) {
-    let mut address = 16;
-    let mut first_octet = 0xF1;
-    for object in asdu.objects() {
-        assert!(rt; object.address == address);
-        assert!(rt; object.element.len() == asdu.kind.size());
-        assert!(rt; object.element.first() == Some(&first_octet));
-        assert!(rt; object.tag.is_some() == asdu.kind.tagged());
-        if let Some(tag) = object.tag {
-            assert!(rt; tag == THURSDAY.as_slice());
-        }
-        address = 17;
-        first_octet = 0x8E;
-    }
-    assert!(rt; address == 17);
+    out
 }
 
 #[test]
 fn cuts_reports(rt: HostRuntime) {
-    let mut octets = Octets::new();
-    assert!(rt; extend(&mut octets, &[15, 0xB1, 3, 1, 10]));
-    for _ in 0..49 {
-        assert!(rt; extend(&mut octets, &[0xFF, 0xFF, 0xFF, 0xFF, 0x80]));
-    }
-    let asdu = read(SMALL, octets.as_slice()).expect(&rt, "49 totals");
-    let pieces = translate(&asdu);
-    assert!(rt; pieces.len() == 2);
-    let first = pieces.as_slice()[0].as_slice();
-    assert!(rt; first.len() == 249);
+    let pieces = [
+        totals(&[15, 0xB0, 3, 0, 1, 0, 10, 0, 0], 48),
+        totals(&[15, 0x81, 3, 0, 1, 0, 58, 0, 0], 1),
+    ];
     assert!(rt;
-        &first[..14] == [15, 0xB0, 3, 0, 1, 0, 10, 0, 0, 0xFF, 0xFF, 0xFF, 0xFF, 0x80].as_slice()
+        is_cut_into(
+            &totals(&[15, 0xB1, 3, 1, 10], 49),
+            &[&pieces[0], &pieces[1]]
+        )
     );
-    let second = pieces.as_slice()[1].as_slice();
-    assert!(rt;
-        second == [15, 0x81, 3, 0, 1, 0, 58, 0, 0, 0xFF, 0xFF, 0xFF, 0xFF, 0x80].as_slice()
-    );
-    let mut octets = Octets::new();
-    assert!(rt; extend(&mut octets, &[1, 124, 3, 1]));
-    for address in 1..=124u8 {
-        assert!(rt; extend(&mut octets, &[address, 0]));
-    }
-    let asdu = read(SMALL, octets.as_slice()).expect(&rt, "124 single points");
-    let pieces = translate(&asdu);
-    let wanted = [(0x3C, 0x01), (0x3C, 0x3D), (0x04, 0x79)];
-    assert!(rt; pieces.len() == wanted.len());
-    let mut pieces = pieces.as_slice().iter();
-    for (number, first) in wanted {
-        let mut text = Octets::new();
-        assert!(rt; extend(&mut text, &[1, number, 3, 0, 1, 0]));
-        for place in 0..number {
-            assert!(rt; extend(&mut text, &[place.wrapping_add(first), 0, 0, 0]));
-        }
-        let piece = pieces.next().expect(&rt, "a piece");
-        assert!(rt; piece.as_slice() == text.as_slice());
-    }
-}
-
-#[test]
-fn passes_reports_on(rt: HostRuntime) {
+    let pieces = [
+        points(&[1, 60, 3, 0, 1, 0], 1, 60, &[0, 0]),
+        points(&[1, 60, 3, 0, 1, 0], 61, 60, &[0, 0]),
+        points(&[1, 4, 3, 0, 1, 0], 121, 4, &[0, 0]),
+    ];
+    let long = points(&[1, 124, 3, 1], 1, 124, &[]);
+    assert!(rt; is_cut_into(&long, &[&pieces[0], &pieces[1], &pieces[2]]));
+    // Every cause is translated, and a wrong tag is carried as it came: there is no 2023-02-29.
     for (kind, cause, wanted) in [
         (1, 0x03, true),
         (1, 0x2C, true),
@@ -301,57 +316,45 @@ fn passes_reports_on(rt: HostRuntime) {
         (100, 0x6C, false),
     ] {
         let octets = [kind, 0x01, cause, 1, 0, 1];
-        let asdu = read(SMALL, &octets).expect(&rt, "an ASDU");
-        assert!(rt; asdu.is_passed_on() == wanted);
-        assert!(rt; asdu.cause() == cause);
-        // Every cause is translated.
-        assert!(rt; translate(&asdu).len() == 1);
+        let passed = read(SMALL, &octets).is_ok_and(|asdu| {
+            asdu.is_passed_on() == wanted && asdu.cause() == cause
+        });
+        assert!(rt; passed && is_cut_into(&octets, &[&[kind, 1, cause, 0, 1, 0, 0, 0, 0, 1]]));
     }
-    // A wrong tag is carried as it came.
-    // There is no 2023-02-29; IV is set in the element.
-    let octets = [
-        30, 0x01, 3, 1, 100, 0x81, 0xD5, 0xDD, 0x22, 0x0C, 0x9D, 0x02, 0x17,
-    ];
-    let asdu = read(SMALL, &octets).expect(&rt, "a tagged point");
-    let mut objects = asdu.objects();
-    let object = objects.next().expect(&rt, "its object");
-    let tag = object.tag.expect(&rt, "its tag");
-    let tag = <[u8; 7]>::try_from(tag).expect(&rt, "seven octets");
-    assert!(rt; judge(&Cp56(tag)) == Verdict::NoSuchDay);
-    let pieces = translate(&asdu);
-    assert!(rt; pieces.len() == 1);
-    let wanted = [
-        30, 0x01, 3, 0, 1, 0, 100, 0, 0, 0x81, 0xD5, 0xDD, 0x22, 0x0C, 0x9D, 0x02, 0x17,
-    ];
-    assert!(rt; pieces.as_slice()[0].as_slice() == wanted.as_slice());
+    let tag = [0xD5, 0xDD, 0x22, 0x0C, 0x9D, 0x02, 0x17];
+    let octets = joined(&[&[30, 0x01, 3, 1, 100, 0x81], &tag]);
+    let piece = joined(&[&[30, 0x01, 3, 0, 1, 0, 100, 0, 0, 0x81], &tag]);
+    assert!(rt; is_cut_into(&octets, &[&piece]) && judge(&Cp56(tag)) == Verdict::NoSuchDay);
 }
 
 #[test]
 fn writes_what_fits(rt: HostRuntime) {
-    // The originator 7 goes where the cause has one octet.
+    // The originator 7 goes where the cause has one octet; in its own sizes it has its own octets.
     let octets = [45, 0x01, 0x46, 7, 0x34, 0x12, 0xFF, 0x00, 0x00, 0x81];
-    let asdu = read(Sizes::TCP, &octets).expect(&rt, "a command");
-    check_written(
-        &rt,
-        &asdu,
-        MIDDLE,
-        &[45, 0x01, 0x46, 0x34, 0x12, 0xFF, 0x00, 0x81],
+    let far = [45, 0x01, 6, 0, 1, 0, 0x00, 0x00, 0x01, 1];
+    let long = points(&[1, 124, 3, 1], 1, 124, &[]);
+    let (Ok(command), Ok(far), Ok(long)) = (
+        read(Sizes::TCP, &octets),
+        read(Sizes::TCP, &far),
+        read(SMALL, &long),
+    ) else {
+        assert!(rt; false);
+        return;
+    };
+    assert!(rt;
+        is_written(
+            &command,
+            MIDDLE,
+            &[45, 0x01, 0x46, 0x34, 0x12, 0xFF, 0x00, 0x81]
+        ) && is_written(&command, Sizes::TCP, &octets)
     );
-    // In its own sizes it has its own octets.
-    check_written(&rt, &asdu, Sizes::TCP, &octets);
     // A common address past one octet, an object address past two, and too many octets.
-    assert!(rt; !can_write(SMALL, &asdu));
-    let octets = [45, 0x01, 6, 0, 1, 0, 0x00, 0x00, 0x01, 1];
-    let asdu = read(Sizes::TCP, &octets).expect(&rt, "a command");
-    assert!(rt; !can_write(MIDDLE, &asdu));
-    let mut octets = Octets::new();
-    assert!(rt; extend(&mut octets, &[1, 124, 3, 1]));
-    for address in 1..=124u8 {
-        assert!(rt; extend(&mut octets, &[address, 0]));
-    }
-    let asdu = read(SMALL, octets.as_slice()).expect(&rt, "124 single points");
-    assert!(rt; can_write(SMALL, &asdu));
-    assert!(rt; !can_write(MIDDLE, &asdu));
+    assert!(rt;
+        !can_write(SMALL, &command)
+            && !can_write(MIDDLE, &far)
+            && can_write(SMALL, &long)
+            && !can_write(MIDDLE, &long)
+    );
 }
 
 /// Whether the second is the first with the tag, both ways, in the sizes of a connection.
@@ -379,24 +382,18 @@ fn takes_tags_off_and_puts_them_on(rt: HostRuntime) {
         (49, &[0x64, 0x00, 0x05]),
     ];
     for (octet, element) in commands {
-        let mut plain = Octets::new();
-        let mut tagged = Octets::new();
-        assert!(rt; extend(&mut plain, &[octet, 1, 6, 0, 1, 0, 0x0A, 0, 0]));
-        assert!(rt; extend(&mut tagged, &[octet + 13, 1, 6, 0, 1, 0, 0x0A, 0, 0]));
-        assert!(rt; extend(&mut plain, element) && extend(&mut tagged, element));
-        assert!(rt; extend(&mut tagged, &THURSDAY));
+        let mut plain = joined(&[&[octet, 1, 6, 0, 1, 0, 0x0A, 0, 0]]);
+        let mut tagged = joined(&[&[octet + 13, 1, 6, 0, 1, 0, 0x0A, 0, 0]]);
+        let _ = extend(&mut plain, element)
+            && extend(&mut tagged, element)
+            && extend(&mut tagged, &THURSDAY);
         assert!(rt; is_tagged_pair(&plain, &tagged));
     }
     // With SQ 1, in sizes of one octet each.
-    let select = [
-        58, 0x81, 6, 1, 10, 0x81, 0xD5, 0xDD, 0x22, 0x0C, 0x9D, 0x02, 0x18,
-    ];
-    let Ok(asdu) = read(SMALL, &select) else {
-        assert!(rt; false);
-        return;
+    let select = joined(&[&[58, 0x81, 6, 1, 10, 0x81], &THURSDAY]);
+    let untagged = match read(SMALL, &select) {
+        Ok(asdu) if is_tagged_command(asdu.kind) && asdu.number() == 1 => untag(&asdu),
+        _ => Octets::new(),
     };
-    assert!(rt; is_tagged_command(asdu.kind) && asdu.number() == 1);
-    if is_tagged_command(asdu.kind) && asdu.number() == 1 {
-        assert!(rt; untag(&asdu).as_slice() == [45, 0x81, 6, 1, 10, 0x81].as_slice());
-    }
+    assert!(rt; untagged.as_slice() == [45, 0x81, 6, 1, 10, 0x81].as_slice());
 }

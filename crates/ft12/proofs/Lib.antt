@@ -8,3 +8,4 @@ mod Spoiling
 mod Stages
 mod Computed
 mod Examples
+mod Following

@@ -1,10 +1,12 @@
 -- Frames out of pieces of a stream of octets.
 use Rattle.std.specs.Prelude.{◌≡◌, ℕ, ◌+◌, ◌-◌, List, [], ◌++◌, length, Option, Some, None}
 use Rattle.ft12.specs.declared.frame.LinkSize.{LinkSize}
+use Rattle.ft12.specs.declared.frame.Frame.{Frame}
 use Rattle.ft12.specs.declared.frame.Front.TheVariants as front
 use Rattle.ft12.specs.declared.assembling.Heard.{Heard}
 use Rattle.ft12.specs.declared.assembling.Heard.TheVariants as heard
 use Rattle.ft12.specs.Reading.{IsFront}
+use Rattle.ft12.specs.Spelling.{spelling}
 
 -- the size of the addresses, the octets since the last frame (none where the assembler is deaf),
 -- and how many octets it has looked at
@@ -33,3 +35,10 @@ looked_at (Some so_far) n (heard.Never place why) = place + 1 - length so_far
 looked_at (Some so_far) n (heard.Frame frame) = n
 looked_at (Some so_far) n heard.More = n
 looked_at (Some so_far) n heard.Deaf = n
+
+-- The whole frame is heard, its octets are taken, and the octets behind it begin the next one.
+pub record IsHeardWhole (size : LinkSize) (frame : Frame) (n : ℕ) (h : Heard)
+    (after : Option (List ℕ)) : Type 0 where
+  pub frame_is : h ≡ heard.Frame frame
+  pub taken : n ≡ length (spelling size frame)
+  pub listening : after ≡ Some []

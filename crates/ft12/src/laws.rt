@@ -1,11 +1,13 @@
 //! What holds of all frames and all octets. These functions do nothing: their clauses are the laws.
 
-ghost use Rattle.std.specs.Prelude.{◌≡◌, ◌<◌, ℕ, List, [], ◌++◌, length};
+ghost use Rattle.std.specs.Prelude.{◌≡◌, ◌<◌, ℕ, Option, List, [], ◌++◌, length};
 ghost use Rattle.std.specs.List.{AllByRecursion};
 ghost use Rattle.ft12.specs.declared.frame.LinkSize.{LinkSize};
 ghost use Rattle.ft12.specs.declared.frame.Frame.{Frame};
 ghost use Rattle.ft12.specs.declared.frame.Why.{Why};
 ghost use Rattle.ft12.specs.declared.frame.Front.{Front};
+ghost use Rattle.ft12.specs.declared.assembling.Heard.{Heard};
+ghost use Rattle.ft12.specs.Assembly.{Hears, IsHeardWhole};
 ghost use Rattle.ft12.specs.Fronts.{front_of};
 ghost use Rattle.ft12.specs.Examples.{IsSpelledSo, IsRefusedSo, spelling_examples, refusal_examples};
 ghost use Rattle.ft12.specs.Spelling.{IsLineFrame, Fits, spelling};
@@ -65,6 +67,15 @@ pub fn spoilt_lines_are_no_lines()
     ensures neither { (size : LinkSize) (f g : Frame) (x rest more : List ℕ) (place : ℕ) →
         IsLineFrame size f x → place < length x →
         spoilt place x ++ rest ≡ spelling size g ++ more → ⊥ }
+{}
+
+/// An assembler that is fed the octets of a frame, with anything behind them, hears that frame, takes
+/// its octets and no more, and listens on: so it hears the frames of a stream one after another.
+pub fn frames_are_heard_one_after_another()
+    ensures { (size : LinkSize) (frame : Frame) (more : List ℕ) (n : ℕ) (heard : Heard)
+        (after : Option (List ℕ)) → Fits size frame →
+        Hears size [] (spelling size frame ++ more) n heard after →
+        IsHeardWhole size frame n heard after }
 {}
 
 /// Frames worked by hand from the standard have these octets and are read back from them, and

@@ -27,6 +27,7 @@ pub mod Flagging
 pub mod OneMore
 pub mod GapsTold
 pub mod EndedGaps
+pub mod UnderWay
 pub mod Heeding
 pub mod Visiting
 pub mod VisitRuns

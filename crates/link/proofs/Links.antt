@@ -58,7 +58,7 @@ pub with_one : (front : List ℕ → Front) (xs : List OpenExchange) (x : OpenEx
     with_station i (views front (xs ++ x ∷ [])) ≡ with_station i (views front xs) ++ (if x.station == i then (view front x).exchange ∷ [] else [])
 with_one front xs x i = ap (λ (es : List LineExchange). with_station i es) (views-append front xs (x ∷ [])) ∙ with_station-append i (views front xs) (view front x ∷ [])
 
-nil : (xs : List Exchange) → xs ++ [] ≡ xs
+pub nil : (xs : List Exchange) → xs ++ [] ≡ xs
 nil [] = refl
 nil (y ∷ ys) = ap (λ (zs : List Exchange). y ∷ zs) (nil ys)
 

@@ -1,5 +1,5 @@
 use Rattle.link.proofs.Turning.{goes_on, passes_on, rests}
-use Rattle.link.proofs.runs.each_station_has_its_turn.Goals as goal
+use Rattle.link.proofs.runs.turns_go_round.Goals as goal
 
 pub returns-clause-goes_on : goal.returns-clause-goes_on
 returns-clause-goes_on c = λ p may_poll w free is. goes_on p may_poll w free is
