@@ -1,7 +1,6 @@
 //! Commands done over texts and writers in memory.
 mod connection_types;
 mod faults;
-mod gaps;
 mod line_types;
 mod losses;
 mod shows;
