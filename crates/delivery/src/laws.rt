@@ -83,7 +83,7 @@ pub fn losses_are_told()
 }
 
 /// Of the reports that the outstation gave in sessions that ended, at most as many were not taken
-/// as there are gaps: a session without a gap loses none, and one with a gap loses at most its last.
+/// as there are gaps: a session without a gap loses none, and one with a gap at most its last.
 pub fn losses_have_gaps()
     ensures lost { (p : Setup) (log : Log) (i : ℕ) (turns : List Turn) → IsFaithful p log →
         i < length p.addresses → IsHonest p log i turns →

@@ -83,7 +83,8 @@ sending_of sent = record { station = sent.0; request = sent.1 }
 abbrev pub each_asked : Option Sending → List Secondary → List Tally → List Tally
 each_asked None stations each = each
 each_asked (Some s) stations each =
-    slice_set each s.station (tally_asked s.request (given_at stations s.station) (tally_at each s.station))
+    slice_set each s.station
+    (tally_asked s.request (given_at stations s.station) (tally_at each s.station))
 
 abbrev pub awaited_asked : (now : ℕ) → Option Sending → Option Awaited → Option Awaited
 awaited_asked now None awaited = awaited
@@ -93,12 +94,14 @@ awaited_asked now (Some s) awaited =
 -- Octets come: where a request is awaited, what the frame at their front says in answer to it.
 abbrev pub answer_in : Setup → Awaited → List ℕ → Option Answer
 answer_in p a octets =
-    option_and_then (answer_of (address_at p.addresses a.station) a.request) (whole_of (front_of p.link.size octets))
+    option_and_then (answer_of (address_at p.addresses a.station) a.request)
+    (whole_of (front_of p.link.size octets))
 
 abbrev pub each_heard : Setup → Option Awaited → List ℕ → List Tally → List Tally
 each_heard p None octets each = each
 each_heard p (Some a) octets each =
-    slice_set each a.station (tally_after a.request (answer_in p a octets) (tally_at each a.station))
+    slice_set each a.station
+    (tally_after a.request (answer_in p a octets) (tally_at each a.station))
 
 abbrev pub awaited_heard : List ℕ → Option Awaited → Option Awaited
 awaited_heard [] awaited = awaited
@@ -147,12 +150,17 @@ awaited_in None = None
 awaited_in (Some x) = if x.closed then None else awaited_with x.octets x
 
 -- what is counted of each station after this log, in which they lived so
-abbrev pub tallies_of : (plan : Plan) (log : Log) (answers : List (Option Frame)) (stations : List Secondary) → AreLived plan log answers stations → List Tally
+abbrev pub tallies_of : (plan : Plan) (log : Log) (answers : List (Option Frame))
+    (stations : List Secondary) → AreLived plan log answers stations → List Tally
 tallies_of plan [] answers stations lived = replicate (length plan.stations) fresh_tally
 tallies_of plan (Came now (LineIn octets) ∷ log) answers stations lived =
-    each_heard plan.setup (awaited_in (exchanges_of plan.setup log).current) octets (tallies_of plan log answers stations lived)
-tallies_of plan (Came now event ∷ log) answers stations lived = tallies_of plan log answers stations lived
+    each_heard plan.setup (awaited_in (exchanges_of plan.setup log).current) octets
+    (tallies_of plan log answers stations lived)
+tallies_of plan (Came now event ∷ log) answers stations lived =
+    tallies_of plan log answers stations lived
 tallies_of plan (Went now (LineOut octets) ∷ log) [] stations lived = []
 tallies_of plan (Went now (LineOut octets) ∷ log) (answer ∷ answers) stations lived =
-    each_asked (sending_in plan.setup octets) lived.0 (tallies_of plan log answers lived.0 lived.2)
-tallies_of plan (Went now action ∷ log) answers stations lived = tallies_of plan log answers stations lived
+    each_asked (sending_in plan.setup octets) lived.0
+    (tallies_of plan log answers lived.0 lived.2)
+tallies_of plan (Went now action ∷ log) answers stations lived =
+    tallies_of plan log answers stations lived

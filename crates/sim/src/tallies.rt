@@ -15,7 +15,7 @@ use link::{Answer, Asked, NoMemory, Reading, Station, read_request};
 use std::alloc::Global;
 use std::marker::Model;
 
-/// The latest request, while it may still be answered: it isn't answer_ms old, and nothing came.
+/// The latest request, while it may still be answered: it isn't `answer_ms` old, and nothing came.
 #[derive(Drop)]
 pub struct Awaited {
     /// The index of its station.
@@ -142,7 +142,10 @@ fn answer_in(config: &Config, awaited: &Awaited, octets: &[u8]) -> Option<Answer
 impl Tallies {
     /// Nothing is counted yet of any of so many stations.
     pub(crate) fn new(alloc: Global, stations: usize) -> Result<Tallies, NoMemory>
-        ensures { IfOk result (λ t. t ≡ record { awaited = None; each = replicate stations fresh_tally }) }
+        ensures { IfOk result (λ t. t ≡ record {
+          awaited = None;
+          each = replicate stations fresh_tally;
+        }) }
     {
         match vec![in alloc; Tally::fresh(); stations] {
             Ok(each) => Ok(Tallies {
@@ -162,7 +165,8 @@ impl Tallies {
 
     /// A request goes out, to stations that stand so.
     pub(crate) fn ask(&mut self, config: &Config, stations: &[Station], now: u64, octets: &[u8])
-        ensures { self.new ≡ tallied_asked (setup_of config.now) now octets.now stations.now self.old }
+        ensures { self.new ≡ tallied_asked (setup_of config.now) now octets.now stations.now
+            self.old }
     {
         if let Some((station, request)) = sending_in(config, octets) {
             let tally = tally_at(&self.each, station).asked(&request, given_at(stations, station));
@@ -193,7 +197,9 @@ impl Tallies {
 
     /// A moment comes: what is awaited is over where the time to answer is.
     fn wait(&mut self, answer_ms: u64, now: u64)
-        ensures { self.new ≡ record self.old { awaited = awaited_timed answer_ms now self.old.awaited } }
+        ensures { self.new ≡ record self.old {
+          awaited = awaited_timed answer_ms now self.old.awaited;
+        } }
     {
         if let Some(awaited) = &self.awaited {
             if awaited.since <= now && answer_ms <= now - awaited.since {

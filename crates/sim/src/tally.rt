@@ -5,8 +5,8 @@ ghost use Rattle.sim.specs.Tallies.{fresh_tally, tally_asked, tally_reset, tally
 
 use link::{Answer, Asked, Service};
 
-/// What is counted of a station: of its link's sessions, each from one answered reset to the next, and of its reports. No count
-/// goes past `u64::MAX`.
+/// What is counted of a station: of its link's sessions, each from one answered reset to the next,
+/// and of its reports. No count goes past `u64::MAX`.
 #[derive(Clone, Copy, Debug, PartialEq, Eq)]
 pub struct Tally {
     /// How many resets of its link were answered.
@@ -19,7 +19,8 @@ pub struct Tally {
     pub taken: u64,
     /// How many reports it had given when the latest request to it went out.
     pub given: u64,
-    /// The latest request of the session with a valid frame count bit is a poll, and wasn't answered that it is served.
+    /// The latest request of the session with a valid frame count bit is a poll, and wasn't
+    /// answered that it is served.
     pub is_polled: bool,
 }
 
