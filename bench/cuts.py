@@ -1,12 +1,13 @@
 #!/usr/bin/env python3
-"""Replays a trace with each of its frames cut at each place: what comes of it is the same.
+"""Replays two traces with each of their frames cut at each place: what comes of them is the same.
 
     bench/cuts.py [--program FILE]
 
-A command is selected and confirmed, the control centre goes and comes again, and its execute is refused, since a selection ends with its
-connection. Each frame of the trace, of the line and of TCP, is cut in two pieces at each of its places, both at the same moment; then each
-comes octet by octet; and then all frames do. Each time `telegate replay` is to print what is written here, worked out by hand (IEC
-60870-5-2; IEC 60870-5-104, 5.1 and 5.3; docs/PROFILE.md on selections). The last line is `N passed, M failed`; the exit status is 1 where one failed. The program is the one that ./build makes.
+In one a report comes. In the other a command is selected and confirmed, the control centre goes and comes again, and its execute is
+refused, since a selection ends with its connection. Each frame of a trace, of the line and of TCP, is cut in two pieces at each of its
+places, both at the same moment; then each comes octet by octet; and then all frames do. Each time `telegate replay` is to print what is
+written here, worked out by hand (IEC 60870-5-2; IEC 60870-5-104, 5.1 and 5.3; docs/PROFILE.md on selections). The last line is `N passed,
+M failed`; the exit status is 1 where one failed. The program is the one that ./build makes.
 """
 import argparse
 import os
@@ -56,6 +57,18 @@ PRINTED = """0 > S 1049014A16
 """
 
 
+# The report of a single point.
+REPORT = [(10, "S", "100B010C16"), (20, "S", "E5"), (30, "O", ""), (40, "R", "680407000000"), (50, "S", "680909680801010103016400017416")]
+
+REPORTED = """0 > S 1049014A16
+10 > S 1040014116
+20 > S 107B017C16
+40 > T 68040B000000
+50 > S 105B015C16
+50 > T 680E0000000001010300010064000001
+"""
+
+
 def cut(entry, places):
     """An entry as pieces at the same moment, cut behind so many octets each."""
     now, what, digits = entry
@@ -67,15 +80,15 @@ def size(entry):
     return len(entry[2]) // 2
 
 
-def cases():
+def cases(trace):
     """Each way to cut the trace, with its name."""
-    yield "whole", TRACE
-    for at, entry in enumerate(TRACE):
+    yield "whole", trace
+    for at, entry in enumerate(trace):
         for place in range(1, size(entry)):
-            yield f"{entry} cut behind {place} octets", TRACE[:at] + cut(entry, [place]) + TRACE[at + 1 :]
+            yield f"{entry} cut behind {place} octets", trace[:at] + cut(entry, [place]) + trace[at + 1 :]
         if size(entry) > 2:
-            yield f"{entry} octet by octet", TRACE[:at] + cut(entry, range(1, size(entry))) + TRACE[at + 1 :]
-    yield "all octet by octet", [piece for entry in TRACE for piece in cut(entry, range(1, size(entry)))]
+            yield f"{entry} octet by octet", trace[:at] + cut(entry, range(1, size(entry))) + trace[at + 1 :]
+    yield "all octet by octet", [piece for entry in trace for piece in cut(entry, range(1, size(entry)))]
 
 
 def main():
@@ -87,11 +100,11 @@ def main():
         settings, trace = os.path.join(folder, "config.toml"), os.path.join(folder, "cut.trace")
         with open(settings, "w") as file:
             file.write(SETTINGS)
-        for name, entries in cases():
+        for name, entries, printed in [(*case, PRINTED) for case in cases(TRACE)] + [(*case, REPORTED) for case in cases(REPORT)]:
             with open(trace, "w") as file:
                 file.write("".join(f"{now} {what} {digits}".strip() + "\n" for now, what, digits in entries))
             done = subprocess.run([program, "replay", settings, trace], capture_output=True, text=True, timeout=60)
-            holds = (done.returncode, done.stdout, done.stderr) == (0, PRINTED, "")
+            holds = (done.returncode, done.stdout, done.stderr) == (0, printed, "")
             passed, failed = passed + holds, failed + (not holds)
             if not holds:
                 print(f"FAILED, {name}: status {done.returncode}, {done.stderr}\n{done.stdout}")

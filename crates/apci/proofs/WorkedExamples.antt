@@ -24,7 +24,7 @@ unnumbered TestAct = refl
 unnumbered TestCon = refl
 
 pub formats_hold : TellFormats
-formats_hold = record { information = information; supervisory = λ nr. refl; unnumbered = unnumbered }
+formats_hold = record { information = information; carried = λ ns nr asdu sent received octets some most. (sent, received, octets, some, most); supervisory = λ nr. refl; unnumbered = unnumbered }
 
 pub refusals_hold : AllByRecursion IsRefusedSo refusal_examples
 refusals_hold = (refl, (refl, (refl, (refl, (refl, (refl, (refl, (refl, (refl, (refl, (refl, tt)))))))))))

@@ -1,5 +1,5 @@
 -- APDUs worked by hand from IEC 60870-5-104, 5: their octets, and what tells their formats apart.
-use Rattle.std.specs.Prelude.{◌≡◌, ℕ, ◌%◌, ◌≤◌, List, [], ◌∷◌, slice_index}
+use Rattle.std.specs.Prelude.{◌≡◌, ℕ, ◌%◌, ◌<◌, ◌≤◌, List, [], ◌∷◌, length, slice_index, All}
 use Rattle.arrayvec.specs.ArrayVec.{ArrayVec}
 use Rattle.apci.specs.declared.apdu.Uf.{Uf}
 use Rattle.apci.specs.declared.apdu.Uf.TheVariants.{StartAct, StartCon, StopAct, StopCon, TestAct, TestCon}
@@ -7,7 +7,7 @@ use Rattle.apci.specs.declared.apdu.Apdu.{Apdu}
 use Rattle.apci.specs.declared.apdu.Apdu.TheVariants.{I, S, U}
 use Rattle.apci.specs.declared.apdu.Why.{Why}
 use Rattle.apci.specs.declared.apdu.Why.TheVariants.{Start, Length, Control, NotFour, Short}
-use Rattle.apci.specs.Spelling.{spelling, Fits}
+use Rattle.apci.specs.Spelling.{spelling, IsOctet, Fits}
 use Rattle.apci.specs.Reading.{refusal}
 
 -- ---- Octets
@@ -63,6 +63,9 @@ pub record IsInformation (octets : List ℕ) : Type 0 where
 pub record TellFormats : Type 0 where
   pub information : (ns nr : ℕ) (asdu : ArrayVec ℕ) → Fits (I ns nr asdu) →
       IsInformation (spelling (I ns nr asdu))
+  -- each ASDU of 9 to 249 octets is carried (5.1)
+  pub carried : (ns nr : ℕ) (asdu : ArrayVec ℕ) → ns < 32768 → nr < 32768 →
+      All IsOctet asdu.items → 9 ≤ length asdu.items → length asdu.items ≤ 249 → Fits (I ns nr asdu)
   pub supervisory : (nr : ℕ) → slice_index (spelling (S nr)) 2 % 4 ≡ 1
   pub unnumbered : (f : Uf) → slice_index (spelling (U f)) 2 % 4 ≡ 3
 

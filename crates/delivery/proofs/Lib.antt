@@ -1,6 +1,7 @@
 pub mod Merging
 pub mod Stations
 pub mod Learnt
+pub mod Losses
 pub mod Sessions
 pub mod Sublists
 pub mod Steps

@@ -1,5 +1,5 @@
 //! The laws.
-ghost use Rattle.std.specs.Prelude.{◌≡◌, ◌≢◌, ◌<◌, ◌++◌, ℕ, true, List, length, Some, flat_map};
+ghost use Rattle.std.specs.Prelude.{◌≡◌, ◌≢◌, ◌<◌, ◌≤◌, ◌++◌, ℕ, true, List, length, Some, flat_map};
 ghost use Rattle.std.specs.List.{AllByRecursion};
 ghost use Rattle.link.specs.declared.answer.Answer.TheVariants.{Unable};
 ghost use Rattle.link.specs.Exchanges.{answer_to};
@@ -8,12 +8,18 @@ ghost use Rattle.link.specs.Delivery.{learnt, reports, HasReports, AcceptsSendin
 ghost use Rattle.link.specs.Delivery.{AcceptsAllSendings};
 ghost use Rattle.gateway.specs.Log.{Log};
 ghost use Rattle.gateway.specs.Reports.{Setup, address_at, exchanges_with};
-ghost use Rattle.gateway.specs.Traffic.{IsFaithful};
+ghost use Rattle.gateway.specs.Gaps.{gaps_told};
+ghost use Rattle.gateway.specs.Traffic.{IsFaithful, HasRested};
 ghost use Rattle.delivery.specs.Delivery.{IsHonest, IsSteady, reports_from, Delivers};
 ghost use Rattle.delivery.specs.Delivery.{before_sessions, sessions_of, IsIdle};
+ghost use Rattle.delivery.specs.Sessions.{ended, given_in, taken_in, session_counts};
+ghost use Rattle.delivery.specs.Sessions.{LoseAsTold};
 
 use crate::commands::each_command_is_given_once;
-use link::{commands_are_accepted, each_service_acts_once, reports_are_learnt, sessions_are_known};
+use link::{
+    commands_are_accepted, each_service_acts_once, gaps_are_ended_sessions, reports_are_learnt,
+    sessions_are_known,
+};
 
 /// Whatever serial frames are lost or refused by their check, whatever answers time out, however
 /// TCP is cut and reopened: where serial answers are neither late nor altered unseen and no link
@@ -62,6 +68,32 @@ pub fn each_session_is_known()
     sessions_are_known();
     reports_are_learnt();
     commands_are_accepted();
+}
+
+/// Where reports may be lost the log tells of it: between steps, each session of an honest
+/// outstation's link that ended lost no report, or is told as a gap, by its number from 1, and lost
+/// its last report at most. Nothing else is told as a gap.
+pub fn losses_are_told()
+    ensures { (p : Setup) (log : Log) (i : ℕ) (turns : List Turn) → IsFaithful p log →
+        HasRested p log → i < length p.addresses → IsHonest p log i turns →
+        LoseAsTold (address_at p.addresses i) 1 (sessions_of p log i turns) (gaps_told i log) }
+{
+    each_session_is_known();
+    gaps_are_ended_sessions();
+}
+
+/// Of the reports that the outstation gave in sessions that ended, at most as many were not taken
+/// as there are gaps: a session without a gap loses none, and one with a gap at most its last.
+pub fn losses_have_gaps()
+    ensures lost { (p : Setup) (log : Log) (i : ℕ) (turns : List Turn) → IsFaithful p log →
+        i < length p.addresses → IsHonest p log i turns →
+        (session_counts p log i turns).lost ≤ (session_counts p log i turns).gaps }
+    ensures taken { (p : Setup) (log : Log) (i : ℕ) (turns : List Turn) → IsFaithful p log →
+        i < length p.addresses → IsHonest p log i turns →
+        taken_in (address_at p.addresses i) (ended (sessions_of p log i turns))
+        ≤ given_in (ended (sessions_of p log i turns)) }
+{
+    each_session_is_known();
 }
 
 /// Where unanswered services are held, a link stays up as long as its station never answers that it

@@ -3,7 +3,8 @@
 //!
 //! Laws over every log of a gateway ([`gateway::drive`] promises that its log is faithful), with no
 //! body, since they hold of definitions. Upwards: [`nothing_is_lost`], and
-//! [`each_session_is_known`] for links that are reset on the way. Downwards:
+//! [`each_session_is_known`] for links that are reset on the way, where [`losses_are_told`] as gaps
+//! and [`losses_have_gaps`] says how many there are at most. Downwards:
 //! [`each_command_is_given_once`]. Between them: [`the_course_is_the_logs`], that what the
 //! gateway's course tells of the line and of commands is what the octets of the log show.
 //!
@@ -20,4 +21,6 @@ mod commands;
 mod laws;
 
 pub use commands::{each_command_is_given_once, settings_are_set_up, the_course_is_the_logs};
-pub use laws::{each_session_is_known, nothing_is_lost, silence_is_no_reset};
+pub use laws::{
+    each_session_is_known, losses_are_told, losses_have_gaps, nothing_is_lost, silence_is_no_reset,
+};

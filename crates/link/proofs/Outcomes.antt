@@ -1,15 +1,15 @@
 -- What the caller is told is what the exchange shows.
-use Rattle.std.proofs.Common.{◌≡◌, ℕ, ◌||◌, nat_le, ◌+◌, slice_index, Bool, true, false, List, ◌++◌, Option, Some, None, option_and_then, refl, sym, ap, subst, ◌∙◌, inl, inr, if◌then◌else◌}
+use Rattle.std.proofs.Common.{◌≡◌, ℕ, suc, ◌||◌, ◌&&◌, not, nat_le, nat_lt, ◌+◌, slice_index, Bool, true, false, List, ◌++◌, Option, Some, None, option_and_then, refl, sym, ap, subst, ◌∙◌, inl, inr, if◌then◌else◌}
 use Rattle.ft12.specs.declared.frame.Front.{Front}
 use Rattle.ft12.specs.declared.frame.Front.TheVariants.{Whole, More, Never}
-use Rattle.link.specs.Answers.{Asked, Answer, answer_of}
+use Rattle.link.specs.Answers.{Service, Asked, Status, Reset, Counted, Answer, answer_of}
 use Rattle.link.specs.Exchanges.{OpenExchange, Exchanges, IsOutstanding, answer_to, whole_of, view, views, with_station, heard_octets, timed}
 use Rattle.link.specs.Gaps.{gap_at}
-use Rattle.link.specs.Procedure.{LinkSettings, Link, Down, after_silence, link_after}
+use Rattle.link.specs.Procedure.{LinkSettings, Link, Down, Available, Next, Held, held, MaySend, is_up, goes_down, after_silence, link_after}
 use Rattle.link.specs.Turns.{station_at}
 use Rattle.link.specs.Primary.{Outstanding, Primary, received_from, received, outcome_of, outcome_at, outcome_after, outcome_from, received_outcome, is_late, due_from, timed_out, due_outcome, due_outcome_from, miss_outcome, unanswered, gap_of, turn_gap, with_gap}
 use Rattle.link.specs.declared.outcome.Outcome.TheVariants as outcome
-use Rattle.link.specs.Telling.{IsHeard, IsAwaited, IsOver, IsCurrent, TellsBy}
+use Rattle.link.specs.Telling.{IsAllowed, IsHeard, IsAwaited, IsOver, IsCurrent, TellsBy}
 use Rattle.link.specs.Runs.{silence_outcome}
 use Rattle.link.proofs.Telling.{said_now, heard_open, links_at}
 
@@ -118,18 +118,48 @@ early_due front settings addresses p e at x t latest out early =
       ap (λ (o : Option Outstanding). due_outcome_from p o at) a.1 ∙ ap (λ (b : Bool). if b then miss_outcome p a.0.request else outcome.None) late,
     )
 
+-- a service that isn't sent again any more takes the link down
+held_falls : (settings : LinkSettings) (sent fcb : Bool) (asked service : Service) (missed : ℕ) →
+    goes_down (Counted sent asked) (held settings fcb service missed) ≡ not (is_up (held settings fcb service missed))
+held_falls settings sent fcb asked service missed = go (nat_lt settings.retries missed) settings.hold
+  where
+    go : (b hold : Bool) →
+        goes_down (Counted sent asked) (if b then (if hold then Held fcb service (suc settings.retries) else Down) else Held fcb service missed)
+        ≡ not (is_up (if b then (if hold then Held fcb service (suc settings.retries) else Down) else Held fcb service missed))
+    go true true = refl
+    go true false = refl
+    go false hold = refl
+
+falls : (settings : LinkSettings) (request : Asked) (link : Link) → MaySend link request →
+    goes_down request (after_silence settings request true link) ≡ (is_up link && not (is_up (after_silence settings request true link)))
+falls settings Status Down may = refl
+falls settings Status Available may = refl
+falls settings Status (Next fcb) may = absurd may
+falls settings Status (Held fcb service missed) may = absurd may
+falls settings Reset Down may = absurd may
+falls settings Reset Available may = refl
+falls settings Reset (Next fcb) may = absurd may
+falls settings Reset (Held fcb service missed) may = absurd may
+falls settings (Counted sent asked) Down may = absurd may
+falls settings (Counted sent asked) Available may = absurd may
+falls settings (Counted sent asked) (Next fcb) may = held_falls settings sent sent asked asked 1
+falls settings (Counted sent asked) (Held fcb service missed) may = held_falls settings sent sent asked asked (suc missed)
+
 pub told_due : (front : List ℕ → Front) (settings : LinkSettings) (addresses : List ℕ) (p : Primary) (e : Exchanges) (at : ℕ) (x : OpenExchange) →
     TellsBy front settings addresses p e → e.current ≡ Some x → IsOutstanding (slice_index addresses x.station) (view front x).exchange →
     (timed settings.answer_ms at x).closed ≡ true →
-    due_outcome p at ≡ silence_outcome x.station x.request
+    due_outcome p at ≡ silence_outcome x.station (link_after settings (slice_index addresses x.station) Down (with_station x.station (views front e.ended)))
     (after_silence settings x.request true (link_after settings (slice_index addresses x.station) Down (with_station x.station (views front e.ended))))
 told_due front settings addresses p e at x t latest out late =
     let a = awaited_at front addresses p.turn p.outstanding x (subst (λ (c : Option OpenExchange). IsCurrent front addresses p.turn p.outstanding c) latest t.current) out in
     let due : is_late p a.0 at ≡ true = late_so front settings addresses p e at x a.0 t a.2 ∙ late in
     let links = links_at front settings addresses p e (Some a.0) a.1 t in
+    let may : MaySend (station_at p.stations p.turn).link a.0.request = subst (λ (o : Option Outstanding). IsAllowed p.stations p.turn o) a.1 t.allowed in
     ap (λ (o : Option Outstanding). due_outcome_from p o at) a.1
     ∙ ap (λ (b : Bool). if b then miss_outcome p a.0.request else outcome.None) due
-    ∙ ap (λ (s : LinkSettings). silence_outcome p.turn a.0.request (after_silence s a.0.request true (station_at p.stations p.turn).link)) t.settings_are
-    ∙ ap (λ (r : Asked). silence_outcome p.turn r (after_silence settings r true (station_at p.stations p.turn).link)) (sym a.2.request)
-    ∙ ap (λ (l : Link). silence_outcome p.turn x.request (after_silence settings x.request true l)) (sym (links p.turn))
-    ∙ ap (λ (i : ℕ). silence_outcome i x.request (after_silence settings x.request true (link_after settings (slice_index addresses i) Down (with_station i (views front e.ended))))) (sym a.2.station)
+    ∙ ap (λ (b : Bool). if b then outcome.Down p.turn else outcome.None) (falls p.settings a.0.request (station_at p.stations p.turn).link may)
+    ∙ ap (λ (s : LinkSettings). silence_outcome p.turn (station_at p.stations p.turn).link (after_silence s a.0.request true (station_at p.stations p.turn).link)) t.settings_are
+    ∙ ap (λ (r : Asked). silence_outcome p.turn (station_at p.stations p.turn).link (after_silence settings r true (station_at p.stations p.turn).link)) (sym a.2.request)
+    ∙ ap (λ (l : Link). silence_outcome p.turn l (after_silence settings x.request true l)) (sym (links p.turn))
+    ∙ ap (λ (i : ℕ). silence_outcome i (link_after settings (slice_index addresses i) Down (with_station i (views front e.ended)))
+    (after_silence settings x.request true (link_after settings (slice_index addresses i) Down (with_station i (views front e.ended))))) (sym a.2.station)

@@ -1,5 +1,6 @@
--- Which frames answer which request (IEC 60870-5-2, 5.1: the control field of a secondary station, and its procedures of unbalanced transmission).
--- What the single character E5 stands for is this gateway's own profile.
+-- Which frames answer which request (IEC 60870-5-2, 5.1: the control field of a secondary station,
+-- and its procedures of unbalanced transmission). What the single character E5 stands for is this
+-- gateway's own profile.
 use Rattle.std.specs.Prelude.{◌≡◌, ℕ, ◌/◌, ◌%◌, ◌==◌, ◌&&◌, ◌||◌, Bool, List, Option, Some, None, if◌then◌else◌}
 pub use Rattle.ft12.specs.declared.frame.Frame.{Frame}
 pub use Rattle.ft12.specs.declared.frame.Frame.TheVariants.{Single, Fixed, Data}
@@ -18,7 +19,8 @@ unable_answer code = if (code == 14) || (code == 15) then Some Unable else None
 abbrev pub service_answer : Service → ℕ → Option Answer
 service_answer Class1 code = if code == 9 then Some NoData else unable_answer code
 service_answer Class2 code = if code == 9 then Some NoData else unable_answer code
-service_answer (Command asdu) code = if code == 0 then Some Confirmed else if code == 1 then Some Busy else unable_answer code
+service_answer (Command asdu) code =
+    if code == 0 then Some Confirmed else if code == 1 then Some Busy else unable_answer code
 
 -- and to each request
 abbrev pub code_answer : Asked → ℕ → Option Answer
@@ -52,7 +54,8 @@ answer_of station request Single = single_answer request
 answer_of station request (Fixed control address) =
     if comes_from station control address then code_answer request (control % 16) else None
 answer_of station request (Data control address body) =
-    if comes_from station control address && (control % 16 == 8) then data_answer request body.items else None
+    if comes_from station control address && (control % 16 == 8)
+    then data_answer request body.items else None
 
 -- the frame says this in answer to the request
 abbrev pub Says : (station : ℕ) → Asked → Answer → Frame → Type 0

@@ -1,5 +1,6 @@
--- What a primary station that keeps the frame count bit knows of an honest outstation: each service acts once, and its answer is taken once.
--- (The frame count bit of IEC 60870-5-2 is there to give this.)
+-- What a primary station that keeps the frame count bit knows of an honest outstation: each service
+-- acts once, and its answer is taken once. (The frame count bit of IEC 60870-5-2 is there to give
+-- this.)
 use Rattle.std.specs.Prelude.{◌≡◌, ℕ, ◌⊎◌, Bool, true, false, List, [], ◌∷◌, ◌++◌, Option, Some, None, IsSome, if◌then◌else◌}
 use Rattle.link.specs.Answers.{Frame, Service, Class1, Class2, Command, Asked, Status, Reset, Counted, Answer, Confirmed, Busy, Unable}
 use Rattle.link.specs.Exchanges.{Exchange, answer_to}
@@ -30,14 +31,15 @@ abbrev pub AreTrueFronts : List Exchange → List Turn → Type 0
 AreTrueFronts (x ∷ xs) (turn ∷ turns) = IsTrueFront x.front turn × AreTrueFronts xs turns
 AreTrueFronts xs turns = Unit {0}
 
--- The exchanges are those of an outstation that took these turns: answers are lost, or come in their exchange and unaltered.
+-- The exchanges are those of an outstation that took these turns: answers are lost, or come in
+-- their exchange and unaltered.
 pub record IsHonest (station : ℕ) (xs : List Exchange) (turns : List Turn) : Type 0 where
   pub end : Outstation
   pub run : OutstationRun station unreset (requests_of xs) turns end
   pub fronts : AreTrueFronts xs turns
 
--- the service that the primary has no outcome of: its latest one in this session, where that was not answered, or answered that
--- it couldn't be served
+-- the service that the primary has no outcome of: its latest one in this session, where that was
+-- not answered, or answered that it couldn't be served
 abbrev pub pending_by : Asked → Option Answer → Option Service → Option Service
 pending_by (Counted fcb service) None pending = Some service
 pending_by (Counted fcb service) (Some Unable) pending = Some service
@@ -48,17 +50,21 @@ pending_by Reset answer pending = pending
 
 abbrev pub pending_after : (station : ℕ) → Option Service → List Exchange → Option Service
 pending_after station pending [] = pending
-pending_after station pending (x ∷ xs) = pending_after station (pending_by x.request (answer_to station x) pending) xs
+pending_after station pending (x ∷ xs) =
+    pending_after station (pending_by x.request (answer_to station x) pending) xs
 
--- What the outstation may have done that the primary doesn't know of: what the pending service asks for, once.
+-- What the outstation may have done that the primary doesn't know of: what the pending service asks
+-- for, once.
 abbrev pub MayOwe : Option Service → List Effect → Type 0
 MayOwe None owed = owed ≡ []
 MayOwe (Some Class1) owed = (owed ≡ []) ⊎ ((asdu : List ℕ) × (owed ≡ Given asdu ∷ []))
 MayOwe (Some Class2) owed = (owed ≡ []) ⊎ ((asdu : List ℕ) × (owed ≡ Given asdu ∷ []))
 MayOwe (Some (Command asdu)) owed = (owed ≡ []) ⊎ (owed ≡ Accepted asdu ∷ [])
 
--- The outstation has done what the primary learnt, in that order, and then at most what the pending service asks for.
-pub record IsKnown (learnt : List Effect) (pending : Option Service) (done : List Effect) : Type 0 where
+-- The outstation has done what the primary learnt, in that order, and then at most what the pending
+-- service asks for.
+pub record IsKnown (learnt : List Effect) (pending : Option Service)
+    (done : List Effect) : Type 0 where
   pub owed : List Effect
   pub may_owe : MayOwe pending owed
   pub whole : learnt ++ owed ≡ done
@@ -76,7 +82,10 @@ pub record Session : Type 0 where
   pub turns : List Turn
 
 abbrev pub with_first : Exchange → Turn → Session → Session
-with_first x turn session = record { exchanges = x ∷ session.exchanges; turns = turn ∷ session.turns }
+with_first x turn session = record {
+  exchanges = x ∷ session.exchanges;
+  turns = turn ∷ session.turns;
+}
 
 -- what comes before the first confirmed reset
 abbrev pub before_reset : (station : ℕ) → List Exchange → List Turn → Session
@@ -88,14 +97,17 @@ before_reset station xs turns = record { exchanges = []; turns = [] }
 -- the sessions: each is a confirmed reset and what comes before the next one
 abbrev pub sessions : (station : ℕ) → List Exchange → List Turn → List Session
 sessions station (x ∷ xs) (turn ∷ turns) =
-    if is_reset x.request (answer_to station x) then with_first x turn (before_reset station xs turns) ∷ sessions station xs turns
+    if is_reset x.request (answer_to station x)
+    then with_first x turn (before_reset station xs turns) ∷ sessions station xs turns
     else sessions station xs turns
 sessions station xs turns = []
 
--- The outstation has done in the session what the primary learnt in it, and then at most what the session's last service asks for.
+-- The outstation has done in the session what the primary learnt in it, and then at most what the
+-- session's last service asks for.
 abbrev pub IsSessionKnown : (station : ℕ) → Session → Type 0
 IsSessionKnown station session =
-    IsKnown (learnt station session.exchanges) (pending_after station None session.exchanges) (all_done session.turns)
+    IsKnown (learnt station session.exchanges) (pending_after station None session.exchanges)
+    (all_done session.turns)
 
 -- these, or all of them but the last
 abbrev pub IsAllOrButLast : {A : Type 0} → List A → List A → Type 0
@@ -131,7 +143,8 @@ command_of (Command asdu) = asdu ∷ []
 command_of Class1 = []
 command_of Class2 = []
 
--- Whether the service that the first of these exchanges sends is in the end answered that the link is busy.
+-- Whether the service that the first of these exchanges sends is in the end answered that the link
+-- is busy.
 abbrev pub is_busy_by : Asked → Option Answer → (later : Bool) → Bool
 is_busy_by (Counted fcb service) (Some Busy) later = true
 is_busy_by (Counted fcb service) (Some Unable) later = later
@@ -142,7 +155,8 @@ is_busy_by Reset answer later = later
 
 abbrev pub is_answered_busy : (station : ℕ) → List Exchange → Bool
 is_answered_busy station [] = false
-is_answered_busy station (x ∷ xs) = is_busy_by x.request (answer_to station x) (is_answered_busy station xs)
+is_answered_busy station (x ∷ xs) =
+    is_busy_by x.request (answer_to station x) (is_answered_busy station xs)
 
 -- A first sending is a command that isn't the repeat of an unanswered one.
 abbrev pub first_sending : Option Service → Asked → List (List ℕ)
@@ -156,10 +170,12 @@ sendings_not_busy station pending (x ∷ xs) =
     (if is_answered_busy station (x ∷ xs) then [] else first_sending pending x.request)
     ++ sendings_not_busy station (pending_by x.request (answer_to station x) pending) xs
 
--- The outstation accepted the session's commands that weren't answered busy, or all of them but the last.
+-- The outstation accepted the session's commands that weren't answered busy, or all of them but the
+-- last.
 abbrev pub AcceptsSendings : (station : ℕ) → Session → Type 0
 AcceptsSendings station session =
-    IsAllOrButLast (sendings_not_busy station None session.exchanges) (commands (all_done session.turns))
+    IsAllOrButLast (sendings_not_busy station None session.exchanges)
+    (commands (all_done session.turns))
 
 -- whether the pending service is a command
 abbrev pub is_command_pending : Option Service → Bool
@@ -168,13 +184,15 @@ is_command_pending (Some Class1) = false
 is_command_pending (Some Class2) = false
 is_command_pending (Some (Command asdu)) = true
 
--- Where no command is pending in the end, the outstation accepted all of the session's commands that weren't answered busy.
+-- Where no command is pending in the end, the outstation accepted all of the session's commands
+-- that weren't answered busy.
 abbrev pub AcceptsAllSendings : (station : ℕ) → Session → Type 0
 AcceptsAllSendings station session =
     is_command_pending (pending_after station None session.exchanges) ≡ false →
     sendings_not_busy station None session.exchanges ≡ commands (all_done session.turns)
 
--- In a session whose latest service is a poll that wasn't answered by a report or that there is none, a report may be lost: a gap.
+-- In a session whose latest service is a poll that wasn't answered by a report or that there is
+-- none, a report may be lost: a gap.
 abbrev pub is_gap : Option Service → Bool
 is_gap None = false
 is_gap (Some Class1) = true
@@ -184,7 +202,10 @@ is_gap (Some (Command asdu)) = false
 abbrev pub HasGap : (station : ℕ) → Session → Type 0
 HasGap station session = is_gap (pending_after station None session.exchanges) ≡ true
 
--- The primary has all the session's reports, or all but the last, and all of them where there is no gap.
+-- The primary has all the session's reports, or all but the last, and all of them where there is no
+-- gap.
 pub record HasReports (station : ℕ) (session : Session) : Type 0 where
-  pub most : IsAllOrButLast (reports (all_done session.turns)) (reports (learnt station session.exchanges))
-  pub all : is_gap (pending_after station None session.exchanges) ≡ false → reports (learnt station session.exchanges) ≡ reports (all_done session.turns)
+  pub most : IsAllOrButLast (reports (all_done session.turns))
+      (reports (learnt station session.exchanges))
+  pub all : is_gap (pending_after station None session.exchanges) ≡ false →
+      reports (learnt station session.exchanges) ≡ reports (all_done session.turns)

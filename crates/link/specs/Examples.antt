@@ -1,4 +1,5 @@
--- What the worked examples of the tables speak of: user data of one octet, and a station in each state.
+-- What the worked examples of the tables speak of: user data of one octet, and a station in each
+-- state.
 use Rattle.std.specs.Prelude.{ℕ, Bool, List, [], ◌∷◌, Option}
 use Rattle.link.specs.Procedure.{Link}
 use Rattle.link.specs.Turns.{StationState, no_session}
@@ -8,4 +9,11 @@ octet = 7 ∷ []
 
 abbrev pub in_state : Link → (acd dfc : Bool) → (offered : Option (List ℕ)) → StationState
 in_state link acd dfc offered =
-    record { address = 1; link = link; acd = acd; dfc = dfc; offered = offered; session = no_session }
+    record {
+      address = 1;
+      link = link;
+      acd = acd;
+      dfc = dfc;
+      offered = offered;
+      session = no_session;
+    }

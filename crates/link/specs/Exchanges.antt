@@ -1,11 +1,13 @@
--- Exchanges: a request, what came until the next one, and its answer (IEC 60870-5-2, unbalanced transmission procedures; which octets of the
--- line belong to an exchange is this gateway's own profile).
+-- Exchanges: a request, what came until the next one, and its answer (IEC 60870-5-2, unbalanced
+-- transmission procedures; which octets of the line belong to an exchange is this gateway's own
+-- profile).
 use Rattle.std.specs.Prelude.{◌≡◌, ℕ, ◌+◌, ◌==◌, ◌&&◌, ◌||◌, not, nat_le, Bool, true, false, List, [], ◌∷◌, ◌++◌, length, count_by, Option, Some, None, is_none, IsSome, option_and_then, if◌then◌else◌}
 use Rattle.ft12.specs.declared.frame.Front.{Front}
 use Rattle.ft12.specs.declared.frame.Front.TheVariants.{Whole, More, Never}
 use Rattle.link.specs.Answers.{Frame, Asked, Answer, Report, answer_of}
 
--- A request to one station, the whole frame at the front of the octets of its exchange, if there was one, and whether the time to answer is over.
+-- A request to one station, the whole frame at the front of the octets of its exchange, if there
+-- was one, and whether the time to answer is over.
 pub record Exchange : Type 0 where
   pub request : Asked
   pub front : Option Frame
@@ -34,14 +36,16 @@ pub record LineExchange : Type 0 where
 -- those with one station
 abbrev pub with_station : (station : ℕ) → List LineExchange → List Exchange
 with_station station [] = []
-with_station station (e ∷ es) = if e.station == station then e.exchange ∷ with_station station es else with_station station es
+with_station station (e ∷ es) =
+    if e.station == station then e.exchange ∷ with_station station es else with_station station es
 
 -- a request that goes out: the station's index, and what it asks for
 pub record Sending : Type 0 where
   pub station : ℕ
   pub request : Asked
 
--- An exchange so far, with the moment of its request, and all octets that came. None are added once it is closed.
+-- An exchange so far, with the moment of its request, and all octets that came. None are added once
+-- it is closed.
 pub record OpenExchange : Type 0 where
   pub station : ℕ
   pub request : Asked
@@ -97,7 +101,13 @@ abbrev pub begun_by : (at : ℕ) → Option Sending → Exchanges → Exchanges
 begun_by at None e = e
 begun_by at (Some s) e = record {
   ended = e.ended ++ as_list e.current;
-  current = Some (record { station = s.station; request = s.request; since = at; octets = []; closed = false });
+  current = Some (record {
+    station = s.station;
+    request = s.request;
+    since = at;
+    octets = [];
+    closed = false;
+  });
 }
 
 -- the frame at the front of octets, by a reader of fronts
@@ -108,7 +118,14 @@ whole_of (Never place why) = None
 
 -- what an exchange so far shows
 abbrev pub view : (front : List ℕ → Front) → OpenExchange → LineExchange
-view front x = record { station = x.station; exchange = record { request = x.request; front = whole_of (front x.octets); closed = x.closed } }
+view front x = record {
+  station = x.station;
+  exchange = record {
+    request = x.request;
+    front = whole_of (front x.octets);
+    closed = x.closed;
+  };
+}
 
 abbrev pub views : (front : List ℕ → Front) → List OpenExchange → List LineExchange
 views front [] = []
@@ -122,14 +139,17 @@ report_by station answer = []
 -- the reports of these exchanges, in order: the data of each poll that was answered with data
 abbrev pub reports_of : (address : ℕ → ℕ) → List LineExchange → List (ℕ × List ℕ)
 reports_of address [] = []
-reports_of address (e ∷ es) = report_by e.station (answer_to (address e.station) e.exchange) ++ reports_of address es
+reports_of address (e ∷ es) =
+    report_by e.station (answer_to (address e.station) e.exchange) ++ reports_of address es
 
-abbrev pub reports_of_exchanges : (front : List ℕ → Front) → (address : ℕ → ℕ) → Exchanges → List (ℕ × List ℕ)
+abbrev pub reports_of_exchanges : (front : List ℕ → Front) → (address : ℕ → ℕ) → Exchanges →
+    List (ℕ × List ℕ)
 reports_of_exchanges front address e = reports_of address (views front (all_of e))
 
 -- Spoilt (this gateway's own profile): closed, with octets, and not answered.
 abbrev pub is_spoilt : (front : List ℕ → Front) → (address : ℕ) → OpenExchange → Bool
-is_spoilt front address x = x.closed && (not (length x.octets == 0) && is_none (answer_to address (view front x).exchange))
+is_spoilt front address x =
+    x.closed && (not (length x.octets == 0) && is_none (answer_to address (view front x).exchange))
 
 -- how many of these exchanges are spoilt
 abbrev pub spoilt_count : (front : List ℕ → Front) → (address : ℕ → ℕ) → List OpenExchange → ℕ

@@ -13,22 +13,35 @@ pub use Rattle.link.specs.declared.awaited.Awaited.{Awaited}
 -- octets come in the exchange
 abbrev pub awaited_with : List ℕ → Awaited → Awaited
 awaited_with octets a =
-    record { request = a.request; since = a.since; deaf = a.deaf; has_octets = a.has_octets || not (length octets == 0) }
+    record {
+      request = a.request;
+      since = a.since;
+      deaf = a.deaf;
+      has_octets = a.has_octets || not (length octets == 0);
+    }
 
 -- the outstanding request, with what the assembler has of its answer
 abbrev pub outstanding_of : Awaited → (so_far : Option (List ℕ)) → Outstanding
-outstanding_of a so_far = record { request = a.request; since = a.since; heard = if a.deaf then None else so_far; has_octets = a.has_octets }
+outstanding_of a so_far = record {
+  request = a.request;
+  since = a.since;
+  heard = if a.deaf then None else so_far;
+  has_octets = a.has_octets;
+}
 
 abbrev pub outstanding_from : Option Awaited → (so_far : Option (List ℕ)) → Option Outstanding
 outstanding_from None so_far = None
 outstanding_from (Some a) so_far = Some (outstanding_of a so_far)
 
--- what an assembler with these octets so far makes of a piece: the frame that it completes, if it does, and the octets so far
-abbrev pub frame_after : (front : List ℕ → Front) → (so_far : Option (List ℕ)) → List ℕ → Option Frame
+-- what an assembler with these octets so far makes of a piece: the frame that it completes, if it
+-- does, and the octets so far
+abbrev pub frame_after : (front : List ℕ → Front) → (so_far : Option (List ℕ)) → List ℕ →
+    Option Frame
 frame_after front None piece = None
 frame_after front (Some before) piece = whole_of (front (before ++ piece))
 
-abbrev pub so_far_after : (front : List ℕ → Front) → (so_far : Option (List ℕ)) → List ℕ → Option (List ℕ)
+abbrev pub so_far_after : (front : List ℕ → Front) → (so_far : Option (List ℕ)) → List ℕ →
+    Option (List ℕ)
 so_far_after front None piece = None
 so_far_after front (Some before) piece = open_octets (before ++ piece) (front (before ++ piece))
 
@@ -60,4 +73,6 @@ pub record IsFitting (p : Primary) : Type 0 where
 abbrev pub IsFittingChoice : Primary → Option Chosen → Type 0
 IsFittingChoice p None = Unit {0}
 IsFittingChoice p (Some c) =
-    (c.station < length p.stations) × FitsAddress p.settings.size (station_at p.stations c.station).address × FitsAsked p.settings.size c.wanted.request
+    (c.station < length p.stations)
+    × FitsAddress p.settings.size (station_at p.stations c.station).address
+    × FitsAsked p.settings.size c.wanted.request

@@ -1,5 +1,5 @@
--- Polls wait for leave (this gateway's own profile): a poll is begun only where the caller has room for its report. One that is begun
--- is sent again without leave.
+-- Polls wait for leave (this gateway's own profile): a poll is begun only where the caller has room
+-- for its report. One that is begun is sent again without leave.
 use Rattle.std.specs.Prelude.{◌≡◌, ◌⊎◌, ◌&&◌, Bool, true, false, Option, Some, None}
 use Rattle.link.specs.Answers.{Asked, Status, Reset, Counted}
 use Rattle.link.specs.Procedure.{Link, Next, Held}

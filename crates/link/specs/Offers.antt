@@ -10,7 +10,9 @@ use Rattle.link.specs.Primary.{Primary}
 abbrev pub offered_at : Primary → (station : ℕ) → Option (List ℕ)
 offered_at p station = (station_at p.stations station).offered
 
--- By these exchanges with a station its link is up, and the latest service is a command that has no outcome yet.
+-- By these exchanges with a station its link is up, and the latest service is a command that has no
+-- outcome yet.
 abbrev pub is_under_way : LinkSettings → (station : ℕ) → List Exchange → Bool
 is_under_way settings station xs =
-    is_up (link_after settings station Down xs) && is_command_pending (pending_after station None xs)
+    is_up (link_after settings station Down xs)
+    && is_command_pending (pending_after station None xs)

@@ -1,5 +1,6 @@
--- An outstation of unbalanced transmission, as a primary station may count on it (IEC 60870-5-2, the procedures of a secondary station): a machine
--- with free choices. What it reports, and whether it can serve, is its own.
+-- An outstation of unbalanced transmission, as a primary station may count on it (IEC 60870-5-2,
+-- the procedures of a secondary station): a machine with free choices. What it reports, and whether
+-- it can serve, is its own.
 use Rattle.std.specs.Prelude.{◌≡◌, ◌≢◌, ℕ, ◌%◌, ◌==◌, ◌&&◌, ◌||◌, ◌⊎◌, Bool, true, false, List, [], ◌∷◌, ◌++◌, Option, Some, None}
 use Rattle.link.specs.Answers.{Frame, Single, Fixed, Data, Service, Class1, Class2, Command, Asked, Status, Reset, Counted, Answer, Ready, Confirmed, Report, Unable, Says, comes_from}
 
@@ -15,7 +16,8 @@ effects_of Class2 (Report asdu) = Given asdu ∷ []
 effects_of (Command asdu) Confirmed = Accepted asdu ∷ []
 effects_of service answer = []
 
--- the frame count bit that it has, if it was ever reset, and its last answer to a counted request since
+-- the frame count bit that it has, if it was ever reset, and its last answer to a counted request
+-- since
 pub record Outstation : Type 0 where
   pub bit : Option Bool
   pub last : Option Frame
@@ -41,39 +43,49 @@ with_answer frame = record { answer = Some frame; done = [] }
 -- functions 14 and 15 of this station: the service isn't functioning, or isn't implemented
 abbrev pub is_refusal : (station : ℕ) → Frame → Bool
 is_refusal station Single = false
-is_refusal station (Fixed control address) = comes_from station control address && ((control % 16 == 14) || (control % 16 == 15))
+is_refusal station (Fixed control address) =
+    comes_from station control address && ((control % 16 == 14) || (control % 16 == 15))
 is_refusal station (Data control address body) = false
 
 -- A counted request is heard by an outstation with this bit.
-abbrev pub Serves : (station : ℕ) → Option Bool → Outstation → (fcb : Bool) → Service → Turn → Outstation → Type 0
+abbrev pub Serves : (station : ℕ) → Option Bool → Outstation → (fcb : Bool) → Service → Turn →
+    Outstation → Type 0
 -- before the first reset there is no answer
 Serves station None old fcb service turn new = (turn ≡ silent) × (new ≡ old)
--- with the old bit it gives its last answer again, if it has one. With a new bit it takes the bit, serves, and keeps its answer
+-- with the old bit it gives its last answer again, if it has one. With a new bit it takes the bit,
+-- serves, and keeps its answer
 Serves station (Some bit) old fcb service turn new =
     (fcb ≡ bit) × (turn ≡ record { answer = old.last; done = [] }) × (new ≡ old)
-    ⊎ (fcb ≢ bit) × ((frame : Frame) × (answer : Answer) × Says station (Counted fcb service) answer frame × (answer ≢ Unable)
+    ⊎ (fcb ≢ bit) × ((frame : Frame) × (answer : Answer)
+    × Says station (Counted fcb service) answer frame × (answer ≢ Unable)
     × (turn ≡ record { answer = Some frame; done = effects_of service answer })
     × (new ≡ record { bit = Some fcb; last = Some frame }))
 
 -- The outstation hears the request, and is able to serve it.
 abbrev pub Hears : (station : ℕ) → Outstation → Asked → Turn → Outstation → Type 0
-Hears station old Status turn new = (frame : Frame) × Says station Status Ready frame × (turn ≡ with_answer frame) × (new ≡ old)
-Hears station old Reset turn new = (frame : Frame) × Says station Reset Confirmed frame × (turn ≡ with_answer frame) × (new ≡ reset_link)
+Hears station old Status turn new =
+    (frame : Frame) × Says station Status Ready frame × (turn ≡ with_answer frame) × (new ≡ old)
+Hears station old Reset turn new =
+    (frame : Frame) × Says station Reset Confirmed frame × (turn ≡ with_answer frame)
+    × (new ≡ reset_link)
 Hears station old (Counted fcb service) turn new = Serves station old.bit old fcb service turn new
 
 -- One request to the outstation.
-pub data OutstationStep (station : ℕ) (old : Outstation) (request : Asked) (turn : Turn) (new : Outstation) : Type 0 where
+pub data OutstationStep (station : ℕ) (old : Outstation) (request : Asked) (turn : Turn)
+    (new : Outstation) : Type 0 where
   -- it isn't heard
   unheard : turn ≡ silent → new ≡ old → OutstationStep station old request turn new
   -- it is heard, and answered that the service isn't functioning or not implemented
-  unable : (frame : Frame) → is_refusal station frame ≡ true → turn ≡ with_answer frame → new ≡ old → OutstationStep station old request turn new
+  unable : (frame : Frame) → is_refusal station frame ≡ true → turn ≡ with_answer frame →
+      new ≡ old → OutstationStep station old request turn new
   heard : Hears station old request turn new → OutstationStep station old request turn new
 
 -- These requests in turn, from one state to another.
 abbrev pub OutstationRun : (station : ℕ) → Outstation → List Asked → List Turn → Outstation → Type 0
 OutstationRun station old [] [] new = new ≡ old
 OutstationRun station old (request ∷ requests) (turn ∷ turns) new =
-    (mid : Outstation) × OutstationStep station old request turn mid × OutstationRun station mid requests turns new
+    (mid : Outstation) × OutstationStep station old request turn mid
+    × OutstationRun station mid requests turns new
 OutstationRun station old [] (turn ∷ turns) new = ⊥
 OutstationRun station old (request ∷ requests) [] new = ⊥
 

@@ -1,4 +1,5 @@
--- The primary station of unbalanced transmission as a machine: whose turn it is, the request whose answer is awaited, and what a call of it does.
+-- The primary station of unbalanced transmission as a machine: whose turn it is, the request whose
+-- answer is awaited, and what a call of it does.
 use Rattle.std.specs.Prelude.{ℕ, ◌+◌, ◌/◌, ◌%◌, ◌==◌, ◌&&◌, ◌||◌, nat_le, Bool, true, false, not, List, [], ◌++◌, map, length, slice_set, Option, Some, None, is_none, if◌then◌else◌}
 use Rattle.ft12.specs.declared.frame.Front.{Front}
 use Rattle.ft12.specs.declared.frame.Front.TheVariants.{Whole, More, Never}
@@ -13,16 +14,16 @@ pub use Rattle.link.specs.declared.request.Request.{Request}
 pub use Rattle.link.specs.declared.outcome.Outcome.{Outcome}
 pub use Rattle.link.specs.declared.outcome.Outcome.TheVariants as outcome
 
--- The request whose answer is awaited, since when, and the octets so far of its exchange. None: they can't be the answer any more.
--- And whether any octets came in it.
+-- The request whose answer is awaited, since when, and the octets so far of its exchange. None:
+-- they can't be the answer any more. And whether any octets came in it.
 pub record Outstanding : Type 0 where
   pub request : Asked
   pub since : ℕ
   pub heard : Option (List ℕ)
   pub has_octets : Bool
 
--- the primary, with the station whose turn it is, what the turn goes on with, whether an unanswered service is sent again at once,
--- and how many exchanges were spoilt
+-- the primary, with the station whose turn it is, what the turn goes on with, whether an unanswered
+-- service is sent again at once, and how many exchanges were spoilt
 pub record Primary : Type 0 where
   pub settings : LinkSettings
   pub stations : List StationState
@@ -33,7 +34,14 @@ pub record Primary : Type 0 where
   pub spoilt : ℕ
 
 abbrev pub station_down : (address : ℕ) → StationState
-station_down address = record { address = address; link = Down; acd = false; dfc = false; offered = None; session = no_session }
+station_down address = record {
+  address = address;
+  link = Down;
+  acd = false;
+  dfc = false;
+  offered = None;
+  session = no_session;
+}
 
 -- A primary of these stations, whose links are down. The first turn is the first station's.
 abbrev pub start : LinkSettings → (addresses : List ℕ) → Primary
@@ -49,10 +57,12 @@ start settings addresses = record {
 
 -- `next`
 
--- the next request: the present turn goes on, or else the stations are looked at once round, from the one after the last served
+-- the next request: the present turn goes on, or else the stations are looked at once round, from
+-- the one after the last served
 abbrev pub choice : Primary → (may_poll : Bool) → Option Chosen
 choice p may_poll =
-    chosen_or (wanted p.settings.burst may_poll p.again (station_at p.stations p.turn) p.phase) p.turn
+    chosen_or (wanted p.settings.burst may_poll p.again
+    (station_at p.stations p.turn) p.phase) p.turn
     (first_after p.settings.burst may_poll p.stations (length p.stations) p.turn)
 
 -- A command that is put on the line isn't offered any more.
@@ -78,11 +88,18 @@ station_asked s request = record {
 abbrev pub after_choice : Primary → (now : ℕ) → Option Chosen → Primary
 after_choice p now None = record p { phase = Over; again = false }
 after_choice p now (Some c) = record p {
-  stations = slice_set p.stations c.station (station_asked (station_at p.stations c.station) c.wanted.request);
+  stations =
+      slice_set p.stations c.station
+      (station_asked (station_at p.stations c.station) c.wanted.request);
   turn = c.station;
   phase = c.wanted.following;
   again = false;
-  outstanding = Some (record { request = c.wanted.request; since = now; heard = Some []; has_octets = false });
+  outstanding = Some (record {
+    request = c.wanted.request;
+    since = now;
+    heard = Some [];
+    has_octets = false;
+  });
 }
 
 -- Nothing goes out while a request is outstanding.
@@ -109,7 +126,11 @@ sending p may_poll = sending_from p p.outstanding may_poll
 -- The request as it is put on the line. It is sent again where it is the station's held service.
 abbrev pub request_of : Primary → Sending → Request
 request_of p s = record {
-  octets = record { items = spelling p.settings.size (request_frame (station_at p.stations s.station).address s.request) };
+  octets = record {
+    items =
+        spelling p.settings.size (request_frame
+        (station_at p.stations s.station).address s.request);
+  };
   station = s.station;
   kind = kind_of s.request;
   again = is_held (station_at p.stations s.station).link;
@@ -134,7 +155,8 @@ abbrev pub phase_after : Answer → Phase → Phase
 phase_after Unable phase = Over
 phase_after answer phase = phase
 
--- A confirmed reset begins the next session. What a poll asked for is known once it is answered, save that it couldn't be served.
+-- A confirmed reset begins the next session. What a poll asked for is known once it is answered,
+-- save that it couldn't be served.
 unfoldable pub session_answered : SessionState → Asked → Answer → SessionState
 session_answered s Reset Confirmed = record { number = saturated (s.number + 1); has_gap = false }
 session_answered s (Counted fcb service) Unable = s
@@ -154,7 +176,9 @@ station_answered s request frame answer = record {
 -- The exchange of the station whose turn it is ends by an answer.
 abbrev pub answered : Primary → Asked → Frame → Answer → Primary
 answered p request frame answer = record p {
-  stations = slice_set p.stations p.turn (station_answered (station_at p.stations p.turn) request frame answer);
+  stations =
+      slice_set p.stations p.turn
+      (station_answered (station_at p.stations p.turn) request frame answer);
   phase = phase_after answer p.phase;
   outstanding = None;
 }
@@ -165,7 +189,14 @@ answer_at p o frame = answer_of (station_at p.stations p.turn).address o.request
 
 -- the answer is awaited, with these octets so far
 abbrev pub awaits : Primary → Outstanding → (heard : Option (List ℕ)) → Primary
-awaits p o heard = record p { outstanding = Some (record { request = o.request; since = o.since; heard = heard; has_octets = o.has_octets }) }
+awaits p o heard = record p {
+  outstanding = Some (record {
+    request = o.request;
+    since = o.since;
+    heard = heard;
+    has_octets = o.has_octets;
+  });
+}
 
 -- A frame that doesn't fit can't be the answer, nor what comes after it.
 abbrev pub said_by : Primary → Outstanding → Frame → Option Answer → Primary
@@ -190,14 +221,22 @@ heard_from p (Some o) frame = said_by p o frame (answer_at p o frame)
 
 -- octets come in its exchange
 abbrev pub with_octets : List ℕ → Outstanding → Outstanding
-with_octets octets o = record { request = o.request; since = o.since; heard = o.heard; has_octets = o.has_octets || not (length octets == 0) }
+with_octets octets o = record {
+  request = o.request;
+  since = o.since;
+  heard = o.heard;
+  has_octets = o.has_octets || not (length octets == 0);
+}
 
-abbrev pub received_after : (front : List ℕ → Front) → Primary → Outstanding → Option (List ℕ) → List ℕ → Primary
+abbrev pub received_after : (front : List ℕ → Front) → Primary → Outstanding → Option (List ℕ) →
+    List ℕ → Primary
 received_after front p o None octets = awaits p o None
 received_after front p o (Some before) octets =
-    took p o (open_octets (before ++ octets) (front (before ++ octets))) (whole_of (front (before ++ octets)))
+    took p o (open_octets (before ++ octets) (front (before ++ octets)))
+    (whole_of (front (before ++ octets)))
 
-abbrev pub received_from : (front : List ℕ → Front) → Primary → Option Outstanding → List ℕ → Primary
+abbrev pub received_from : (front : List ℕ → Front) → Primary → Option Outstanding → List ℕ →
+    Primary
 received_from front p None octets = p
 received_from front p (Some o) octets = received_after front p (with_octets octets o) o.heard octets
 
@@ -237,13 +276,16 @@ with_gap gap other = other
 
 abbrev pub outcome_at : Primary → Outstanding → Option Frame → Outcome
 outcome_at p o None = outcome.None
-outcome_at p o (Some frame) = with_gap (turn_gap p) (outcome_of p.turn o.request (answer_at p o frame))
+outcome_at p o (Some frame) =
+    with_gap (turn_gap p) (outcome_of p.turn o.request (answer_at p o frame))
 
 abbrev pub heard_outcome : Primary → Option Outstanding → Frame → Outcome
 heard_outcome p None frame = outcome.None
-heard_outcome p (Some o) frame = with_gap (turn_gap p) (outcome_of p.turn o.request (answer_at p o frame))
+heard_outcome p (Some o) frame =
+    with_gap (turn_gap p) (outcome_of p.turn o.request (answer_at p o frame))
 
-abbrev pub outcome_after : (front : List ℕ → Front) → Primary → Outstanding → Option (List ℕ) → List ℕ → Outcome
+abbrev pub outcome_after : (front : List ℕ → Front) → Primary → Outstanding → Option (List ℕ) →
+    List ℕ → Outcome
 outcome_after front p o None octets = outcome.None
 outcome_after front p o (Some before) octets = outcome_at p o (whole_of (front (before ++ octets)))
 
@@ -259,10 +301,17 @@ received_outcome front p octets = outcome_from front p p.outstanding octets
 
 abbrev pub station_unanswered : LinkSettings → StationState → Asked → StationState
 station_unanswered settings s request =
-    record { address = s.address; link = after_silence settings request true s.link; acd = s.acd; dfc = s.dfc; offered = s.offered; session = s.session }
+    record {
+      address = s.address;
+      link = after_silence settings request true s.link;
+      acd = s.acd;
+      dfc = s.dfc;
+      offered = s.offered;
+      session = s.session;
+    }
 
--- The exchange of the station whose turn it is ends with no answer, and is spoilt where octets came in it. The turn is over, save
--- where the service is sent again at once.
+-- The exchange of the station whose turn it is ends with no answer, and is spoilt where octets came
+-- in it. The turn is over, save where the service is sent again at once.
 abbrev pub unanswered : Primary → Outstanding → Primary
 unanswered p o =
     let s = station_unanswered p.settings (station_at p.stations p.turn) o.request in
@@ -288,7 +337,8 @@ timed_out p now = due_from p p.outstanding now
 -- The caller is told where the station's link is down now.
 abbrev pub miss_outcome : Primary → Asked → Outcome
 miss_outcome p request =
-    if goes_down request (after_silence p.settings request true (station_at p.stations p.turn).link) then outcome.Down p.turn else outcome.None
+    if goes_down request (after_silence p.settings request true
+    (station_at p.stations p.turn).link) then outcome.Down p.turn else outcome.None
 
 abbrev pub due_outcome_from : Primary → Option Outstanding → (now : ℕ) → Outcome
 due_outcome_from p None now = outcome.None
@@ -317,13 +367,23 @@ may_offer p station =
     && not ((p.turn == station) && is_sending_command p.outstanding))
 
 abbrev pub with_offer : StationState → Option (List ℕ) → StationState
-with_offer s offered = record { address = s.address; link = s.link; acd = s.acd; dfc = s.dfc; offered = offered; session = s.session }
+with_offer s offered = record {
+  address = s.address;
+  link = s.link;
+  acd = s.acd;
+  dfc = s.dfc;
+  offered = offered;
+  session = s.session;
+}
 
 -- the primary after `offer`
 abbrev pub offered_to : Primary → (station : ℕ) → List ℕ → Primary
 offered_to p station asdu =
     if may_offer p station
-    then record p { stations = slice_set p.stations station (with_offer (station_at p.stations station) (Some asdu)) }
+    then record p {
+      stations = slice_set p.stations station
+          (with_offer (station_at p.stations station) (Some asdu));
+    }
     else p
 
 abbrev pub without_offer : StationState → StationState

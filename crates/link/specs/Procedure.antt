@@ -1,5 +1,6 @@
--- The link of a primary station to one secondary station, as its exchanges show it: when it is up, and the frame count bit
--- (IEC 60870-5-2, 5.1 and the unbalanced transmission procedures). What silence does after the repeats is this gateway's own profile.
+-- The link of a primary station to one secondary station, as its exchanges show it: when it is up,
+-- and the frame count bit (IEC 60870-5-2, 5.1 and the unbalanced transmission procedures). What
+-- silence does after the repeats is this gateway's own profile.
 use Rattle.std.specs.Prelude.{◌≡◌, ℕ, suc, nat_lt, nat_le, Bool, true, false, not, List, [], ◌∷◌, Option, Some, None, if◌then◌else◌}
 use Rattle.link.specs.Answers.{Service, Command, Asked, Status, Reset, Counted, Answer, Ready, Confirmed, Unable}
 use Rattle.link.specs.Exchanges.{Exchange, answer_to}
@@ -31,7 +32,8 @@ after_answer request answer link = link
 abbrev pub after_silence : LinkSettings → Asked → (closed : Bool) → Link → Link
 after_silence settings Status closed link = Down
 after_silence settings Reset closed link = Down
-after_silence settings (Counted fcb service) true link = held settings fcb service (suc (missed_so_far link))
+after_silence settings (Counted fcb service) true link =
+    held settings fcb service (suc (missed_so_far link))
 after_silence settings (Counted fcb service) false link = Held fcb service (missed_so_far link)
 
 abbrev pub after_outcome : LinkSettings → Option Answer → Exchange → Link → Link
@@ -43,10 +45,12 @@ after settings station x link = after_outcome settings (answer_to station x) x l
 
 abbrev pub link_after : LinkSettings → (station : ℕ) → Link → List Exchange → Link
 link_after settings station link [] = link
-link_after settings station link (x ∷ xs) = link_after settings station (after settings station x link) xs
+link_after settings station link (x ∷ xs) =
+    link_after settings station (after settings station x link) xs
 
--- What may be sent: the status is asked and the link is reset only while the station isn't up, a reset only once its status is known.
--- A new service has the next bit, and one that isn't answered is sent again as it was.
+-- What may be sent: the status is asked and the link is reset only while the station isn't up, a
+-- reset only once its status is known. A new service has the next bit, and one that isn't answered
+-- is sent again as it was.
 abbrev pub MaySend : Link → Asked → Type 0
 MaySend Down Status = Unit {0}
 MaySend Available Status = Unit {0}
@@ -81,7 +85,8 @@ is_service (Counted fcb service) = true
 abbrev pub IsSteady : LinkSettings → (station : ℕ) → Link → List Exchange → Type 0
 IsSteady settings station link [] = Unit {0}
 IsSteady settings station link (x ∷ xs) =
-    (is_up link ≡ true → is_up (after settings station x link) ≡ true) × IsSteady settings station (after settings station x link) xs
+    (is_up link ≡ true → is_up (after settings station x link) ≡ true)
+    × IsSteady settings station (after settings station x link) xs
 
 -- A service is held: it was sent, and isn't answered.
 abbrev pub is_held : Link → Bool

@@ -1,4 +1,5 @@
--- Requests as frames, and what a frame asks for (IEC 60870-5-2, 5.1: the control field of a primary station).
+-- Requests as frames, and what a frame asks for (IEC 60870-5-2, 5.1: the control field of a primary
+-- station).
 use Rattle.std.specs.Prelude.{ℕ, ◌+◌, ◌/◌, ◌%◌, ◌^◌, ◌<◌, ◌≤◌, ◌==◌, ◌&&◌, Bool, List, [], ◌∷◌, length, All, Option, Some, None, if◌then◌else◌}
 use Rattle.ft12.specs.declared.frame.LinkSize.{LinkSize}
 use Rattle.ft12.specs.declared.frame.Front.{Front}
@@ -21,7 +22,9 @@ request_frame address Status = Fixed 0x49 address
 request_frame address Reset = Fixed 0x40 address
 request_frame address (Counted fcb Class1) = Fixed (counted_control fcb 10) address
 request_frame address (Counted fcb Class2) = Fixed (counted_control fcb 11) address
-request_frame address (Counted fcb (Command asdu)) = Data (counted_control fcb 3) address (record { items = asdu })
+request_frame address (Counted fcb (Command asdu)) = Data (counted_control fcb 3) address (record {
+  items = asdu;
+})
 
 abbrev pub FitsAddress : LinkSize → (address : ℕ) → Type 0
 FitsAddress size address = address < 256 ^ address_len size
@@ -63,25 +66,30 @@ comes_to station control address = (control / 64 % 2 == 1) && (address == statio
 -- by the function of a request with a valid frame count bit
 abbrev pub counted_reading : (fcb : Bool) → (function : ℕ) → Reading
 counted_reading fcb function =
-    if function == 10 then Asks (Counted fcb Class1) else if function == 11 then Asks (Counted fcb Class2) else Unknown
+    if function == 10 then Asks (Counted fcb Class1)
+    else if function == 11 then Asks (Counted fcb Class2) else Unknown
 
 abbrev pub plain_reading : (function : ℕ) → Reading
-plain_reading function = if function == 9 then Asks Status else if function == 0 then Asks Reset else Unknown
+plain_reading function =
+    if function == 9 then Asks Status else if function == 0 then Asks Reset else Unknown
 
 abbrev pub short_reading : (control : ℕ) → Reading
 short_reading control =
-    if control / 16 % 2 == 1 then counted_reading (control / 32 % 2 == 1) (control % 16) else plain_reading (control % 16)
+    if control / 16 % 2 == 1 then counted_reading (control / 32 % 2 == 1) (control % 16)
+    else plain_reading (control % 16)
 
 abbrev pub data_reading : (control : ℕ) → List ℕ → Reading
 data_reading control [] = Unknown
 data_reading control (octet ∷ octets) =
-    if (control / 16 % 2 == 1) && (control % 16 == 3) then Asks (Counted (control / 32 % 2 == 1) (Command (octet ∷ octets))) else Unknown
+    if (control / 16 % 2 == 1) && (control % 16 == 3)
+    then Asks (Counted (control / 32 % 2 == 1) (Command (octet ∷ octets))) else Unknown
 
 -- what a frame asks of the station with this address
 abbrev pub reading_of : (station : ℕ) → Frame → Reading
 reading_of station Single = Foreign
 reading_of station (Fixed c a) = if comes_to station c a then short_reading c else Foreign
-reading_of station (Data c a body) = if comes_to station c a then data_reading c body.items else Foreign
+reading_of station (Data c a body) =
+    if comes_to station c a then data_reading c body.items else Foreign
 
 abbrev pub asked_by : (address : ℕ) → Reading → Option (ℕ × Asked)
 asked_by address (Asks request) = Some (address, request)

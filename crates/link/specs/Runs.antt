@@ -1,9 +1,10 @@
--- Whole runs of a primary station: its calls, one after another, and the exchanges of its line meanwhile.
-use Rattle.std.specs.Prelude.{◌≡◌, ℕ, zero, suc, ◌<◌, ◌==◌, ◌&&◌, Bool, false, List, [], ◌∷◌, ◌++◌, length, Option, Some, None, if◌then◌else◌}
+-- Whole runs of a primary station: its calls, one after another, and the exchanges of its line
+-- meanwhile.
+use Rattle.std.specs.Prelude.{◌≡◌, ℕ, zero, suc, ◌<◌, ◌==◌, ◌&&◌, not, Bool, false, List, [], ◌∷◌, ◌++◌, length, Option, Some, None, if◌then◌else◌}
 use Rattle.ft12.specs.Fronts.{front_of}
 use Rattle.link.specs.Answers.{Asked, Counted, Command}
 use Rattle.link.specs.Exchanges.{Exchanges, Sending, heard_current, timed_current, begun_by}
-use Rattle.link.specs.Procedure.{Link, is_held, goes_down}
+use Rattle.link.specs.Procedure.{Link, is_held, is_up}
 use Rattle.link.specs.Requests.{IsUserData}
 use Rattle.link.specs.Turns.{Starting, Wanted, station_at, wanted, place_after}
 use Rattle.link.specs.Primary.{Primary, asked, sending, received, timed_out, may_offer, offered_to, withdrawn, Outcome}
@@ -28,11 +29,15 @@ called p Withdraw = withdrawn p
 abbrev pub exchanged : Primary → Call → Exchanges → Exchanges
 exchanged p (Next now may_poll) e = begun_by now (sending p may_poll) e
 exchanged p (Octets octets) e = record { ended = e.ended; current = heard_current octets e.current }
-exchanged p (Due now) e = record { ended = e.ended; current = timed_current p.settings.answer_ms now e.current }
+exchanged p (Due now) e = record {
+  ended = e.ended;
+  current = timed_current p.settings.answer_ms now e.current;
+}
 exchanged p (Offer station asdu) e = e
 exchanged p Withdraw e = e
 
--- The call is one that may be made: an offer is to one of the stations, of data that a frame can carry.
+-- The call is one that may be made: an offer is to one of the stations, of data that a frame can
+-- carry.
 abbrev pub MayCall : Primary → Call → Type 0
 MayCall p (Offer station asdu) = (station < length p.stations) × IsUserData p.settings.size asdu
 MayCall p call = Unit {0}
@@ -58,9 +63,11 @@ nth_after count place (suc n) = nth_after count (place_after count place) n
 
 -- what a station's turn would begin with
 abbrev pub first_request : Primary → (may_poll : Bool) → (station : ℕ) → Option Wanted
-first_request p may_poll station = wanted p.settings.burst may_poll false (station_at p.stations station) Starting
+first_request p may_poll station =
+    wanted p.settings.burst may_poll false (station_at p.stations station) Starting
 
--- The request begins a turn of the first station, round from the one after the last served, that has a request.
+-- The request begins a turn of the first station, round from the one after the last served, that
+-- has a request.
 pub record BeginsTurn (p : Primary) (may_poll : Bool) (s : Sending) : Type 0 where
   pub steps : ℕ
   pub once_round : steps < length p.stations
@@ -68,15 +75,19 @@ pub record BeginsTurn (p : Primary) (may_poll : Bool) (s : Sending) : Type 0 whe
   pub wanted : Wanted
   pub first : first_request p may_poll s.station ≡ Some wanted
   pub request : s.request ≡ wanted.request
-  pub nearer : (n : ℕ) → n < steps → first_request p may_poll (nth_after (length p.stations) p.turn (suc n)) ≡ None
+  pub nearer : (n : ℕ) → n < steps →
+      first_request p may_poll (nth_after (length p.stations) p.turn (suc n)) ≡ None
 
 -- No station has a request.
 abbrev pub HaveNone : Primary → (may_poll : Bool) → Type 0
-HaveNone p may_poll = (n : ℕ) → n < length p.stations → first_request p may_poll (nth_after (length p.stations) p.turn (suc n)) ≡ None
+HaveNone p may_poll =
+    (n : ℕ) → n < length p.stations →
+    first_request p may_poll (nth_after (length p.stations) p.turn (suc n)) ≡ None
 
 -- Commands
 
--- what becomes of the commands to a station: one is offered and taken, put on the line for the first time, or what waits is withdrawn
+-- what becomes of the commands to a station: one is offered and taken, put on the line for the
+-- first time, or what waits is withdrawn
 pub data Deed : Type 0 where
   Offered : (asdu : List ℕ) → Deed
   FirstSent : (asdu : List ℕ) → Deed
@@ -89,21 +100,24 @@ first_sent link request = []
 
 abbrev pub sent_deeds : Primary → (station : ℕ) → Option Sending → List Deed
 sent_deeds p station None = []
-sent_deeds p station (Some s) = if s.station == station then first_sent (station_at p.stations station).link s.request else []
+sent_deeds p station (Some s) =
+    if s.station == station then first_sent (station_at p.stations station).link s.request else []
 
 abbrev pub deeds : Primary → (station : ℕ) → Call → List Deed
 deeds p station (Next now may_poll) = sent_deeds p station (sending p may_poll)
 deeds p station (Octets octets) = []
 deeds p station (Due now) = []
-deeds p station (Offer other asdu) = if (other == station) && may_offer p station then Offered asdu ∷ [] else []
+deeds p station (Offer other asdu) =
+    if (other == station) && may_offer p station then Offered asdu ∷ [] else []
 deeds p station Withdraw = Withdrawn ∷ []
 
 abbrev pub all_deeds : Primary → (station : ℕ) → List Call → List Deed
 all_deeds p station [] = []
 all_deeds p station (call ∷ calls) = deeds p station call ++ all_deeds (called p call) station calls
 
--- Each command that is sent for the first time is the one that waits: it was offered, and neither sent nor withdrawn since.
--- None is taken while one waits. So each is sent at most once, in the order of the offers, and none is invented.
+-- Each command that is sent for the first time is the one that waits: it was offered, and neither
+-- sent nor withdrawn since. None is taken while one waits. So each is sent at most once, in the
+-- order of the offers, and none is invented.
 abbrev pub AreInOrder : (waiting : Option (List ℕ)) → List Deed → Type 0
 AreInOrder waiting [] = Unit {0}
 AreInOrder waiting (Offered asdu ∷ rest) = (waiting ≡ None) × AreInOrder (Some asdu) rest
@@ -112,6 +126,7 @@ AreInOrder waiting (Withdrawn ∷ rest) = AreInOrder None rest
 
 -- Silence
 
--- A silence is told where the station's link is down after it.
-abbrev pub silence_outcome : (station : ℕ) → Asked → Link → Outcome
-silence_outcome station request link = if goes_down request link then outcome.Down station else outcome.None
+-- A silence is told where it takes a link down that was up.
+abbrev pub silence_outcome : (station : ℕ) → (before later : Link) → Outcome
+silence_outcome station before later =
+    if is_up before && not (is_up later) then outcome.Down station else outcome.None

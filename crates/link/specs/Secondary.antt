@@ -1,5 +1,6 @@
--- The secondary station of this crate: what it answers to each request (IEC 60870-5-2, the procedures of a secondary station). Where it answers with the
--- single character, and that DFC is never set, is its own choice.
+-- The secondary station of this crate: what it answers to each request (IEC 60870-5-2, the
+-- procedures of a secondary station). Where it answers with the single character, and that DFC is
+-- never set, is its own choice.
 use Rattle.std.specs.Prelude.{◌≡◌, ◌⊎◌, ℕ, ◌+◌, min, ◌-◌, ◌^◌, Bool, true, false, List, [], ◌∷◌, ◌++◌, Option, Some, None, if◌then◌else◌}
 use Rattle.link.specs.Answers.{Frame, Single, Fixed, Data, Service, Class1, Class2, Command, Asked, Status, Reset, Counted}
 use Rattle.link.specs.Outstation.{Given, Accepted, Outstation, Turn}
@@ -7,8 +8,8 @@ use Rattle.link.specs.Requests.{Reading, Foreign, Unknown, Asks, reading_of}
 use Rattle.ft12.specs.declared.frame.LinkSize.{LinkSize}
 use Rattle.ft12.specs.Spelling.{IsLineFrame}
 
--- a secondary station: its link, its last answer, the reports of each class that wait, the commands that it accepted, and how
--- many reports it gave
+-- a secondary station: its link, its last answer, the reports of each class that wait, the commands
+-- that it accepted, and how many reports it gave
 pub record Secondary : Type 0 where
   pub size : LinkSize
   pub address : ℕ
@@ -22,7 +23,16 @@ pub record Secondary : Type 0 where
 -- a station that was never reset and has nothing to report
 abbrev pub fresh_station : LinkSize → (address : ℕ) → Secondary
 fresh_station size address =
-    record { size = size; address = address; bit = None; last = None; class1 = []; class2 = []; accepted = []; given = 0 }
+    record {
+      size = size;
+      address = address;
+      bit = None;
+      last = None;
+      class1 = [];
+      class2 = [];
+      accepted = [];
+      given = 0;
+    }
 
 abbrev pub outstation_of : Secondary → Outstation
 outstation_of s = record { bit = s.bit; last = s.last }
@@ -66,23 +76,40 @@ no_data s fcb = record {
 abbrev pub served_class1 : Secondary → (fcb : Bool) → List (List ℕ) → Served
 served_class1 s fcb [] = no_data s fcb
 served_class1 s fcb (report ∷ reports) = record {
-  turn = record { answer = Some (data_frame (control_of 8 reports) s.address report); done = Given report ∷ [] };
-  state = record (with_frame s fcb (data_frame (control_of 8 reports) s.address report)) { class1 = reports; given = one_more_given s.given };
+  turn = record {
+    answer = Some (data_frame (control_of 8 reports) s.address report);
+    done = Given report ∷ [];
+  };
+  state =
+      record (with_frame s fcb (data_frame (control_of 8 reports) s.address report)) {
+        class1 = reports;
+        given = one_more_given s.given;
+      };
 }
 
 -- the oldest report of class 2
 abbrev pub served_class2 : Secondary → (fcb : Bool) → List (List ℕ) → Served
 served_class2 s fcb [] = no_data s fcb
 served_class2 s fcb (report ∷ reports) = record {
-  turn = record { answer = Some (data_frame (control_of 8 s.class1) s.address report); done = Given report ∷ [] };
-  state = record (with_frame s fcb (data_frame (control_of 8 s.class1) s.address report)) { class2 = reports; given = one_more_given s.given };
+  turn = record {
+    answer = Some (data_frame (control_of 8 s.class1) s.address report);
+    done = Given report ∷ [];
+  };
+  state =
+      record (with_frame s fcb (data_frame (control_of 8 s.class1) s.address report)) {
+        class2 = reports;
+        given = one_more_given s.given;
+      };
 }
 
 -- A command is accepted where there was memory for it, and else answered that the station is busy.
 abbrev pub served_command : (granted : Bool) → Secondary → (fcb : Bool) → List ℕ → Served
 served_command true s fcb asdu = record {
   turn = record { answer = Some (short_of 0 s.address s.class1); done = Accepted asdu ∷ [] };
-  state = record (with_frame s fcb (short_of 0 s.address s.class1)) { accepted = s.accepted ++ asdu ∷ [] };
+  state =
+      record (with_frame s fcb (short_of 0 s.address s.class1)) {
+        accepted = s.accepted ++ asdu ∷ [];
+      };
 }
 served_command false s fcb asdu = record {
   turn = record { answer = Some (Fixed (control_of 1 s.class1) s.address); done = [] };
@@ -99,9 +126,11 @@ is_same true b = b
 is_same false true = false
 is_same false false = true
 
-abbrev pub served_counted : (granted : Bool) → Secondary → Option Bool → (fcb : Bool) → Service → Served
+abbrev pub served_counted : (granted : Bool) → Secondary → Option Bool → (fcb : Bool) → Service →
+    Served
 served_counted granted s None fcb service = unchanged s None
-served_counted granted s (Some bit) fcb service = if is_same fcb bit then unchanged s s.last else served_new granted s fcb service
+served_counted granted s (Some bit) fcb service =
+    if is_same fcb bit then unchanged s s.last else served_new granted s fcb service
 
 -- what one request makes of the station
 abbrev pub served : (granted : Bool) → Secondary → Asked → Served
@@ -114,12 +143,14 @@ served granted s (Counted fcb service) = served_counted granted s s.bit fcb serv
 
 abbrev pub IsCommandServed : Secondary → (fcb : Bool) → List ℕ → Option Frame → Secondary → Type 0
 IsCommandServed old fcb asdu answer new =
-    (granted : Bool) × (answer ≡ (served_command granted old fcb asdu).turn.answer) × (new ≡ (served_command granted old fcb asdu).state)
+    (granted : Bool) × (answer ≡ (served_command granted old fcb asdu).turn.answer)
+    × (new ≡ (served_command granted old fcb asdu).state)
 
 -- The station answers so, and has this state after it, where memory was granted or not.
 abbrev pub IsServed : Secondary → Asked → Option Frame → Secondary → Type 0
 IsServed old request answer new =
-    (granted : Bool) × (answer ≡ (served granted old request).turn.answer) × (new ≡ (served granted old request).state)
+    (granted : Bool) × (answer ≡ (served granted old request).turn.answer)
+    × (new ≡ (served granted old request).state)
 
 -- what one frame makes of the station
 abbrev pub heard_reading : (granted : Bool) → Secondary → Reading → Served
@@ -129,7 +160,8 @@ heard_reading granted s (Asks request) = served granted s request
 
 abbrev pub IsReadingHeard : Secondary → Reading → Option Frame → Secondary → Type 0
 IsReadingHeard old reading answer new =
-    (granted : Bool) × (answer ≡ (heard_reading granted old reading).turn.answer) × (new ≡ (heard_reading granted old reading).state)
+    (granted : Bool) × (answer ≡ (heard_reading granted old reading).turn.answer)
+    × (new ≡ (heard_reading granted old reading).state)
 
 abbrev pub IsFrameHeard : Secondary → Frame → Option Frame → Secondary → Type 0
 IsFrameHeard old frame answer new = IsReadingHeard old (reading_of old.address frame) answer new

@@ -21,25 +21,32 @@ use Rattle.link.specs.Holding.{IsFitting}
 -- A reader of fronts tells each as soon as it is decided, and then sticks to it.
 pub record IsStable (front : List ℕ → Front) : Type 0 where
   pub nothing : front [] ≡ More
-  pub whole : (octets more : List ℕ) (frame : Frame) (n : ℕ) → front octets ≡ Whole frame n → front (octets ++ more) ≡ Whole frame n
-  pub never : (octets more : List ℕ) (place : ℕ) (why : Why) → front octets ≡ Never place why → front (octets ++ more) ≡ Never place why
+  pub whole : (octets more : List ℕ) (frame : Frame) (n : ℕ) → front octets ≡ Whole frame n →
+      front (octets ++ more) ≡ Whole frame n
+  pub never : (octets more : List ℕ) (place : ℕ) (why : Why) → front octets ≡ Never place why →
+      front (octets ++ more) ≡ Never place why
 
 -- Whatever octets more come in the exchange, its answer is this one.
 abbrev pub IsSaid : (front : List ℕ → Front) → (address : ℕ) → OpenExchange → Option Answer → Type 0
-IsSaid front address x m = (more : List ℕ) → option_and_then (answer_of address x.request) (whole_of (front (x.octets ++ more))) ≡ m
+IsSaid front address x m =
+    (more : List ℕ) → option_and_then (answer_of address x.request)
+    (whole_of (front (x.octets ++ more))) ≡ m
 
 -- what is outstanding may have been sent
 abbrev pub IsAllowed : List StationState → (turn : ℕ) → Option Outstanding → Type 0
 IsAllowed stations turn None = Unit {0}
 IsAllowed stations turn (Some o) = MaySend (station_at stations turn).link o.request
 
--- The octets so far are those of the exchange, which may still become a frame; or they can't be the answer any more.
-abbrev pub IsHeard : (front : List ℕ → Front) → (address : ℕ) → OpenExchange → Option (List ℕ) → Type 0
+-- The octets so far are those of the exchange, which may still become a frame; or they can't be the
+-- answer any more.
+abbrev pub IsHeard : (front : List ℕ → Front) → (address : ℕ) → OpenExchange → Option (List ℕ) →
+    Type 0
 IsHeard front address x (Some octets) = (octets ≡ x.octets) × (front x.octets ≡ More)
 IsHeard front address x None = IsSaid front address x None
 
 -- What is outstanding is the latest exchange.
-pub record IsAwaited (front : List ℕ → Front) (address : ℕ) (turn : ℕ) (o : Outstanding) (x : OpenExchange) : Type 0 where
+pub record IsAwaited (front : List ℕ → Front) (address : ℕ) (turn : ℕ) (o : Outstanding)
+    (x : OpenExchange) : Type 0 where
   pub station : x.station ≡ turn
   pub request : x.request ≡ o.request
   pub since : x.since ≡ o.since
@@ -49,13 +56,16 @@ pub record IsAwaited (front : List ℕ → Front) (address : ℕ) (turn : ℕ) (
 
 -- an exchange that is over for the primary: closed, or answered
 abbrev pub IsOver : (front : List ℕ → Front) → (address : ℕ) → OpenExchange → Type 0
-IsOver front address x = (x.closed ≡ true) ⊎ ((answer : Answer) × IsSaid front address x (Some answer))
+IsOver front address x =
+    (x.closed ≡ true) ⊎ ((answer : Answer) × IsSaid front address x (Some answer))
 
-abbrev pub IsCurrent : (front : List ℕ → Front) → (addresses : List ℕ) → (turn : ℕ) → Option Outstanding → Option OpenExchange → Type 0
+abbrev pub IsCurrent : (front : List ℕ → Front) → (addresses : List ℕ) → (turn : ℕ) →
+    Option Outstanding → Option OpenExchange → Type 0
 IsCurrent front addresses turn None None = Unit {0}
 IsCurrent front addresses turn None (Some x) = IsOver front (slice_index addresses x.station) x
 IsCurrent front addresses turn (Some o) None = ⊥
-IsCurrent front addresses turn (Some o) (Some x) = IsAwaited front (slice_index addresses turn) turn o x
+IsCurrent front addresses turn (Some o) (Some x) =
+    IsAwaited front (slice_index addresses turn) turn o x
 
 -- the exchanges whose outcome the links know
 abbrev pub past : Option Outstanding → Exchanges → List OpenExchange
@@ -63,37 +73,52 @@ past None e = all_of e
 past (Some o) e = e.ended
 
 -- These exchanges keep the frame count bit of each station.
-abbrev pub AreKept : (front : List ℕ → Front) → LinkSettings → (addresses : List ℕ) → List OpenExchange → Type 0
-AreKept front settings addresses xs = (i : ℕ) → KeepsFrameCountBit settings (slice_index addresses i) Down (with_station i (views front xs))
+abbrev pub AreKept : (front : List ℕ → Front) → LinkSettings → (addresses : List ℕ) →
+    List OpenExchange → Type 0
+AreKept front settings addresses xs =
+    (i : ℕ) → KeepsFrameCountBit settings (slice_index addresses i) Down
+    (with_station i (views front xs))
 
 -- The stations' links are those that these exchanges leave.
-abbrev pub AreLinks : (front : List ℕ → Front) → LinkSettings → (addresses : List ℕ) → List StationState → List OpenExchange → Type 0
+abbrev pub AreLinks : (front : List ℕ → Front) → LinkSettings → (addresses : List ℕ) →
+    List StationState → List OpenExchange → Type 0
 AreLinks front settings addresses stations xs =
-    (i : ℕ) → link_after settings (slice_index addresses i) Down (with_station i (views front xs)) ≡ (station_at stations i).link
+    (i : ℕ) → link_after settings (slice_index addresses i) Down (with_station i (views front xs))
+    ≡ (station_at stations i).link
 
 -- So many of these exchanges are spoilt.
-abbrev pub AreSpoilt : (front : List ℕ → Front) → (addresses : List ℕ) → (spoilt : ℕ) → List OpenExchange → Type 0
-AreSpoilt front addresses spoilt xs = spoilt ≡ saturated (spoilt_count front (λ i. slice_index addresses i) xs)
+abbrev pub AreSpoilt : (front : List ℕ → Front) → (addresses : List ℕ) → (spoilt : ℕ) →
+    List OpenExchange → Type 0
+AreSpoilt front addresses spoilt xs =
+    spoilt ≡ saturated (spoilt_count front (λ i. slice_index addresses i) xs)
 
 abbrev pub flags_of : StationState → Flags
 flags_of s = record { acd = s.acd; dfc = s.dfc }
 
 -- The stations' flags are those that these exchanges leave.
-abbrev pub AreFlags : (front : List ℕ → Front) → (addresses : List ℕ) → List StationState → List OpenExchange → Type 0
+abbrev pub AreFlags : (front : List ℕ → Front) → (addresses : List ℕ) → List StationState →
+    List OpenExchange → Type 0
 AreFlags front addresses stations xs =
-    (i : ℕ) → flags_after (slice_index addresses i) clear (with_station i (views front xs)) ≡ flags_of (station_at stations i)
+    (i : ℕ) → flags_after (slice_index addresses i) clear (with_station i (views front xs))
+    ≡ flags_of (station_at stations i)
 
 -- the session that these exchanges with a station leave
 abbrev pub session_in : (station : ℕ) → List Exchange → SessionState
-session_in station xs = record { number = saturated (resets_in station xs); has_gap = is_gap (pending_after station None xs) }
+session_in station xs = record {
+  number = saturated (resets_in station xs);
+  has_gap = is_gap (pending_after station None xs);
+}
 
 -- The stations' sessions are those that these exchanges leave.
-abbrev pub AreSessions : (front : List ℕ → Front) → (addresses : List ℕ) → List StationState → List OpenExchange → Type 0
+abbrev pub AreSessions : (front : List ℕ → Front) → (addresses : List ℕ) → List StationState →
+    List OpenExchange → Type 0
 AreSessions front addresses stations xs =
-    (i : ℕ) → session_in (slice_index addresses i) (with_station i (views front xs)) ≡ (station_at stations i).session
+    (i : ℕ) → session_in (slice_index addresses i) (with_station i (views front xs))
+    ≡ (station_at stations i).session
 
 -- the same by any reader of fronts
-pub record TellsBy (front : List ℕ → Front) (settings : LinkSettings) (addresses : List ℕ) (p : Primary) (e : Exchanges) : Type 0 where
+pub record TellsBy (front : List ℕ → Front) (settings : LinkSettings) (addresses : List ℕ)
+    (p : Primary) (e : Exchanges) : Type 0 where
   pub settings_are : p.settings ≡ settings
   pub fits : IsFitting p
   pub count : length p.stations ≡ length addresses
@@ -106,7 +131,8 @@ pub record TellsBy (front : List ℕ → Front) (settings : LinkSettings) (addre
   pub sessions : AreSessions front addresses p.stations (all_of e)
   pub spoilt : AreSpoilt front addresses p.spoilt (all_of e)
 
--- The primary's state is what these exchanges make it, and they keep the frame count bit of each station.
+-- The primary's state is what these exchanges make it, and they keep the frame count bit of each
+-- station.
 abbrev pub Tells : LinkSettings → (addresses : List ℕ) → Primary → Exchanges → Type 0
 Tells settings addresses p e = TellsBy (front_of settings.size) settings addresses p e
 
@@ -117,11 +143,13 @@ report_in other = []
 
 -- the session of this station that an outcome tells the gap of
 abbrev pub gap_in_outcome : (station : ℕ) → Outcome → List ℕ
-gap_in_outcome station (outcome.StartedGap other session) = if other == station then session ∷ [] else []
+gap_in_outcome station (outcome.StartedGap other session) =
+    if other == station then session ∷ [] else []
 gap_in_outcome station other = []
 
 -- The request is to one of the stations, and fits the line.
-pub record IsFittingSending (settings : LinkSettings) (addresses : List ℕ) (s : Sending) : Type 0 where
+pub record IsFittingSending (settings : LinkSettings) (addresses : List ℕ)
+    (s : Sending) : Type 0 where
   pub station : s.station < length addresses
   pub address : FitsAddress settings.size (slice_index addresses s.station)
   pub request : FitsAsked settings.size s.request

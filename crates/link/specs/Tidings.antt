@@ -1,5 +1,6 @@
--- What a secondary station tells of the reports that wait (IEC 60870-5-2, 5.1: ACD and DFC; the procedures of a secondary station), over whole lives: the
--- reports that it was given to tell, those that it gave, and its answers. That DFC is never set is its own choice.
+-- What a secondary station tells of the reports that wait (IEC 60870-5-2, 5.1: ACD and DFC; the
+-- procedures of a secondary station), over whole lives: the reports that it was given to tell,
+-- those that it gave, and its answers. That DFC is never set is its own choice.
 use Rattle.std.specs.Prelude.{◌≡◌, ◌≢◌, ℕ, Bool, true, false, List, [], ◌∷◌, ◌++◌, Option, Some, None}
 use Rattle.ft12.specs.declared.frame.LinkSize.{LinkSize}
 use Rattle.link.specs.Answers.{Frame, Asked, Status, Reset, Counted, Answer, Report, NoData, Says}
@@ -8,7 +9,8 @@ use Rattle.link.specs.Requests.{Reading, Foreign, Unknown, Asks, reading_of}
 use Rattle.link.specs.Secondary.{fresh_station, heard_reading}
 use Rattle.link.specs.Life.{Call, after, requests_heard, turns_in, given1, given2, reported1, reported2}
 
--- the frame count bit that a station has after these requests: a reset clears it, and each counted request since leaves its own
+-- the frame count bit that a station has after these requests: a reset clears it, and each counted
+-- request since leaves its own
 abbrev pub bit_by : Option Bool → Asked → Option Bool
 bit_by bit Status = bit
 bit_by bit Reset = Some false
@@ -19,7 +21,8 @@ abbrev pub bit_after : Option Bool → List Asked → Option Bool
 bit_after bit [] = bit
 bit_after bit (request ∷ requests) = bit_after (bit_by bit request) requests
 
--- The request is to be served anew: it isn't counted, or has another frame count bit than the latest.
+-- The request is to be served anew: it isn't counted, or has another frame count bit than the
+-- latest.
 abbrev pub IsNew : Option Bool → Asked → Type 0
 IsNew bit Status = Unit {0}
 IsNew bit Reset = Unit {0}
@@ -37,16 +40,23 @@ abbrev pub bit_of : (address : ℕ) → List Call → Option Bool
 bit_of address calls = bit_after None (requests_heard address calls)
 
 -- what a station answers to a frame after these calls
-abbrev pub answer_after : LinkSize → (address : ℕ) → List Call → (granted : Bool) → Frame → Option Frame
-answer_after size address calls granted frame = (heard_reading granted (after (fresh_station size address) calls) (reading_of address frame)).turn.answer
+abbrev pub answer_after : LinkSize → (address : ℕ) → List Call → (granted : Bool) → Frame →
+    Option Frame
+answer_after size address calls granted frame =
+    (heard_reading granted (after (fresh_station size address) calls)
+    (reading_of address frame)).turn.answer
 
 -- These reports of class 1 wait, in this order: they were handed in, and not given.
 abbrev pub Wait1 : LinkSize → (address : ℕ) → List Call → (waiting : List (List ℕ)) → Type 0
-Wait1 size address calls waiting = given1 (requests_heard address calls) (turns_in (fresh_station size address) calls) ++ waiting ≡ reported1 calls
+Wait1 size address calls waiting =
+    given1 (requests_heard address calls) (turns_in (fresh_station size address) calls) ++ waiting
+    ≡ reported1 calls
 
 -- and these of class 2
 abbrev pub Wait2 : LinkSize → (address : ℕ) → List Call → (waiting : List (List ℕ)) → Type 0
-Wait2 size address calls waiting = given2 (requests_heard address calls) (turns_in (fresh_station size address) calls) ++ waiting ≡ reported2 calls
+Wait2 size address calls waiting =
+    given2 (requests_heard address calls) (turns_in (fresh_station size address) calls) ++ waiting
+    ≡ reported2 calls
 
 -- whether any wait
 abbrev pub do_wait : List (List ℕ) → Bool
@@ -55,7 +65,10 @@ do_wait (report ∷ reports) = true
 
 -- There is an answer, with ACD and DFC so.
 abbrev pub TellsFlags : Option Frame → (acd dfc : Bool) → Type 0
-TellsFlags answer acd dfc = (frame : Frame) × (answer ≡ Some frame) × (flags_in frame ≡ record { acd = acd; dfc = dfc })
+TellsFlags answer acd dfc = (frame : Frame) × (answer ≡ Some frame) × (flags_in frame ≡ record {
+  acd = acd;
+  dfc = dfc;
+})
 
 -- the oldest of these reports, or that there is none
 abbrev pub oldest : List (List ℕ) → Answer
@@ -64,4 +77,5 @@ oldest (report ∷ reports) = Report report
 
 -- There is an answer, and it says this to the request.
 abbrev pub IsAnsweredBy : Option Frame → (address : ℕ) → Asked → Answer → Type 0
-IsAnsweredBy answer address request says = (frame : Frame) × (answer ≡ Some frame) × Says address request says frame
+IsAnsweredBy answer address request says =
+    (frame : Frame) × (answer ≡ Some frame) × Says address request says frame

@@ -1,5 +1,6 @@
--- Turns: the stations are served in the order of the settings, each for a turn (this gateway's own profile; the requests that a turn has are those
--- of IEC 60870-5-2's unbalanced transmission procedures).
+-- Turns: the stations are served in the order of the settings, each for a turn (this gateway's own
+-- profile; the requests that a turn has are those of IEC 60870-5-2's unbalanced transmission
+-- procedures).
 use Rattle.std.specs.Prelude.{ℕ, zero, suc, ◌&&◌, ◌||◌, nat_lt, Bool, true, false, not, List, length, slice_index_or, Option, Some, None, if◌then◌else◌}
 use Rattle.link.specs.Answers.{Service, Class1, Class2, Command, Asked, Status, Reset, Counted}
 use Rattle.link.specs.Procedure.{Link, Down, Available, Next, Held}
@@ -16,7 +17,14 @@ no_session = record { number = 0; has_gap = false }
 
 -- a station that isn't there
 abbrev pub no_station : StationState
-no_station = record { address = 0; link = Down; acd = false; dfc = false; offered = None; session = no_session }
+no_station = record {
+  address = 0;
+  link = Down;
+  acd = false;
+  dfc = false;
+  offered = None;
+  session = no_session;
+}
 
 abbrev pub station_at : List StationState → ℕ → StationState
 station_at stations i = slice_index_or stations i no_station
@@ -29,35 +37,43 @@ is_poll Class1 = true
 is_poll Class2 = true
 is_poll (Command asdu) = false
 
--- Polls: class 1 while ACD is set, at most burst of them. Where ACD was clear, one of class 2 comes first.
+-- Polls: class 1 while ACD is set, at most burst of them. Where ACD was clear, one of class 2 comes
+-- first.
 abbrev pub wanted_poll : (burst : ℕ) → (fcb : Bool) → (acd : Bool) → Phase → Option Wanted
 wanted_poll burst fcb acd Polling =
-    if acd then wants (Counted fcb Class1) (Class1Polling 1) else wants (Counted fcb Class2) (Class1Polling 0)
+    if acd then wants (Counted fcb Class1) (Class1Polling 1)
+    else wants (Counted fcb Class2) (Class1Polling 0)
 wanted_poll burst fcb acd (Class1Polling sent) =
     if acd && nat_lt sent burst then wants (Counted fcb Class1) (Class1Polling (suc sent)) else None
 wanted_poll burst fcb acd phase = None
 
 -- polls from this phase on, where they may be sent
-abbrev pub polls_from : (burst : ℕ) → (may_poll : Bool) → (fcb : Bool) → StationState → Phase → Option Wanted
+abbrev pub polls_from : (burst : ℕ) → (may_poll : Bool) → (fcb : Bool) → StationState → Phase →
+    Option Wanted
 polls_from burst may_poll fcb s phase = if may_poll then wanted_poll burst fcb s.acd phase else None
 
 -- the offered command, where the station takes one, or else polls
-abbrev pub commands_from : (burst : ℕ) → (may_poll : Bool) → (fcb : Bool) → StationState → Option (List ℕ) → Option Wanted
+abbrev pub commands_from : (burst : ℕ) → (may_poll : Bool) → (fcb : Bool) → StationState →
+    Option (List ℕ) → Option Wanted
 commands_from burst may_poll fcb s (Some asdu) =
-    if s.dfc then polls_from burst may_poll fcb s Polling else wants (Counted fcb (Command asdu)) Polling
+    if s.dfc then polls_from burst may_poll fcb s Polling
+    else wants (Counted fcb (Command asdu)) Polling
 commands_from burst may_poll fcb s None = polls_from burst may_poll fcb s Polling
 
 -- what an up station's turn goes on with
-abbrev pub next_of : (burst : ℕ) → (may_poll : Bool) → (fcb : Bool) → StationState → Phase → Option Wanted
+abbrev pub next_of : (burst : ℕ) → (may_poll : Bool) → (fcb : Bool) → StationState → Phase →
+    Option Wanted
 next_of burst may_poll fcb s Starting = commands_from burst may_poll fcb s s.offered
 next_of burst may_poll fcb s Commanding = commands_from burst may_poll fcb s s.offered
 next_of burst may_poll fcb s Polling = polls_from burst may_poll fcb s Polling
-next_of burst may_poll fcb s (Class1Polling sent) = polls_from burst may_poll fcb s (Class1Polling sent)
+next_of burst may_poll fcb s (Class1Polling sent) =
+    polls_from burst may_poll fcb s (Class1Polling sent)
 next_of burst may_poll fcb s Over = None
 
--- What the station's turn has next, by its link: it is started, a held service is sent once (again at once where its repeats aren't
--- used up), and then come a command and polls.
-abbrev pub wanted_by : (burst : ℕ) → (may_poll again : Bool) → StationState → Link → Phase → Option Wanted
+-- What the station's turn has next, by its link: it is started, a held service is sent once (again
+-- at once where its repeats aren't used up), and then come a command and polls.
+abbrev pub wanted_by : (burst : ℕ) → (may_poll again : Bool) → StationState → Link → Phase →
+    Option Wanted
 wanted_by burst may_poll again s Down Starting = wants Status Starting
 wanted_by burst may_poll again s Available Starting = wants Reset Over
 wanted_by burst may_poll again s (Next fcb) phase = next_of burst may_poll fcb s phase
@@ -78,8 +94,11 @@ chosen_or (Some w) place other = Some (record { station = place; wanted = w })
 chosen_or None place other = other
 
 -- the first of so many stations after this one that has a request to begin a turn with
-abbrev pub first_after : (burst : ℕ) → (may_poll : Bool) → List StationState → (many place : ℕ) → Option Chosen
+abbrev pub first_after : (burst : ℕ) → (may_poll : Bool) → List StationState → (many place : ℕ) →
+    Option Chosen
 first_after burst may_poll stations zero place = None
 first_after burst may_poll stations (suc many) place =
-    chosen_or (wanted burst may_poll false (station_at stations (place_after (length stations) place)) Starting) (place_after (length stations) place)
+    chosen_or (wanted burst may_poll false
+    (station_at stations (place_after (length stations) place)) Starting)
+    (place_after (length stations) place)
     (first_after burst may_poll stations many (place_after (length stations) place))

@@ -1,5 +1,5 @@
--- Turns, as the exchanges of the line show them (this gateway's own profile, over the procedures of IEC 60870-5-2): a visit is what goes out to
--- one station in one turn.
+-- Turns, as the exchanges of the line show them (this gateway's own profile, over the procedures of
+-- IEC 60870-5-2): a visit is what goes out to one station in one turn.
 use Rattle.std.specs.Prelude.{◌≡◌, ℕ, zero, suc, ◌+◌, ◌*◌, List, [], ◌∷◌, ◌++◌, slice_index}
 use Rattle.link.specs.Answers.{Asked}
 use Rattle.link.specs.Exchanges.{Exchange, LineExchange, with_station}
@@ -7,7 +7,8 @@ use Rattle.link.specs.Procedure.{LinkSettings, Link, Down, Available, Next, Held
 use Rattle.link.specs.Requests.{RequestKind, kind_of}
 use Rattle.link.specs.declared.request.RequestKind.TheVariants as kind
 
--- What a visit may still have: these requests in this order, each of them or not, and the latest service so often again.
+-- What a visit may still have: these requests in this order, each of them or not, and the latest
+-- service so often again.
 pub record Left : Type 0 where
   pub plan : List RequestKind
   pub repeats : ℕ
@@ -20,26 +21,33 @@ class1_polls (suc many) = kind.Class1 ∷ class1_polls many
 abbrev pub services : (burst : ℕ) → List RequestKind
 services burst = kind.Command ∷ (kind.Class2 ∷ class1_polls burst)
 
--- What a visit has, by the link at its beginning: where it is down a status and a reset. Where it is up the held service with its repeats, and
--- then new services.
+-- What a visit has, by the link at its beginning: where it is down a status and a reset. Where it
+-- is up the held service with its repeats, and then new services.
 abbrev pub whole_visit : LinkSettings → Link → Left
 whole_visit settings Down = record { plan = kind.Status ∷ (kind.Reset ∷ []); repeats = 0 }
 whole_visit settings Available = record { plan = kind.Reset ∷ []; repeats = 0 }
 whole_visit settings (Next fcb) = record { plan = services settings.burst; repeats = 0 }
-whole_visit settings (Held fcb service missed) = record { plan = services settings.burst; repeats = suc settings.retries }
+whole_visit settings (Held fcb service missed) = record {
+  plan = services settings.burst;
+  repeats = suc settings.retries;
+}
 
 -- A held service is sent again. Every other request is one of the plan, and may be repeated.
 abbrev pub MayFollow : LinkSettings → Link → Left → Asked → Left → Type 0
-MayFollow settings (Held fcb service missed) left request later = (later.plan ≡ left.plan) × (suc later.repeats ≡ left.repeats)
+MayFollow settings (Held fcb service missed) left request later =
+    (later.plan ≡ left.plan) × (suc later.repeats ≡ left.repeats)
 MayFollow settings link left request later =
-    ((left_out : List RequestKind) × (left_out ++ kind_of request ∷ later.plan ≡ left.plan)) × (later.repeats ≡ settings.retries)
+    ((left_out : List RequestKind) × (left_out ++ kind_of request ∷ later.plan ≡ left.plan))
+    × (later.repeats ≡ settings.retries)
 
--- These exchanges go on with a visit: each may be sent by the procedure, and is one that the visit still has.
+-- These exchanges go on with a visit: each may be sent by the procedure, and is one that the visit
+-- still has.
 abbrev pub IsVisitFrom : LinkSettings → (station : ℕ) → Link → Left → List Exchange → Type 0
 IsVisitFrom settings station link left [] = Unit {0}
 IsVisitFrom settings station link left (x ∷ xs) =
     MaySend link x.request
-    × ((later : Left) × MayFollow settings link left x.request later × IsVisitFrom settings station (after settings station x link) later xs)
+    × ((later : Left) × MayFollow settings link left x.request later
+    × IsVisitFrom settings station (after settings station x link) later xs)
 
 abbrev pub IsVisit : LinkSettings → (station : ℕ) → Link → List Exchange → Type 0
 IsVisit settings station link xs = IsVisitFrom settings station link (whole_visit settings link) xs
@@ -63,15 +71,18 @@ abbrev pub AreVisits : LinkSettings → (addresses : List ℕ) → List Visit �
 AreVisits settings addresses [] = Unit {0}
 AreVisits settings addresses (v ∷ earlier) =
     IsVisit settings (slice_index addresses v.station)
-    (link_after settings (slice_index addresses v.station) Down (with_station v.station (line_of earlier))) v.exchanges
+    (link_after settings (slice_index addresses v.station) Down
+    (with_station v.station (line_of earlier))) v.exchanges
     × AreVisits settings addresses earlier
 
 -- The exchanges of the line are visits, one after another.
-pub record AreInVisits (settings : LinkSettings) (addresses : List ℕ) (es : List LineExchange) : Type 0 where
+pub record AreInVisits (settings : LinkSettings) (addresses : List ℕ)
+    (es : List LineExchange) : Type 0 where
   pub visits : List Visit
   pub are : AreVisits settings addresses visits
   pub whole : line_of visits ≡ es
 
--- the most requests of a visit: a held service, a command, a class 2 poll and burst class 1 polls, each sent once and repeated
+-- the most requests of a visit: a held service, a command, a class 2 poll and burst class 1 polls,
+-- each sent once and repeated
 abbrev pub most_of_visit : LinkSettings → ℕ
 most_of_visit settings = suc settings.retries * (3 + settings.burst)

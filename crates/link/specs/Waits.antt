@@ -9,13 +9,15 @@ use Rattle.link.specs.Runs.{Call, Next, called}
 -- where something is left to be asked of the station
 abbrev pub WantsAt : Primary → (station : ℕ) → Call → Type 0
 WantsAt p station (Next now may_poll) =
-    p.outstanding ≡ None → (may_poll ≡ true) ⊎ (IsLeftToPolls (station_at p.stations station) (station_at p.stations station).link → ⊥)
+    p.outstanding ≡ None → (may_poll ≡ true)
+    ⊎ (IsLeftToPolls (station_at p.stations station) (station_at p.stations station).link → ⊥)
 WantsAt p station call = Unit {0}
 
 -- at each of these calls that asks for a request
 abbrev pub AlwaysWants : Primary → (station : ℕ) → List Call → Type 0
 AlwaysWants p station [] = Unit {0}
-AlwaysWants p station (call ∷ calls) = WantsAt p station call × AlwaysWants (called p call) station calls
+AlwaysWants p station (call ∷ calls) =
+    WantsAt p station call × AlwaysWants (called p call) station calls
 
 abbrev pub station_in : Option Sending → List ℕ
 station_in None = []
@@ -33,4 +35,5 @@ stations_asked p (call ∷ calls) = stations_by p call ++ stations_asked (called
 -- how many requests have gone to other stations since the latest to this one, with so many before
 abbrev pub waited : (station before : ℕ) → List ℕ → ℕ
 waited station before [] = before
-waited station before (asked ∷ later) = waited station (if asked == station then 0 else suc before) later
+waited station before (asked ∷ later) =
+    waited station (if asked == station then 0 else suc before) later

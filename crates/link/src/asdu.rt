@@ -1,4 +1,5 @@
-//! User data of a frame. (The file names no definition that speaks of frames: those stand on this type.)
+//! User data of a frame. (The file names no definition that speaks of frames: those stand on this
+//! type.)
 ghost use Rattle.std.specs.Prelude.{◌≡◌, ◌≤◌, ◌<◌, All, List, ℕ, length};
 
 use arrayvec::ArrayVec;

@@ -6,15 +6,22 @@ ghost use Rattle.link.specs.Procedure.{LinkSettings, is_up, holds_command};
 ghost use Rattle.link.specs.Primary.{Primary, start, asked, sending};
 ghost use Rattle.link.specs.Holding.{IsFitting};
 
-/// A request that went out is outstanding: nothing is next, and asking changes nothing. Where none is next, none is next after
-/// asking, either; and a primary that has just been made has a request.
+/// A request that went out is outstanding: nothing is next, and asking changes nothing. Where none
+/// is next, none is next after asking, either; and a primary that has just been made has a request.
 pub fn next_changes_nothing()
-    ensures over { (p : Primary) (now : ℕ) (may_poll : Bool) → sending p may_poll ≡ None → sending (asked p now may_poll) may_poll ≡ None }
-    ensures out { (p : Primary) (now : ℕ) (may_poll : Bool) (s : Sending) → sending p may_poll ≡ Some s → (later : Bool) → sending (asked p now may_poll) later ≡ None }
-    ensures same { (p : Primary) (now : ℕ) (may_poll : Bool) (s : Sending) → sending p may_poll ≡ Some s → (at : ℕ) (later : Bool) → asked (asked p now may_poll) at later ≡ asked p now may_poll }
-    ensures begins { (settings : LinkSettings) (addresses : List ℕ) (may_poll : Bool) → 0 < length addresses → sending (start settings addresses) may_poll ≡ None → ⊥ }
-    ensures up { (p : Primary) (may_poll : Bool) → IsFitting p → p.outstanding ≡ None → sending p may_poll ≡ None →
+    ensures over { (p : Primary) (now : ℕ) (may_poll : Bool) → sending p may_poll ≡ None →
+        sending (asked p now may_poll) may_poll ≡ None }
+    ensures out { (p : Primary) (now : ℕ) (may_poll : Bool) (s : Sending) →
+        sending p may_poll ≡ Some s → (later : Bool) → sending (asked p now may_poll) later ≡ None }
+    ensures same { (p : Primary) (now : ℕ) (may_poll : Bool) (s : Sending) →
+        sending p may_poll ≡ Some s → (at : ℕ) (later : Bool) →
+        asked (asked p now may_poll) at later ≡ asked p now may_poll }
+    ensures begins { (settings : LinkSettings) (addresses : List ℕ) (may_poll : Bool) →
+        0 < length addresses → sending (start settings addresses) may_poll ≡ None → ⊥ }
+    ensures up { (p : Primary) (may_poll : Bool) → IsFitting p → p.outstanding ≡ None →
+        sending p may_poll ≡ None →
         (i : ℕ) → i < length p.stations → is_up (station_at p.stations i).link ≡ true }
-    ensures free { (p : Primary) (may_poll : Bool) → IsFitting p → p.outstanding ≡ None → sending p may_poll ≡ None →
+    ensures free { (p : Primary) (may_poll : Bool) → IsFitting p → p.outstanding ≡ None →
+        sending p may_poll ≡ None →
         (i : ℕ) → i < length p.stations → holds_command (station_at p.stations i).link ≡ false }
 {}

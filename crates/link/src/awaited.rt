@@ -4,8 +4,8 @@ ghost use Rattle.link.specs.Holding.{awaited_with};
 
 use crate::service::Asked;
 
-/// A request, since when its answer is awaited (in milliseconds), whether what came can't be the answer any more, and whether any
-/// octets came.
+/// A request, since when its answer is awaited (in milliseconds), whether what came can't be the
+/// answer any more, and whether any octets came.
 #[derive(Drop)]
 pub struct Awaited {
     pub request: Asked,

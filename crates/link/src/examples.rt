@@ -1,4 +1,5 @@
-//! The tables by worked examples: what frames say in answer, what requests look like, and what turns begin with.
+//! The tables by worked examples: what frames say in answer, what requests look like, and what
+//! turns begin with.
 ghost use Rattle.std.specs.Prelude.{◌≡◌, [], true, false, Some, None};
 ghost use Rattle.link.specs.Answers.{Single, Fixed, Status, Reset, Counted, Class1, Class2, Command, Ready, Confirmed, Busy, Report, NoData, Unable, answer_of};
 ghost use Rattle.link.specs.Examples.{octet, in_state};
@@ -10,8 +11,8 @@ ghost use Rattle.link.specs.Turns.{Starting, Commanding, Polling, Class1Polling,
 ghost use Rattle.link.specs.Primary.{outcome_by, with_gap};
 ghost use Rattle.link.specs.declared.outcome.Outcome.TheVariants as outcome;
 
-/// What a secondary station's frames say in answer to each request (IEC 60870-5-2, 5.1: the functions of a secondary station;
-/// what `E5` stands for is this gateway's own profile).
+/// What a secondary station's frames say in answer to each request (IEC 60870-5-2, 5.1: the
+/// functions of a secondary station; what `E5` stands for is this gateway's own profile).
 pub fn answers_by_example()
     ensures status { (answer_of 1 Status (Fixed 0x0B 1) ≡ Some Ready)
         × (answer_of 1 Status (Fixed 0x3B 1) ≡ Some Ready)
@@ -27,7 +28,8 @@ pub fn answers_by_example()
         × (answer_of 1 Reset (Fixed 0x0E 1) ≡ None)
         × (answer_of 1 Reset (Fixed 0x0F 1) ≡ None)
         × (answer_of 1 Reset (data_frame 0x08 1 octet) ≡ None) }
-    ensures class1 { (answer_of 1 (Counted true Class1) (data_frame 0x28 1 octet) ≡ Some (Report octet))
+    ensures class1 { (answer_of 1 (Counted true Class1) (data_frame 0x28 1 octet)
+        ≡ Some (Report octet))
         × (answer_of 1 (Counted true Class1) (data_frame 0x00 1 octet) ≡ None)
         × (answer_of 1 (Counted true Class1) (Fixed 0x09 1) ≡ Some NoData)
         × (answer_of 1 (Counted true Class1) Single ≡ Some NoData)
@@ -35,7 +37,8 @@ pub fn answers_by_example()
         × (answer_of 1 (Counted true Class1) (Fixed 0x0F 1) ≡ Some Unable)
         × (answer_of 1 (Counted true Class1) (Fixed 0x00 1) ≡ None)
         × (answer_of 1 (Counted true Class1) (Fixed 0x08 1) ≡ None) }
-    ensures class2 { (answer_of 1 (Counted false Class2) (data_frame 0x08 1 octet) ≡ Some (Report octet))
+    ensures class2 { (answer_of 1 (Counted false Class2) (data_frame 0x08 1 octet)
+        ≡ Some (Report octet))
         × (answer_of 1 (Counted false Class2) (Fixed 0x29 1) ≡ Some NoData)
         × (answer_of 1 (Counted false Class2) Single ≡ Some NoData)
         × (answer_of 1 (Counted false Class2) (Fixed 0x0F 1) ≡ Some Unable)
@@ -62,7 +65,9 @@ pub fn answers_by_example()
         × (outcome_by 3 (Counted true (Command octet)) Confirmed ≡ outcome.Accepted 3)
         × (outcome_by 3 (Counted true (Command octet)) Busy ≡ outcome.Busy 3)
         × (outcome_by 3 (Counted true Class1) NoData ≡ outcome.Empty 3)
-        × (outcome_by 3 (Counted true Class1) (Report octet) ≡ outcome.Report 3 (record { items = octet }))
+        × (outcome_by 3 (Counted true Class1) (Report octet) ≡ outcome.Report 3 (record {
+          items = octet;
+        }))
         × (outcome_by 3 Status Ready ≡ outcome.None)
         × (outcome_by 3 Status Unable ≡ outcome.Down 3)
         × (outcome_by 3 (Counted false Class2) Unable ≡ outcome.Down 3) }
@@ -72,8 +77,8 @@ pub fn answers_by_example()
         × (with_gap (Some 2) (outcome_by 3 Status Unable) ≡ outcome.Down 3) }
 {}
 
-/// What each request looks like, and what a frame asks for (IEC 60870-5-2, 5.1: PRM 1, and FCV 1 with the frame count bit for
-/// user data and requests for data).
+/// What each request looks like, and what a frame asks for (IEC 60870-5-2, 5.1: PRM 1, and FCV 1
+/// with the frame count bit for user data and requests for data).
 pub fn requests_by_example()
     ensures frames { (request_frame 1 Status ≡ Fixed 0x49 1)
         × (request_frame 1 Reset ≡ Fixed 0x40 1)
@@ -102,8 +107,9 @@ pub fn requests_by_example()
         × (reading_of 1 (data_frame 0x7A 1 octet) ≡ Unknown) }
 {}
 
-/// What a turn has next, of a station in each state (this gateway's own profile), with `burst` 2: with leave to poll or without,
-/// and where an unanswered service is to be sent again at once or isn't.
+/// What a turn has next, of a station in each state (this gateway's own profile), with `burst` 2:
+/// with leave to poll or without, and where an unanswered service is to be sent again at once or
+/// isn't.
 pub fn turns_by_example()
     ensures starts { (wanted 2 false false (in_state Down false false None) Starting
         ≡ wants Status Starting)
@@ -129,7 +135,8 @@ pub fn turns_by_example()
         ≡ None)
         × (wanted 2 false false (in_state (Next true) true false None) Polling
         ≡ None) }
-    ensures held { (wanted 2 true false (in_state (Held true Class1 4) false true (Some octet)) Starting
+    ensures held { (wanted 2 true false
+        (in_state (Held true Class1 4) false true (Some octet)) Starting
         ≡ wants (Counted true Class1) Commanding)
         × (wanted 2 false false (in_state (Held true Class1 4) false false None) Starting
         ≡ None)

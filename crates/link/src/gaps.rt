@@ -12,9 +12,9 @@ ghost use Rattle.link.specs.Telling.{Tells, gap_in_outcome};
 
 use ft12::front_is_computed;
 
-/// Through the calls of a primary station, the sessions of a station that ended with a gap, by its exchanges, grow by exactly those
-/// that the outcomes tell. (That an answered reset without a gap is told as a start is said of all outcomes, by
-/// `outcomes_are_answers`.)
+/// Through the calls of a primary station, the sessions of a station that ended with a gap, by its
+/// exchanges, grow by exactly those that the outcomes tell. (That an answered reset without a gap
+/// is told as a start is said of all outcomes, by `outcomes_are_answers`.)
 pub fn gaps_are_told()
     ensures octets { (settings : LinkSettings) (addresses : List ℕ) (p : Primary) (e : Exchanges)
         (octets : List ℕ) (station : ℕ) → Tells settings addresses p e →
@@ -22,11 +22,13 @@ pub fn gaps_are_told()
         (record { ended = e.ended; current = heard_current octets e.current })
         ≡ gaps_at (front_of settings.size) addresses station e
         ++ gap_in_outcome station (received_outcome (front_of p.settings.size) p octets) }
-    ensures due { (size : LinkSize) (addresses : List ℕ) (answer_ms at : ℕ) (e : Exchanges) (station : ℕ) →
+    ensures due { (size : LinkSize) (addresses : List ℕ) (answer_ms at : ℕ) (e : Exchanges)
+        (station : ℕ) →
         gaps_at (front_of size) addresses station
         (record { ended = e.ended; current = timed_current answer_ms at e.current })
         ≡ gaps_at (front_of size) addresses station e }
-    ensures next { (size : LinkSize) (addresses : List ℕ) (now : ℕ) (s : Option Sending) (e : Exchanges)
+    ensures next { (size : LinkSize) (addresses : List ℕ) (now : ℕ) (s : Option Sending)
+        (e : Exchanges)
         (station : ℕ) →
         gaps_at (front_of size) addresses station (begun_by now s e)
         ≡ gaps_at (front_of size) addresses station e }
@@ -34,10 +36,12 @@ pub fn gaps_are_told()
     front_is_computed();
 }
 
-/// The sessions that ended with a gap are those, between two confirmed resets and counted from 1, whose latest service is a poll that
-/// wasn't answered by data or that there are none: what comes before the first reset is none of them.
+/// The sessions that ended with a gap are those, between two confirmed resets and counted from 1,
+/// whose latest service is a poll that wasn't answered by data or that there are none: what comes
+/// before the first reset is none of them.
 pub fn gaps_are_ended_sessions()
-    ensures ended { (settings : LinkSettings) (station : ℕ) (xs : List Exchange) (turns : List Turn) →
+    ensures ended { (settings : LinkSettings) (station : ℕ) (xs : List Exchange)
+        (turns : List Turn) →
         KeepsFrameCountBit settings station Down xs → length xs ≡ length turns →
         gaps_in station xs ≡ ended_with_gap station 1 (sessions station xs turns) }
     ensures honest { (station : ℕ) (xs : List Exchange) (turns : List Turn) →

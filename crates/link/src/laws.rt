@@ -20,69 +20,105 @@ use ft12::front_is_computed;
 
 /// What a request's octets ask for, and of whom, is the request.
 pub fn requests_are_read_back()
-    ensures whole { (size : LinkSize) (address : ℕ) (request : Asked) → FitsAddress size address → FitsAsked size request →
+    ensures whole { (size : LinkSize) (address : ℕ) (request : Asked) → FitsAddress size address →
+        FitsAsked size request →
         request_in size (spelling size (request_frame address request)) ≡ Some (address, request) }
-    ensures front { (size : LinkSize) (address : ℕ) (request : Asked) → FitsAddress size address → FitsAsked size request →
-        option_and_then asked_in (whole_of (front_of size (spelling size (request_frame address request)))) ≡ Some (address, request) }
+    ensures front { (size : LinkSize) (address : ℕ) (request : Asked) → FitsAddress size address →
+        FitsAsked size request →
+        option_and_then asked_in (whole_of
+        (front_of size (spelling size (request_frame address request)))) ≡ Some (address, request) }
 {
     front_is_computed();
 }
 
-/// A primary station's state says of the exchanges of its line what they are: from the start on, and through each call. So its
-/// requests keep the frame count bit of each station.
+/// A primary station's state says of the exchanges of its line what they are: from the start on,
+/// and through each call. So its requests keep the frame count bit of each station.
 pub fn master_tells_the_log()
-    ensures start { (settings : LinkSettings) (addresses : List ℕ) → 0 < length addresses → All (FitsAddress settings.size) addresses →
+    ensures start { (settings : LinkSettings) (addresses : List ℕ) → 0 < length addresses →
+        All (FitsAddress settings.size) addresses →
         Tells settings addresses (start settings addresses) no_exchanges }
-    ensures octets { (settings : LinkSettings) (addresses : List ℕ) (p : Primary) (e : Exchanges) (octets : List ℕ) → Tells settings addresses p e →
-        Tells settings addresses (received (front_of p.settings.size) p octets) (record { ended = e.ended; current = heard_current octets e.current }) }
-    ensures due { (settings : LinkSettings) (addresses : List ℕ) (p : Primary) (e : Exchanges) (at : ℕ) → Tells settings addresses p e →
-        Tells settings addresses (timed_out p at) (record { ended = e.ended; current = timed_current settings.answer_ms at e.current }) }
-    ensures next { (settings : LinkSettings) (addresses : List ℕ) (p : Primary) (e : Exchanges) (now : ℕ) (may_poll : Bool) → Tells settings addresses p e →
+    ensures octets { (settings : LinkSettings) (addresses : List ℕ) (p : Primary) (e : Exchanges)
+        (octets : List ℕ) → Tells settings addresses p e →
+        Tells settings addresses (received (front_of p.settings.size) p octets) (record {
+          ended = e.ended;
+          current = heard_current octets e.current;
+        }) }
+    ensures due { (settings : LinkSettings) (addresses : List ℕ) (p : Primary) (e : Exchanges)
+        (at : ℕ) → Tells settings addresses p e →
+        Tells settings addresses (timed_out p at) (record {
+          ended = e.ended;
+          current = timed_current settings.answer_ms at e.current;
+        }) }
+    ensures next { (settings : LinkSettings) (addresses : List ℕ) (p : Primary) (e : Exchanges)
+        (now : ℕ) (may_poll : Bool) → Tells settings addresses p e →
         Tells settings addresses (asked p now may_poll) (begun_by now (sending p may_poll) e) }
-    ensures offer { (settings : LinkSettings) (addresses : List ℕ) (p : Primary) (e : Exchanges) (station : ℕ) (asdu : List ℕ) →
-        station < length p.stations → IsUserData p.settings.size asdu → Tells settings addresses p e →
+    ensures offer { (settings : LinkSettings) (addresses : List ℕ) (p : Primary) (e : Exchanges)
+        (station : ℕ) (asdu : List ℕ) →
+        station < length p.stations → IsUserData p.settings.size asdu →
+        Tells settings addresses p e →
         Tells settings addresses (offered_to p station asdu) e }
-    ensures withdraw { (settings : LinkSettings) (addresses : List ℕ) (p : Primary) (e : Exchanges) → Tells settings addresses p e →
+    ensures withdraw { (settings : LinkSettings) (addresses : List ℕ) (p : Primary)
+        (e : Exchanges) → Tells settings addresses p e →
         Tells settings addresses (withdrawn p) e }
 {
     front_is_computed();
 }
 
-/// Through the calls of a primary station, the reports of the exchanges grow by exactly those that the outcomes bear.
+/// Through the calls of a primary station, the reports of the exchanges grow by exactly those that
+/// the outcomes bear.
 pub fn outcomes_bear_the_reports()
-    ensures octets { (settings : LinkSettings) (addresses : List ℕ) (p : Primary) (e : Exchanges) (octets : List ℕ) → Tells settings addresses p e →
-        reports_of_exchanges (front_of settings.size) (λ i. slice_index addresses i) (record { ended = e.ended; current = heard_current octets e.current })
-        ≡ reports_of_exchanges (front_of settings.size) (λ i. slice_index addresses i) e ++ report_in (received_outcome (front_of p.settings.size) p octets) }
+    ensures octets { (settings : LinkSettings) (addresses : List ℕ) (p : Primary) (e : Exchanges)
+        (octets : List ℕ) → Tells settings addresses p e →
+        reports_of_exchanges (front_of settings.size) (λ i. slice_index addresses i) (record {
+          ended = e.ended;
+          current = heard_current octets e.current;
+        })
+        ≡ reports_of_exchanges (front_of settings.size) (λ i. slice_index addresses i) e
+        ++ report_in (received_outcome (front_of p.settings.size) p octets) }
     ensures due { (size : LinkSize) (address : ℕ → ℕ) (answer_ms at : ℕ) (e : Exchanges) →
-        reports_of_exchanges (front_of size) address (record { ended = e.ended; current = timed_current answer_ms at e.current })
+        reports_of_exchanges (front_of size) address (record {
+          ended = e.ended;
+          current = timed_current answer_ms at e.current;
+        })
         ≡ reports_of_exchanges (front_of size) address e }
-    ensures next { (size : LinkSize) (address : ℕ → ℕ) (now : ℕ) (s : Option Sending) (e : Exchanges) →
-        reports_of_exchanges (front_of size) address (begun_by now s e) ≡ reports_of_exchanges (front_of size) address e }
+    ensures next { (size : LinkSize) (address : ℕ → ℕ) (now : ℕ) (s : Option Sending)
+        (e : Exchanges) →
+        reports_of_exchanges (front_of size) address (begun_by now s e)
+        ≡ reports_of_exchanges (front_of size) address e }
 {
     front_is_computed();
 }
 
-/// A request of a primary station is a station's, fits the line, and goes out only while no exchange is outstanding.
+/// A request of a primary station is a station's, fits the line, and goes out only while no
+/// exchange is outstanding.
 pub fn requests_wait_their_turn()
-    ensures fit { (settings : LinkSettings) (addresses : List ℕ) (p : Primary) (e : Exchanges) (may_poll : Bool) (s : Sending) → Tells settings addresses p e →
+    ensures fit { (settings : LinkSettings) (addresses : List ℕ) (p : Primary) (e : Exchanges)
+        (may_poll : Bool) (s : Sending) → Tells settings addresses p e →
         sending p may_poll ≡ Some s → IsFittingSending settings addresses s }
-    ensures octets { (settings : LinkSettings) (addresses : List ℕ) (p : Primary) (e : Exchanges) (s : Sending) → Tells settings addresses p e →
-        (request_of p s).octets.items ≡ spelling settings.size (request_frame (slice_index addresses s.station) s.request) }
-    ensures alone { (settings : LinkSettings) (addresses : List ℕ) (p : Primary) (e : Exchanges) (may_poll : Bool) (s : Sending) (x : OpenExchange) →
+    ensures octets { (settings : LinkSettings) (addresses : List ℕ) (p : Primary) (e : Exchanges)
+        (s : Sending) → Tells settings addresses p e →
+        (request_of p s).octets.items
+        ≡ spelling settings.size (request_frame (slice_index addresses s.station) s.request) }
+    ensures alone { (settings : LinkSettings) (addresses : List ℕ) (p : Primary) (e : Exchanges)
+        (may_poll : Bool) (s : Sending) (x : OpenExchange) →
         Tells settings addresses p e → sending p may_poll ≡ Some s → e.current ≡ Some x →
-        IsOutstanding (slice_index addresses x.station) (view (front_of settings.size) x).exchange → ⊥ }
+        IsOutstanding (slice_index addresses x.station) (view (front_of settings.size) x).exchange →
+        ⊥ }
 {}
 
-/// A service is asked of a station only while it is up, and its status or a reset only while it isn't.
+/// A service is asked of a station only while it is up, and its status or a reset only while it
+/// isn't.
 pub fn services_need_a_station_that_is_up()
     ensures service { (settings : LinkSettings) (station : ℕ) (xs : List Exchange) (x : Exchange) →
-        KeepsFrameCountBit settings station Down (xs ++ x ∷ []) → is_service x.request ≡ true → IsUp settings station xs }
+        KeepsFrameCountBit settings station Down (xs ++ x ∷ []) → is_service x.request ≡ true →
+        IsUp settings station xs }
     ensures start { (settings : LinkSettings) (station : ℕ) (xs : List Exchange) (x : Exchange) →
-        KeepsFrameCountBit settings station Down (xs ++ x ∷ []) → is_service x.request ≡ false → IsUp settings station xs → ⊥ }
+        KeepsFrameCountBit settings station Down (xs ++ x ∷ []) → is_service x.request ≡ false →
+        IsUp settings station xs → ⊥ }
 {}
 
-/// What holds of a primary station and of the exchanges of its line, call by call: what the laws above and those of offers, rests,
-/// outcomes and gaps say, in one record.
+/// What holds of a primary station and of the exchanges of its line, call by call: what the laws
+/// above and those of offers, rests, outcomes and gaps say, in one record.
 pub fn line_keeps_the_procedures()
     ensures { LineLaws }
 {

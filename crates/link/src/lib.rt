@@ -1,30 +1,35 @@
 //! Link procedures of unbalanced transmission (IEC 60870-5-2, over frames of format class FT1.2).
 //!
-//! [`Master`] is the primary station of one line: it says which request goes out next ([`Master::next`]), hears the octets that
-//! come back ([`Master::octets`]) and is told the time ([`Master::due`]). [`Station`] is the other end, a secondary station.
-//! Neither reads a clock, nor a line: moments and octets are handed in, requests and answers are handed out. Left out are balanced
-//! mode, user data without reply, requests for access demand, and links without an address.
+//! [`Master`] is the primary station of one line: it says which request goes out next
+//! ([`Master::next`]), hears the octets that come back ([`Master::octets`]) and is told the time
+//! ([`Master::due`]). [`Station`] is the other end, a secondary station. Neither reads a clock, nor
+//! a line: moments and octets are handed in, requests and answers are handed out. Left out are
+//! balanced mode, user data without reply, requests for access demand, and links without an
+//! address.
 //!
-//! Each call of [`Master`] is one function on a small machine (`specs/Primary.antt`), and of [`Station`] on another
-//! (`specs/Secondary.antt`). Above them stand laws, as public functions with no body:
+//! Each call of [`Master`] is one function on a small machine (`specs/Primary.antt`), and of
+//! [`Station`] on another (`specs/Secondary.antt`). Above them stand laws, as public functions with
+//! no body:
 //! - over every list of calls the exchanges of the line keep the frame count bit of each station
-//!   ([`frame_count_bits_are_kept`], [`master_tells_the_log`]), no request goes out while one is outstanding
-//!   ([`requests_wait_their_turn`]), turns go round the stations ([`turns_go_round`]), a turn ends ([`turns_end`]) and
-//!   no station starves ([`no_station_starves`]), polls and commands go by ACD and DFC ([`flags_are_heeded`]), a command is sent
-//!   for the first time once, in order ([`commands_are_sent_in_order`]), what is offered waits until then ([`offers_wait`]) and is
-//!   taken where no other is under way ([`one_command_at_a_time`]), what
-//!   the caller is told is what the exchanges show ([`outcomes_are_answers`], [`outcomes_bear_the_reports`]), and those that
-//!   closed with octets but no answer are counted ([`spoilt_exchanges_are_counted`]);
-//! - a reset that ends a session whose last report may be lost is told, and no other ([`gaps_are_told`],
-//!   [`gaps_are_ended_sessions`]);
+//!   ([`frame_count_bits_are_kept`], [`master_tells_the_log`]), no request goes out while one is
+//!   outstanding ([`requests_wait_their_turn`]), turns go round the stations ([`turns_go_round`]),
+//!   a turn ends ([`turns_end`]) and no station starves ([`no_station_starves`]), polls and
+//!   commands go by ACD and DFC ([`flags_are_heeded`]), a command is sent for the first time once,
+//!   in order ([`commands_are_sent_in_order`]), what is offered waits until then ([`offers_wait`])
+//!   and is taken where no other is under way ([`one_command_at_a_time`]), what the caller is told
+//!   is what the exchanges show ([`outcomes_are_answers`], [`outcomes_bear_the_reports`]), and
+//!   those that closed with octets but no answer are counted ([`spoilt_exchanges_are_counted`]);
+//! - a reset that ends a session whose last report may be lost is told, and no other
+//!   ([`gaps_are_told`], [`gaps_are_ended_sessions`]);
 //! - what the crates above go by is one record ([`line_keeps_the_procedures`]);
-//! - a station runs as an outstation that hears each request to it ([`station_is_an_outstation`]), and its answers say what
-//!   waits there ([`station_tells_what_waits`]);
-//! - the tables of requests, answers and turns have worked examples ([`answers_by_example`], [`requests_by_example`],
-//!   [`turns_by_example`]);
-//! - and where the frame count bit is kept and an outstation's answers come in their exchange and unaltered, each service acts once
-//!   and its answer is taken once ([`each_service_acts_once`], [`sessions_are_known`], [`commands_are_accepted`],
-//!   [`reports_are_learnt`], [`silence_is_no_reset`]).
+//! - a station runs as an outstation that hears each request to it ([`station_is_an_outstation`]),
+//!   and its answers say what waits there ([`station_tells_what_waits`]);
+//! - the tables of requests, answers and turns have worked examples ([`answers_by_example`],
+//!   [`requests_by_example`], [`turns_by_example`]);
+//! - and where the frame count bit is kept and an outstation's answers come in their exchange and
+//!   unaltered, each service acts once and its answer is taken once ([`each_service_acts_once`],
+//!   [`sessions_are_known`], [`commands_are_accepted`], [`reports_are_learnt`],
+//!   [`silence_is_no_reset`]).
 #![tactic(auto)]
 
 mod answer;

@@ -9,33 +9,47 @@ ghost use Rattle.link.specs.Secondary.{Secondary, outstation_of};
 ghost use Rattle.link.specs.Tidings.{IsNew, IsNewReading, bit_of, answer_after, Wait1, Wait2, do_wait, TellsFlags, oldest, IsAnsweredBy};
 ghost use Rattle.link.specs.Life.{Call, Hear, after, requests_heard, turns_in, given1, given2, reported1, reported2, saturated};
 
-/// Whatever it is called for, a station runs as the outstation that a primary counts on, and hears each request to it. It gives
-/// the reports of each class in order, each once. Its address and its size of addresses stay.
+/// Whatever it is called for, a station runs as the outstation that a primary counts on, and hears
+/// each request to it. It gives the reports of each class in order, each once. Its address and its
+/// size of addresses stay.
 pub fn station_is_an_outstation()
     ensures run { (s : Secondary) (calls : List Call) →
-        OutstationRun s.address (outstation_of s) (requests_heard s.address calls) (turns_in s calls) (outstation_of (after s calls)) }
+        OutstationRun s.address (outstation_of s) (requests_heard s.address calls)
+        (turns_in s calls) (outstation_of (after s calls)) }
     ensures class1 { (s : Secondary) (calls : List Call) → s.given < 2 ^ 64 →
-        given1 (requests_heard s.address calls) (turns_in s calls) ++ (after s calls).class1 ≡ s.class1 ++ reported1 calls }
+        given1 (requests_heard s.address calls) (turns_in s calls) ++ (after s calls).class1
+        ≡ s.class1 ++ reported1 calls }
     ensures class2 { (s : Secondary) (calls : List Call) → s.given < 2 ^ 64 →
-        given2 (requests_heard s.address calls) (turns_in s calls) ++ (after s calls).class2 ≡ s.class2 ++ reported2 calls }
+        given2 (requests_heard s.address calls) (turns_in s calls) ++ (after s calls).class2
+        ≡ s.class2 ++ reported2 calls }
     ensures accepted { (s : Secondary) (calls : List Call) → s.given < 2 ^ 64 →
         s.accepted ++ commands (all_done (turns_in s calls)) ≡ (after s calls).accepted }
     ensures given { (s : Secondary) (calls : List Call) → s.given < 2 ^ 64 →
-        (after s calls).given ≡ saturated (s.given + length (reports (all_done (turns_in s calls)))) }
+        (after s calls).given ≡ saturated
+        (s.given + length (reports (all_done (turns_in s calls)))) }
     ensures address { (s : Secondary) (calls : List Call) → (after s calls).address ≡ s.address }
     ensures size { (s : Secondary) (calls : List Call) → (after s calls).size ≡ s.size }
 {}
 
-/// Each new answer has ACD set exactly where reports of class 1 wait after it, and DFC never. A request for data of a class gives
-/// the oldest report of that class that waits, and says that there is none only where none does.
+/// Each new answer has ACD set exactly where reports of class 1 wait after it, and DFC never. A
+/// request for data of a class gives the oldest report of that class that waits, and says that
+/// there is none only where none does.
 pub fn station_tells_what_waits()
-    ensures flags { (size : LinkSize) (address : ℕ) (calls : List Call) (granted : Bool) (frame : Frame) (waiting : List (List ℕ)) →
-        IsNewReading (bit_of address calls) (reading_of address frame) → Wait1 size address (calls ++ Hear granted (Some frame) ∷ []) waiting →
+    ensures flags { (size : LinkSize) (address : ℕ) (calls : List Call) (granted : Bool)
+        (frame : Frame) (waiting : List (List ℕ)) →
+        IsNewReading (bit_of address calls) (reading_of address frame) →
+        Wait1 size address (calls ++ Hear granted (Some frame) ∷ []) waiting →
         TellsFlags (answer_after size address calls granted frame) (do_wait waiting) false }
-    ensures class1 { (size : LinkSize) (address : ℕ) (calls : List Call) (granted : Bool) (frame : Frame) (fcb : Bool) (waiting : List (List ℕ)) →
-        reading_of address frame ≡ Asks (Counted fcb Class1) → IsNew (bit_of address calls) (Counted fcb Class1) → Wait1 size address calls waiting →
-        IsAnsweredBy (answer_after size address calls granted frame) address (Counted fcb Class1) (oldest waiting) }
-    ensures class2 { (size : LinkSize) (address : ℕ) (calls : List Call) (granted : Bool) (frame : Frame) (fcb : Bool) (waiting : List (List ℕ)) →
-        reading_of address frame ≡ Asks (Counted fcb Class2) → IsNew (bit_of address calls) (Counted fcb Class2) → Wait2 size address calls waiting →
-        IsAnsweredBy (answer_after size address calls granted frame) address (Counted fcb Class2) (oldest waiting) }
+    ensures class1 { (size : LinkSize) (address : ℕ) (calls : List Call) (granted : Bool)
+        (frame : Frame) (fcb : Bool) (waiting : List (List ℕ)) →
+        reading_of address frame ≡ Asks (Counted fcb Class1) →
+        IsNew (bit_of address calls) (Counted fcb Class1) → Wait1 size address calls waiting →
+        IsAnsweredBy (answer_after size address calls granted frame) address (Counted fcb Class1)
+        (oldest waiting) }
+    ensures class2 { (size : LinkSize) (address : ℕ) (calls : List Call) (granted : Bool)
+        (frame : Frame) (fcb : Bool) (waiting : List (List ℕ)) →
+        reading_of address frame ≡ Asks (Counted fcb Class2) →
+        IsNew (bit_of address calls) (Counted fcb Class2) → Wait2 size address calls waiting →
+        IsAnsweredBy (answer_after size address calls granted frame) address (Counted fcb Class2)
+        (oldest waiting) }
 {}

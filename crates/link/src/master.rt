@@ -22,7 +22,8 @@ use ft12::{Assembler, Frame, Heard, front_is_computed};
 use std::alloc::Global;
 use std::marker::Model;
 
-/// The primary station of a line: whose turn it is, the request whose answer is awaited, and what is sent next.
+/// The primary station of a line: whose turn it is, the request whose answer is awaited, and what
+/// is sent next.
 #[derive(Drop)]
 pub struct Master {
     settings: LinkSettings,
@@ -128,7 +129,8 @@ fn phase_missed(again: bool, phase: Phase) -> Phase
 }
 
 fn sends_command(outstanding: &Option<Awaited>) -> bool
-    ensures { result ≡ is_sending_command (option_map (λ a. outstanding_of a None) outstanding.now) }
+    ensures { result ≡ is_sending_command
+        (option_map (λ a. outstanding_of a None) outstanding.now) }
 {
     match outstanding {
         Some(awaited) => matches!(&awaited.request, Asked::Counted(_, Service::Command(_))),
@@ -156,8 +158,10 @@ fn withdraw_all(stations: &mut [StationState])
 
 /// The frame that a piece completes, if it does.
 fn frame_in(assembler: &mut Assembler, piece: &[u8]) -> Option<Frame>
-    ensures frame { result ≡ frame_after (front_of assembler.old.size) assembler.old.so_far piece.now }
-    ensures so_far { assembler.new.so_far ≡ so_far_after (front_of assembler.old.size) assembler.old.so_far piece.now }
+    ensures frame { result ≡ frame_after
+        (front_of assembler.old.size) assembler.old.so_far piece.now }
+    ensures so_far { assembler.new.so_far
+        ≡ so_far_after (front_of assembler.old.size) assembler.old.so_far piece.now }
     ensures size { assembler.new.size ≡ assembler.old.size }
 {
     front_is_computed();
@@ -168,8 +172,9 @@ fn frame_in(assembler: &mut Assembler, piece: &[u8]) -> Option<Frame>
 }
 
 impl Master {
-    /// A primary station of the stations with these link addresses, in the order of their turns. Their links are down. It asks for
-    /// at least one, and for addresses that fit their size. Only this call takes memory: `Err` where there is none.
+    /// A primary station of the stations with these link addresses, in the order of their turns.
+    /// Their links are down. It asks for at least one, and for addresses that fit their size. Only
+    /// this call takes memory: `Err` where there is none.
     pub fn new(alloc: Global, settings: LinkSettings, addresses: &[u16]) -> Result<Master, NoMemory>
         requires some { 0 < length addresses.now }
         requires fit { All (FitsAddress settings.size) addresses.now }
@@ -211,7 +216,8 @@ impl Master {
         self.stations.len()
     }
 
-    /// How many exchanges were spoilt so far, at most `u64::MAX`: octets came in them, but no answer before `due` ended them.
+    /// How many exchanges were spoilt so far, at most `u64::MAX`: octets came in them, but no
+    /// answer before `due` ended them.
     pub fn spoilt(&self) -> u64
         ensures { result ≡ self.now.spoilt }
     {
@@ -232,9 +238,10 @@ impl Master {
         }
     }
 
-    /// The next request, at this moment in milliseconds: none where one is outstanding, or no station has any. With `may_poll`
-    /// false no data are asked for, save by a poll that is unanswered and sent again at once. The request is to be put on the
-    /// line: its exchange begins now.
+    /// The next request, at this moment in milliseconds: none where one is outstanding, or no
+    /// station has any. With `may_poll` false no data are asked for, save by a poll that is
+    /// unanswered and sent again at once. The request is to be put on the line: its exchange begins
+    /// now.
     pub fn next(&mut self, now: u64, may_poll: bool) -> Option<Request>
         ensures state { self.new ≡ asked self.old now may_poll }
         ensures request { result ≡ option_map (request_of self.old) (sending self.old may_poll) }
@@ -255,7 +262,10 @@ impl Master {
     fn begin(&mut self, now: u64, chosen: Chosen) -> Request
         requires { IsFittingChoice self.old (Some chosen) }
         ensures state { self.new ≡ after_choice self.old now (Some chosen) }
-        ensures request { result ≡ request_of self.old (record { station = chosen.station; request = chosen.wanted.request }) }
+        ensures request { result ≡ request_of self.old (record {
+          station = chosen.station;
+          request = chosen.wanted.request;
+        }) }
     {
         let Chosen { station, wanted } = chosen;
         let there = nth_station(&self.stations, station);
@@ -279,12 +289,13 @@ impl Master {
         request
     }
 
-    /// Hears octets of the line, in any pieces, and answers what came of the exchange. Its answer is the frame at the front of
-    /// its octets. Those that come while no request is outstanding, and those after an answer or after what can't be one, are
-    /// dropped.
+    /// Hears octets of the line, in any pieces, and answers what came of the exchange. Its answer
+    /// is the frame at the front of its octets. Those that come while no request is outstanding,
+    /// and those after an answer or after what can't be one, are dropped.
     pub fn octets(&mut self, octets: &[u8]) -> Outcome
         ensures state { self.new ≡ received (front_of self.old.settings.size) self.old octets.now }
-        ensures outcome { result ≡ received_outcome (front_of self.old.settings.size) self.old octets.now }
+        ensures outcome { result ≡ received_outcome
+            (front_of self.old.settings.size) self.old octets.now }
     {
         let Some(awaited) = &mut self.outstanding else {
             return Outcome::None;
@@ -313,8 +324,10 @@ impl Master {
     fn hear_for(&mut self, awaited: Awaited, frame: &Frame) -> Outcome
         requires none { self.old.outstanding ≡ None }
         requires fits { FitsAsked self.old.settings.size awaited.request }
-        ensures state { heard_from self.old (Some (outstanding_of awaited None)) frame.now ≡ self.new }
-        ensures outcome { result ≡ heard_outcome self.old (Some (outstanding_of awaited None)) frame.now }
+        ensures state { heard_from self.old (Some (outstanding_of awaited None)) frame.now
+            ≡ self.new }
+        ensures outcome { result ≡ heard_outcome self.old
+            (Some (outstanding_of awaited None)) frame.now }
     {
         let place = self.turn;
         let there = nth_station(&self.stations, place);
@@ -337,8 +350,9 @@ impl Master {
         }
     }
 
-    /// Ends, as unanswered, an exchange that is outstanding where this moment, in milliseconds, is at least `answer_ms` past its
-    /// request. `Down` where the station's link is given up: with `hold` false, after one sending and its repeats.
+    /// Ends, as unanswered, an exchange that is outstanding where this moment, in milliseconds, is
+    /// at least `answer_ms` past its request. `Down` where the station's link is given up: with
+    /// `hold` false, after one sending and its repeats.
     pub fn due(&mut self, now: u64) -> Outcome
         ensures state { self.new ≡ timed_out self.old now }
         ensures outcome { result ≡ due_outcome self.old now }
@@ -389,9 +403,9 @@ impl Master {
             && !(self.turn == station && sends_command(&self.outstanding))
     }
 
-    /// Offers a command to the station with this index: user data of at least one octet that fit a frame (253 with one-octet
-    /// addresses, 252 with two). False, and nothing changes, where the station has an offered command, or one that was put on
-    /// the line and isn't done.
+    /// Offers a command to the station with this index: user data of at least one octet that fit a
+    /// frame (253 with one-octet addresses, 252 with two). False, and nothing changes, where the
+    /// station has an offered command, or one that was put on the line and isn't done.
     pub fn offer(&mut self, station: usize, asdu: &[u8]) -> bool
         requires station { station < length self.old.stations }
         requires asdu { IsUserData self.old.settings.size asdu.now }

@@ -13,8 +13,9 @@ pub enum Outcome {
     None,
     /// The link to the station was reset: it is up. No report is lost.
     Started(usize),
-    /// The link to the station was reset: it is up. The session with this number (from 1, at most `u64::MAX`) ended with a poll
-    /// that wasn't answered by data or that there are none: its last report may be lost.
+    /// The link to the station was reset: it is up. The session with this number (from 1, at most
+    /// `u64::MAX`) ended with a poll that wasn't answered by data or that there are none: its last
+    /// report may be lost.
     StartedGap(usize, u64),
     /// A poll was answered with these data.
     Report(usize, ArrayVec<u8, 253>),
@@ -24,7 +25,8 @@ pub enum Outcome {
     Accepted(usize),
     /// A command wasn't taken: the link is busy.
     Busy(usize),
-    /// The station is down: it answered that the service isn't functioning or not implemented, or it stayed silent.
+    /// The station is down: it answered that the service isn't functioning or not implemented, or
+    /// it stayed silent.
     Down(usize),
 }
 

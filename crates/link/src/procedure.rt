@@ -6,8 +6,9 @@ use crate::answer::Answer;
 use crate::service::{Asked, Service};
 use crate::settings::LinkSettings;
 
-/// The link to a station: down, down with its status known, or up. Up, either the next service has this frame count bit, or the
-/// one that isn't answered is due again, after so many unanswered sendings (they are counted up to one more than the repeats).
+/// The link to a station: down, down with its status known, or up. Up, either the next service has
+/// this frame count bit, or the one that isn't answered is due again, after so many unanswered
+/// sendings (they are counted up to one more than the repeats).
 #[derive(Drop)]
 pub enum Link {
     Down,

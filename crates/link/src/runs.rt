@@ -15,19 +15,23 @@ ghost use Rattle.link.specs.Runs.{Call, MayCallAll, called_all, exchanged_all, a
 
 use ft12::front_is_computed;
 
-/// Whatever is called, the exchanges of a primary station keep the frame count bit of each station: a status and a reset are
-/// requested only of a station that isn't up, a reset only right after a status that was answered.
+/// Whatever is called, the exchanges of a primary station keep the frame count bit of each station:
+/// a status and a reset are requested only of a station that isn't up, a reset only right after a
+/// status that was answered.
 pub fn frame_count_bits_are_kept()
     ensures { (settings : LinkSettings) (addresses : List ℕ) (calls : List Call) (station : ℕ) →
-        0 < length addresses → All (FitsAddress settings.size) addresses → MayCallAll (start settings addresses) calls →
+        0 < length addresses → All (FitsAddress settings.size) addresses →
+        MayCallAll (start settings addresses) calls →
         KeepsFrameCountBit settings (slice_index addresses station) Down
-        (with_station station (views (front_of settings.size) (all_of (exchanged_all (start settings addresses) calls no_exchanges)))) }
+        (with_station station (views (front_of settings.size)
+        (all_of (exchanged_all (start settings addresses) calls no_exchanges)))) }
 {
     front_is_computed();
 }
 
-/// Turns go round: the present turn goes on as long as it has a request. Then the first station has its turn, round
-/// from the one after the last served, that has a request. Where none goes out, none has one.
+/// Turns go round: the present turn goes on as long as it has a request. Then the first station has
+/// its turn, round from the one after the last served, that has a request. Where none goes out,
+/// none has one.
 pub fn turns_go_round()
     ensures goes_on { (p : Primary) (may_poll : Bool) (w : Wanted) → p.outstanding ≡ None →
         wanted p.settings.burst may_poll p.again (station_at p.stations p.turn) p.phase ≡ Some w →
@@ -35,54 +39,76 @@ pub fn turns_go_round()
     ensures passes_on { (p : Primary) (may_poll : Bool) (s : Sending) → p.outstanding ≡ None →
         wanted p.settings.burst may_poll p.again (station_at p.stations p.turn) p.phase ≡ None →
         sending p may_poll ≡ Some s → BeginsTurn p may_poll s }
-    ensures rests { (p : Primary) (may_poll : Bool) → p.outstanding ≡ None → sending p may_poll ≡ None → HaveNone p may_poll }
+    ensures rests { (p : Primary) (may_poll : Bool) → p.outstanding ≡ None →
+        sending p may_poll ≡ None → HaveNone p may_poll }
 {}
 
-/// What the caller is told of octets is the answer of the exchange that is outstanding, if they complete it. A moment that closes
-/// it is told where the station's link is down then. Where none is outstanding nothing happens, and nothing is told.
+/// What the caller is told of octets is the answer of the exchange that is outstanding, if they
+/// complete it. A moment that closes it is told where the station's link is down then. Where none
+/// is outstanding nothing happens, and nothing is told.
 pub fn outcomes_are_answers()
-    ensures octets { (settings : LinkSettings) (addresses : List ℕ) (p : Primary) (e : Exchanges) (octets : List ℕ) (x : OpenExchange) →
+    ensures octets { (settings : LinkSettings) (addresses : List ℕ) (p : Primary) (e : Exchanges)
+        (octets : List ℕ) (x : OpenExchange) →
         Tells settings addresses p e → e.current ≡ Some x →
         IsOutstanding (slice_index addresses x.station) (view (front_of settings.size) x).exchange →
         received_outcome (front_of settings.size) p octets
         ≡ with_gap (gap_at (front_of settings.size) addresses x.station e)
-        (outcome_of x.station x.request (answer_to (slice_index addresses x.station) (view (front_of settings.size) (heard_octets octets x)).exchange)) }
-    ensures due { (settings : LinkSettings) (addresses : List ℕ) (p : Primary) (e : Exchanges) (at : ℕ) (x : OpenExchange) →
+        (outcome_of x.station x.request
+        (answer_to (slice_index addresses x.station)
+        (view (front_of settings.size) (heard_octets octets x)).exchange)) }
+    ensures due { (settings : LinkSettings) (addresses : List ℕ) (p : Primary) (e : Exchanges)
+        (at : ℕ) (x : OpenExchange) →
         Tells settings addresses p e → e.current ≡ Some x →
-        IsOutstanding (slice_index addresses x.station) (view (front_of settings.size) x).exchange → (timed settings.answer_ms at x).closed ≡ true →
-        due_outcome p at ≡ silence_outcome x.station x.request (after_silence settings x.request true
-        (link_after settings (slice_index addresses x.station) Down (with_station x.station (views (front_of settings.size) e.ended)))) }
-    ensures early { (settings : LinkSettings) (addresses : List ℕ) (p : Primary) (e : Exchanges) (at : ℕ) (x : OpenExchange) →
+        IsOutstanding (slice_index addresses x.station) (view (front_of settings.size) x).exchange →
+        (timed settings.answer_ms at x).closed ≡ true →
+        due_outcome p at ≡ silence_outcome x.station
+        (link_after settings (slice_index addresses x.station) Down
+        (with_station x.station (views (front_of settings.size) e.ended)))
+        (after_silence settings x.request true
+        (link_after settings (slice_index addresses x.station) Down
+        (with_station x.station (views (front_of settings.size) e.ended)))) }
+    ensures early { (settings : LinkSettings) (addresses : List ℕ) (p : Primary) (e : Exchanges)
+        (at : ℕ) (x : OpenExchange) →
         Tells settings addresses p e → e.current ≡ Some x →
-        IsOutstanding (slice_index addresses x.station) (view (front_of settings.size) x).exchange → (timed settings.answer_ms at x).closed ≡ false →
+        IsOutstanding (slice_index addresses x.station) (view (front_of settings.size) x).exchange →
+        (timed settings.answer_ms at x).closed ≡ false →
         (timed_out p at ≡ p) × (due_outcome p at ≡ outcome.None) }
-    ensures none { (settings : LinkSettings) (addresses : List ℕ) (p : Primary) (e : Exchanges) (octets : List ℕ) (at : ℕ) →
+    ensures none { (settings : LinkSettings) (addresses : List ℕ) (p : Primary) (e : Exchanges)
+        (octets : List ℕ) (at : ℕ) →
         Tells settings addresses p e →
-        ((x : OpenExchange) → e.current ≡ Some x → IsOutstanding (slice_index addresses x.station) (view (front_of settings.size) x).exchange → ⊥) →
-        (received (front_of settings.size) p octets ≡ p) × (received_outcome (front_of settings.size) p octets ≡ outcome.None)
+        ((x : OpenExchange) → e.current ≡ Some x →
+        IsOutstanding (slice_index addresses x.station) (view (front_of settings.size) x).exchange →
+        ⊥) →
+        (received (front_of settings.size) p octets ≡ p)
+        × (received_outcome (front_of settings.size) p octets ≡ outcome.None)
         × (timed_out p at ≡ p) × (due_outcome p at ≡ outcome.None) }
 {}
 
-/// Each command that is put on the line for the first time is the one that waits: it was offered, and neither sent nor withdrawn
-/// since. So an offered command is sent at most once, in order, none is invented, and a withdrawal takes back what was never
-/// sent. (That an unanswered one is sent again octet for octet is kept with the frame count bit.)
+/// Each command that is put on the line for the first time is the one that waits: it was offered,
+/// and neither sent nor withdrawn since. So an offered command is sent at most once, in order, none
+/// is invented, and a withdrawal takes back what was never sent. (That an unanswered one is sent
+/// again octet for octet is kept with the frame count bit.)
 pub fn commands_are_sent_in_order()
     ensures { (settings : LinkSettings) (addresses : List ℕ) (calls : List Call) (station : ℕ) →
-        0 < length addresses → All (FitsAddress settings.size) addresses → MayCallAll (start settings addresses) calls →
+        0 < length addresses → All (FitsAddress settings.size) addresses →
+        MayCallAll (start settings addresses) calls →
         AreInOrder None (all_deeds (start settings addresses) station calls) }
 {
     front_is_computed();
 }
 
-/// Whatever is called, the count of spoilt exchanges is how many of the line's exchanges were closed, have octets and aren't
-/// answered, at most the greatest of 64 bits.
+/// Whatever is called, the count of spoilt exchanges is how many of the line's exchanges were
+/// closed, have octets and aren't answered, at most the greatest of 64 bits.
 pub fn spoilt_exchanges_are_counted()
     ensures count { (settings : LinkSettings) (addresses : List ℕ) (calls : List Call) →
-        0 < length addresses → All (FitsAddress settings.size) addresses → MayCallAll (start settings addresses) calls →
+        0 < length addresses → All (FitsAddress settings.size) addresses →
+        MayCallAll (start settings addresses) calls →
         (called_all (start settings addresses) calls).spoilt
-        ≡ saturated (spoilt_count (front_of settings.size) (λ i. slice_index addresses i) (all_of (exchanged_all (start settings addresses) calls no_exchanges))) }
+        ≡ saturated (spoilt_count (front_of settings.size) (λ i. slice_index addresses i)
+        (all_of (exchanged_all (start settings addresses) calls no_exchanges))) }
     ensures spoilt { (front : List ℕ → Front) (address : ℕ) (x : OpenExchange) →
-        (is_spoilt front address x ≡ true) ↔ ((x.octets ≢ []) × IsUnanswered address (view front x).exchange) }
+        (is_spoilt front address x ≡ true) ↔
+        ((x.octets ≢ []) × IsUnanswered address (view front x).exchange) }
 {
     front_is_computed();
 }

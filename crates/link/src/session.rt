@@ -1,4 +1,5 @@
-//! Sessions of a link: each lies between two answered resets, and a report may be lost where one ends.
+//! Sessions of a link: each lies between two answered resets, and a report may be lost where one
+//! ends.
 ghost use Rattle.std.specs.Prelude.{◌≡◌};
 ghost use Rattle.link.specs.Primary.{session_asked, session_answered, gap_of};
 

@@ -16,7 +16,8 @@ use std::alloc::Global;
 use std::collections::VecDeque;
 use std::marker::Model;
 
-/// A secondary station: the link to its primary, the reports of each class that wait, and the commands that it accepted.
+/// A secondary station: the link to its primary, the reports of each class that wait, and the
+/// commands that it accepted.
 #[derive(Drop)]
 pub struct Station {
     alloc: Global,
@@ -79,8 +80,8 @@ fn copy_of(frame: &Frame) -> Frame
 }
 
 impl Station {
-    /// A station that was never reset and has nothing to report. Its address is to fit the size. It takes memory as reports and
-    /// commands come.
+    /// A station that was never reset and has nothing to report. Its address is to fit the size. It
+    /// takes memory as reports and commands come.
     pub fn new(alloc: Global, size: LinkSize, address: u16) -> Station
         requires { FitsAddress size address }
         ensures { result ≡ fresh_station size address }
@@ -139,8 +140,14 @@ impl Station {
 
     fn give(&mut self, fcb: bool, report: Asdu) -> Option<Frame>
         requires { FitsFrame self.old.size report }
-        ensures state { self.new ≡ record (with_frame self.old fcb (data_frame (control_of 8 self.old.class1) self.old.address report)) { given = one_more_given self.old.given } }
-        ensures answer { result ≡ Some (data_frame (control_of 8 self.old.class1) self.old.address report) }
+        ensures state { self.new ≡ record
+            (with_frame self.old fcb (data_frame
+            (control_of 8 self.old.class1) self.old.address report)) {
+              given =
+                  one_more_given self.old.given;
+            } }
+        ensures answer { result ≡ Some
+            (data_frame (control_of 8 self.old.class1) self.old.address report) }
         ensures fits { IfSome result (Fits self.old.size) }
     {
         self.given = self.given.saturating_add(1);
@@ -181,7 +188,8 @@ impl Station {
     }
 
     fn accept(&mut self, asdu: &Asdu) -> bool
-        ensures taken { OnTrue result (self.new ≡ record self.old { accepted = self.old.accepted ++ asdu.now ∷ [] }) }
+        ensures taken { OnTrue result
+            (self.new ≡ record self.old { accepted = self.old.accepted ++ asdu.now ∷ [] }) }
         ensures refused { OnFalse result (self.new ≡ self.old) }
     {
         match Vec::from_slice(self.alloc, asdu.octets()) {
@@ -264,9 +272,10 @@ impl Station {
         }
     }
 
-    /// Hears octets: answers a whole frame with PRM 1 to its own address, and nothing else. An unchanged frame count bit gives the
-    /// last answer again. With a new one a poll gives the oldest report of its class, and a command is accepted, or answered
-    /// that the station is busy where memory is refused. Requests that it doesn't know are answered 15.
+    /// Hears octets: answers a whole frame with PRM 1 to its own address, and nothing else. An
+    /// unchanged frame count bit gives the last answer again. With a new one a poll gives the
+    /// oldest report of its class, and a command is accepted, or answered that the station is busy
+    /// where memory is refused. Requests that it doesn't know are answered 15.
     pub fn hear(&mut self, octets: &[u8]) -> Option<Frame>
         ensures heard { HearsOctets self.old octets.now result self.new }
         ensures fits { IfSome result (Fits self.old.size) }
@@ -288,11 +297,12 @@ impl Station {
         self.size
     }
 
-    /// Has a report of class 1, after those that it has: at most 253 octets (252 with two-octet addresses). Where there is no
-    /// memory nothing changes.
+    /// Has a report of class 1, after those that it has: at most 253 octets (252 with two-octet
+    /// addresses). Where there is no memory nothing changes.
     pub fn report1(&mut self, report: &[u8]) -> Result<(), NoMemory>
         requires { FitsFrame self.old.size report.now }
-        ensures ok { OnOk result (self.new ≡ record self.old { class1 = self.old.class1 ++ report.now ∷ [] }) }
+        ensures ok { OnOk result (self.new
+            ≡ record self.old { class1 = self.old.class1 ++ report.now ∷ [] }) }
         ensures err { OnErr result (self.new ≡ self.old) }
     {
         match self.class1.push_back(Asdu::new(report)) {
@@ -301,11 +311,12 @@ impl Station {
         }
     }
 
-    /// Has a report of class 2, after those that it has: at most 253 octets (252 with two-octet addresses). Where there is no
-    /// memory nothing changes.
+    /// Has a report of class 2, after those that it has: at most 253 octets (252 with two-octet
+    /// addresses). Where there is no memory nothing changes.
     pub fn report2(&mut self, report: &[u8]) -> Result<(), NoMemory>
         requires { FitsFrame self.old.size report.now }
-        ensures ok { OnOk result (self.new ≡ record self.old { class2 = self.old.class2 ++ report.now ∷ [] }) }
+        ensures ok { OnOk result (self.new
+            ≡ record self.old { class2 = self.old.class2 ++ report.now ∷ [] }) }
         ensures err { OnErr result (self.new ≡ self.old) }
     {
         match self.class2.push_back(Asdu::new(report)) {

@@ -169,7 +169,8 @@ fn next_place(count: usize, place: usize) -> usize
     if place + 1 < count { place + 1 } else { 0 }
 }
 
-/// The first of the stations, once round from the one after this place, that has a request to begin a turn with.
+/// The first of the stations, once round from the one after this place, that has a request to begin
+/// a turn with.
 pub(crate) fn first_wanted(
     stations: &[StationState],
     burst: u8,

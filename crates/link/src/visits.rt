@@ -11,28 +11,38 @@ ghost use Rattle.link.specs.Waits.{AlwaysWants, stations_asked, waited};
 
 use ft12::front_is_computed;
 
-/// Whatever is called, the exchanges of the line are visits, one after another, each of one station. A station that is down is
-/// asked its status and then reset; what is answered that it can't be served, or not at all, ends the visit. One that is up is
-/// sent the service that it holds, then at most one new command, one class 2 poll and `burst` class 1 polls, each repeated at
-/// most `retries` times, and only while it has no answer. So a visit has an end.
+/// Whatever is called, the exchanges of the line are visits, one after another, each of one
+/// station. A station that is down is asked its status and then reset; what is answered that it
+/// can't be served, or not at all, ends the visit. One that is up is sent the service that it
+/// holds, then at most one new command, one class 2 poll and `burst` class 1 polls, each repeated
+/// at most `retries` times, and only while it has no answer. So a visit has an end.
 pub fn turns_end()
     ensures visits { (settings : LinkSettings) (addresses : List ℕ) (calls : List Call) →
-        0 < length addresses → All (FitsAddress settings.size) addresses → 0 < settings.burst → MayCallAll (start settings addresses) calls →
-        AreInVisits settings addresses (views (front_of settings.size) (all_of (exchanged_all (start settings addresses) calls no_exchanges))) }
-    ensures most { (settings : LinkSettings) (station : ℕ) (link : Link) (xs : List Exchange) → IsVisit settings station link xs →
+        0 < length addresses → All (FitsAddress settings.size) addresses → 0 < settings.burst →
+        MayCallAll (start settings addresses) calls →
+        AreInVisits settings addresses
+        (views (front_of settings.size)
+        (all_of (exchanged_all (start settings addresses) calls no_exchanges))) }
+    ensures most { (settings : LinkSettings) (station : ℕ) (link : Link) (xs : List Exchange) →
+        IsVisit settings station link xs →
         length xs ≤ most_of_visit settings }
 {
     front_is_computed();
 }
 
-/// From any moment on, a station of which something is left to be asked each time is asked before more requests have gone to the
-/// others than they have in one visit each.
+/// From any moment on, a station of which something is left to be asked each time is asked before
+/// more requests have gone to the others than they have in one visit each.
 pub fn no_station_starves()
-    ensures { (settings : LinkSettings) (addresses : List ℕ) (first later : List Call) (station : ℕ) →
-        0 < length addresses → All (FitsAddress settings.size) addresses → 0 < settings.burst → station < length addresses →
-        MayCallAll (start settings addresses) first → MayCallAll (called_all (start settings addresses) first) later →
+    ensures { (settings : LinkSettings) (addresses : List ℕ) (first later : List Call)
+        (station : ℕ) →
+        0 < length addresses → All (FitsAddress settings.size) addresses → 0 < settings.burst →
+        station < length addresses →
+        MayCallAll (start settings addresses) first →
+        MayCallAll (called_all (start settings addresses) first) later →
         AlwaysWants (called_all (start settings addresses) first) station later →
-        waited station 0 (stations_asked (called_all (start settings addresses) first) later) ≤ most_of_visit settings * (length addresses - 1) }
+        waited station 0 (stations_asked
+        (called_all (start settings addresses) first) later) ≤ most_of_visit settings *
+        (length addresses - 1) }
 {
     front_is_computed();
 }

@@ -15,7 +15,7 @@ use Rattle.session.specs.declared.kinds.Close.TheVariants.{Grammar, SendNumber, 
 use Rattle.gateway.specs.Connections.{closed_by, Channel, no_channel, receiving, sending, ends, present, past, over, AreConnections, IsBegun}
 use Rattle.gateway.specs.Entries.{stored_log, log_of, told_of}
 use Rattle.gateway.specs.Frames.{Connection, Sent, data_frames, objects_of_frames, monitor_objects_sent}
-use Rattle.gateway.specs.Log.{Log, Came, Went, LineIn, Opened, TcpIn, CutOff, Ticked, LineOut, TcpOut, Closed}
+use Rattle.gateway.specs.Log.{Log, Came, Went, LineIn, Opened, TcpIn, CutOff, Ticked, LineOut, TcpOut, Closed, GapOut}
 use Rattle.gateway.specs.Objects.{objects}
 use Rattle.gateway.specs.Reports.{Setup}
 use Rattle.gateway.specs.Streams.{spelled, AreFrames, IsOneFrame}
@@ -104,6 +104,7 @@ counts_told (told.Tcp now octets ∷ ts) log =
     counts_told ts (told_of (told.Tcp now octets) ∷ log)
     ∙ ap (turned_onto (told_counts ts)) (add_twice (objects_in_apdu octets.items) (objects_until_next ts) (objects_in_apdu octets.items + objects_until_next ts) (sent_counts log) refl)
 counts_told (told.Close now number ∷ ts) log = counts_other ts (sent_counts (stored_log ts (told_of (told.Close now number) ∷ log))) (sent_counts log) (counts_told ts (told_of (told.Close now number) ∷ log))
+counts_told (told.Gap now station session ∷ ts) log = counts_other ts (sent_counts (stored_log ts (told_of (told.Gap now station session) ∷ log))) (sent_counts log) (counts_told ts (told_of (told.Gap now station session) ∷ log))
 
 text_lines : (ts : List Told) → connection_lines 1 ts ≡ lines_of_counts (sent_counts (log_of ts))
 text_lines ts = lines_told 1 ts ∙ sym (ap lines_of_counts (counts_told ts []) ∙ lines_turned (told_counts ts) [])
@@ -217,6 +218,7 @@ counted_log p (Came now Ticked ∷ log) acts = counted_log p log acts
 counted_log p (Went now (LineOut octets) ∷ log) acts = counted_log p log acts.1
 counted_log p (Went now (TcpOut octets) ∷ log) acts = counted_sent (present log) octets (past log) (sent_counts log) acts.0.may.0 acts.0.may.1 (counted_log p log acts.1)
 counted_log p (Went now (Closed cause) ∷ log) acts = counted_closed (ends cause) (present log) (closed_by cause (present log)) (past log) (sent_counts log) (closed_open cause (present log)) (closed_sent cause (present log)) (counted_log p log acts.1)
+counted_log p (Went now (GapOut station session) ∷ log) acts = counted_log p log acts.1
 
 -- Octets are one list of frames
 

@@ -67,7 +67,7 @@ may_timed size ms at None x turn h = tt
 may_timed size ms at (Some piece) x turn (inl settled) = inl (settled_timed size ms at x settled)
 may_timed size ms at (Some piece) x turn (inr h) = inr h
 
-latest_timed : (size : LinkSize) (i ms at : ℕ) (c : Option OpenExchange) (here : List Turn) (waiting : Option (List ℕ)) → IsLatest size i c here waiting → IsLatest size i (timed_current ms at c) here waiting
+pub latest_timed : (size : LinkSize) (i ms at : ℕ) (c : Option OpenExchange) (here : List Turn) (waiting : Option (List ℕ)) → IsLatest size i c here waiting → IsLatest size i (timed_current ms at c) here waiting
 latest_timed size i ms at None here waiting h = h
 latest_timed size i ms at (Some x) here waiting h = go (x.station == i) h
   where
@@ -75,7 +75,7 @@ latest_timed size i ms at (Some x) here waiting h = go (x.station == i) h
     go true k = (k.0, k.1, k.2, may_timed size ms at waiting x k.0 k.3)
     go false k = k
 
-pub fronts_timed : (size : LinkSize) (i ms at : ℕ) (e : Exchanges) (turns : List Turn) (waiting : Option (List ℕ)) → AreFronts size i e turns waiting →
+abbrev pub fronts_timed : (size : LinkSize) (i ms at : ℕ) (e : Exchanges) (turns : List Turn) (waiting : Option (List ℕ)) → AreFronts size i e turns waiting →
     AreFronts size i (record { ended = e.ended; current = timed_current ms at e.current }) turns waiting
 fronts_timed size i ms at e turns waiting h =
     record { done = h.done; here = h.here; both = h.both; long = h.long; fronts = h.fronts; latest = latest_timed size i ms at e.current h.here waiting h.latest }
@@ -93,7 +93,7 @@ front_heard laws size piece x turn h may = go x.closed refl may
         subst (λ (f : Front). IsTrueFront (whole_of f) turn) (k.2 ∙ sym (laws.whole size x.octets piece k.0 k.1 k.2)) h
     go false is (inr k) = subst (λ (xs : List ℕ). IsTrueFront (whole_of (front_of size (xs ++ piece))) turn) (sym k.0) k.1
 
-latest_heard : (laws : Laws) (size : LinkSize) (i : ℕ) (piece : List ℕ) (c : Option OpenExchange) (here : List Turn) → IsLatest size i c here (Some piece) → IsLatest size i (heard_current piece c) here None
+pub latest_heard : (laws : Laws) (size : LinkSize) (i : ℕ) (piece : List ℕ) (c : Option OpenExchange) (here : List Turn) → IsLatest size i c here (Some piece) → IsLatest size i (heard_current piece c) here None
 latest_heard laws size i piece None here h = h
 latest_heard laws size i piece (Some x) here h = go (x.station == i) h
   where
@@ -101,7 +101,7 @@ latest_heard laws size i piece (Some x) here h = go (x.station == i) h
     go true k = (k.0, k.1, front_heard laws size piece x k.0 k.2 k.3, tt)
     go false k = k
 
-pub fronts_heard : (laws : Laws) (size : LinkSize) (i : ℕ) (piece : List ℕ) (e : Exchanges) (turns : List Turn) → AreFronts size i e turns (Some piece) →
+abbrev pub fronts_heard : (laws : Laws) (size : LinkSize) (i : ℕ) (piece : List ℕ) (e : Exchanges) (turns : List Turn) → AreFronts size i e turns (Some piece) →
     AreFronts size i (record { ended = e.ended; current = heard_current piece e.current }) turns None
 fronts_heard laws size i piece e turns h =
     record { done = h.done; here = h.here; both = h.both; long = h.long; fronts = h.fronts; latest = latest_heard laws size i piece e.current h.here h.latest }
@@ -164,7 +164,7 @@ may_settled : (size : LinkSize) (waiting : Option (List ℕ)) (x : OpenExchange)
 may_settled size None x turn h = tt
 may_settled size (Some piece) x turn h = inl h
 
-latest_settled : (size : LinkSize) (i : ℕ) (c : Option OpenExchange) (here : List Turn) (waiting next : Option (List ℕ)) → IsSettledNow size c → IsLatest size i c here waiting → IsLatest size i c here next
+pub latest_settled : (size : LinkSize) (i : ℕ) (c : Option OpenExchange) (here : List Turn) (waiting next : Option (List ℕ)) → IsSettledNow size c → IsLatest size i c here waiting → IsLatest size i c here next
 latest_settled size i None here waiting next s h = h
 latest_settled size i (Some x) here waiting next s h = go (x.station == i) h
   where
@@ -173,7 +173,7 @@ latest_settled size i (Some x) here waiting next s h = go (x.station == i) h
     go false k = k
 
 -- that is one to no station
-pub fronts_settled : (size : LinkSize) (i : ℕ) (e : Exchanges) (turns : List Turn) (waiting next : Option (List ℕ)) → IsSettledNow size e.current → AreFronts size i e turns waiting → AreFronts size i e turns next
+abbrev pub fronts_settled : (size : LinkSize) (i : ℕ) (e : Exchanges) (turns : List Turn) (waiting next : Option (List ℕ)) → IsSettledNow size e.current → AreFronts size i e turns waiting → AreFronts size i e turns next
 fronts_settled size i e turns waiting next s h =
     record { done = h.done; here = h.here; both = h.both; long = h.long; fronts = h.fronts; latest = latest_settled size i e.current h.here waiting next s h.latest }
 
@@ -182,7 +182,7 @@ abbrev pub begun : ℕ → Sending → OpenExchange
 begun now s = record { station = s.station; request = s.request; since = now; octets = []; closed = false }
 
 -- one to another station
-pub fronts_other : (size : LinkSize) (i now : ℕ) (s : Sending) (e : Exchanges) (turns : List Turn) (waiting next : Option (List ℕ)) → (s.station == i) ≡ false → AreFronts size i e turns waiting →
+abbrev pub fronts_other : (size : LinkSize) (i now : ℕ) (s : Sending) (e : Exchanges) (turns : List Turn) (waiting next : Option (List ℕ)) → (s.station == i) ≡ false → AreFronts size i e turns waiting →
     AreFronts size i (begun_by now (Some s) e) turns next
 fronts_other size i now s e turns waiting next apart h =
     let all = all_fronts size i e turns waiting h in
@@ -196,7 +196,7 @@ fronts_other size i now s e turns waiting next apart h =
     }
 
 -- one to this station
-pub fronts_this : (laws : Laws) (size : LinkSize) (i now : ℕ) (s : Sending) (e : Exchanges) (turns : List Turn) (turn : Turn) (waiting next : Option (List ℕ)) → s.station ≡ i → MayCome size next (begun now s) turn → AreFronts size i e turns waiting →
+abbrev pub fronts_this : (laws : Laws) (size : LinkSize) (i now : ℕ) (s : Sending) (e : Exchanges) (turns : List Turn) (turn : Turn) (waiting next : Option (List ℕ)) → s.station ≡ i → MayCome size next (begun now s) turn → AreFronts size i e turns waiting →
     AreFronts size i (begun_by now (Some s) e) (turns ++ turn ∷ []) next
 fronts_this laws size i now s e turns turn waiting next same may h =
     let all = all_fronts size i e turns waiting h in

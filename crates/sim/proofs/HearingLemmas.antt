@@ -10,7 +10,7 @@ use Rattle.link.specs.Life.{Hear}
 use Rattle.link.specs.Secondary.{Secondary, HearsOctets}
 use Rattle.sim.specs.declared.directive.Fate.{Fate}
 use Rattle.sim.specs.declared.directive.Fate.TheVariants.{Unheard, AnswerLost, AnswerSpoilt, Answered}
-use Rattle.gateway.specs.Log.{Log, Came, Went, LineOut, TcpOut, Closed}
+use Rattle.gateway.specs.Log.{Log, Came, Went, LineOut, TcpOut, Closed, GapOut}
 use Rattle.sim.specs.Losses.{fate_of}
 use Rattle.sim.specs.Lives.{Plan, later, HeardByAll, IsPutOut, AreLived, requests_in}
 use Rattle.sim.proofs.Below.{KeepsSize}
@@ -124,3 +124,4 @@ length_lived plan (Went now (LineOut octets) ∷ log) (a ∷ answers) stations h
     length_out (fate_of plan.directives (requests_in log + 1)) octets h.0 stations a h.1 ∙ length_lived plan log answers h.0 h.2
 length_lived plan (Went now (TcpOut octets) ∷ log) answers stations h = length_lived plan log answers stations h
 length_lived plan (Went now (Closed cause) ∷ log) answers stations h = length_lived plan log answers stations h
+length_lived plan (Went now (GapOut station session) ∷ log) answers stations h = length_lived plan log answers stations h

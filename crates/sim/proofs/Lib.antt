@@ -1,5 +1,6 @@
 pub mod ScriptLemmas
 pub mod Finding
+pub mod Places
 pub mod Steps
 pub mod Standing
 pub mod Spoils
@@ -7,8 +8,11 @@ pub mod HearingLemmas
 pub mod Below
 pub mod Requests
 pub mod Turns
+pub mod Counting
 pub mod Fronts
+pub mod Tallying
 pub mod Honest
+pub mod Few
 pub mod Serviceable
 pub mod Served
 pub mod Closing

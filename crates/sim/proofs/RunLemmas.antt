@@ -1,5 +1,5 @@
 -- Whole runs.
-use Rattle.std.proofs.Common.{◌≡◌, ℕ, ◌+◌, ◌≤◌, true, nat_le, List, [], ◌∷◌, length, Option, None, Some, take, drop, take-append-drop, refl, sym, ap, subst, ◌∙◌, arith}
+use Rattle.std.proofs.Common.{◌≡◌, ℕ, ◌+◌, ◌≤◌, ◌<◌, ◌^◌, true, nat_le, List, [], ◌∷◌, length, Option, None, Some, take, drop, take-append-drop, refl, sym, ap, subst, ◌∙◌, arith}
 use Rattle.std.specs.Prelude.{Result, Ok, Err, OnOk, IfErr}
 use Rattle.std.proofs.lemmas.List.{length-append}
 use Rattle.std.specs.Io.KnownBytes.{Appends, Keeps}
@@ -17,6 +17,9 @@ use Rattle.delivery.specs.Delivery.{Delivers}
 use Rattle.sim.specs.declared.directive.Directive.{Directive}
 use Rattle.sim.specs.declared.simulation.SimFault.{SimFault}
 use Rattle.sim.specs.declared.simulation.SimFault.TheVariants.{NoMemory, Write}
+use Rattle.sim.specs.declared.tally.Tally.{Tally}
+use Rattle.sim.specs.Tallies.{tallies_of}
+use Rattle.sim.proofs.Steps.{length-log}
 use Rattle.sim.specs.Losses.{turns_of}
 use Rattle.sim.specs.Lives.{Plan, plan_of}
 use Rattle.sim.specs.Calls.{calls_in}
@@ -56,16 +59,24 @@ ended_calls s ended k =
     let calls : s.standing.call ≡ calls_in s.log = k.call in
     omega arith
 
+-- a run of the plan, with what is counted of it
+record IsTold (plan : Plan) (log : Log) (stations : List Secondary) (answers : List (Option Frame)) (tallies : List Tally) : Type 0 where
+  played : IsPlayed plan log answers stations
+  counted : tallies ≡ tallies_of plan log answers stations played.lived
+
 -- the run that was told
-pub told_run : (c : Settings) (ds : List Directive) (s : Simulated) (told : List Told) (stations : List Secondary) → s.plan ≡ plan_of c ds →
-    calls_in s.log ≡ turns_of ds → IsFaithful (setup_of c) s.log → HasRested (setup_of c) s.log → KeepsOrder s.log → log_of told ≡ s.log → stations ≡ s.stations → Stands s.plan s.log s.stations s.standing →
+pub told_run : (c : Settings) (ds : List Directive) (s : Simulated) (told : List Told) (stations : List Secondary) (tallies : List Tally) → s.plan ≡ plan_of c ds →
+    calls_in s.log ≡ turns_of ds → IsFaithful (setup_of c) s.log → HasRested (setup_of c) s.log → KeepsOrder s.log → log_of told ≡ s.log → stations ≡ s.stations → tallies ≡ s.standing.tallied.each → length told < 2 ^ 63 → Stands s.plan s.log s.stations s.standing →
     ((log : Log) → IsFaithful (setup_of c) log → Delivers (setup_of c) log) →
-    ((log : Log) (answers : List (Option Frame)) (ss : List Secondary) → IsPlayed (plan_of c ds) log answers ss → IsFaithful (setup_of c) log → HaveServed c ds log 0 ss) →
-    (IsFaithful (setup_of c) (log_of told) → (d : Delivers (setup_of c) (log_of told)) → connection_lines 1 told ≡ lines_of_connections (connections_in (log_of told) d.here d.earlier)) → IsRun c ds told stations
-told_run c ds s told stations plan calls faithful rests order log same k delivers serve count =
-    let played : IsPlayed (plan_of c ds) (log_of told) k.answers stations = subst (λ (ss : List Secondary). IsPlayed (plan_of c ds) (log_of told) k.answers ss) (sym same)
-    (subst (λ (l : Log). IsPlayed (plan_of c ds) l k.answers s.stations) (sym log)
-    (subst (λ (q : Plan). IsPlayed q s.log k.answers s.stations) plan k.played)) in
+    ((log : Log) (answers : List (Option Frame)) (ss : List Secondary) (ts : List Tally) (played : IsPlayed (plan_of c ds) log answers ss) → ts ≡ tallies_of (plan_of c ds) log answers ss played.lived → length log < 2 ^ 64 → IsFaithful (setup_of c) log → HaveServed c ds log 0 ss ts) →
+    (IsFaithful (setup_of c) (log_of told) → (d : Delivers (setup_of c) (log_of told)) → connection_lines 1 told ≡ lines_of_connections (connections_in (log_of told) d.here d.earlier)) → IsRun c ds told stations tallies
+told_run c ds s told stations tallies plan calls faithful rests order log same each few k delivers serve count =
+    let was : IsTold s.plan s.log s.stations k.answers tallies = record { played = k.played; counted = each ∙ k.each } in
+    let now : IsTold (plan_of c ds) (log_of told) stations k.answers tallies = subst (λ (ss : List Secondary). IsTold (plan_of c ds) (log_of told) ss k.answers tallies) (sym same)
+    (subst (λ (l : Log). IsTold (plan_of c ds) l s.stations k.answers tallies) (sym log)
+    (subst (λ (q : Plan). IsTold q s.log s.stations k.answers tallies) plan was)) in
+    let played : IsPlayed (plan_of c ds) (log_of told) k.answers stations = now.played in
+    let small : length (log_of told) < 2 ^ 64 = omega (arith, length-log told) in
     let kept : IsFaithful (setup_of c) (log_of told) = subst (IsFaithful (setup_of c)) (sym log) faithful in
     record {
       answers = k.answers;
@@ -75,20 +86,20 @@ told_run c ds s told stations plan calls faithful rests order log same k deliver
       rests = subst (HasRested (setup_of c)) (sym log) rests;
       ordered = subst KeepsOrder (sym log) order;
       delivers = delivers (log_of told) kept;
-      served = serve (log_of told) k.answers stations played kept;
+      served = serve (log_of told) k.answers stations tallies played now.counted small kept;
       connections = count kept (delivers (log_of told) kept);
     }
 
 -- what was written is the text of the run
-pub simulated : (c : Settings) (ds : List Directive) (before after : Option (List ℕ)) (told : List Told) (stations : List Secondary) (octets : List ℕ) → IsRun c ds told stations →
-    octets ≡ run_text ds told stations → Appends before after octets → IsSimulated c ds before after
-simulated c ds before after told stations octets run is wrote = record { told = told; stations = stations; run = run; text = subst (Appends before after) is wrote }
+pub simulated : (c : Settings) (ds : List Directive) (before after : Option (List ℕ)) (told : List Told) (stations : List Secondary) (tallies : List Tally) (octets : List ℕ) → IsRun c ds told stations tallies →
+    octets ≡ run_text ds told stations tallies → Appends before after octets → IsSimulated c ds before after
+simulated c ds before after told stations tallies octets run is wrote = record { told = told; stations = stations; tallies = tallies; run = run; text = subst (Appends before after) is wrote }
 
 -- or its beginning
-pub cut_short : (c : Settings) (ds : List Directive) (before after : Option (List ℕ)) (told : List Told) (stations : List Secondary) (octets : List ℕ) (e : SimFault) → IsRun c ds told stations →
-    octets ≡ run_text ds told stations → (e ≡ Write) × IsBegun before after octets → IsLeft c ds before after e
-cut_short c ds before after told stations octets e run is wrote =
-    subst (IsLeft c ds before after) (sym wrote.0) (record { told = told; stations = stations; run = run; text = subst (IsBegun before after) is wrote.1 })
+pub cut_short : (c : Settings) (ds : List Directive) (before after : Option (List ℕ)) (told : List Told) (stations : List Secondary) (tallies : List Tally) (octets : List ℕ) (e : SimFault) → IsRun c ds told stations tallies →
+    octets ≡ run_text ds told stations tallies → (e ≡ Write) × IsBegun before after octets → IsLeft c ds before after e
+cut_short c ds before after told stations tallies octets e run is wrote =
+    subst (IsLeft c ds before after) (sym wrote.0) (record { told = told; stations = stations; tallies = tallies; run = run; text = subst (IsBegun before after) is wrote.1 })
 
 pub on_err : {T E : Type 0} (r : Result T E) (P Q : E → Type 0) → IfErr r P → ((e : E) → P e → Q e) → IfErr r Q
 on_err (Ok v) P Q a f = tt

@@ -1,5 +1,5 @@
 -- What each station did, put together.
-use Rattle.std.proofs.Common.{◌≡◌, ◌≢◌, ℕ, zero, suc, ◌+◌, ◌<◌, Bool, true, false, List, [], ◌∷◌, ◌++◌, length, get_or, map, Option, Some, refl, sym, ap, subst, ◌∙◌, arith, zero-add, if◌then◌else◌}
+use Rattle.std.proofs.Common.{◌≡◌, ◌≢◌, ℕ, zero, suc, ◌+◌, ◌<◌, ◌≤◌, ◌^◌, Bool, true, false, List, [], ◌∷◌, ◌++◌, length, get_or, map, Option, Some, refl, sym, ap, subst, ◌∙◌, arith, zero-add, if◌then◌else◌}
 use Rattle.std.specs.Prelude.{option_map, cond, count_by, ◌&&◌, ◌==◌}
 use Rattle.std.specs.List.{AllByRecursion, flat_map}
 use Rattle.std.proofs.lemmas.List.{length-append, length-map}
@@ -21,13 +21,19 @@ use Rattle.gateway.specs.Log.{Log}
 use Rattle.gateway.specs.Reports.{Setup, address_at, index_of, AreFound, exchanges_of, exchanges_with}
 use Rattle.gateway.specs.Setups.{setup_of, holds}
 use Rattle.gateway.specs.Traffic.{IsFaithful}
-use Rattle.delivery.specs.Delivery.{IsHonest, IsSteady, Delivers}
+use Rattle.delivery.specs.Delivery.{IsHonest, IsSteady, Delivers, IsIdle, before_sessions}
+use Rattle.delivery.specs.Sessions.{session_counts}
+use Rattle.sim.specs.declared.tally.Tally.{Tally}
+use Rattle.sim.specs.Tallies.{fresh_tally, tally_at, tallies_of}
+use Rattle.sim.proofs.Few.{exchanges_few, reports_few}
+use Rattle.sim.proofs.Counting.{tally_over, counted_all}
+use Rattle.sim.proofs.Tallying.{tally_all, length_tallies}
 use Rattle.sim.specs.declared.directive.Class.TheVariants.{One, Two}
 use Rattle.sim.specs.declared.directive.Directive.{Directive}
 use Rattle.sim.specs.declared.directive.Directive.TheVariants.{Turns, Ack, Report, LoseRequest, LoseAnswer, SpoilAnswer, Cut, Send}
 use Rattle.sim.specs.Losses.{report_said}
 use Rattle.sim.specs.Lives.{begun_from, plan_of, waiting_in}
-use Rattle.sim.specs.Outstations.{requests_to, first_station, HasSessions, HasServed, HaveServed}
+use Rattle.sim.specs.Outstations.{requests_to, first_station, HasSessions, IsCounted, HasServed, HaveServed}
 use Rattle.sim.specs.Texts.{reports_for}
 use Rattle.sim.specs.Played.{IsPlayed}
 use Rattle.sim.proofs.Below.{Laws}
@@ -59,12 +65,18 @@ found_apart (s ∷ ss) h (suc i) lt =
     ap (λ (b : Bool). if b then Some 0 else option_map suc (index_of a (map (λ (t : Station). t.address) ss))) (ne_eqb s.address a (none_of s.address ss i s h.0 refl within))
     ∙ ap (option_map suc) (found_apart ss h.1 i (omega (arith, lt)))
 
+begun_fresh : (size : LinkSize) (n : ℕ) (ds : List Directive) (ss : List Station) (i : ℕ) (d : Secondary) → d.given ≡ 0 → (get_or (begun_from size n ds ss) i d).given ≡ 0
+begun_fresh size n ds [] i d none = none
+begun_fresh size n ds (s ∷ ss) zero d none = refl
+begun_fresh size n ds (s ∷ ss) (suc i) d none = begun_fresh size (n + 1) ds ss i d none
+
 fits_plan : (c : Settings) (ds : List Directive) → AreDistinct c.stations → FitsPlan (setup_of c) (plan_of c ds)
 fits_plan c ds apart = record {
   size = refl;
   addresses = begun_addresses c.line.link 0 ds c.stations;
   found = found_apart c.stations apart;
   sizes = begun_sizes c.line.link 0 ds c.stations;
+  fresh = λ i d none. begun_fresh c.line.link 0 ds c.stations i d none;
 }
 
 begun_at : (size : LinkSize) (n m : ℕ) (ds : List Directive) (ss : List Station) (i : ℕ) (d : Secondary) → i < length ss → m ≡ n + i →
@@ -92,6 +104,14 @@ Steadied = (p : Setup) (log : Log) (i : ℕ) → IsFaithful p log → i < length
 abbrev pub SessionsKnown : Type 0
 SessionsKnown = (p : Setup) (log : Log) (i : ℕ) (turns : List Turn) → IsFaithful p log → i < length p.addresses → IsHonest p log i turns → HasSessions p log i turns
 
+-- nothing before the first of them
+abbrev pub Idle : Type 0
+Idle = (p : Setup) (log : Log) (i : ℕ) (turns : List Turn) → IsFaithful p log → i < length p.addresses → IsHonest p log i turns → IsIdle (address_at p.addresses i) (before_sessions p log i turns)
+
+-- and of what is lost in them
+abbrev pub LossesKnown : Type 0
+LossesKnown = (p : Setup) (log : Log) (i : ℕ) (turns : List Turn) → IsFaithful p log → i < length p.addresses → IsHonest p log i turns → (session_counts p log i turns).lost ≤ (session_counts p log i turns).gaps
+
 -- the reports that a line of a script gives it
 reported_by : (index : ℕ) (d : Directive) → cond (reports_for index d) 1 0 ≡ length (report_said index One d) + length (report_said index Two d)
 reported_by index (Report i One octets) = go (i == index)
@@ -118,9 +138,9 @@ reported_all index (d ∷ ds) =
     sum_by-cons (λ (x : Directive). cond (reports_for index x) 1 0) d ds
     ∙ omega (arith, reported_by index d, reported_all index ds, length-append (report_said index One d) (flat_map (report_said index One) ds), length-append (report_said index Two d) (flat_map (report_said index Two) ds))
 
-served_so : (laws : Laws) → Delivered → Steadied → SessionsKnown → (c : Settings) (ds : List Directive) (log : Log) (waiting : Option (List ℕ)) (i : ℕ) (s : Secondary) → IsFaithful (setup_of c) log → i < length (setup_of c).addresses →
-    Serves (setup_of c) (requests_to (setup_of c) ds i log) (exchanges_of (setup_of c) log) waiting i (first_station c ds i) s → HasServed c ds log i s
-served_so laws delivers steadies known c ds log waiting i s faithful lt h =
+served_so : (laws : Laws) → Delivered → Steadied → SessionsKnown → Idle → LossesKnown → (c : Settings) (ds : List Directive) (log : Log) (waiting : Option (List ℕ)) (i : ℕ) (s : Secondary) (t : Tally) → IsFaithful (setup_of c) log → length log < 2 ^ 64 → i < length (setup_of c).addresses →
+    Serves (setup_of c) (requests_to (setup_of c) ds i log) (exchanges_of (setup_of c) log) waiting i (first_station c ds i) s t → HasServed c ds log i s t
+served_so laws delivers steadies known idle losses c ds log waiting i s t faithful small lt h =
     let p : Setup = setup_of c in
     let a : ℕ = address_at p.addresses i in
     let asked : requests_of (exchanges_with p i log) ≡ asked_of (requests_to p ds i log) = same_asked p ds i log in
@@ -133,10 +153,20 @@ served_so laws delivers steadies known c ds log waiting i s faithful lt h =
     } in
     let steady : c.line.silence ≡ Hold → IsSteady p log i = λ (held : c.line.silence ≡ Hold). steadies p log i faithful lt (ap holds held)
     (never_unable a (exchanges_with p i log) h.turns fronts.long (willing_turns (first_station c ds i) s (requests_to p ds i log) h.turns tt h.took) fronts.fronts) in
+    let before : IsIdle a (before_sessions p log i h.turns) = idle p log i h.turns faithful lt honest in
+    let few : length (exchanges_with p i log) < 2 ^ 64 = omega (arith, exchanges_few p ds i log) in
+    let long : length h.turns ≡ length (exchanges_with p i log) = fronts.long in
+    let given_few : length (reports (all_done h.turns)) < 2 ^ 64 = omega (arith, reports_few a unreset (outstation_of s) (requests_of (exchanges_with p i log)) h.turns honest.run) in
+    let all_counted : IsCounted (session_counts p log i h.turns) (tally_over a 0 fresh_tally (exchanges_with p i log) h.turns) =
+    counted_all a (exchanges_with p i log) h.turns long few given_few before.taken before.done in
+    let counted : IsCounted (session_counts p log i h.turns) t =
+    subst (IsCounted (session_counts p log i h.turns)) (sym (tally_all p i (exchanges_of p log) h.turns waiting h.fronts t h.tallied)) all_counted in
     record {
       turns = h.turns;
       took = h.took;
       honest = honest;
+      counted = counted;
+      lost = let bound = losses p log i h.turns faithful lt honest in omega (arith, bound, counted.lost, counted.gaps);
       class1 = (s.class1, ap (λ (rs : List Asked). given1 rs h.turns ++ s.class1) asked ∙ all.class1);
       class2 = (s.class2, ap (λ (rs : List Asked). given2 rs h.turns ++ s.class2) asked ∙ all.class2);
       reported = reported_all i ds;
@@ -149,27 +179,34 @@ served_so laws delivers steadies known c ds log waiting i s faithful lt h =
 
 -- All stations
 
-have_served : (c : Settings) (ds : List Directive) (log : Log) (n : ℕ) (ss : List Secondary) (d : Secondary) → ((i : ℕ) → i < length ss → HasServed c ds log (n + i) (get_or ss i d)) → HaveServed c ds log n ss
-have_served c ds log n [] d h = tt
-have_served c ds log n (s ∷ ss) d h =
+have_served : (c : Settings) (ds : List Directive) (log : Log) (n : ℕ) (ss : List Secondary) (ts : List Tally) (d : Secondary) → length ts ≡ length ss →
+    ((i : ℕ) → i < length ss → HasServed c ds log (n + i) (get_or ss i d) (tally_at ts i)) → HaveServed c ds log n ss ts
+have_served c ds log n [] [] d long h = tt
+have_served c ds log n [] (t ∷ ts) d long h = absurd (omega arith)
+have_served c ds log n (s ∷ ss) [] d long h = absurd (omega arith)
+have_served c ds log n (s ∷ ss) (t ∷ ts) d long h =
     let same : n + 0 ≡ n = omega arith in (
-      subst (λ (k : ℕ). HasServed c ds log k s) same (h 0 (omega arith)),
-      have_served c ds log (n + 1) ss d (λ i lt. let one : n + suc i ≡ (n + 1) + i = omega arith in subst (λ (k : ℕ). HasServed c ds log k (get_or ss i d)) one (h (suc i) (omega arith))),
+      subst (λ (k : ℕ). HasServed c ds log k s t) same (h 0 (omega arith)),
+      have_served c ds log (n + 1) ss ts d (omega arith) (λ i lt. let one : n + suc i ≡ (n + 1) + i = omega arith in subst (λ (k : ℕ). HasServed c ds log k (get_or ss i d) (tally_at ts i)) one (h (suc i) (omega arith))),
     )
 
-pub all_served : (laws : Laws) → Delivered → Steadied → SessionsKnown → (c : Settings) (ds : List Directive) (log : Log) (answers : List (Option Frame)) (stations : List Secondary) → AreDistinct c.stations → IsPlayed (plan_of c ds) log answers stations →
-    IsFaithful (setup_of c) log → HaveServed c ds log 0 stations
-all_served laws delivers steadies known c ds log answers stations apart played faithful =
+pub all_served : (laws : Laws) → Delivered → Steadied → SessionsKnown → Idle → LossesKnown → (c : Settings) (ds : List Directive) (log : Log) (answers : List (Option Frame)) (stations : List Secondary) (tallies : List Tally) → AreDistinct c.stations →
+    (played : IsPlayed (plan_of c ds) log answers stations) → tallies ≡ tallies_of (plan_of c ds) log answers stations played.lived → length log < 2 ^ 64 → IsFaithful (setup_of c) log → HaveServed c ds log 0 stations tallies
+all_served laws delivers steadies known idle losses c ds log answers stations tallies apart played are small faithful =
     let p : Setup = setup_of c in
     let d : Secondary = fresh_station c.line.link 0 in
     let fits : FitsPlan p (plan_of c ds) = fits_plan c ds apart in
-    have_served c ds log 0 stations d (λ i lt.
+    let counts : List Tally = tallies_of (plan_of c ds) log answers stations played.lived in
+    let as_long : length counts ≡ length (plan_of c ds).stations = length_tallies (plan_of c ds) log answers stations played.lived in
+    let stay : length stations ≡ length (plan_of c ds).stations = length_lived (plan_of c ds) log answers stations played.lived in
+    subst (λ (ts : List Tally). HaveServed c ds log 0 stations ts) (sym are)
+    (have_served c ds log 0 stations counts d (as_long ∙ sym stay) (λ i lt.
     let short : length stations ≡ length (plan_of c ds).stations = length_lived (plan_of c ds) log answers stations played.lived in
     let within : i < length p.addresses = omega (arith, lt, short, ap length fits.addresses, length-map (plan_of c ds).stations (λ (s : Secondary). s.address)) in
     let set : i < length c.stations = omega (arith, within, length-map c.stations (λ (s : Station). s.address)) in
     let same : 0 + i ≡ i = omega arith in
     let begins : get_or (plan_of c ds).stations i d ≡ first_station c ds i = begun_at c.line.link 0 i ds c.stations i d set (omega arith) in
-    subst (λ (k : ℕ). HasServed c ds log k (get_or stations i d)) (sym same)
-    (served_so laws delivers steadies known c ds log (waiting_in (plan_of c ds) log answers) i (get_or stations i d) faithful within
-    (subst (λ (f : Secondary). Serves p (requests_to p ds i log) (exchanges_of p log) (waiting_in (plan_of c ds) log answers) i f (get_or stations i d)) begins
-    (serves laws p (plan_of c ds) log answers stations i d fits within played.lived played.fit played.follows faithful.acts))))
+    subst (λ (k : ℕ). HasServed c ds log k (get_or stations i d) (tally_at counts i)) (sym same)
+    (served_so laws delivers steadies known idle losses c ds log (waiting_in (plan_of c ds) log answers) i (get_or stations i d) (tally_at counts i) faithful small within
+    (subst (λ (f : Secondary). Serves p (requests_to p ds i log) (exchanges_of p log) (waiting_in (plan_of c ds) log answers) i f (get_or stations i d) (tally_at counts i)) begins
+    (serves laws (plan_of c ds) log answers stations i d refl fits within played.lived played.fit played.follows faithful.acts)))))

@@ -1,16 +1,21 @@
 -- A run goes on by one event or one action.
-use Rattle.std.proofs.Common.{◌≡◌, ℕ, ◌+◌, ◌<◌, ◌≤◌, min, Bool, true, false, List, [], ◌∷◌, length, Option, None, IfSome, refl, sym, ap, subst, ◌∙◌, arith}
-use Rattle.std.specs.Prelude.{◌==◌}
+use Rattle.std.proofs.Common.{◌≡◌, ℕ, ◌+◌, ◌<◌, ◌≤◌, ◌||◌, min, Bool, true, false, List, [], ◌∷◌, ◌++◌, length, replicate, Option, Some, None, IfSome, nat_le, refl, sym, ap, subst, ◌∙◌, arith, if◌then◌else◌}
+use Rattle.std.specs.Prelude.{◌==◌, not}
 use Rattle.std.specs.List.{AllByRecursion}
 use Rattle.ft12.specs.declared.frame.Frame.{Frame}
 use Rattle.ft12.specs.Spelling.{Fits}
 use Rattle.link.specs.Secondary.{Secondary}
-use Rattle.gateway.specs.Log.{Log, LogEntry, Came, Went, Input, LineIn, Opened, TcpIn, CutOff, Ticked, LineOut, TcpOut, Closed, last_moment}
+use Rattle.gateway.specs.Log.{Log, LogEntry, Came, Went, Input, LineIn, Opened, TcpIn, CutOff, Ticked, LineOut, TcpOut, Closed, GapOut, last_moment, latest}
+use Rattle.gateway.specs.Reports.{Setup, sending_in, exchanges_of}
+use Rattle.link.specs.Exchanges.{OpenExchange, Exchanges, Sending, heard_octets, heard_current, timed, timed_current, begun_by}
+use Rattle.sim.specs.declared.tally.Tally.{Tally}
+use Rattle.sim.specs.declared.tallies.Awaited.{Awaited}
+use Rattle.sim.specs.Tallies.{Tallied, fresh_tally, each_asked, each_heard, awaited_heard, awaited_timed, awaited_asked, awaited_with, tallied_at, tallied_asked, awaited_in, tallies_of}
 use Rattle.session.specs.declared.kinds.Close.{Close}
 use Rattle.sim.specs.declared.centre.Centre.{Centre}
 use Rattle.sim.specs.Centres.{shut, is_data, first_control, after_sending, after_receiving, after_event, centre_of}
 use Rattle.sim.specs.Losses.{fate_of, turns_of}
-use Rattle.sim.specs.Lives.{Plan, IsPutOut, arriving, waiting_in}
+use Rattle.sim.specs.Lives.{Plan, AreLived, IsPutOut, arriving, waiting_in}
 use Rattle.sim.specs.Calls.{event_at, lasting, calls_in}
 use Rattle.sim.specs.Played.{Standing, Stands, coming, standing_after}
 
@@ -45,15 +50,89 @@ received_after CutOff c n le = omega arith
 received_after Ticked c n le = omega arith
 
 waiting_after : (plan : Plan) (log : Log) (answers : List (Option Frame)) (now : ℕ) (event : Input) (at : Standing) → at.waiting ≡ waiting_in plan log answers →
-    (standing_after (Came now event) at).waiting ≡ waiting_in plan (Came now event ∷ log) answers
+    (standing_after plan (Came now event) at).waiting ≡ waiting_in plan (Came now event ∷ log) answers
 waiting_after plan log answers now (LineIn octets) at e = refl
 waiting_after plan log answers now Opened at e = e
 waiting_after plan log answers now (TcpIn octets) at e = e
 waiting_after plan log answers now CutOff at e = e
 waiting_after plan log answers now Ticked at e = e
 
+-- What may still be answered
+
+-- once a moment has come
+awaits_timed : (ms now : ℕ) (c : Option OpenExchange) → awaited_timed ms now (awaited_in c) ≡ awaited_in (timed_current ms now c)
+awaits_timed ms now None = refl
+awaits_timed ms now (Some x) = go x.closed x.octets (nat_le (x.since + ms) now) refl
+  where
+    go : (closed : Bool) (xs : List ℕ) (late : Bool) → nat_le (x.since + ms) now ≡ late →
+        awaited_timed ms now (if closed then None else awaited_with xs x) ≡ (if closed || late then None else awaited_with xs (timed ms now x))
+    go true xs late is = refl
+    go false [] true is = ap (λ (b : Bool). if b then None else awaited_with [] x) is
+    go false [] false is = ap (λ (b : Bool). if b then None else awaited_with [] x) is
+    go false (y ∷ ys) true is = refl
+    go false (y ∷ ys) false is = refl
+
+-- and octets before it
+awaits_heard : (octets : List ℕ) (c : Option OpenExchange) → awaited_heard octets (awaited_in c) ≡ awaited_in (heard_current octets c)
+awaits_heard [] None = refl
+awaits_heard (o ∷ os) None = refl
+awaits_heard [] (Some x) = go x.closed x.octets
+  where
+    go : (closed : Bool) (xs : List ℕ) → (if closed then None else awaited_with xs x) ≡ (if closed then None else awaited_with (if closed then xs else xs ++ []) (heard_octets [] x))
+    go true xs = refl
+    go false [] = refl
+    go false (y ∷ ys) = refl
+awaits_heard (o ∷ os) (Some x) = go x.closed x.octets
+  where
+    none : Option Awaited
+    none = None
+
+    go : (closed : Bool) (xs : List ℕ) → none ≡ (if closed then None else awaited_with (if closed then xs else xs ++ o ∷ os) (heard_octets (o ∷ os) x))
+    go true xs = refl
+    go false [] = refl
+    go false (y ∷ ys) = refl
+
+awaits_came : (p : Setup) (log : Log) (now : ℕ) (event : Input) (t : Tallied) → latest (Came now event ∷ log) ≡ now → t.awaited ≡ awaited_in (exchanges_of p log).current →
+    (tallied_at p now event t).awaited ≡ awaited_in (exchanges_of p (Came now event ∷ log)).current
+awaits_came p log now (LineIn octets) t at is =
+    let c : Option OpenExchange = (exchanges_of p log).current in
+    ap (λ (a : Option Awaited). awaited_timed p.link.answer_ms now (awaited_heard octets a)) is
+    ∙ ap (awaited_timed p.link.answer_ms now) (awaits_heard octets c)
+    ∙ awaits_timed p.link.answer_ms now (heard_current octets c)
+    ∙ ap (λ (n : ℕ). awaited_in (timed_current p.link.answer_ms n (heard_current octets c))) (sym at)
+awaits_came p log now Opened t at is =
+    ap (awaited_timed p.link.answer_ms now) is ∙ awaits_timed p.link.answer_ms now (exchanges_of p log).current
+    ∙ ap (λ (n : ℕ). awaited_in (timed_current p.link.answer_ms n (exchanges_of p log).current)) (sym at)
+awaits_came p log now (TcpIn octets) t at is =
+    ap (awaited_timed p.link.answer_ms now) is ∙ awaits_timed p.link.answer_ms now (exchanges_of p log).current
+    ∙ ap (λ (n : ℕ). awaited_in (timed_current p.link.answer_ms n (exchanges_of p log).current)) (sym at)
+awaits_came p log now CutOff t at is =
+    ap (awaited_timed p.link.answer_ms now) is ∙ awaits_timed p.link.answer_ms now (exchanges_of p log).current
+    ∙ ap (λ (n : ℕ). awaited_in (timed_current p.link.answer_ms n (exchanges_of p log).current)) (sym at)
+awaits_came p log now Ticked t at is =
+    ap (awaited_timed p.link.answer_ms now) is ∙ awaits_timed p.link.answer_ms now (exchanges_of p log).current
+    ∙ ap (λ (n : ℕ). awaited_in (timed_current p.link.answer_ms n (exchanges_of p log).current)) (sym at)
+
+-- once a request has gone out
+awaits_begun : (now : ℕ) (m : Option Sending) (e : Exchanges) (a : Option Awaited) → a ≡ awaited_in e.current → awaited_asked now m a ≡ awaited_in (begun_by now m e).current
+awaits_begun now None e a is = is
+awaits_begun now (Some s) e a is = refl
+
+-- What is counted
+
+counts_came : (plan : Plan) (log : Log) (answers : List (Option Frame)) (stations : List Secondary) (lived : AreLived plan log answers stations) (now : ℕ) (event : Input) (t : Tallied) →
+    t.awaited ≡ awaited_in (exchanges_of plan.setup log).current → t.each ≡ tallies_of plan log answers stations lived →
+    (tallied_at plan.setup now event t).each ≡ tallies_of plan (Came now event ∷ log) answers stations lived
+counts_came plan log answers stations lived now (LineIn octets) t is each =
+    ap (λ (a : Option Awaited). each_heard plan.setup a octets t.each) is
+    ∙ ap (each_heard plan.setup (awaited_in (exchanges_of plan.setup log).current) octets) each
+counts_came plan log answers stations lived now Opened t is each = each
+counts_came plan log answers stations lived now (TcpIn octets) t is each = each
+counts_came plan log answers stations lived now CutOff t is each = each
+counts_came plan log answers stations lived now Ticked t is each = each
+
 came_with : (plan : Plan) (log : Log) (stations : List Secondary) (at : Standing) (now : ℕ) (event : Input) → event ≡ event_at plan.directives (at.call + 1) at.centre at.waiting →
-    now ≡ min (at.moment + lasting plan.answer_ms event) last_moment → at.call < turns_of plan.directives → Stands plan log stations at → Stands plan (Came now event ∷ log) stations (standing_after (Came now event) at)
+    now ≡ min (at.moment + lasting plan.answer_ms event) last_moment → at.call < turns_of plan.directives → Stands plan log stations at → Stands plan (Came now event ∷ log) stations (standing_after plan (Came now event) at)
 came_with plan log stations at now event e f few k = record {
   answers = k.answers;
   played = record {
@@ -72,6 +151,9 @@ came_with plan log stations at now event e f few k = record {
   call = ap (λ (n : ℕ). n + 1) k.call;
   moment = refl;
   requests = k.requests;
+  latest = moment_is;
+  awaited = awaits_came plan.setup log now event at.tallied moment_is k.awaited;
+  each = counts_came plan log k.answers stations k.played.lived now event at.tallied k.awaited k.each;
   in_time = let le : now ≤ last_moment = omega arith in le;
   sent = let le : (after_event event at.centre).sent ≤ length log + 1 = sent_after event at.centre (length log) k.sent in omega arith;
   received = let le : (after_event event at.centre).received ≤ length log + 1 = received_after event at.centre (length log) k.received in omega arith;
@@ -79,20 +161,23 @@ came_with plan log stations at now event e f few k = record {
   in_turns = let le : at.call + 1 ≤ turns_of plan.directives = omega arith in le;
   sizes = k.sizes;
 }
+  where
+    moment_is : latest (Came now event ∷ log) ≡ now
+    moment_is = let before : latest log ≡ at.moment = k.latest in let within : at.moment ≤ last_moment = k.in_time in omega arith
 
 -- the next event
 pub stands_came : (plan : Plan) (log : Log) (stations : List Secondary) (at : Standing) (entry : LogEntry) → entry ≡ coming plan at → at.call < turns_of plan.directives → Stands plan log stations at →
-    Stands plan (entry ∷ log) stations (standing_after entry at)
+    Stands plan (entry ∷ log) stations (standing_after plan entry at)
 stands_came plan log stations at entry e few k =
     let event : Input = event_at plan.directives (at.call + 1) at.centre at.waiting in
-    subst (λ (x : LogEntry). Stands plan (x ∷ log) stations (standing_after x at)) (sym e)
+    subst (λ (x : LogEntry). Stands plan (x ∷ log) stations (standing_after plan x at)) (sym e)
     (came_with plan log stations at (min (at.moment + lasting plan.answer_ms event) last_moment) event refl refl few k)
 
 -- a request
 pub stands_asked : (plan : Plan) (log : Log) (stations new : List Secondary) (at : Standing) (now : ℕ) (octets : List ℕ) (answer : Option Frame) →
     IsPutOut (fate_of plan.directives (at.requests + 1)) octets stations answer new → AllByRecursion (λ s. s.size ≡ plan.size) new → IfSome answer (Fits plan.size) → Stands plan log stations at →
     Stands plan (Went now (LineOut octets) ∷ log) new
-    (record { waiting = arriving plan.size (fate_of plan.directives (at.requests + 1)) answer; centre = at.centre; call = at.call; moment = at.moment; requests = at.requests + 1 })
+    (record { waiting = arriving plan.size (fate_of plan.directives (at.requests + 1)) answer; centre = at.centre; call = at.call; moment = at.moment; requests = at.requests + 1; tallied = tallied_asked plan.setup now octets stations at.tallied })
 stands_asked plan log stations new at now octets answer out sizes fits k = record {
   answers = answer ∷ k.answers;
   played = record {
@@ -105,6 +190,9 @@ stands_asked plan log stations new at now octets answer out sizes fits k = recor
   call = k.call;
   moment = k.moment;
   requests = ap (λ (n : ℕ). n + 1) k.requests;
+  latest = k.latest;
+  awaited = awaits_begun now (sending_in plan.setup octets) (exchanges_of plan.setup log) at.tallied.awaited k.awaited;
+  each = ap (λ (ts : List Tally). each_asked (sending_in plan.setup octets) stations ts) k.each;
   in_time = k.in_time;
   sent = let le : at.centre.sent ≤ length log = k.sent in omega arith;
   received = let le : at.centre.received ≤ length log = k.received in omega arith;
@@ -138,6 +226,9 @@ stands_handed plan log stations at now octets k = record {
   call = k.call;
   moment = k.moment;
   requests = k.requests;
+  latest = k.latest;
+  awaited = k.awaited;
+  each = k.each;
   in_time = k.in_time;
   sent = let le : at.centre.sent ≤ length log = k.sent in omega (arith, sent_same octets at.centre);
   received = let le : (after_receiving octets at.centre).received ≤ length log + 1 = received_more octets at.centre (length log) k.received in omega arith;
@@ -157,6 +248,9 @@ stands_closed plan log stations at now cause k = record {
   call = k.call;
   moment = k.moment;
   requests = k.requests;
+  latest = k.latest;
+  awaited = k.awaited;
+  each = k.each;
   in_time = k.in_time;
   sent = omega arith;
   received = omega arith;
@@ -165,10 +259,32 @@ stands_closed plan log stations at now cause k = record {
   sizes = k.sizes;
 }
 
+-- a gap
+pub stands_told : (plan : Plan) (log : Log) (stations : List Secondary) (at : Standing) (now station session : ℕ) → Stands plan log stations at →
+    Stands plan (Went now (GapOut station session) ∷ log) stations at
+stands_told plan log stations at now station session k = record {
+  answers = k.answers;
+  played = record { lived = k.played.lived; fit = k.played.fit; follows = k.played.follows };
+  waiting = k.waiting;
+  centre = k.centre;
+  call = k.call;
+  moment = k.moment;
+  requests = k.requests;
+  latest = k.latest;
+  awaited = k.awaited;
+  each = k.each;
+  in_time = k.in_time;
+  sent = let le : at.centre.sent ≤ length log = k.sent in omega arith;
+  received = let le : at.centre.received ≤ length log = k.received in omega arith;
+  few = let le : at.requests ≤ length log = k.few in omega arith;
+  in_turns = k.in_turns;
+  sizes = k.sizes;
+}
+
 -- before the first call
 pub stands_fresh : (plan : Plan) (stations : List Secondary) (centre : Centre) → centre ≡ shut → stations ≡ plan.stations → AllByRecursion (λ s. s.size ≡ plan.size) plan.stations →
-    Stands plan [] stations (record { waiting = None; centre = centre; call = 0; moment = 0; requests = 0 })
-stands_fresh plan stations centre c e sizes = subst (λ (d : Centre). Stands plan [] stations (record { waiting = None; centre = d; call = 0; moment = 0; requests = 0 })) (sym c) (record {
+    Stands plan [] stations (record { waiting = None; centre = centre; call = 0; moment = 0; requests = 0; tallied = record { awaited = None; each = replicate (length plan.stations) fresh_tally } })
+stands_fresh plan stations centre c e sizes = subst (λ (d : Centre). Stands plan [] stations (record { waiting = None; centre = d; call = 0; moment = 0; requests = 0; tallied = record { awaited = None; each = replicate (length plan.stations) fresh_tally } })) (sym c) (record {
   answers = [];
   played = record { lived = e; fit = tt; follows = tt };
   waiting = refl;
@@ -176,6 +292,9 @@ stands_fresh plan stations centre c e sizes = subst (λ (d : Centre). Stands pla
   call = refl;
   moment = refl;
   requests = refl;
+  latest = refl;
+  awaited = refl;
+  each = refl;
   in_time = omega arith;
   sent = omega arith;
   received = omega arith;

@@ -9,7 +9,8 @@ use Rattle.gateway.specs.declared.entries.Told.{Told}
 use Rattle.link.specs.Secondary.{Secondary}
 use Rattle.sim.specs.declared.directive.Directive.{Directive}
 use Rattle.traces.specs.Actions.{stored_line}
-use Rattle.sim.specs.Texts.{line_of_station, station_lines, opens, objects_sent, objects_until_next, connection_line, connection_lines}
+use Rattle.sim.specs.Texts.{line_of_station, station_lines, opens, objects_sent, objects_until_next, connection_line, connection_lines, line_of_sessions, session_lines}
+use Rattle.sim.specs.declared.tally.Tally.{Tally}
 
 flat_append : (xs ys : List Told) → flat_map stored_line (xs ++ ys) ≡ flat_map stored_line xs ++ flat_map stored_line ys
 flat_append [] ys = refl
@@ -69,6 +70,15 @@ connection_skip log i d k now whole lt shut so =
 
 pub connection_end : (log : List Told) (i k : ℕ) (now whole : List ℕ) → length log ≤ i → now ++ connection_lines k (drop i log) ≡ whole → now ≡ whole
 connection_end log i k now whole le so = sym (append-nil now) ∙ sym (ap (λ (l : List Told). now ++ connection_lines k l) (drop_all i log le)) ∙ so
+
+pub session_more : (ts : List Tally) (i : ℕ) (d : Tally) (now new whole : List ℕ) → i < length ts → now ++ session_lines i (drop i ts) ≡ whole →
+    new ≡ now ++ line_of_sessions i (get_or ts i d) → new ++ session_lines (i + 1) (drop (i + 1) ts) ≡ whole
+session_more ts i d now new whole lt so e =
+    ap (λ (l : List ℕ). l ++ session_lines (i + 1) (drop (i + 1) ts)) e ∙ append_assoc now (line_of_sessions i (get_or ts i d)) (session_lines (i + 1) (drop (i + 1) ts))
+    ∙ sym (ap (λ (l : List Tally). now ++ session_lines i l) (drop_more ts i d lt)) ∙ so
+
+pub session_end : (ts : List Tally) (i : ℕ) (now whole : List ℕ) → length ts ≤ i → now ++ session_lines i (drop i ts) ≡ whole → now ≡ whole
+session_end ts i now whole le so = sym (append-nil now) ∙ sym (ap (λ (l : List Tally). now ++ session_lines i l) (drop_all i ts le)) ∙ so
 
 pub appends_more : (a b c : Option (List ℕ)) (x y : List ℕ) → Appends a b x → Appends b c y → Appends a c (x ++ y)
 appends_more None b c x y p q = tt

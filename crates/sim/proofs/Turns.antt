@@ -21,13 +21,13 @@ abbrev pub IsReadable : (address : ℕ) → Asked → Type 0
 IsReadable address request = (frame : Frame) × (reading_of address frame ≡ Asks request)
 
 -- what one request does
-record Did (s : Secondary) (request : Asked) (turn : Turn) (t : Secondary) : Type 0 where
+pub record Did (s : Secondary) (request : Asked) (turn : Turn) (t : Secondary) : Type 0 where
   step : OutstationStep s.address (outstation_of s) request turn (outstation_of t)
   address : t.address ≡ s.address
   class1 : given1_at request turn ++ t.class1 ≡ s.class1
   class2 : given2_at request turn ++ t.class2 ≡ s.class2
   accepted : s.accepted ++ commands turn.done ≡ t.accepted
-  given : t.given ≡ saturated (s.given + length (reports turn.done))
+  pub given : t.given ≡ saturated (s.given + length (reports turn.done))
 
 did_nothing : (s : Secondary) (request : Asked) → s.given < 2 ^ 64 → Did s request silent s
 did_nothing s Status lt = record { step = unheard refl refl; address = refl; class1 = refl; class2 = refl; accepted = append-nil s.accepted; given = omega arith }
@@ -61,7 +61,7 @@ did_served laws s request granted readable lt =
       given = gives ∙ ap (λ (l : List Effect). saturated (s.given + length (reports l))) (append-nil turn.done);
     }
 
-did : (laws : Laws) (heard : Bool) (s : Secondary) (request : Asked) (turn : Turn) (t : Secondary) → IsReadable s.address request → s.given < 2 ^ 64 → TakesTurn heard s request turn t → Did s request turn t
+pub did : (laws : Laws) (heard : Bool) (s : Secondary) (request : Asked) (turn : Turn) (t : Secondary) → IsReadable s.address request → s.given < 2 ^ 64 → TakesTurn heard s request turn t → Did s request turn t
 did laws false s request turn t readable lt h =
     subst (λ (u : Secondary). Did s request turn u) (sym h.1) (subst (λ (v : Turn). Did s request v s) (sym h.0) (did_nothing s request lt))
 did laws true s request turn t readable lt h =
@@ -84,7 +84,7 @@ reports_more : (first rest : List Effect) → reports (first ++ rest) ≡ report
 reports_more [] rest = refl
 reports_more (e ∷ first) rest = ap (λ (l : List (List ℕ)). given_by e ++ l) (reports_more first rest) ∙ sym (append_assoc (given_by e) (reports first) (reports rest))
 
-length_more : (first rest : List Effect) → length (reports (first ++ rest)) ≡ length (reports first) + length (reports rest)
+pub length_more : (first rest : List Effect) → length (reports (first ++ rest)) ≡ length (reports first) + length (reports rest)
 length_more first rest = ap length (reports_more first rest) ∙ length-append (reports first) (reports rest)
 
 count_twice : (g m n a b c : ℕ) → m ≡ saturated (g + a) → n ≡ saturated (m + b) → c ≡ a + b → n ≡ saturated (g + c)

@@ -3,6 +3,7 @@ pub mod Scripts
 pub mod Centres
 pub mod Losses
 pub mod Lives
+pub mod Tallies
 pub mod Calls
 pub mod Dues
 pub mod Played

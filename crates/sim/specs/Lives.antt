@@ -8,6 +8,8 @@ use Rattle.ft12.specs.Spoiling.{spoilt}
 use Rattle.link.specs.Secondary.{Secondary, fresh_station, HearsOctets}
 use Rattle.gateway.specs.declared.settings.Station.{Station}
 use Rattle.gateway.specs.Config.{Settings}
+use Rattle.gateway.specs.Reports.{Setup}
+use Rattle.gateway.specs.Setups.{setup_of}
 use Rattle.gateway.specs.Log.{Log, Came, Went, LineIn, LineOut}
 use Rattle.sim.specs.declared.directive.Class.TheVariants.{One, Two}
 use Rattle.sim.specs.declared.directive.Directive.{Directive}
@@ -15,9 +17,10 @@ use Rattle.sim.specs.declared.directive.Fate.{Fate}
 use Rattle.sim.specs.declared.directive.Fate.TheVariants.{Unheard, AnswerLost, AnswerSpoilt, Answered}
 use Rattle.sim.specs.Losses.{fate_of, report_said}
 
--- what is fixed in a run: the size of link addresses, how long an answer is awaited, what the script says, and the stations as
--- they begin
+-- what is fixed in a run: what the gateway is set to, the size of link addresses, how long an answer is awaited, what the script
+-- says, and the stations as they begin
 pub record Plan : Type 0 where
+  pub setup : Setup
   pub size : LinkSize
   pub answer_ms : ℕ
   pub directives : List Directive
@@ -36,7 +39,13 @@ begun_from size index ds (s ∷ ss) = begun size index ds s ∷ begun_from size 
 
 -- what settings and a script fix
 abbrev pub plan_of : Settings → List Directive → Plan
-plan_of c ds = record { size = c.line.link; answer_ms = c.line.answer_ms; directives = ds; stations = begun_from c.line.link 0 ds c.stations }
+plan_of c ds = record {
+  setup = setup_of c;
+  size = c.line.link;
+  answer_ms = c.line.answer_ms;
+  directives = ds;
+  stations = begun_from c.line.link 0 ds c.stations;
+}
 
 abbrev pub later : Option Frame → Option Frame → Option Frame
 later a None = a

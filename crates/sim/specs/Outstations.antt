@@ -1,5 +1,5 @@
 -- What each station of a simulated line did in a run, and what was taken from it.
-use Rattle.std.specs.Prelude.{◌≡◌, ℕ, ◌+◌, ◌==◌, Bool, true, false, if◌then◌else◌, List, [], ◌∷◌, ◌++◌, count_by, length, Option, Some, None}
+use Rattle.std.specs.Prelude.{◌≡◌, ◌≤◌, ℕ, ◌+◌, ◌==◌, Bool, true, false, if◌then◌else◌, List, [], ◌∷◌, ◌++◌, count_by, length, Option, Some, None}
 use Rattle.std.specs.List.{flat_map, AllByRecursion}
 use Rattle.link.specs.declared.service.Asked.{Asked}
 use Rattle.link.specs.Exchanges.{Sending}
@@ -13,6 +13,8 @@ use Rattle.gateway.specs.Log.{Log, Went, LineOut}
 use Rattle.gateway.specs.Reports.{Setup, address_at, sending_in, exchanges_with}
 use Rattle.gateway.specs.Setups.{setup_of}
 use Rattle.delivery.specs.Delivery.{IsHonest, IsSteady, IsRelayed, reports_from}
+use Rattle.delivery.specs.Sessions.{SessionCounts, session_counts}
+use Rattle.sim.specs.declared.tally.Tally.{Tally}
 use Rattle.sim.specs.declared.directive.Class.TheVariants.{One, Two}
 use Rattle.sim.specs.declared.directive.Directive.{Directive}
 use Rattle.sim.specs.declared.directive.Fate.{Fate}
@@ -72,8 +74,14 @@ pub record HasSessions (p : Setup) (log : Log) (index : ℕ) (turns : List Turn)
   pub joined : flat_map (λ s. reports (learnt (address_at p.addresses index) s.exchanges)) (sessions (address_at p.addresses index) (exchanges_with p index log) turns)
       ≡ reports_from p log index
 
--- What the station with this index did in a run that left it so.
-pub record HasServed (c : Settings) (ds : List Directive) (log : Log) (index : ℕ) (s : Secondary) : Type 0 where
+-- the numbers of its closing line of sessions
+pub record IsCounted (counts : SessionCounts) (tally : Tally) : Type 0 where
+  pub sessions : tally.sessions ≡ counts.sessions
+  pub gaps : tally.gaps ≡ counts.gaps
+  pub lost : tally.lost ≡ counts.lost
+
+-- What the station with this index did in a run that left it so, and what was counted of its link's sessions.
+pub record HasServed (c : Settings) (ds : List Directive) (log : Log) (index : ℕ) (s : Secondary) (tally : Tally) : Type 0 where
   pub turns : List Turn
   -- It took these turns at the requests to it, and heard those that weren't lost.
   pub took : TakesTurns (first_station c ds index) (requests_to (setup_of c) ds index log) turns s
@@ -87,12 +95,18 @@ pub record HasServed (c : Settings) (ds : List Directive) (log : Log) (index : �
   pub given : s.given ≡ saturated (length (reports (all_done turns)))
   pub accepted : s.accepted ≡ commands (all_done turns)
   pub sessions_known : HasSessions (setup_of c) log index turns
+  -- What was counted is what the sessions say. Of the reports that it gave in sessions that ended, at most as many are in no answered
+  -- poll as there are gaps.
+  pub counted : IsCounted (session_counts (setup_of c) log index turns) tally
+  pub lost : tally.lost ≤ tally.gaps
   -- Where unanswered services are held its link is never reset. What was taken from it is what it gave, or all but the last; and
   -- the commands that it accepted are those sent to it, or all but the last.
   pub steady : c.line.silence ≡ Hold → IsSteady (setup_of c) log index
   pub relayed : c.line.silence ≡ Hold → IsRelayed (setup_of c) log index turns
 
 -- each of the stations, from this index on
-abbrev pub HaveServed : Settings → List Directive → Log → (index : ℕ) → List Secondary → Type 0
-HaveServed c ds log index [] = Unit {0}
-HaveServed c ds log index (s ∷ stations) = HasServed c ds log index s × HaveServed c ds log (index + 1) stations
+abbrev pub HaveServed : Settings → List Directive → Log → (index : ℕ) → List Secondary → List Tally → Type 0
+HaveServed c ds log index [] [] = Unit {0}
+HaveServed c ds log index (s ∷ stations) (t ∷ tallies) =
+    HasServed c ds log index s t × HaveServed c ds log (index + 1) stations tallies
+HaveServed c ds log index _ _ = ⊥

@@ -1,14 +1,16 @@
 -- Runs of a simulated line.
-use Rattle.std.specs.Prelude.{◌≡◌, ℕ, ◌+◌, ◌≤◌, min, nat_le, Bool, true, false, if◌then◌else◌, List, [], Option, None, IfSome, length}
+use Rattle.std.specs.Prelude.{◌≡◌, ℕ, ◌+◌, ◌≤◌, min, nat_le, Bool, true, false, if◌then◌else◌, List, [], Option, None, IfSome, length, replicate}
 use Rattle.std.specs.List.{AllByRecursion}
 use Rattle.ft12.specs.declared.frame.Frame.{Frame}
 use Rattle.ft12.specs.Spelling.{Fits}
 use Rattle.link.specs.Secondary.{Secondary}
-use Rattle.gateway.specs.Log.{Log, LogEntry, Came, Went, LineIn, last_moment}
+use Rattle.gateway.specs.Log.{Log, LogEntry, Came, Went, LineIn, last_moment, latest}
+use Rattle.gateway.specs.Reports.{exchanges_of}
 use Rattle.sim.specs.declared.centre.Centre.{Centre}
 use Rattle.sim.specs.Centres.{shut, centre_of, after_event}
 use Rattle.sim.specs.Losses.{turns_of}
 use Rattle.sim.specs.Lives.{Plan, AreLived, waiting_in, requests_in}
+use Rattle.sim.specs.Tallies.{Tallied, tallied_after, awaited_in, tallies_of, fresh_tally}
 use Rattle.sim.specs.Calls.{calls_in, moment_of, event_at, lasting, FollowsPlan}
 
 -- The log is a run of the plan, in which the stations answered the requests so, the newest first, each answer by a frame that has
@@ -18,13 +20,15 @@ pub record IsPlayed (plan : Plan) (log : Log) (answers : List (Option Frame)) (s
   pub fit : AllByRecursion (λ answer. IfSome answer (Fits plan.size)) answers
   pub follows : FollowsPlan plan log answers
 
--- where a run stands: what waits, what the control centre knows, and how many calls and requests there were
+-- where a run stands: what waits, what the control centre knows, how many calls and requests there were, and what is counted of
+-- the stations' links
 pub record Standing : Type 0 where
   pub waiting : Option (List ℕ)
   pub centre : Centre
   pub call : ℕ
   pub moment : ℕ
   pub requests : ℕ
+  pub tallied : Tallied
 
 -- The log is a run of the plan, and stands so.
 pub record Stands (plan : Plan) (log : Log) (stations : List Secondary) (at : Standing) : Type 0 where
@@ -35,6 +39,9 @@ pub record Stands (plan : Plan) (log : Log) (stations : List Secondary) (at : St
   pub call : at.call ≡ calls_in log
   pub moment : at.moment ≡ moment_of log
   pub requests : at.requests ≡ requests_in log
+  pub latest : latest log ≡ at.moment
+  pub awaited : at.tallied.awaited ≡ awaited_in (exchanges_of plan.setup log).current
+  pub each : at.tallied.each ≡ tallies_of plan log answers stations played.lived
   pub in_time : at.moment ≤ last_moment
   pub sent : at.centre.sent ≤ length log
   pub received : at.centre.received ≤ length log
@@ -72,14 +79,15 @@ abbrev pub is_given : LogEntry → Bool
 is_given (Came now (LineIn octets)) = true
 is_given entry = false
 
--- where a run stands after an event
-abbrev pub standing_after : LogEntry → Standing → Standing
-standing_after entry at = record {
+-- where a run of this plan stands after an event
+abbrev pub standing_after : Plan → LogEntry → Standing → Standing
+standing_after plan entry at = record {
   waiting = if is_given entry then None else at.waiting;
   centre = centre_after entry at.centre;
   call = at.call + 1;
   moment = moment_at entry;
   requests = at.requests;
+  tallied = tallied_after plan.setup entry at.tallied;
 }
 
 -- a run of the plan, before its first call
@@ -89,5 +97,12 @@ fresh_run plan = record {
   log = [];
   failed = 0;
   stations = plan.stations;
-  standing = record { waiting = None; centre = shut; call = 0; moment = 0; requests = 0 };
+  standing = record {
+    waiting = None;
+    centre = shut;
+    call = 0;
+    moment = 0;
+    requests = 0;
+    tallied = record { awaited = None; each = replicate (length plan.stations) fresh_tally };
+  };
 }

@@ -1,5 +1,5 @@
 -- The text of a run (texts of this gateway's own profile): a line for each action, and closing lines.
-use Rattle.std.specs.Prelude.{ℕ, ◌+◌, ◌-◌, ◌^◌, ◌==◌, min, Bool, true, false, if◌then◌else◌, List, [], ◌∷◌, ◌++◌, codes, count_by, drop, length}
+use Rattle.std.specs.Prelude.{ℕ, ◌+◌, ◌-◌, ◌^◌, ◌==◌, nat_lt, min, Bool, true, false, if◌then◌else◌, List, [], ◌∷◌, ◌++◌, codes, count_by, drop, length}
 use Rattle.std.specs.List.{flat_map}
 use Rattle.std.specs.Fmt.{decimal}
 use Rattle.link.specs.Secondary.{Secondary}
@@ -11,6 +11,7 @@ use Rattle.traces.specs.Actions.{stored_line}
 use Rattle.sim.specs.declared.directive.Directive.{Directive}
 use Rattle.sim.specs.declared.directive.Directive.TheVariants.{Report}
 use Rattle.sim.specs.Centres.{is_data}
+use Rattle.sim.specs.declared.tally.Tally.{Tally}
 
 abbrev pub reports_for : (station : ℕ) → Directive → Bool
 reports_for station (Report i class octets) = i == station
@@ -61,6 +62,22 @@ connection_lines n (t ∷ told) =
     if opens t then connection_line n (min (objects_until_next told) (2 ^ 64 - 1)) ++ connection_lines (n + 1) told
     else connection_lines n told
 
--- all that is written of a run: what is stored of it, the oldest first, and how the stations stand after it
-abbrev pub run_text : List Directive → List Told → List Secondary → List ℕ
-run_text ds told stations = flat_map stored_line told ++ station_lines ds 0 stations ++ connection_lines 1 told
+-- `sessions S N gaps M lost L`
+abbrev pub session_line : (station sessions gaps lost : ℕ) → List ℕ
+session_line station sessions gaps lost =
+    codes "sessions " ++ decimal station ++ codes " " ++ decimal sessions ++ codes " gaps " ++ decimal gaps ++ codes " lost " ++ decimal lost ++ 10 ∷ []
+
+-- the line of a station with this index and more than one session, else none
+abbrev pub line_of_sessions : (index : ℕ) → Tally → List ℕ
+line_of_sessions index t = if nat_lt 1 t.sessions then session_line (index + 1) t.sessions t.gaps t.lost else []
+
+-- the lines of the sessions of stations, from this index on
+abbrev pub session_lines : (index : ℕ) → List Tally → List ℕ
+session_lines index [] = []
+session_lines index (t ∷ ts) = line_of_sessions index t ++ session_lines (index + 1) ts
+
+-- all that is written of a run: what is stored of it, the oldest first, and how the stations and what is counted of them stand
+-- after it
+abbrev pub run_text : List Directive → List Told → List Secondary → List Tally → List ℕ
+run_text ds told stations tallies =
+    flat_map stored_line told ++ station_lines ds 0 stations ++ connection_lines 1 told ++ session_lines 0 tallies

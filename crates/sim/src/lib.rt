@@ -14,7 +14,8 @@
 //! So in such a run each station is an honest outstation, whatever is lost or spoilt ([`stations_are_honest`],
 //! `specs/Outstations.antt`): no answer comes late or altered unseen, it gives the script's reports of each class in order, each once,
 //! and what is taken from it is what it gave, or all but the last: in each session of its link, and where unanswered services are held
-//! in the whole run. The closing lines have the numbers of that run ([`connections_are_counted`], `specs/Closing.antt`). What
+//! in the whole run. What is counted of the sessions of each link ([`Tally`]) is what its exchanges and turns say. The closing lines
+//! have the numbers of that run ([`connections_are_counted`], `specs/Closing.antt`). What
 //! [`simulate`] writes is the text of such a run, of as many calls as the script says, in which the gateway keeps every promise of a
 //! gateway and the order of actions in each step, and delivers what was taken; where a write fails it is the beginning of that text
 //! (`specs/Runs.antt`).
@@ -33,6 +34,8 @@ mod reading;
 mod script;
 mod sim;
 mod simulation;
+mod tallies;
+mod tally;
 mod text;
 
 pub use directive::{Class, Directive, Fate};
@@ -41,6 +44,7 @@ pub use reading::read_script;
 pub use script::Script;
 pub use sim::Sim;
 pub use simulation::{SimFault, simulate};
+pub use tally::Tally;
 pub use traces::TextFault;
 
 #[cfg(test)]

@@ -1,18 +1,21 @@
 //! The port of a simulated line.
 ghost use Rattle.std.specs.Prelude.{◌≡◌, ℕ, ◌+◌, ◌<◌, ◌≤◌, ◌^◌, min, Bool, true, false, List, [], ◌∷◌, ◌++◌, length, take, IfOk, OnOk, OnErr, Option, Some, None, if◌then◌else◌, option_map, nat_le};
-ghost use Rattle.gateway.specs.Log.{LogEntry, Came, Went, LineOut, TcpOut, Closed, Input, tell, last_moment};
+ghost use Rattle.gateway.specs.Log.{LogEntry, Came, Went, LineOut, TcpOut, Closed, GapOut, Input, tell, last_moment};
 ghost use Rattle.gateway.specs.Ports.{told_by, output_of, FitsBuffer, faults_of};
 ghost use Rattle.gateway.specs.Entries.{FitsPort, event_of, log_of, number_of, told_of};
 ghost use Rattle.sim.specs.Lives.{Plan, plan_of};
 ghost use Rattle.sim.specs.Losses.{turns_of};
 ghost use Rattle.sim.specs.Scripts.{FitsSettings};
 ghost use Rattle.sim.specs.Played.{centre_after, moment_at, is_given, coming};
+ghost use Rattle.sim.specs.declared.tally.Tally.{Tally};
 
 use crate::beginning::begin;
 use crate::centre::Centre;
 use crate::due::Due;
 use crate::hearing::{arriving, put_out};
 use crate::script::Script;
+use crate::tallies::Tallies;
+use crate::tally::Tally;
 use arrayvec::ArrayVec;
 use gateway::{Action, Config, Entry, Next, Port, Told};
 use link::{NoMemory, Station, station_is_an_outstation};
@@ -36,6 +39,7 @@ pub struct Sim<'a> {
     call: u64,
     moment: u64,
     requests: u64,
+    tallies: Tallies,
     log: Vec<Told>,
     failures: u64,
 }
@@ -54,12 +58,12 @@ impl<'a> Model for Sim<'a> {
       log = log_of a.log.items;
       failed = a.failures;
       stations = a.stations.items;
-      standing = record { waiting = option_map (λ v. v.items) a.waiting; centre = a.centre; call = a.call; moment = a.moment; requests = a.requests };
+      standing = record { waiting = option_map (λ v. v.items) a.waiting; centre = a.centre; call = a.call; moment = a.moment; requests = a.requests; tallied = a.tallies };
     } };
 
     // The log is a run of the plan, and the rest is as it stands after the log.
     ghost invariant = { λ a. (a.turns ≡ turns_of a.script.now)
-        × Stands (plan_of a.config.now a.script.now) (log_of a.log.items) a.stations.items (record { waiting = option_map (λ v. v.items) a.waiting; centre = a.centre; call = a.call; moment = a.moment; requests = a.requests }) };
+        × Stands (plan_of a.config.now a.script.now) (log_of a.log.items) a.stations.items (record { waiting = option_map (λ v. v.items) a.waiting; centre = a.centre; call = a.call; moment = a.moment; requests = a.requests; tallied = a.tallies }) };
 }
 
 /// Copies the octets to the front.
@@ -122,7 +126,8 @@ fn centre_after(entry: &Entry, centre: Centre) -> Centre
     }
 }
 
-fn moment_at(entry: &Entry) -> u64
+/// The moment of an event.
+pub(crate) fn moment_at(entry: &Entry) -> u64
     ensures { result ≡ moment_at (event_of entry.now) }
 {
     match entry {
@@ -158,6 +163,7 @@ impl<'a> Sim<'a> {
         ensures { IfOk result (λ sim. sim ≡ fresh_run (plan_of config.now script.now)) }
     {
         let stations = begin(alloc, config, script)?;
+        let tallies = Tallies::new(alloc, stations.len())?;
         Ok(Sim {
             alloc,
             config,
@@ -169,6 +175,7 @@ impl<'a> Sim<'a> {
             call: 0,
             moment: 0,
             requests: 0,
+            tallies,
             log: Vec::new(alloc),
             failures: 0,
         })
@@ -188,6 +195,13 @@ impl<'a> Sim<'a> {
         ensures { result.now ≡ self.now.stations }
     {
         &self.stations
+    }
+
+    /// What is counted of the sessions of each station's link.
+    pub fn tallies(&self) -> &[Tally]
+        ensures { result.now ≡ self.now.standing.tallied.each }
+    {
+        self.tallies.each()
     }
 
     /// The moment of an event that lasts so long.
@@ -233,10 +247,12 @@ impl<'a> Sim<'a> {
         ensures plan { self.new.plan ≡ self.old.plan }
         ensures failed { self.new.failed ≡ self.old.failed }
     {
+        self.log.try_reserve(1)?;
         let centre = centre_after(&entry, self.centre);
         let moment = moment_at(&entry);
         let is_given = is_given(&entry);
-        keep(&mut self.log, Told::Came(entry))?;
+        self.tallies.come(self.config, &entry);
+        self.log.push_reserved(Told::Came(entry));
         forget(&mut self.waiting, is_given);
         self.centre = centre;
         self.moment = moment;
@@ -256,6 +272,8 @@ impl<'a> Sim<'a> {
         let copy = Vec::from_slice(self.alloc, octets)?;
         keep(&mut self.log, Told::Line(now, copy))?;
         self.requests += 1;
+        self.tallies
+            .ask(self.config, self.stations.as_slice(), now, octets);
         let fate = self.script.fate(self.requests);
         let answer = put_out(self.stations.as_mut_slice(), fate, octets);
         self.waiting = arriving(self.config.line().link, fate, answer);
@@ -286,6 +304,18 @@ impl<'a> Sim<'a> {
     {
         keep(&mut self.log, Told::Close(now, number(cause)))?;
         self.centre = Centre::shut();
+        Ok(())
+    }
+
+    /// A gap is told: nobody on the line or at the control centre hears of it.
+    #[tactic(auto, using(crate::proofs::Steps::stored_push))]
+    fn tell(&mut self, now: u64, station: usize, session: u64) -> Result<(), AllocError>
+        ensures ok { OnOk result (self.new.log ≡ Went now (GapOut station session) ∷ self.old.log) }
+        ensures err { OnErr result (self.new.log ≡ self.old.log) }
+        ensures plan { self.new.plan ≡ self.old.plan }
+        ensures failed { self.new.failed ≡ self.old.failed }
+    {
+        keep(&mut self.log, Told::Gap(now, station, session))?;
         Ok(())
     }
 
@@ -346,6 +376,7 @@ impl<'a> Port for Sim<'a> {
             Action::Line(octets) => self.ask(now, octets),
             Action::Tcp(octets) => self.hand(now, octets),
             Action::Close(cause) => self.close(now, *cause),
+            Action::Gap { station, session } => self.tell(now, *station, *session),
         };
         match told {
             Ok(()) => true,

@@ -120,6 +120,12 @@ pub fn simulate<W: Write>(
     nothing_is_lost();
     let _stations = config.stations();
     let sim = run(alloc, config, script)?;
-    let text = text(alloc, script.directives(), sim.told(), sim.stations())?;
+    let text = text(
+        alloc,
+        script.directives(),
+        sim.told(),
+        sim.stations(),
+        sim.tallies(),
+    )?;
     write_octets(out, text.as_bytes())
 }

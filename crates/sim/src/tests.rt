@@ -255,29 +255,6 @@ fn a_lost_answer_is_asked_for_again(rt: HostRuntime) -> Result<(), Fail> {
     Ok(())
 }
 
-/// The same with a report of class 1: the requests at 4 and 204 ask for it.
-const LOST_ANSWER_OF_CLASS_1: &str = "1 > S 1049014A16
-2 > T 68040B000000
-3 > S 1040014116
-4 > S 107A017B16
-204 > S 107A017B16
-205 > S 105B015C16
-205 > T 680E0000000001010300010064000001
-207 > S 107B017C16
-station 1 reports 1 given 1 accepted 0
-connection 1 objects 1
-";
-
-#[test]
-fn a_lost_answer_of_class_1_is_asked_for_again(rt: HostRuntime) -> Result<(), Fail> {
-    let out = written(
-        rt.alloc(),
-        "turns 8\nreport 1 1 01010301640001\nlose answer 3\n",
-    )?;
-    assert_eq!(rt; out.as_slice(), LOST_ANSWER_OF_CLASS_1.as_bytes());
-    Ok(())
-}
-
 #[test]
 fn a_spoilt_answer_is_as_good_as_lost(rt: HostRuntime) -> Result<(), Fail> {
     // The exchange has octets, but no frame; what closes it is its time.

@@ -3,10 +3,12 @@ ghost use Rattle.std.specs.Prelude.{◌≡◌, ◌+◌, ◌++◌, ◌≤◌, ◌
 ghost use Rattle.std.specs.List.{flat_map};
 ghost use Rattle.gateway.specs.Objects.{objects};
 ghost use Rattle.traces.specs.Actions.{stored_line};
-ghost use Rattle.sim.specs.Texts.{reports_for, station_line, line_of_station, station_lines, objects_in_apdu, objects_sent, opens, objects_until_next, connection_line, connection_lines, run_text};
+ghost use Rattle.sim.specs.Texts.{reports_for, station_line, line_of_station, station_lines, objects_in_apdu, objects_sent, opens, objects_until_next, connection_line, connection_lines};
+ghost use Rattle.sim.specs.Texts.{line_of_sessions, session_lines, run_text};
 
 use crate::centre::is_data;
 use crate::directive::Directive;
+use crate::tally::Tally;
 use asdu::{Sizes, objects_are_those_of_the_asdu, read};
 use gateway::{Entry, Told};
 use link::Station;
@@ -144,19 +146,51 @@ fn push_connections(lines: &mut String, log: &[Told]) -> Result<(), AllocError>
     Ok(())
 }
 
-/// The text of a run: a line for each action of its log, one for each station and one for each connection.
+/// Appends the closing line of the sessions of the station with this index, where there was more than one.
+fn push_tally(lines: &mut String, index: usize, tally: Tally) -> Result<(), AllocError>
+    requires { index + 1 < 2 ^ 64 }
+    ensures { OnOk result (string_bytes lines.new ≡ string_bytes lines.old ++ line_of_sessions index tally) }
+{
+    if tally.sessions <= 1 {
+        return Ok(());
+    }
+    let number = index + 1;
+    let sessions = tally.sessions;
+    let gaps = tally.gaps;
+    let lost = tally.lost;
+    writeln!(
+        lines,
+        "sessions {number} {sessions} gaps {gaps} lost {lost}"
+    )
+}
+
+#[tactic(auto, using(crate::proofs::TextLemmas::session_more, crate::proofs::TextLemmas::session_end))]
+/// Appends the closing lines of sessions.
+fn push_tallies(lines: &mut String, tallies: &[Tally]) -> Result<(), AllocError>
+    ensures { OnOk result (string_bytes lines.new ≡ string_bytes lines.old ++ session_lines 0 tallies.now) }
+{
+    for (index, tally) in tallies.iter().enumerate() {
+        push_tally(lines, index, *tally)?;
+    }
+    Ok(())
+}
+
+/// The text of a run: a line for each action of its log, one for each station, one for each connection, and one for each station
+/// whose link had more than one session.
 pub(crate) fn text(
     alloc: Global,
     directives: &[Directive],
     log: &[Told],
     stations: &[Station],
+    tallies: &[Tally],
 ) -> Result<String, AllocError>
     requires { length log.now < 2 ^ 63 }
-    ensures { IfOk result (λ text. string_bytes text ≡ run_text directives.now log.now stations.now) }
+    ensures { IfOk result (λ text. string_bytes text ≡ run_text directives.now log.now stations.now tallies.now) }
 {
     let mut lines = String::new(alloc);
     push_actions(alloc, &mut lines, log)?;
     push_stations(&mut lines, directives, stations)?;
     push_connections(&mut lines, log)?;
+    push_tallies(&mut lines, tallies)?;
     Ok(lines)
 }

@@ -1,15 +1,8 @@
 //! Commands done over texts and writers in memory.
-mod closings;
-mod commands;
 mod connection_types;
 mod faults;
 mod line_types;
 mod losses;
-mod misreadings;
-mod numbers;
-mod overfull;
-mod rows;
-mod selections;
 mod shows;
 mod simulations;
 mod texts;
@@ -60,36 +53,11 @@ fn stops(rt: &impl Abort, alloc: Global, job: &Job<'_>, fault: &str) {
     assert_eq!(rt; done.status, 1, "{fault}");
 }
 
-/// Runs the gateway over a trace, which is to print these lines.
-fn replays(rt: &impl Abort, alloc: Global, config: &str, trace: &str, lines: &str) {
-    let job = Job::Replay {
-        config: config.as_bytes(),
-        trace: trace.as_bytes(),
-        left: false,
-        counts: false,
-    };
-    prints(rt, alloc, &job, lines, 0);
-}
-
 /// The station is started, and a connection too.
 const OPENING: &str = "10 S 100B010C16\n20 S E5\n30 O\n40 R 680407000000\n";
 
 const OPENED: &str =
     "0 > S 1049014A16\n10 > S 1040014116\n20 > S 107B017C16\n40 > T 68040B000000\n";
-
-/// Runs the gateway over a trace that goes on so after the opening, which is to print these lines after those of the opening.
-fn goes_on(
-    rt: &impl Abort,
-    alloc: Global,
-    config: &str,
-    trace: &str,
-    lines: &str,
-) -> Result<(), AllocError> {
-    let trace = joined(alloc, OPENING, trace)?;
-    let lines = joined(alloc, OPENED, lines)?;
-    replays(rt, alloc, config, trace.as_str(), lines.as_str());
-    Ok(())
-}
 
 fn joined(alloc: Global, first: &str, second: &str) -> Result<String, AllocError> {
     let mut text = String::from_str(alloc, first)?;

@@ -1,13 +1,14 @@
 -- The lines that a run prints (texts of this gateway's own profile): each action with its moment.
-use Rattle.std.specs.Prelude.{ℕ, List, [], ◌∷◌, ◌++◌, codes}
+use Rattle.std.specs.Prelude.{ℕ, ◌+◌, List, [], ◌∷◌, ◌++◌, codes}
 use Rattle.std.specs.Fmt.{decimal}
 use Rattle.hex.specs.Hex.{encode_upper}
-use Rattle.gateway.specs.Log.{Log, Output, LineOut, TcpOut, Closed, Came, Went}
+use Rattle.gateway.specs.Log.{Log, Output, LineOut, TcpOut, Closed, GapOut, Came, Went}
 use Rattle.gateway.specs.Entries.{number_of}
 use Rattle.gateway.specs.declared.entries.Told.{Told}
 use Rattle.gateway.specs.declared.entries.Told.TheVariants as told
 
--- octets to the line (S), an APDU to TCP (T), or a close with the number of its cause (X)
+-- octets to the line (S), an APDU to TCP (T), a close with the number of its cause (X), or a gap (G) with the number of the station,
+-- from 1, and that of the session that ended
 abbrev pub request_line : (now : ℕ) → (octets : List ℕ) → List ℕ
 request_line now octets = decimal now ++ codes " > S " ++ encode_upper octets ++ 10 ∷ []
 
@@ -17,10 +18,14 @@ apdu_line now octets = decimal now ++ codes " > T " ++ encode_upper octets ++ 10
 abbrev pub close_line : (now number : ℕ) → List ℕ
 close_line now number = decimal now ++ codes " > X " ++ decimal number ++ 10 ∷ []
 
+abbrev pub gap_line : (now station session : ℕ) → List ℕ
+gap_line now station session = decimal now ++ codes " > G " ++ decimal (station + 1) ++ codes " " ++ decimal session ++ 10 ∷ []
+
 abbrev pub line_of : ℕ → Output → List ℕ
 line_of now (LineOut octets) = request_line now octets
 line_of now (TcpOut octets) = apdu_line now octets
 line_of now (Closed cause) = close_line now (number_of cause)
+line_of now (GapOut station session) = gap_line now station session
 
 -- the line of what is stored; an event has none
 abbrev pub stored_line : Told → List ℕ
@@ -28,6 +33,7 @@ stored_line (told.Came event) = []
 stored_line (told.Line now octets) = request_line now octets.items
 stored_line (told.Tcp now octets) = apdu_line now octets.items
 stored_line (told.Close now number) = close_line now number
+stored_line (told.Gap now station session) = gap_line now station session
 
 -- the lines of a log's actions, the oldest first; an event has none
 abbrev pub lines_of_actions : Log → List ℕ

@@ -25,6 +25,7 @@ pub(crate) fn stored(alloc: Global, now: u64, action: &Action<'_>) -> Result<Tol
         Action::Line(octets) => Ok(Told::Line(now, Vec::from_slice(alloc, octets)?)),
         Action::Tcp(octets) => Ok(Told::Tcp(now, Vec::from_slice(alloc, octets)?)),
         Action::Close(cause) => Ok(Told::Close(now, number(*cause))),
+        Action::Gap { station, session } => Ok(Told::Gap(now, *station, *session)),
     }
 }
 
@@ -43,5 +44,10 @@ pub fn append_line(alloc: Global, lines: &mut String, told: &Told) -> Result<(),
             writeln!(lines, "{now} > T {digits}")
         }
         Told::Close(now, number) => writeln!(lines, "{now} > X {number}"),
+        Told::Gap(now, station, session) => {
+            // Wide enough for one past the greatest index.
+            let place = u128::from(*station as u64) + 1;
+            writeln!(lines, "{now} > G {place} {session}")
+        }
     }
 }

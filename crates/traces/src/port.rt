@@ -29,7 +29,8 @@ impl Beginning for Brand {
 }
 
 /// A port that gives a tick at moment 0 and then its entries. It stores the log of the run, and writes the line of each
-/// action as it is put: `MS > S HEX` (to the line), `MS > T HEX` (to TCP) or `MS > X CAUSE` (a close), in upper case.
+/// action as it is put: `MS > S HEX` (to the line), `MS > T HEX` (to TCP), `MS > X CAUSE` (a close) or `MS > G S K` (a gap of
+/// station S, counted from 1, at the end of its session K), in upper case.
 /// Room in the log is made before a line is written. After a fault it takes and gives nothing more.
 pub struct Trace<W: Write, B: Beginning = Brand> {
     alloc: Global,

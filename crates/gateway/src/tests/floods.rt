@@ -1,39 +1,15 @@
-//! Long runs: many reports through the smallest queue, and a flood of octets on both sides.
+//! A long run: a flood of octets on both sides.
 ghost use Rattle.std.specs.Prelude.{◌≡◌, true, [], None};
 
 use super::rules::Rules;
-use super::{OPENING, POINT, add, config_with, fit, is_tcp, octets};
-use crate::recording::engine_log;
+use super::{POINT, config_with, octets};
 use crate::{Action, Entry, Event, Gateway, Next, Port, Told};
 use asdu::IoaSize;
 use std::alloc::{AllocError, Global};
 use std::test::Fail;
 
-/// The octets of a number, the low one first, and those of a count of frames.
-fn pair(n: u64) -> [u8; 2] {
-    [(n % 256) as u8, (n / 256 % 256) as u8]
-}
-
 fn numbers(n: u64) -> [u8; 2] {
     [(n % 128 * 2) as u8, (n / 128 % 256) as u8]
-}
-
-/// The report of a single point at an address.
-fn report(alloc: Global, address: u64) -> Result<Vec<u8>, AllocError> {
-    let [low, high] = pair(address);
-    let mut frame = octets(alloc, "68090968080101010301")?;
-    let sum = low.wrapping_add(high).wrapping_add(0x10);
-    frame.extend_from_slice(&[low, high, 1, sum, 0x16])?;
-    Ok(frame)
-}
-
-/// The I frame that carries it.
-fn i_frame(alloc: Global, count: u64, address: u64) -> Result<Vec<u8>, AllocError> {
-    let [low, high] = pair(address);
-    let mut apdu = octets(alloc, "680E")?;
-    apdu.extend_from_slice(&numbers(count))?;
-    apdu.extend_from_slice(&[0, 0, 1, 1, 3, 0, 1, 0, low, high, 0, 1])?;
-    Ok(apdu)
 }
 
 /// The S frame with a receive number.
@@ -41,41 +17,6 @@ fn s_frame(alloc: Global, count: u64) -> Result<Vec<u8>, AllocError> {
     let mut apdu = octets(alloc, "68040100")?;
     apdu.extend_from_slice(&numbers(count))?;
     Ok(apdu)
-}
-
-fn is_request(told: Option<&Told>, octets: &Vec<u8>) -> bool {
-    match told {
-        Some(Told::Line(_, out)) => *out == *octets,
-        _ => false,
-    }
-}
-
-#[test]
-fn a_thousand_reports_go_through_three_places(rt: HostRuntime) -> Result<(), Fail> {
-    let alloc = rt.alloc();
-    let config = config_with(alloc, IoaSize::Two, 3)?;
-    let mut entries = Vec::new(alloc);
-    add(alloc, &mut entries, &OPENING)?;
-    for n in 1..1001u64 {
-        entries.push(Entry::Line(50, report(alloc, n)?))?;
-        entries.push(Entry::Bytes(50, s_frame(alloc, n)?))?;
-    }
-    assert!(rt; fit(&entries));
-    let log = match engine_log(alloc, &config, &entries) {
-        Ok(log) => log,
-        Err(_) => return Err(Fail::from(AllocError)),
-    };
-    // The tick, the opening and what goes out at them; then for each report four lines.
-    assert!(rt; log.len() == 4009);
-    let odd = octets(alloc, "107B017C16")?;
-    let even = octets(alloc, "105B015C16")?;
-    for n in 0..1000usize {
-        let sent = i_frame(alloc, n as u64, n as u64 + 1)?;
-        let poll = if n % 2 == 0 { &even } else { &odd };
-        assert!(rt; is_tcp(log.get(10 + 4 * n), 50, &sent), "{n}");
-        assert!(rt; is_request(log.get(12 + 4 * n), poll), "{n}");
-    }
-    Ok(())
 }
 
 /// A linear generator.

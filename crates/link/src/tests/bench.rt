@@ -35,7 +35,10 @@ impl Model for Bench {
 
     ghost view = { λ b. b.master };
 
-    ghost invariant = { λ b. record { size : b.master.settings.size ≡ One; some : 0 < length b.master.stations } };
+    ghost invariant = { λ b. record {
+      size : b.master.settings.size ≡ One;
+      some : 0 < length b.master.stations;
+    } };
 }
 
 impl Bench {
@@ -95,7 +98,8 @@ impl Bench {
         status && ready && reset && matches!(self.octets(&[0xE5]), Outcome::Started(0))
     }
 
-    /// The first station is asked for its status and reset again: whether that ends this session with a gap, or tells none.
+    /// The first station is asked for its status and reset again: whether that ends this session
+    /// with a gap, or tells none.
     pub(super) fn restarts(&mut self, now: u64, gap: Option<u64>) -> bool {
         let status = self.sends(now, &[0x10, 0x49, 0x01, 0x4A, 0x16]);
         let ready = matches!(self.octets(&[0x10, 0x0B, 0x01, 0x0C, 0x16]), Outcome::None);

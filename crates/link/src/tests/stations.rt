@@ -64,7 +64,8 @@ fn other_requests(rt: HostRuntime) {
     assert!(rt; is_fixed(&station.hear(&[0x10, 0x44, 0x01, 0x45, 0x16]), 0x0F));
 }
 
-/// A command is accepted. Where memory is refused it is answered that the station is busy, and the test fails.
+/// A command is accepted. Where memory is refused it is answered that the station is busy, and the
+/// test fails.
 #[test]
 fn a_command_needs_memory(rt: HostRuntime) -> Result<(), NoMemory> {
     let mut station = Station::new(rt.alloc(), LinkSize::One, 1);

@@ -31,6 +31,81 @@ station 1 reports 1 given 1 accepted 0
 connection 1 objects 1
 ";
 
+/// A station whose link is reset at once where it is silent.
+const CONFIG_RESET: &str =
+    "[line]\nlink = 1\ncause = 1\nca = 1\nioa = 2\nqueue = 100\nretries = 0\nsilence = \"reset\"\n[[station]]\naddress = 1\nca = 1\n";
+
+/// Two reports. The answer to the first poll is lost: the reset that follows tells of a gap, and the first report is lost.
+const LOST_WITH_A_GAP: &str = "1 > S 1049014A16
+2 > T 68040B000000
+3 > S 1040014116
+4 > S 107B017C16
+204 > S 1049014A16
+205 > S 1040014116
+206 > G 1 1
+206 > S 107B017C16
+207 > S 105B015C16
+207 > T 680E0000000001010300010065000001
+209 > S 107B017C16
+station 1 reports 2 given 2 accepted 0
+connection 1 objects 1
+sessions 1 2 gaps 1 lost 1
+";
+
+/// The poll itself is lost: the same gap, and no report is lost.
+const GAP_WITHOUT_LOSS: &str = "1 > S 1049014A16
+2 > T 68040B000000
+3 > S 1040014116
+4 > S 107B017C16
+204 > S 1049014A16
+205 > S 1040014116
+206 > G 1 1
+206 > S 107B017C16
+207 > S 105B015C16
+207 > T 680E0000000001010300010064000001
+209 > S 107B017C16
+209 > T 680E0200000001010300010065000001
+station 1 reports 2 given 2 accepted 0
+connection 1 objects 2
+sessions 1 2 gaps 1 lost 0
+";
+
+/// Two answers are lost, one in each of two sessions; the third session brings the last report.
+const TWO_GAPS: &str = "1 > S 1049014A16
+2 > T 68040B000000
+3 > S 1040014116
+4 > S 107B017C16
+204 > S 1049014A16
+205 > S 1040014116
+206 > G 1 1
+206 > S 107B017C16
+406 > S 1049014A16
+407 > S 1040014116
+408 > G 1 2
+408 > S 107B017C16
+409 > S 105B015C16
+409 > T 680E0000000001010300010066000001
+station 1 reports 3 given 3 accepted 0
+connection 1 objects 1
+sessions 1 3 gaps 2 lost 2
+";
+
+/// Scripts for a link that is reset, and what is printed of each.
+static SESSIONS: [(&str, &str); 3] = [
+    (
+        "turns 10\nreport 1 2 01010301640001\nreport 1 2 01010301650001\nlose answer 3\n",
+        LOST_WITH_A_GAP,
+    ),
+    (
+        "turns 10\nreport 1 2 01010301640001\nreport 1 2 01010301650001\nlose request 3\n",
+        GAP_WITHOUT_LOSS,
+    ),
+    (
+        "turns 11\nreport 1 2 01010301640001\nreport 1 2 01010301650001\nreport 1 2 01010301660001\nlose answer 3\nlose answer 6\n",
+        TWO_GAPS,
+    ),
+];
+
 /// Runs the gateway as a script says, which is to print these lines.
 fn simulates(rt: &impl Abort, alloc: Global, config: &str, script: &str, lines: &str) {
     let job = Job::Sim(config.as_bytes(), script.as_bytes());
@@ -53,6 +128,13 @@ fn a_lost_answer_is_asked_for_again(rt: HostRuntime) {
         "turns 8\nreport 1 1 01010301640001\nlose answer 3\n",
         LOST_ANSWER_OF_CLASS_1,
     );
+}
+
+#[test]
+fn sessions_are_told_at_the_end(rt: HostRuntime) {
+    for (script, lines) in &SESSIONS {
+        simulates(&rt, rt.alloc(), CONFIG_RESET, *script, *lines);
+    }
 }
 
 /// Wrong scripts, and their first wrong line.

@@ -6,6 +6,8 @@ use Rattle.gateway.specs.Entries.{log_of}
 use Rattle.sim.specs.declared.directive.Fate.{Fate}
 use Rattle.sim.specs.Losses.{fate_of}
 use Rattle.sim.specs.Lives.{IsPutOut, arriving, plan_of}
+use Rattle.gateway.specs.Setups.{setup_of}
+use Rattle.sim.specs.Tallies.{tallied_asked}
 use Rattle.sim.proofs.Steps.{length-log}
 use Rattle.sim.proofs.HearingLemmas.{length_out}
 use Rattle.sim.proofs.Keeping.{ask_kept, written}
@@ -29,12 +31,13 @@ invariant_of-self-2 c =
     subst (λ (ss : List Secondary). IsPutOut c.fate-fate.result c.args.octets.now ss c.put_out-answer.result c.put_out-answer.new.stations) c.as_mut_slice.ensures.value c.put_out-answer.ensures.out in
     let same : length c.put_out-answer.new.stations ≡ length c.self.inside.stations.items = length_out c.fate-fate.result c.args.octets.now c.self.inside.stations.items c.put_out-answer.new.stations c.put_out-answer.result out in (
       c.self.invariant.0,
-      ask_kept c.station_is_an_outstation.ensures.size (plan_of c.self.inside.config.now c.self.inside.script.now) c.self.inside.log.items _ c.self.inside.stations.items c.put_out-answer.new.stations _ _ c.args.now c.in_ok-copy.copy c.args.octets.now c.put_out-answer.result _
+      ask_kept c.station_is_an_outstation.ensures.size (plan_of c.self.inside.config.now c.self.inside.script.now) c.self.inside.log.items _ c.self.inside.stations.items c.put_out-answer.new.stations _ _ c.args.now c.in_ok-copy.copy c.args.octets.now c.put_out-answer.result _ _
           c.in_ok-keep.ensures.ok c.in_ok-copy.ensures.items
           (subst (λ (f : Fate). IsPutOut f c.args.octets.now c.self.inside.stations.items c.put_out-answer.result c.put_out-answer.new.stations) fate out)
           (written c.self.inside.stations.items c.put_out-answer.new.stations c.self.inside.stations.len (omega (arith, same, c.self.inside.stations.ok.0, c.self.inside.stations.ok.1)))
           (c.arriving-self-inside.ensures ∙ ap (λ (l : LineSettings). arriving l.link c.fate-fate.result c.put_out-answer.result) c.line.ensures
           ∙ ap (λ (f : Fate). arriving c.self.inside.config.now.line.link f c.put_out-answer.result) fate)
           (c.put_out-answer.ensures.fits c.self.inside.config.now.line.link (subst (λ (ss : List Secondary). AllByRecursion (λ s. s.size ≡ c.self.inside.config.now.line.link) ss) (sym c.as_mut_slice.ensures.value) c.self.invariant.1.sizes))
+          (c.ask.ensures ∙ ap (λ (ss : List Secondary). tallied_asked (setup_of c.self.inside.config.now) c.args.now c.args.octets.now ss c.self.inside.tallies) c.as_slice.ensures.value)
           c.self.invariant.1,
     )

@@ -1,0 +1,166 @@
+-- What a simulated line counts of the sessions of each station's link, event by event (this
+-- gateway's own profile). That the counts are those of the log's exchanges, and of what the
+-- stations did, is the promise of `stations_are_honest`.
+use Rattle.std.specs.Prelude.{◌≡◌, ℕ, ◌+◌, ◌-◌, ◌==◌, nat_le, ◌&&◌, not, Bool, true, false, if◌then◌else◌}
+use Rattle.std.specs.Prelude.{List, [], ◌∷◌, length, map, replicate, slice_index_or, slice_index, slice_set, Option, Some, None, option_and_then}
+use Rattle.ft12.specs.declared.frame.Frame.{Frame}
+use Rattle.ft12.specs.Fronts.{front_of}
+use Rattle.link.specs.declared.service.Service.{Service}
+use Rattle.link.specs.declared.service.Asked.{Asked}
+use Rattle.link.specs.declared.service.Asked.TheVariants.{Status, Reset, Counted}
+use Rattle.link.specs.declared.answer.Answer.{Answer}
+use Rattle.link.specs.declared.answer.Answer.TheVariants.{Ready, Confirmed, Busy, Report, NoData, Unable}
+use Rattle.link.specs.Answers.{answer_of}
+use Rattle.link.specs.Counts.{saturated}
+use Rattle.link.specs.Exchanges.{OpenExchange, Sending, whole_of}
+use Rattle.link.specs.Secondary.{Secondary}
+use Rattle.link.specs.Turns.{is_poll}
+use Rattle.gateway.specs.Log.{Log, LogEntry, Came, Went, Input, LineIn, LineOut}
+use Rattle.gateway.specs.Reports.{Setup, address_at, sending_in, exchanges_of}
+use Rattle.sim.specs.declared.tally.Tally.{Tally}
+use Rattle.sim.specs.declared.tallies.Awaited.{Awaited}
+use Rattle.sim.specs.Lives.{Plan, AreLived}
+
+-- One station
+
+-- before the first request
+abbrev pub fresh_tally : Tally
+fresh_tally = record { sessions = 0; gaps = 0; lost = 0; taken = 0; given = 0; is_polled = false }
+
+-- a request goes out to a station that has given so many reports
+abbrev pub tally_asked : Asked → (given : ℕ) → Tally → Tally
+tally_asked Status given t = record t { given = given }
+tally_asked Reset given t = record t { given = given }
+tally_asked (Counted fcb service) given t =
+    record t { given = given; is_polled = is_poll service }
+
+-- a reset is answered: it ends the session before it, if there is one
+abbrev pub tally_reset : Tally → Tally
+tally_reset t = record t {
+  sessions = saturated (t.sessions + 1);
+  gaps = if t.is_polled && not (t.sessions == 0) then saturated (t.gaps + 1) else t.gaps;
+  lost = t.given - t.taken;
+  is_polled = false;
+}
+
+-- a poll or a command is answered
+abbrev pub tally_served : Service → Answer → Tally → Tally
+tally_served service (Report asdu) t = record t {
+  taken = if is_poll service then saturated (t.taken + 1) else t.taken;
+  is_polled = false;
+}
+tally_served service Unable t = t
+tally_served service answer t = record t { is_polled = false }
+
+abbrev pub tally_answered : Asked → Answer → Tally → Tally
+tally_answered Reset Confirmed t = tally_reset t
+tally_answered (Counted fcb service) answer t = tally_served service answer t
+tally_answered request answer t = t
+
+-- a request is answered, or isn't
+abbrev pub tally_after : Asked → Option Answer → Tally → Tally
+tally_after request None t = t
+tally_after request (Some answer) t = tally_answered request answer t
+
+-- All stations
+
+-- what is counted of each station, and the request that may still be answered
+pub record Tallied : Type 0 where
+  pub awaited : Option Awaited
+  pub each : List Tally
+
+abbrev pub tally_at : List Tally → ℕ → Tally
+tally_at each i = slice_index_or each i fresh_tally
+
+-- how many reports the station at this place gave
+abbrev pub given_at : List Secondary → ℕ → ℕ
+given_at stations i = slice_index (map (λ s. s.given) stations) i
+
+abbrev pub sending_of : (ℕ × Asked) → Sending
+sending_of sent = record { station = sent.0; request = sent.1 }
+
+-- A request goes out, or octets that are none.
+abbrev pub each_asked : Option Sending → List Secondary → List Tally → List Tally
+each_asked None stations each = each
+each_asked (Some s) stations each =
+    slice_set each s.station
+    (tally_asked s.request (given_at stations s.station) (tally_at each s.station))
+
+abbrev pub awaited_asked : (now : ℕ) → Option Sending → Option Awaited → Option Awaited
+awaited_asked now None awaited = awaited
+awaited_asked now (Some s) awaited =
+    Some (record { station = s.station; request = s.request; since = now })
+
+-- Octets come: where a request is awaited, what the frame at their front says in answer to it.
+abbrev pub answer_in : Setup → Awaited → List ℕ → Option Answer
+answer_in p a octets =
+    option_and_then (answer_of (address_at p.addresses a.station) a.request)
+    (whole_of (front_of p.link.size octets))
+
+abbrev pub each_heard : Setup → Option Awaited → List ℕ → List Tally → List Tally
+each_heard p None octets each = each
+each_heard p (Some a) octets each =
+    slice_set each a.station
+    (tally_after a.request (answer_in p a octets) (tally_at each a.station))
+
+abbrev pub awaited_heard : List ℕ → Option Awaited → Option Awaited
+awaited_heard [] awaited = awaited
+awaited_heard (octet ∷ octets) awaited = None
+
+-- A moment comes: the time to answer may be over.
+abbrev pub awaited_timed : (answer_ms now : ℕ) → Option Awaited → Option Awaited
+awaited_timed answer_ms now None = None
+awaited_timed answer_ms now (Some a) = if nat_le (a.since + answer_ms) now then None else Some a
+
+-- what octets of the line, and then any event, make of them
+abbrev pub tallied_heard : Setup → List ℕ → Tallied → Tallied
+tallied_heard p octets t = record {
+  awaited = awaited_heard octets t.awaited;
+  each = each_heard p t.awaited octets t.each;
+}
+
+abbrev pub tallied_timed : Setup → (now : ℕ) → Tallied → Tallied
+tallied_timed p now t = record t { awaited = awaited_timed p.link.answer_ms now t.awaited }
+
+abbrev pub tallied_at : Setup → (now : ℕ) → Input → Tallied → Tallied
+tallied_at p now (LineIn octets) t = tallied_timed p now (tallied_heard p octets t)
+tallied_at p now event t = tallied_timed p now t
+
+abbrev pub tallied_after : Setup → LogEntry → Tallied → Tallied
+tallied_after p (Came now event) t = tallied_at p now event t
+tallied_after p (Went now action) t = t
+
+-- what a request makes of them, to stations that stand so
+abbrev pub tallied_asked : Setup → (now : ℕ) → List ℕ → List Secondary → Tallied → Tallied
+tallied_asked p now octets stations t = record {
+  awaited = awaited_asked now (sending_in p octets) t.awaited;
+  each = each_asked (sending_in p octets) stations t.each;
+}
+
+-- A run
+
+-- an exchange that isn't closed may still be answered where no octets came
+abbrev pub awaited_with : (octets : List ℕ) → OpenExchange → Option Awaited
+awaited_with [] x = Some (record { station = x.station; request = x.request; since = x.since })
+awaited_with (octet ∷ octets) x = None
+
+-- what may still be answered: the latest exchange, while it isn't closed and no octets came
+abbrev pub awaited_in : Option OpenExchange → Option Awaited
+awaited_in None = None
+awaited_in (Some x) = if x.closed then None else awaited_with x.octets x
+
+-- what is counted of each station after this log, in which they lived so
+abbrev pub tallies_of : (plan : Plan) (log : Log) (answers : List (Option Frame))
+    (stations : List Secondary) → AreLived plan log answers stations → List Tally
+tallies_of plan [] answers stations lived = replicate (length plan.stations) fresh_tally
+tallies_of plan (Came now (LineIn octets) ∷ log) answers stations lived =
+    each_heard plan.setup (awaited_in (exchanges_of plan.setup log).current) octets
+    (tallies_of plan log answers stations lived)
+tallies_of plan (Came now event ∷ log) answers stations lived =
+    tallies_of plan log answers stations lived
+tallies_of plan (Went now (LineOut octets) ∷ log) [] stations lived = []
+tallies_of plan (Went now (LineOut octets) ∷ log) (answer ∷ answers) stations lived =
+    each_asked (sending_in plan.setup octets) lived.0
+    (tallies_of plan log answers lived.0 lived.2)
+tallies_of plan (Went now action ∷ log) answers stations lived =
+    tallies_of plan log answers stations lived
