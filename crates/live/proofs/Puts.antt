@@ -1,6 +1,6 @@
 -- What is put out, end by end.
 use Rattle.std.proofs.Common.{◌≡◌, ℕ, List, Bool, true, false, Some, None, sym, ap, ◌∙◌}
-use Rattle.gateway.specs.Log.{LineOut, TcpOut, Closed}
+use Rattle.gateway.specs.Log.{LineOut, TcpOut, Closed, GapOut}
 use Rattle.session.specs.declared.kinds.Close.{Close}
 use Rattle.live.specs.Wires.{History}
 use Rattle.live.specs.Ends.{Ends, after_action, written_open, IsWritten, Puts}
@@ -24,3 +24,6 @@ put_tcp old new moment octets w = record { written = 0; taken = w.taken; done = 
 
 pub put_close : (old new : Ends) (moment : ℕ) (cause : Close) → new ≡ after_action moment (Closed cause) 0 false old → Puts old moment (Closed cause) new
 put_close old new moment cause done = record { written = 0; taken = false; done = done }
+
+pub put_gap : (old new : Ends) (moment station session : ℕ) → new ≡ old → Puts old moment (GapOut station session) new
+put_gap old new moment station session same = record { written = 0; taken = false; done = same }

@@ -1,6 +1,6 @@
 -- The ends of a live run, and what its port does with them (this gateway's own profile).
 use Rattle.std.specs.Prelude.{ℕ, ◌+◌, ◌≤◌, List, Bool, true, false, not, Option, Some, None, IfSome, ◌≡◌}
-use Rattle.gateway.specs.Log.{Output, LineOut, TcpOut, Closed}
+use Rattle.gateway.specs.Log.{Output, LineOut, TcpOut, Closed, GapOut}
 use Rattle.gateway.specs.declared.ports.Next.{Next}
 use Rattle.gateway.specs.declared.ports.Next.TheVariants as next
 use Rattle.session.specs.declared.kinds.Close.{Close}
@@ -210,6 +210,7 @@ abbrev pub after_action : ℕ → Output → ℕ → Bool → Ends → Ends
 after_action moment (LineOut octets) written taken ends = record ends { line = noted ends.line (Wrote octets taken); clock = read_at ends.clock written; timing = asked_at moment written ends.timing }
 after_action moment (TcpOut octets) written taken ends = written_open ends.is_cut_due octets taken ends.connection ends
 after_action moment (Closed cause) written taken ends = closed_by cause ends
+after_action moment (GapOut station session) written taken ends = ends
 
 -- the action was put out so
 pub record Puts (old : Ends) (moment : ℕ) (action : Output) (new : Ends) : Type 0 where

@@ -224,7 +224,7 @@ impl<L: Wire, D: Door + Drop, C: Clock + Drop> Port for Live<L, D, C> {
     }
 
     /// It never fails: what an end doesn't take is lost.
-    #[tactic(auto, using(crate::proofs::Puts::put_line, crate::proofs::Puts::put_tcp, crate::proofs::Puts::put_close))]
+    #[tactic(auto, using(crate::proofs::Puts::put_line, crate::proofs::Puts::put_tcp, crate::proofs::Puts::put_close, crate::proofs::Puts::put_gap))]
     fn put(&mut self, now: u64, action: &Action<'_>) -> bool
         ensures done { result ≡ true }
         ensures puts { Puts self.old now (output_of action.now) self.new }
@@ -238,6 +238,8 @@ impl<L: Wire, D: Door + Drop, C: Clock + Drop> Port for Live<L, D, C> {
             Action::Tcp(octets) => self.put_on_connection(*octets),
             // Its wire went when another took its place.
             Action::Close(Close::Replaced) => {}
+            // Nobody at the ends is told of a gap.
+            Action::Gap { .. } => {}
             Action::Close(_) => {
                 self.connection = None;
                 self.is_cut_due = false;
