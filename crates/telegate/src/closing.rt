@@ -18,7 +18,7 @@ pub(crate) struct Closing {
 
 /// Appends a line for each piece that no connection has acknowledged.
 fn push_pieces(alloc: Global, lines: &mut String, gateway: &Gateway) -> Result<(), AllocError>
-    ensures { OnOk result (string_bytes lines.new ≡ string_bytes lines.old ++ flat_map left_line (kept gateway.now.queue)) }
+    ensures { OnOk result (string_bytes lines.new ≡ string_bytes lines.old ++ flat_map left_line (kept gateway.now.centre.queue)) }
 {
     for piece in gateway.kept() {
         let digits = hex::encode_upper(alloc, piece)?;
