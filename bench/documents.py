@@ -29,7 +29,7 @@ NAMED = re.compile(r"`?(?<![\w/])((?:bench|crates|docs|examples|packaging|tools|
 # What cites a demand of another paper: a capital letter with a number (R32 is a type of the standard), or a section or row of a paper that isn't here.
 CITED = re.compile(r"\b(?!R32)[DTRWPQ]\d{1,2}\b|\b(?:our|the|this) papers?\b|\brow \d+\b|\b0[1-4]-[a-z]+\.md\b")
 # Crates with lines of src/ or specs/ that are still too long.
-WIDE = {"apci", "command", "ft12", "gateway", "live", "sim", "telegate", "traces"}
+WIDE = {"apci", "command", "ft12", "gateway", "live", "sim", "traces"}
 
 
 def read(name):

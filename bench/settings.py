@@ -73,6 +73,12 @@ def executes(moment):
     ]
 
 
+def tagged(age):
+    """A tagged single command that comes so many ms after its time, by the wall clock."""
+    sent = 1709210096789
+    return OPENING + [f"45 W {sent + age - 5}", "50 R 6815000000003A01060001000A000001D5DD220C9D0218", "60 S E5"]
+
+
 def probes():
     """Of each key with a default: other values, further keys, stations, and traces in which they differ."""
     one, two = [STATION], [STATION, {"address": "2", "ca": "2"}]
@@ -91,6 +97,7 @@ def probes():
         "tcp.t2_ms": (beside(10000), {}, one, [OPENING + [f"50 R {INTERROGATION}", "10049 T", "10050 T", "10051 T"]]),
         "tcp.t3_ms": (beside(20000), {}, one, [OPENING + ["20039 T", "20040 T", "20041 T"]]),
         "tcp.select_ms": (beside(30000), {}, guarded, [executes(30079), executes(30080)]),
+        "tcp.max_age_ms": (beside(10000), {}, one, [tagged(10000), tagged(10001)]),
         "station.select": (["true"], {}, one, [OPENING + ["50 R 680E000000002D01060001000A000001", "60 S E5"]]),
     }
 
@@ -265,7 +272,7 @@ def main():
     table, probe = rows(), probes()
     with tempfile.TemporaryDirectory() as folder:
         judge = Judge(program, folder)
-        judge.case(len(table) == 21, f"the table has {len(table)} rows")
+        judge.case(len(table) == 22, f"the table has {len(table)} rows")
         for path, values, default in table:
             judge_row(judge, path, values, default)
             if path in probe:

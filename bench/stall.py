@@ -116,8 +116,12 @@ class Outstation(threading.Thread):
         return b"\xe5" if function == 0 else fixed(0x09)
 
     def cut(self):
-        if self.stream:
+        """Cuts the line, and says whether it was there: after the last cut it may not be back yet."""
+        try:
             self.stream.shutdown(socket.SHUT_RDWR)
+        except (AttributeError, OSError):
+            return False
+        return True
 
 
 class Centre(threading.Thread):
@@ -286,8 +290,7 @@ def redialled(program, seconds):
     end, cuts = time.time() + seconds, 0
     while time.time() < end:
         time.sleep(0.5 + chance.random())
-        station.cut()
-        cuts += 1
+        cuts += station.cut()
     time.sleep(1.5)
     if run.process.poll() is not None:
         faults.append(f"the run ended with {run.process.returncode}")

@@ -7,7 +7,7 @@ _telegate() {
     fi
     case $command in
         replay) COMPREPLY=($(compgen -W "--left --counts --help" -- "$word")) ;;
-        run) COMPREPLY=($(compgen -W "--redial --help" -- "$word")) ;;
+        run) COMPREPLY=($(compgen -W "--redial --log --allow --help" -- "$word")) ;;
         show101 | show104 | check | sim) COMPREPLY=($(compgen -W "--help" -- "$word")) ;;
         help) COMPREPLY=($(compgen -W "show101 show104 check replay sim run" -- "$word")) ;;
     esac

@@ -15,3 +15,5 @@ complete -c telegate -n "__fish_seen_subcommand_from $commands" -l help -s h -d 
 complete -c telegate -n "__fish_seen_subcommand_from replay" -l left -d "what was not acknowledged"
 complete -c telegate -n "__fish_seen_subcommand_from replay" -l counts -d "what was counted"
 complete -c telegate -n "__fish_seen_subcommand_from run" -l redial -d "reaches the line again"
+complete -c telegate -n "__fish_seen_subcommand_from run" -l log -d "tells what happens"
+complete -c telegate -n "__fish_seen_subcommand_from run" -l allow -x -d "lets in this address"

@@ -30,6 +30,8 @@ import sys
 import tempfile
 
 TOP = os.path.dirname(os.path.dirname(os.path.abspath(__file__)))
+# Modules that hold laws and nothing else: public functions with empty bodies.
+LAWS = "laws|refinement|runs|flags|gaps|leave|visits|examples|life|offers|asking"
 
 
 def libraries():
@@ -124,7 +126,7 @@ def reason(said):
 def laws_refused(said):
     """The laws that aren't proved, where nothing else isn't: public functions with empty bodies, in modules of their own."""
     unproved = re.findall(r"^fn (\S+): (?:not proved|no proof)", said, re.M)
-    return unproved if all(re.search(r"::(laws|refinement|runs)::", name) for name in unproved) else []
+    return unproved if all(re.search(rf"::({LAWS})::", name) for name in unproved) else []
 
 
 def judged(edit, twin, attempt):

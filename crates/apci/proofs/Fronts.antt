@@ -48,7 +48,11 @@ s_3 low octet even = record {
   apdu = S (low / 2 + 128 * 0);
   next = 0;
   rest = [];
-  line = record { fits = omega arith; spelled = ap (λ (l : List ℕ). 0x68 ∷ 4 ∷ 1 ∷ 0 ∷ l) (sym (counter_again low 0 octet even (omega arith))) };
+  line = record {
+    fits = omega arith;
+    spelled = ap (λ (l : List ℕ). 0x68 ∷ 4 ∷ 1 ∷ 0 ∷ l)
+        (sym (counter_again low 0 octet even (omega arith)));
+  };
 }
 
 pub s_2 : IsProperBeginning (0x68 ∷ 4 ∷ 1 ∷ 0 ∷ [])
@@ -58,7 +62,8 @@ pub s_1 : IsProperBeginning (0x68 ∷ 4 ∷ 1 ∷ [])
 s_1 = proper_front (0x68 ∷ 4 ∷ 1 ∷ []) [] 0 s_2
 
 -- an I format up to some octet of its ASDU
-pub i_asdu : (len a b c d : ℕ) (asdu : List ℕ) → 13 ≤ len → len ≤ 253 → a % 2 ≡ 0 → c % 2 ≡ 0 → All IsOctet (a ∷ b ∷ c ∷ d ∷ asdu) → length asdu + 4 < len → IsProperBeginning (0x68 ∷ len ∷ a ∷ b ∷ c ∷ d ∷ asdu)
+pub i_asdu : (len a b c d : ℕ) (asdu : List ℕ) → 13 ≤ len → len ≤ 253 → a % 2 ≡ 0 → c % 2 ≡ 0
+    → All IsOctet (a ∷ b ∷ c ∷ d ∷ asdu) → length asdu + 4 < len → IsProperBeginning (0x68 ∷ len ∷ a ∷ b ∷ c ∷ d ∷ asdu)
 i_asdu len a b c d asdu long short even_a even_c fits more =
     let octet_a : a < 256 = All-head IsOctet a (b ∷ c ∷ d ∷ asdu) fits in
     let fits_b = All-tail IsOctet a (b ∷ c ∷ d ∷ asdu) fits in
@@ -71,7 +76,8 @@ i_asdu len a b c d asdu long short even_a even_c fits more =
     let zeros : List ℕ = 0 ∷ replicate left 0 in
     let whole : List ℕ = asdu ++ zeros in
     let whole_len : length whole ≡ len - 4 = omega (arith, length-append asdu zeros, length-replicate left (zero)) in
-    let spelled_len : len ≡ length (counter (a / 2 + 128 * b) ++ counter (c / 2 + 128 * d) ++ whole) = omega (arith, whole_len) in
+    let spelled_len : len ≡ length (counter (a / 2 + 128 * b) ++ counter (c / 2 + 128 * d) ++ whole) =
+    omega (arith, whole_len) in
     let ns = counter_again a b octet_a even_a octet_b in
     let nr = counter_again c d octet_c even_c octet_d in
     let made : ArrayVec ℕ = record { items = whole } in
@@ -80,30 +86,52 @@ i_asdu len a b c d asdu long short even_a even_c fits more =
       next = 0;
       rest = replicate left 0;
       line = record {
-        fits = (omega arith, omega arith, All-append IsOctet asdu zeros (All-tail IsOctet d asdu fits_d) (All-cons IsOctet 0 (replicate left 0) (omega arith) (All-replicate IsOctet left 0 (omega arith))), omega (arith, whole_len), omega (arith, whole_len));
+        fits = (
+          omega arith,
+          omega arith,
+          All-append IsOctet asdu zeros (All-tail IsOctet d asdu fits_d)
+              (All-cons IsOctet 0 (replicate left 0) (omega arith) (All-replicate IsOctet left 0 (omega arith))),
+          omega (arith, whole_len),
+          omega (arith, whole_len),
+        );
         spelled =
-            ap (λ (l : List ℕ). 0x68 ∷ len ∷ (l ++ whole)) (sym (ap (λ (l : List ℕ). l ++ counter (c / 2 + 128 * d)) ns ∙ ap (λ (l : List ℕ). a ∷ b ∷ l) nr))
+            ap (λ (l : List ℕ). 0x68 ∷ len ∷ (l ++ whole))
+            (sym (ap (λ (l : List ℕ). l ++ counter (c / 2 + 128 * d)) ns ∙ ap (λ (l : List ℕ). a ∷ b ∷ l) nr))
             ∙ ap (λ (n : ℕ). 0x68 ∷ n ∷ (counter (a / 2 + 128 * b) ++ counter (c / 2 + 128 * d) ++ whole)) spelled_len;
       };
     }
 
 -- an I format up to some octet after its first control octet
-pub i_more : (len a : ℕ) (y : List ℕ) → 13 ≤ len → len ≤ 253 → a % 2 ≡ 0 → a < 256 → All IsOctet y → (1 < length y → get_or y 1 0 % 2 ≡ 0) → length y + 1 < len → IsProperBeginning (0x68 ∷ len ∷ a ∷ y)
-i_more len a (b ∷ c ∷ d ∷ asdu) long short even octet fits even_c more = i_asdu len a b c d asdu long short even (even_c (omega arith)) (All-cons IsOctet a (b ∷ c ∷ d ∷ asdu) octet fits) (omega arith)
+pub i_more : (len a : ℕ) (y : List ℕ) → 13 ≤ len → len ≤ 253 → a % 2 ≡ 0 → a < 256 → All IsOctet y
+    → (1 < length y → get_or y 1 0 % 2 ≡ 0) → length y + 1 < len → IsProperBeginning (0x68 ∷ len ∷ a ∷ y)
+i_more len a (b ∷ c ∷ d ∷ asdu) long short even octet fits even_c more =
+    i_asdu len a b c d asdu long short even (even_c (omega arith)) (All-cons IsOctet a (b ∷ c ∷ d ∷ asdu) octet fits)
+    (omega arith)
 i_more len a (b ∷ c ∷ []) long short even octet fits even_c more =
-    proper_front (0x68 ∷ len ∷ a ∷ b ∷ c ∷ []) [] 0 (i_asdu len a b c 0 [] long short even (even_c (omega arith)) (All-append IsOctet (a ∷ b ∷ c ∷ []) (0 ∷ []) (All-cons IsOctet a (b ∷ c ∷ []) octet fits) (All-cons IsOctet 0 [] (omega arith) (All-nil IsOctet))) (omega arith))
+    proper_front (0x68 ∷ len ∷ a ∷ b ∷ c ∷ []) [] 0 (i_asdu len a b c 0 [] long short even (even_c (omega arith))
+    (All-append IsOctet (a ∷ b ∷ c ∷ []) (0 ∷ []) (All-cons IsOctet a (b ∷ c ∷ []) octet fits)
+    (All-cons IsOctet 0 [] (omega arith) (All-nil IsOctet))) (omega arith))
 i_more len a (b ∷ []) long short even octet fits even_c more =
-    proper_front (0x68 ∷ len ∷ a ∷ b ∷ []) (0 ∷ []) 0 (i_asdu len a b 0 0 [] long short even refl (All-append IsOctet (a ∷ b ∷ []) (0 ∷ 0 ∷ []) (All-cons IsOctet a (b ∷ []) octet fits) (All-cons IsOctet 0 (0 ∷ []) (omega arith) (All-cons IsOctet 0 [] (omega arith) (All-nil IsOctet)))) (omega arith))
+    proper_front (0x68 ∷ len ∷ a ∷ b ∷ []) (0 ∷ []) 0 (i_asdu len a b 0 0 [] long short even refl
+    (All-append IsOctet (a ∷ b ∷ []) (0 ∷ 0 ∷ []) (All-cons IsOctet a (b ∷ []) octet fits)
+    (All-cons IsOctet 0 (0 ∷ []) (omega arith) (All-cons IsOctet 0 [] (omega arith) (All-nil IsOctet))))
+    (omega arith))
 i_more len a [] long short even octet fits even_c more =
-    proper_front (0x68 ∷ len ∷ a ∷ []) (0 ∷ 0 ∷ []) 0 (i_asdu len a 0 0 0 [] long short even refl (All-append IsOctet (a ∷ []) (0 ∷ 0 ∷ 0 ∷ []) (All-cons IsOctet a [] octet fits) (All-cons IsOctet 0 (0 ∷ 0 ∷ []) (omega arith) (All-cons IsOctet 0 (0 ∷ []) (omega arith) (All-cons IsOctet 0 [] (omega arith) (All-nil IsOctet))))) (omega arith))
+    proper_front (0x68 ∷ len ∷ a ∷ []) (0 ∷ 0 ∷ []) 0 (i_asdu len a 0 0 0 [] long short even refl
+    (All-append IsOctet (a ∷ []) (0 ∷ 0 ∷ 0 ∷ []) (All-cons IsOctet a [] octet fits)
+    (All-cons IsOctet 0 (0 ∷ 0 ∷ []) (omega arith)
+    (All-cons IsOctet 0 (0 ∷ []) (omega arith) (All-cons IsOctet 0 [] (omega arith) (All-nil IsOctet)))))
+    (omega arith))
 
 -- a length from 4 to 253
 pub length_more : (len : ℕ) → 4 ≤ len → len ≤ 253 → IsMore (0x68 ∷ len ∷ [])
 length_more len low high = elim (cases_lt len 5) [
-  | inl lt ↦ let four_is : 4 ≡ len = omega arith in inl (subst (λ (n : ℕ). IsProperBeginning (0x68 ∷ n ∷ [])) four_is four)
+  | inl lt ↦ let four_is : 4 ≡ len = omega arith in inl
+      (subst (λ (n : ℕ). IsProperBeginning (0x68 ∷ n ∷ [])) four_is four)
   | inr le ↦ elim (cases_lt len 13) [
     | inl lt ↦ inr (record { len = len; low = le; high = omega arith; whole = refl })
-    | inr long ↦ inl (proper_front (0x68 ∷ len ∷ []) [] 0 (i_more len 0 [] long high refl (omega arith) (All-nil IsOctet) (λ lt. absurd (omega arith)) (omega arith)))
+    | inr long ↦ inl (proper_front (0x68 ∷ len ∷ []) [] 0
+        (i_more len 0 [] long high refl (omega arith) (All-nil IsOctet) (λ lt. absurd (omega arith)) (omega arith)))
   ]
 ]
 
@@ -126,7 +154,8 @@ no_length len z apart = (
   refl,
 )
 
-pub no_format : (len o : ℕ) (z : List ℕ) → 4 ≤ len → len ≤ 253 → o % 2 ≡ 1 → (o ≡ 1 → ⊥) → function_of o ≡ None → IsFront (0x68 ∷ len ∷ o ∷ z) (Never 2 Control)
+pub no_format : (len o : ℕ) (z : List ℕ) → 4 ≤ len → len ≤ 253 → o % 2 ≡ 1 → (o ≡ 1 → ⊥) → function_of o ≡ None
+    → IsFront (0x68 ∷ len ∷ o ∷ z) (Never 2 Control)
 no_format len o z low high odd not_s not_u = (
   2,
   record {
@@ -166,7 +195,8 @@ not_four len o apart odd h = elim h [
   | inr r ↦ elim r [ inl s ↦ apart s.four | inr u ↦ apart u.four ]
 ]
 
-pub s_not_four : (len : ℕ) (z : List ℕ) → 4 ≤ len → len ≤ 253 → (len ≡ 4 → ⊥) → IsFront (0x68 ∷ len ∷ 1 ∷ z) (Never 1 NotFour)
+pub s_not_four : (len : ℕ) (z : List ℕ) → 4 ≤ len → len ≤ 253 → (len ≡ 4 → ⊥)
+    → IsFront (0x68 ∷ len ∷ 1 ∷ z) (Never 1 NotFour)
 s_not_four len z low high apart = (
   2,
   record {
@@ -177,7 +207,8 @@ s_not_four len z low high apart = (
   refl,
 )
 
-pub u_not_four : (len : ℕ) (f : Uf) (z : List ℕ) → 4 ≤ len → len ≤ 253 → (len ≡ 4 → ⊥) → IsFront (0x68 ∷ len ∷ function f ∷ z) (Never 1 NotFour)
+pub u_not_four : (len : ℕ) (f : Uf) (z : List ℕ) → 4 ≤ len → len ≤ 253 → (len ≡ 4 → ⊥)
+    → IsFront (0x68 ∷ len ∷ function f ∷ z) (Never 1 NotFour)
 u_not_four len f z low high apart = (
   2,
   record {
@@ -185,7 +216,11 @@ u_not_four len f z low high apart = (
     before = length_more len low high;
     here = λ h. not_four len (function f) apart (odd_function f).0 (opens len (function f) [] h);
   },
-  rw (ne_eqb (function f % 2) 0 (λ e. absurd (omega (arith, (odd_function f).0))), ne_eqb (function f) 1 (λ e. absurd (omega (arith, (odd_function f).1))), function_again f) refl,
+  rw (
+    ne_eqb (function f % 2) 0 (λ e. absurd (omega (arith, (odd_function f).0))),
+    ne_eqb (function f) 1 (λ e. absurd (omega (arith, (odd_function f).1))),
+    function_again f,
+  ) refl,
 )
 
 pub s_second : (b : ℕ) (z : List ℕ) → (b ≡ 0 → ⊥) → IsFront (0x68 ∷ 4 ∷ 1 ∷ b ∷ z) (Never 3 Control)
@@ -214,7 +249,8 @@ s_third c z odd = (
     here = λ h. elim (opens 4 1 (0 ∷ c ∷ []) h) [
       | inl i ↦ absurd (omega (arith, i.long))
       | inr r ↦ elim r [
-        | inl s ↦ (let w : 0 ∷ c ∷ s.rest ≡ 0 ∷ s.nr % 128 * 2 ∷ s.nr / 128 ∷ [] = s.whole in let e : c ≡ s.nr % 128 * 2 = cc in even_apart c s.nr odd e)
+        | inl s ↦ (let w : 0 ∷ c ∷ s.rest ≡ 0 ∷ s.nr % 128 * 2 ∷ s.nr / 128 ∷ [] =
+            s.whole in let e : c ≡ s.nr % 128 * 2 = cc in even_apart c s.nr odd e)
         | inr u ↦ absurd (omega (arith, u.function, (odd_function u.f).1))
       ]
     ];
@@ -243,7 +279,8 @@ u_second f b z apart = (
   refl,
 )
 
-pub u_third : (f : Uf) (b : ℕ) (z : List ℕ) → (b ≡ 0 → ⊥) → IsFront (0x68 ∷ 4 ∷ function f ∷ 0 ∷ b ∷ z) (Never 4 Control)
+pub u_third : (f : Uf) (b : ℕ) (z : List ℕ) → (b ≡ 0 → ⊥)
+    → IsFront (0x68 ∷ 4 ∷ function f ∷ 0 ∷ b ∷ z) (Never 4 Control)
 u_third f b z apart = (
   4,
   record {
@@ -257,7 +294,8 @@ u_third f b z apart = (
   refl,
 )
 
-pub u_fourth : (f : Uf) (b : ℕ) (z : List ℕ) → (b ≡ 0 → ⊥) → IsFront (0x68 ∷ 4 ∷ function f ∷ 0 ∷ 0 ∷ b ∷ z) (Never 5 Control)
+pub u_fourth : (f : Uf) (b : ℕ) (z : List ℕ) → (b ≡ 0 → ⊥)
+    → IsFront (0x68 ∷ 4 ∷ function f ∷ 0 ∷ 0 ∷ b ∷ z) (Never 5 Control)
 u_fourth f b z apart = (
   5,
   record {
@@ -271,16 +309,20 @@ u_fourth f b z apart = (
   refl,
 )
 
-pub i_third : (len a : ℕ) (y : List ℕ) → 13 ≤ len → len ≤ 253 → a % 2 ≡ 0 → a < 256 → All IsOctet y → 1 < length y → get_or y 1 0 % 2 ≡ 1 → IsFront (0x68 ∷ len ∷ a ∷ y) (Never 4 Control)
+pub i_third : (len a : ℕ) (y : List ℕ) → 13 ≤ len → len ≤ 253 → a % 2 ≡ 0 → a < 256 → All IsOctet y → 1 < length y
+    → get_or y 1 0 % 2 ≡ 1 → IsFront (0x68 ∷ len ∷ a ∷ y) (Never 4 Control)
 i_third len a [] long short even octet fits some odd = absurd (omega arith)
 i_third len a (b ∷ []) long short even octet fits some odd = absurd (omega arith)
 i_third len a (b ∷ c ∷ z) long short even octet fits some odd = (
   4,
   record {
     within = omega arith;
-    before = inl (i_more len a (b ∷ []) long short even octet (All-cons IsOctet b [] (All-head IsOctet b (c ∷ z) fits) (All-nil IsOctet)) (λ lt. absurd (omega arith)) (omega arith));
+    before = inl (i_more len a (b ∷ []) long short even octet
+        (All-cons IsOctet b [] (All-head IsOctet b (c ∷ z) fits) (All-nil IsOctet)) (λ lt. absurd (omega arith))
+        (omega arith));
     here = λ h. elim (opens len a (b ∷ c ∷ []) h) [
-      | inl i ↦ (let w : b ∷ c ∷ i.rest ≡ i.ns / 128 ∷ i.nr % 128 * 2 ∷ i.nr / 128 ∷ i.asdu = i.whole in let e : c ≡ i.nr % 128 * 2 = cc in even_apart c i.nr odd e)
+      | inl i ↦ (let w : b ∷ c ∷ i.rest ≡ i.ns / 128 ∷ i.nr % 128 * 2 ∷ i.nr / 128 ∷ i.asdu =
+          i.whole in let e : c ≡ i.nr % 128 * 2 = cc in even_apart c i.nr odd e)
       | inr r ↦ elim r [
         | inl s ↦ absurd (omega (arith, s.four))
         | inr u ↦ absurd (omega (arith, u.four))
@@ -296,8 +338,10 @@ octet_at_1 xs x y rest e lt = subst (λ (l : List ℕ). get_or l 1 0 < 256) e lt
 pub octet_at_0 : (xs : List ℕ) (x : ℕ) (rest : List ℕ) → xs ≡ x ∷ rest → get_or xs 0 0 < 256 → x < 256
 octet_at_0 xs x rest e lt = subst (λ (l : List ℕ). get_or l 0 0 < 256) e lt
 
-pub i_whole : (len a ns nr : ℕ) (asdu : ArrayVec ℕ) (y : List ℕ) → 13 ≤ len → len ≤ 253 → All IsOctet y → len ≤ length y + 1 → ns < 2 ^ 15 → nr < 2 ^ 15
-    → counter ns ≡ a ∷ get_or y 0 0 ∷ [] → counter nr ≡ get_or y 1 0 ∷ get_or y 2 0 ∷ [] → asdu.items ≡ take (len - 1 - 3) (drop 3 y)
+pub i_whole : (len a ns nr : ℕ) (asdu : ArrayVec ℕ) (y : List ℕ) → 13 ≤ len → len ≤ 253 → All IsOctet y
+    → len ≤ length y + 1 → ns < 2 ^ 15 → nr < 2 ^ 15
+    → counter ns ≡ a ∷ get_or y 0 0 ∷ [] → counter nr ≡ get_or y 1 0 ∷ get_or y 2 0 ∷ []
+    → asdu.items ≡ take (len - 1 - 3) (drop 3 y)
     → IsFront (0x68 ∷ len ∷ a ∷ y) (Whole (I ns nr asdu) (2 + len))
 i_whole len a ns nr asdu [] long short fits enough ns_fits nr_fits ns_is nr_is asdu_is = absurd (omega arith)
 i_whole len a ns nr asdu (b ∷ []) long short fits enough ns_fits nr_fits ns_is nr_is asdu_is = absurd (omega arith)
@@ -308,10 +352,19 @@ i_whole len a ns nr asdu (b ∷ c ∷ d ∷ t) long short fits enough ns_fits nr
     let asdu_len : length asdu.items ≡ k = ap length asdu_is ∙ length-take-le k t (omega arith) in
     let head : List ℕ = 0x68 ∷ len ∷ a ∷ b ∷ c ∷ d ∷ [] in
     let count : 2 + len ≡ 6 + k = omega arith in
-    let contents_are : contents (I ns nr asdu) ≡ a ∷ b ∷ c ∷ d ∷ asdu.items = ap (λ (l : List ℕ). l ++ counter nr ++ asdu.items) ns_is ∙ ap (λ (l : List ℕ). a ∷ b ∷ (l ++ asdu.items)) nr_is in
-    let len_is : length (contents (I ns nr asdu)) ≡ len = ap length contents_are ∙ (let e : length (a ∷ b ∷ c ∷ d ∷ asdu.items) ≡ len = omega arith in e) in (
+    let contents_are : contents (I ns nr asdu) ≡ a ∷ b ∷ c ∷ d ∷ asdu.items =
+    ap (λ (l : List ℕ). l ++ counter nr ++ asdu.items) ns_is
+    ∙ ap (λ (l : List ℕ). a ∷ b ∷ (l ++ asdu.items)) nr_is in
+    let len_is : length (contents (I ns nr asdu)) ≡ len = ap length contents_are
+    ∙ (let e : length (a ∷ b ∷ c ∷ d ∷ asdu.items) ≡ len = omega arith in e) in (
       record {
-        fits = (ns_fits, nr_fits, subst (All IsOctet) (sym asdu_is) (All-take IsOctet k t fits_t), omega arith, omega arith);
+        fits = (
+          ns_fits,
+          nr_fits,
+          subst (All IsOctet) (sym asdu_is) (All-take IsOctet k t fits_t),
+          omega arith,
+          omega arith,
+        );
         spelled =
             ap (λ (n : ℕ). take n (head ++ t)) count ∙ take-append-add head t k
             ∙ ap (λ (l : List ℕ). 0x68 ∷ len ∷ a ∷ b ∷ c ∷ d ∷ l) (sym asdu_is)

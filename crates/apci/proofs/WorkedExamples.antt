@@ -10,7 +10,25 @@ use Rattle.apci.specs.Spelling.{spelling, Fits}
 use Rattle.apci.specs.Examples.{IsSpelledSo, IsInformation, TellFormats, IsRefusedSo, spelling_examples, refusal_examples}
 
 pub spellings_hold : AllByRecursion IsSpelledSo spelling_examples
-spellings_hold = ((tt, refl), ((tt, refl), ((tt, refl), ((tt, refl), ((tt, refl), ((tt, refl), ((search rules, refl), ((search rules, refl), ((search rules, refl), ((search rules, refl), tt))))))))))
+spellings_hold = (
+  (tt, refl),
+  (
+    (tt, refl),
+    (
+      (tt, refl),
+      (
+        (tt, refl),
+        (
+          (tt, refl),
+          (
+            (tt, refl),
+            ((search rules, refl), ((search rules, refl), ((search rules, refl), ((search rules, refl), tt)))),
+          ),
+        ),
+      ),
+    ),
+  ),
+)
 
 information : (ns nr : ℕ) (asdu : ArrayVec ℕ) → Fits (I ns nr asdu) → IsInformation (spelling (I ns nr asdu))
 information ns nr asdu h = record { start = refl; at_least = omega arith; at_most = omega arith; bit = omega arith }
@@ -24,7 +42,14 @@ unnumbered TestAct = refl
 unnumbered TestCon = refl
 
 pub formats_hold : TellFormats
-formats_hold = record { information = information; carried = λ ns nr asdu sent received octets some most. (sent, received, octets, some, most); supervisory = λ nr. refl; unnumbered = unnumbered }
+formats_hold = record {
+  information = information;
+  carried =
+      λ ns nr asdu sent received octets some most. (sent, received, octets, some, most);
+  supervisory =
+      λ nr. refl;
+  unnumbered = unnumbered;
+}
 
 pub refusals_hold : AllByRecursion IsRefusedSo refusal_examples
 refusals_hold = (refl, (refl, (refl, (refl, (refl, (refl, (refl, (refl, (refl, (refl, (refl, tt)))))))))))

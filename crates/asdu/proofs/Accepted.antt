@@ -14,7 +14,8 @@ use Rattle.asdu.specs.Refusals.{refusal}
 use Rattle.asdu.specs.Reading.{value_of}
 use Rattle.asdu.proofs.Spelling.{IsWhole, accepted, refusal-none, IsAsdu-value_at, IsWhole-spelled, value_at-spelled}
 
-pub IsWhole-accepted : (s : Sizes) (t : TypeId) (xs : List ℕ) → type_of (slice_index xs 0) ≡ Some t → refusal s xs ≡ None → IsWhole s t xs
+pub IsWhole-accepted : (s : Sizes) (t : TypeId) (xs : List ℕ) → type_of (slice_index xs 0) ≡ Some t
+    → refusal s xs ≡ None → IsWhole s t xs
 IsWhole-accepted s t xs named h =
     let a = accepted s xs h in
     let same : a.0 ≡ t = cc in
@@ -23,9 +24,11 @@ IsWhole-accepted s t xs named h =
 
 pub IsAsdu-value_of : (a : Asdu) → AreOctets a.octets.now → IsAsdu a.sizes (value_of a) a.octets.now
 IsAsdu-value_of a all =
-    IsAsdu-value_at a.sizes a.kind a.octets.now a.named (IsWhole-accepted a.sizes a.kind a.octets.now a.named a.well_formed) all
+    IsAsdu-value_at a.sizes a.kind a.octets.now a.named
+    (IsWhole-accepted a.sizes a.kind a.octets.now a.named a.well_formed) all
 
-pub found : (s : Sizes) (xs : List ℕ) (r : Result Asdu Refused) → AreOctets xs → IfOk r (λ a. (a.sizes ≡ s) × (a.octets.now ≡ xs)) → IfOk r (λ a. IsAsdu s (value_of a) xs)
+pub found : (s : Sizes) (xs : List ℕ) (r : Result Asdu Refused) → AreOctets xs
+    → IfOk r (λ a. (a.sizes ≡ s) × (a.octets.now ≡ xs)) → IfOk r (λ a. IsAsdu s (value_of a) xs)
 found s xs (Ok a) all h =
     let Q : List ℕ → Type 0 = λ ys. AreOctets ys in
     let here = IsAsdu-value_of a (subst Q (sym h.1) all) in
@@ -34,12 +37,14 @@ found s xs (Ok a) all h =
     subst R h.1 (subst P h.0 here)
 found s xs (Err why) all h = tt
 
-pub only : (s : Sizes) (xs : List ℕ) (r : Result Asdu Refused) → IfOk r (λ a. (a.sizes ≡ s) × (a.octets.now ≡ xs)) → IfErr r (λ why. refusal s xs ≡ Some why.0) → (v : AsduValue) → IsAsdu s v xs → IsOkAnd r (λ a. value_of a ≡ v)
+pub only : (s : Sizes) (xs : List ℕ) (r : Result Asdu Refused) → IfOk r (λ a. (a.sizes ≡ s) × (a.octets.now ≡ xs))
+    → IfErr r (λ why. refusal s xs ≡ Some why.0) → (v : AsduValue) → IsAsdu s v xs → IsOkAnd r (λ a. value_of a ≡ v)
 only s xs (Ok a) source fault v spells =
     let code = type_of-code v.kind in
     let text = spells.octets in
     let name = a.named in
-    let first : type_of (slice_index a.octets.now 0) ≡ Some v.kind = ap (λ ys. type_of (slice_index ys 0)) (source.1 ∙ text) ∙ code in
+    let first : type_of (slice_index a.octets.now 0) ≡ Some v.kind =
+    ap (λ ys. type_of (slice_index ys 0)) (source.1 ∙ text) ∙ code in
     let kind : a.kind ≡ v.kind = cc in
     ap (λ z. value_at z a.kind a.octets.now) source.0
     ∙ ap (λ t. value_at s t a.octets.now) kind
@@ -48,6 +53,7 @@ only s xs (Ok a) source fault v spells =
 only s xs (Err why) source fault v spells =
     let code = type_of-code v.kind in
     let text = spells.octets in
-    let none : refusal s (spelled s v) ≡ None = refusal-none s v.kind (spelled s v) code (IsWhole-spelled s v spells.value) in
+    let none : refusal s (spelled s v) ≡ None = refusal-none s v.kind (spelled s v) code
+    (IsWhole-spelled s v spells.value) in
     let same : refusal s xs ≡ refusal s (spelled s v) = ap (refusal s) text in
     cc

@@ -76,7 +76,8 @@ counted-three CSeTa1 n most h = omega arith
 counted-three CSeTb1 n most h = omega arith
 
 -- three pieces are enough
-pub three_pieces : (t : TypeId) (w : ℕ) (b : Bool) (n header : ℕ) → 4 ≤ header → 1 ≤ w → n ≤ 127 → header + body_len t w b n ≤ 253 → n ≤ 3 * piece_size t b
+pub three_pieces : (t : TypeId) (w : ℕ) (b : Bool) (n header : ℕ) → 4 ≤ header → 1 ≤ w → n ≤ 127
+    → header + body_len t w b n ≤ 253 → n ≤ 3 * piece_size t b
 three_pieces t w false n header h w1 most fits =
     let wider : 1 + content_len t ≤ w + content_len t = omega arith in
     let more : n * (1 + content_len t) ≤ n * (w + content_len t) = mul-le-mul_left n wider in
@@ -91,16 +92,20 @@ room_for_one (suc (suc zero)) most left n some e h = omega arith
 room_for_one (suc (suc (suc k))) most left n some e h = absurd (omega arith)
 
 -- one more piece, which is full
-pub count-step : (k l most left m others n : ℕ) → k * most + left ≡ n → others + m ≡ left → m ≡ most → l ≡ k + 1 → l * most + others ≡ n
+pub count-step : (k l most left m others n : ℕ) → k * most + left ≡ n → others + m ≡ left → m ≡ most → l ≡ k + 1
+    → l * most + others ≡ n
 count-step k l most left m others n before split full longer = rw longer (omega arith)
 
 -- there is room for a piece while objects are left
-pub room : (a : Asdu) (most pieces left : ℕ) → length a.octets.now ≤ 253 → most ≡ piece_size a.kind (is_sequence a.octets.now) → 1 ≤ left → pieces * most + left ≡ number_at a.octets.now → pieces < 3
+pub room : (a : Asdu) (most pieces left : ℕ) → length a.octets.now ≤ 253
+    → most ≡ piece_size a.kind (is_sequence a.octets.now) → 1 ≤ left → pieces * most + left ≡ number_at a.octets.now
+    → pieces < 3
 room a most pieces left short e some count =
     let xs = a.octets.now in
     let whole = (IsWhole-accepted a.sizes a.kind xs a.named a.well_formed).whole in
     let enough : number_at xs ≤ 3 * piece_size a.kind (is_sequence xs) =
-    three_pieces a.kind (ioa_len a.sizes.ioa) (is_sequence xs) (number_at xs) (header_len a.sizes) (header_len-low a.sizes) (ioa_len-low a.sizes.ioa) (omega arith) (omega (arith, whole)) in
+    three_pieces a.kind (ioa_len a.sizes.ioa) (is_sequence xs) (number_at xs) (header_len a.sizes)
+    (header_len-low a.sizes) (ioa_len-low a.sizes.ioa) (omega arith) (omega (arith, whole)) in
     room_for_one pieces most left (number_at xs) some count (rw e enough)
 
 -- a number of pieces that is enough, and not too large
@@ -114,9 +119,11 @@ div_ceil-is k m n some low high =
     omega arith
 
 -- pieces so far and what is left hold all objects
-pub enough-step : (k l most left m others n : ℕ) → k * most + left ≡ n → others + m ≡ left → m ≤ most → l ≡ k + 1 → n ≤ l * most + others
+pub enough-step : (k l most left m others n : ℕ) → k * most + left ≡ n → others + m ≡ left → m ≤ most → l ≡ k + 1
+    → n ≤ l * most + others
 enough-step k l most left m others n before split small longer = rw longer (omega arith)
 
 -- and no piece too many is there
-pub tight-step : (k l most left m others n : ℕ) → k * most + left ≡ n → others + m ≡ left → 1 ≤ m → l ≡ k + 1 → l * most + others < n + most
+pub tight-step : (k l most left m others n : ℕ) → k * most + left ≡ n → others + m ≡ left → 1 ≤ m → l ≡ k + 1
+    → l * most + others < n + most
 tight-step k l most left m others n before split some longer = rw longer (omega arith)

@@ -20,7 +20,10 @@ use Rattle.asdu.proofs.Pieces.{length-spelled}
 use Rattle.asdu.specs.Translation.{AllButLast, IsPiece}
 
 -- one more piece
-pub joined-step : {X : Type 0} (f : X → List InformationObject) (v : AsduValue) (ps : List X) (p : X) (m : ℕ) (is js ks : List Info) (all : List InformationObject) → f p ≡ value_objects (with_infos v js) → js ≡ take m is → ks ≡ drop m is → flat_map f ps ++ value_objects (with_infos v is) ≡ all → flat_map f (ps ++ p ∷ []) ++ value_objects (with_infos v ks) ≡ all
+pub joined-step : {X : Type 0} (f : X → List InformationObject) (v : AsduValue) (ps : List X) (p : X) (m : ℕ)
+    (is js ks : List Info) (all : List InformationObject) → f p ≡ value_objects (with_infos v js) → js ≡ take m is
+    → ks ≡ drop m is → flat_map f ps ++ value_objects (with_infos v is) ≡ all
+    → flat_map f (ps ++ p ∷ []) ++ value_objects (with_infos v ks) ≡ all
 joined-step f v ps p m is js ks all e1 e2 e3 e4 =
     let tag : Info → InformationObject = object_in v in
     let more : flat_map f (ps ++ p ∷ []) ≡ flat_map f ps ++ map tag js =
@@ -35,11 +38,13 @@ joined-step f v ps p m is js ks all e1 e2 e3 e4 =
     ∙ ap (λ os. flat_map f ps ++ os) whole
     ∙ e4
 
-pub All-push : {X : Type 0} (P : X → Type 0) (xs : List X) (x : X) → AllByRecursion P xs → P x → AllByRecursion P (xs ++ x ∷ [])
+pub All-push : {X : Type 0} (P : X → Type 0) (xs : List X) (x : X) → AllByRecursion P xs → P x
+    → AllByRecursion P (xs ++ x ∷ [])
 All-push P [] x h here = (here, tt)
 All-push P (y ∷ ys) x h here = (h.0, All-push P ys x h.1 here)
 
-pub AllButLast-push : {X : Type 0} (P : X → Type 0) (xs : List X) (x : X) → AllByRecursion P xs → AllButLast P (xs ++ x ∷ [])
+pub AllButLast-push : {X : Type 0} (P : X → Type 0) (xs : List X) (x : X) → AllByRecursion P xs
+    → AllButLast P (xs ++ x ∷ [])
 AllButLast-push P [] x h = tt
 AllButLast-push P (y ∷ []) x h = (h.0, tt)
 AllButLast-push P (y ∷ z ∷ zs) x h = (h.0, AllButLast-push P (z ∷ zs) x h.1)
@@ -69,7 +74,9 @@ only-append true os qs = refl
 only-append false os qs = refl
 
 -- pieces pass on what the source passes on
-pub monitored-pieces : {X : Type 0} (octets : X → List ℕ) (v : AsduValue) (ps : List X) → AllByRecursion (λ p. IsPiece v (octets p)) ps → flat_map (λ p. monitor_objects_of tcp (octets p)) ps ≡ only_if (is_passed_on v.kind v.cause) (flat_map (λ p. objects_of tcp (octets p)) ps)
+pub monitored-pieces : {X : Type 0} (octets : X → List ℕ) (v : AsduValue) (ps : List X)
+    → AllByRecursion (λ p. IsPiece v (octets p)) ps → flat_map (λ p. monitor_objects_of tcp (octets p)) ps
+    ≡ only_if (is_passed_on v.kind v.cause) (flat_map (λ p. objects_of tcp (octets p)) ps)
 monitored-pieces octets v [] h = only-nil (is_passed_on v.kind v.cause)
 monitored-pieces octets v (p ∷ ps) h =
     let here = monitor_objects_of-IsAsdu tcp (with_infos v h.0.infos) (octets p) h.0.spells in
@@ -81,7 +88,9 @@ monitored-pieces octets v (p ∷ ps) h =
     ∙ only-append b (objects_of tcp (octets p)) (flat_map (λ q. objects_of tcp (octets q)) ps)
 
 -- each piece of what is passed on has some of it
-pub some_monitored : {X : Type 0} (octets : X → List ℕ) (v : AsduValue) (ps : List X) → is_passed_on v.kind v.cause ≡ true → AllByRecursion (λ p. IsPiece v (octets p)) ps → AllByRecursion (λ p. 1 ≤ length (monitor_objects_of tcp (octets p))) ps
+pub some_monitored : {X : Type 0} (octets : X → List ℕ) (v : AsduValue) (ps : List X)
+    → is_passed_on v.kind v.cause ≡ true → AllByRecursion (λ p. IsPiece v (octets p)) ps
+    → AllByRecursion (λ p. 1 ≤ length (monitor_objects_of tcp (octets p))) ps
 some_monitored octets v [] passed h = tt
 some_monitored octets v (p ∷ ps) passed h =
     let u = with_infos v h.0.infos in
@@ -92,7 +101,9 @@ some_monitored octets v (p ∷ ps) passed h =
     (rw all (omega arith), some_monitored octets v ps passed h.1)
 
 -- a piece has 9 to 249 octets
-pub lengths : {X : Type 0} (octets : X → List ℕ) (v : AsduValue) (ps : List X) → AllByRecursion (λ p. IsPiece v (octets p)) ps → AllByRecursion (λ p. (9 ≤ length (octets p)) × (length (octets p) ≤ 249)) ps
+pub lengths : {X : Type 0} (octets : X → List ℕ) (v : AsduValue) (ps : List X)
+    → AllByRecursion (λ p. IsPiece v (octets p)) ps → AllByRecursion (λ p. (9 ≤ length (octets p))
+    × (length (octets p) ≤ 249)) ps
 lengths octets v [] h = tt
 lengths octets v (p ∷ ps) h =
     let u = with_infos v h.0.infos in
@@ -103,6 +114,7 @@ lengths octets v (p ∷ ps) h =
     ((omega arith, h.0.fits), lengths octets v ps h.1)
 
 -- no object is left
-pub joined-end : (v : AsduValue) (is : List Info) (os all : List InformationObject) → length is ≡ 0 → os ++ value_objects (with_infos v is) ≡ all → os ≡ all
+pub joined-end : (v : AsduValue) (is : List Info) (os all : List InformationObject) → length is ≡ 0
+    → os ++ value_objects (with_infos v is) ≡ all → os ≡ all
 joined-end v [] os all none h = sym (append-nil os) ∙ h
 joined-end v (i ∷ is) os all none h = absurd (omega arith)

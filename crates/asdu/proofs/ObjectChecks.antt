@@ -15,23 +15,53 @@ abbrev small : Sizes
 small = record { cause = causes.One; ca = cas.One; ioa = ioas.One }
 
 abbrev point : ℕ → ℕ → List ℕ → InformationObject
-point cause a octets = record { kind = MSpNa1; cause = cause; originator = 0; ca = 1; address = a; element = octets; tag = None }
+point cause a octets = record {
+  kind = MSpNa1;
+  cause = cause;
+  originator = 0;
+  ca = 1;
+  address = a;
+  element =
+      octets;
+  tag = None;
+}
 
 abbrev measured : ℕ → List ℕ → InformationObject
-measured a octets = record { kind = MMeNa1; cause = 3; originator = 7; ca = 513; address = a; element = octets; tag = None }
+measured a octets = record {
+  kind = MMeNa1;
+  cause = 3;
+  originator = 7;
+  ca = 513;
+  address = a;
+  element = octets;
+  tag =
+      None;
+}
 
 abbrev tagged_point : List ℕ → List ℕ → InformationObject
-tagged_point octets tag = record { kind = MSpTb1; cause = 3; originator = 0; ca = 1; address = 100; element = octets; tag = Some tag }
+tagged_point octets tag = record {
+  kind = MSpTb1;
+  cause = 3;
+  originator = 0;
+  ca = 1;
+  address = 100;
+  element =
+      octets;
+  tag = Some tag;
+}
 
-two_points : objects_of small (1 ∷ 2 ∷ 3 ∷ 1 ∷ 100 ∷ 1 ∷ 50 ∷ 240 ∷ []) ≡ point 3 100 (1 ∷ []) ∷ point 3 50 (240 ∷ []) ∷ []
+two_points : objects_of small (1 ∷ 2 ∷ 3 ∷ 1 ∷ 100 ∷ 1 ∷ 50 ∷ 240 ∷ []) ≡ point 3 100 (1 ∷ []) ∷ point 3 50 (240 ∷ [])
+    ∷ []
 unfolding objects_of type_of
 two_points = refl
 
-two_in_sequence : objects_of tcp (9 ∷ 130 ∷ 3 ∷ 7 ∷ 1 ∷ 2 ∷ 10 ∷ 0 ∷ 0 ∷ 0 ∷ 128 ∷ 0 ∷ 255 ∷ 255 ∷ 128 ∷ []) ≡ measured 10 (0 ∷ 128 ∷ 0 ∷ []) ∷ measured 11 (255 ∷ 255 ∷ 128 ∷ []) ∷ []
+two_in_sequence : objects_of tcp (9 ∷ 130 ∷ 3 ∷ 7 ∷ 1 ∷ 2 ∷ 10 ∷ 0 ∷ 0 ∷ 0 ∷ 128 ∷ 0 ∷ 255 ∷ 255 ∷ 128 ∷ [])
+    ≡ measured 10 (0 ∷ 128 ∷ 0 ∷ []) ∷ measured 11 (255 ∷ 255 ∷ 128 ∷ []) ∷ []
 unfolding objects_of type_of
 two_in_sequence = refl
 
-one_tagged : objects_of small (30 ∷ 1 ∷ 3 ∷ 1 ∷ 100 ∷ 129 ∷ 213 ∷ 221 ∷ 34 ∷ 12 ∷ 157 ∷ 2 ∷ 23 ∷ []) ≡ tagged_point (129 ∷ []) (213 ∷ 221 ∷ 34 ∷ 12 ∷ 157 ∷ 2 ∷ 23 ∷ []) ∷ []
+one_tagged : objects_of small (30 ∷ 1 ∷ 3 ∷ 1 ∷ 100 ∷ 129 ∷ 213 ∷ 221 ∷ 34 ∷ 12 ∷ 157 ∷ 2 ∷ 23 ∷ [])
+    ≡ tagged_point (129 ∷ []) (213 ∷ 221 ∷ 34 ∷ 12 ∷ 157 ∷ 2 ∷ 23 ∷ []) ∷ []
 unfolding objects_of type_of
 one_tagged = refl
 

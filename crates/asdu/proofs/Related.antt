@@ -27,7 +27,8 @@ refusal-IsAsdu s u xs h =
 pub is_read-IsAsdu : (s : Sizes) (u : AsduValue) (xs : List ℕ) → IsAsdu s u xs → is_read s xs ≡ true
 is_read-IsAsdu s u xs h = ap (λ r. is_none r) (refusal-IsAsdu s u xs h)
 
-pub type_of-IsAsdu : (s : Sizes) (u : AsduValue) (xs : List ℕ) → IsAsdu s u xs → type_of (slice_index xs 0) ≡ Some u.kind
+pub type_of-IsAsdu : (s : Sizes) (u : AsduValue) (xs : List ℕ) → IsAsdu s u xs
+    → type_of (slice_index xs 0) ≡ Some u.kind
 type_of-IsAsdu s u xs h = ap (λ ys. type_of (slice_index ys 0)) h.octets ∙ type_of-code u.kind
 
 pub value_at-IsAsdu : (s : Sizes) (u : AsduValue) (xs : List ℕ) → IsAsdu s u xs → value_at s u.kind xs ≡ u
@@ -46,14 +47,16 @@ objects_of-IsAsdu s u xs h =
     let kind = type_of-IsAsdu s u xs h in
     rw (none, kind) (ap value_objects (value_at-IsAsdu s u xs h))
 
-pub monitor_objects_of-IsAsdu : (s : Sizes) (u : AsduValue) (xs : List ℕ) → IsAsdu s u xs → monitor_objects_of s xs ≡ only_if (is_passed_on u.kind u.cause) (value_objects u)
+pub monitor_objects_of-IsAsdu : (s : Sizes) (u : AsduValue) (xs : List ℕ) → IsAsdu s u xs
+    → monitor_objects_of s xs ≡ only_if (is_passed_on u.kind u.cause) (value_objects u)
 unfolding monitor_objects_of
 monitor_objects_of-IsAsdu s u xs h =
     let kind = type_of-IsAsdu s u xs h in
     let cause : slice_index xs 2 ≡ u.cause = ap (λ ys. slice_index ys 2) h.octets in
     rw (kind, cause) (ap (only_if (is_passed_on u.kind u.cause)) (objects_of-IsAsdu s u xs h))
 
-pub parts-IsAsdu : (s : Sizes) (u : AsduValue) (xs : List ℕ) → IsAsdu s u xs → parts s xs ≡ div_ceil (length u.infos) (piece_size u.kind u.sequence)
+pub parts-IsAsdu : (s : Sizes) (u : AsduValue) (xs : List ℕ) → IsAsdu s u xs
+    → parts s xs ≡ div_ceil (length u.infos) (piece_size u.kind u.sequence)
 unfolding parts
 parts-IsAsdu s u xs h =
     let none = refusal-IsAsdu s u xs h in
@@ -68,7 +71,8 @@ same_kind a b o e1 e2 = cc
 -- octets are one ASDU at most
 pub one_asdu : (s : Sizes) (u v : AsduValue) (xs : List ℕ) → IsAsdu s u xs → IsAsdu s v xs → u ≡ v
 one_asdu s u v xs h k =
-    let kind = same_kind u.kind v.kind (type_of (slice_index xs 0)) (type_of-IsAsdu s u xs h) (type_of-IsAsdu s v xs k) in
+    let kind = same_kind u.kind v.kind (type_of (slice_index xs 0)) (type_of-IsAsdu s u xs h)
+    (type_of-IsAsdu s v xs k) in
     sym (value_at-IsAsdu s u xs h) ∙ ap (λ t. value_at s t xs) kind ∙ value_at-IsAsdu s v xs k
 
 -- ---- Octets that are none
@@ -107,7 +111,8 @@ pub objects_of-value_of : (a : Asdu) → objects_of a.sizes a.octets.now ≡ val
 objects_of-value_of a = objects_of-IsAsdu a.sizes (value_of a) a.octets.now (IsAsdu-value_of a a.are_octets)
 
 -- what is passed on has objects
-pub passed : (a : Asdu) (b : Bool) → b ≡ is_passed_on a.kind (value_of a).cause → b ≡ true → 1 ≤ length (monitor_objects_of a.sizes a.octets.now)
+pub passed : (a : Asdu) (b : Bool) → b ≡ is_passed_on a.kind (value_of a).cause → b ≡ true
+    → 1 ≤ length (monitor_objects_of a.sizes a.octets.now)
 passed a b e h =
     let read = IsAsdu-value_of a a.are_octets in
     let objects = monitor_objects_of-IsAsdu a.sizes (value_of a) a.octets.now read in
@@ -117,7 +122,8 @@ passed a b e h =
     let all : monitor_objects_of a.sizes a.octets.now ≡ value_objects (value_of a) = objects ∙ rw goes refl in
     rw all (omega arith)
 
-pub kept : (a : Asdu) (b : Bool) → b ≡ is_passed_on a.kind (value_of a).cause → b ≡ false → monitor_objects_of a.sizes a.octets.now ≡ []
+pub kept : (a : Asdu) (b : Bool) → b ≡ is_passed_on a.kind (value_of a).cause → b ≡ false
+    → monitor_objects_of a.sizes a.octets.now ≡ []
 kept a b e h =
     let objects = monitor_objects_of-IsAsdu a.sizes (value_of a) a.octets.now (IsAsdu-value_of a a.are_octets) in
     let goes : is_passed_on a.kind (value_of a).cause ≡ false = sym e ∙ h in

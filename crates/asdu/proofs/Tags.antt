@@ -57,21 +57,28 @@ single (i ∷ []) h = (i, refl)
 single (i ∷ j ∷ is) h = absurd (omega arith)
 
 -- the text of one object
-body-one : (w : ℕ) (b : Bool) (i : Info) → body w b (i ∷ []) ≡ (little_bytes w i.address ++ i.element) ++ tag_octets i.tag
-body-one w false i = append-nil (located w i) ∙ sym (append_assoc (little_bytes w i.address) i.element (tag_octets i.tag))
+body-one : (w : ℕ) (b : Bool) (i : Info) → body w b (i ∷ []) ≡ (little_bytes w i.address ++ i.element)
+    ++ tag_octets i.tag
+body-one w false i = append-nil (located w i)
+    ∙ sym (append_assoc (little_bytes w i.address) i.element (tag_octets i.tag))
 body-one w true i =
-    ap (λ ys. little_bytes w i.address ++ ys) (append-nil (content i)) ∙ sym (append_assoc (little_bytes w i.address) i.element (tag_octets i.tag))
+    ap (λ ys. little_bytes w i.address ++ ys) (append-nil (content i))
+    ∙ sym (append_assoc (little_bytes w i.address) i.element (tag_octets i.tag))
 
 -- what stands between the type and the tag
 abbrev inside : Sizes → AsduValue → Info → List ℕ
 inside s v i =
-    (vsq v.sequence 1 ∷ v.cause ∷ (originator_octets s.cause v.originator ++ little_bytes (ca_len s.ca) v.ca)) ++ (little_bytes (ioa_len s.ioa) i.address ++ i.element)
+    (vsq v.sequence 1 ∷ v.cause ∷ (originator_octets s.cause v.originator ++ little_bytes (ca_len s.ca) v.ca))
+    ++ (little_bytes (ioa_len s.ioa) i.address ++ i.element)
 
-spelled-one : (s : Sizes) (v : AsduValue) (i : Info) → v.infos ≡ i ∷ [] → spelled s v ≡ (row v.kind).code ∷ (inside s v i ++ tag_octets i.tag)
+spelled-one : (s : Sizes) (v : AsduValue) (i : Info) → v.infos ≡ i ∷ []
+    → spelled s v ≡ (row v.kind).code ∷ (inside s v i ++ tag_octets i.tag)
 spelled-one s v i e =
     let w = ioa_len s.ioa in
-    let front = vsq v.sequence 1 ∷ v.cause ∷ (originator_octets s.cause v.originator ++ little_bytes (ca_len s.ca) v.ca) in
-    rw (e, body-one w v.sequence i) (ap (λ ys. (row v.kind).code ∷ ys) (sym (append_assoc front (little_bytes w i.address ++ i.element) (tag_octets i.tag))))
+    let front = vsq v.sequence 1 ∷ v.cause ∷ (originator_octets s.cause v.originator
+    ++ little_bytes (ca_len s.ca) v.ca) in
+    rw (e, body-one w v.sequence i) (ap (λ ys. (row v.kind).code ∷ ys)
+    (sym (append_assoc front (little_bytes w i.address ++ i.element) (tag_octets i.tag))))
 
 AreInOrder-one : (b : Bool) (i : Info) → AreInOrder b (i ∷ [])
 AreInOrder-one false i = tt
@@ -89,7 +96,9 @@ IsInfo-untagged k t w i u h = record {
   tag = IsTag-none (row t).tagged u.plain;
 }
 
-pub IsAsdu-untagged : (s : Sizes) (v : AsduValue) (xs out : List ℕ) → IsAsdu s v xs → length v.infos ≡ 1 → is_tagged_command v.kind ≡ true → out ≡ (slice_index xs 0 - 13) ∷ take (length xs - 7 - 1) (drop 1 xs) → IsAsdu s (untagged v) out
+pub IsAsdu-untagged : (s : Sizes) (v : AsduValue) (xs out : List ℕ) → IsAsdu s v xs → length v.infos ≡ 1
+    → is_tagged_command v.kind ≡ true → out ≡ (slice_index xs 0 - 13) ∷ take (length xs - 7 - 1) (drop 1 xs)
+    → IsAsdu s (untagged v) out
 IsAsdu-untagged s v xs out h one is text =
     let t = untagged_type v.kind in
     let o = single v.infos one in
@@ -98,7 +107,8 @@ IsAsdu-untagged s v xs out h one is text =
     let w = ioa_len s.ioa in
     let P : List Info → Type 0 = λ is. AllByRecursion (IsInfo v.kind w) is in
     let info : IsInfo v.kind w i = (subst P o.1 h.value.infos).0 in
-    let seven : length (tag_octets i.tag) ≡ 7 = length-tag (row v.kind).tagged i.tag info.tag ∙ ap (λ b. cond b 7 0) u.tagged in
+    let seven : length (tag_octets i.tag) ≡ 7 = length-tag (row v.kind).tagged i.tag info.tag
+    ∙ ap (λ b. cond b 7 0) u.tagged in
     let code = (row v.kind).code in
     let line : xs ≡ code ∷ (inside s v i ++ tag_octets i.tag) = h.octets ∙ spelled-one s v i o.1 in
     let sum = length-append (inside s v i) (tag_octets i.tag) in
@@ -123,7 +133,8 @@ IsAsdu-untagged s v xs out h one is text =
         order = subst R (sym infos) (AreInOrder-one v.sequence (without_tag i));
       };
       octets =
-          text ∙ ap (λ n. n ∷ take (length xs - 7 - 1) (drop 1 xs)) first ∙ ap (λ ys. (row t).code ∷ ys) (cut ∙ sym (append-nil (inside s v i)))
+          text ∙ ap (λ n. n ∷ take (length xs - 7 - 1) (drop 1 xs)) first
+          ∙ ap (λ ys. (row t).code ∷ ys) (cut ∙ sym (append-nil (inside s v i)))
           ∙ sym new;
     }
 
@@ -175,7 +186,9 @@ no_tag true o e h = cc
 no_tag false None e h = refl
 no_tag false (Some octets) e h = absurd h
 
-pub IsAsdu-tagged : (s : Sizes) (v : AsduValue) (xs out octets : List ℕ) → IsAsdu s v xs → length v.infos ≡ 1 → is_plain_command v.kind ≡ true → length octets ≡ 7 → AreOctets octets → out ≡ ((slice_index xs 0 + 13) ∷ drop 1 xs) ++ octets → IsAsdu s (tagged octets v) out
+pub IsAsdu-tagged : (s : Sizes) (v : AsduValue) (xs out octets : List ℕ) → IsAsdu s v xs → length v.infos ≡ 1
+    → is_plain_command v.kind ≡ true → length octets ≡ 7 → AreOctets octets
+    → out ≡ ((slice_index xs 0 + 13) ∷ drop 1 xs) ++ octets → IsAsdu s (tagged octets v) out
 IsAsdu-tagged s v xs out octets h one is seven all text =
     let t = tagged_type v.kind in
     let o = single v.infos one in
@@ -187,7 +200,8 @@ IsAsdu-tagged s v xs out octets h one is seven all text =
     let code = (row v.kind).code in
     let none = no_tag (row v.kind).tagged i.tag u.plain_one info.tag in
     let line : xs ≡ code ∷ inside s v i =
-    h.octets ∙ spelled-one s v i o.1 ∙ ap (λ ys. code ∷ (inside s v i ++ ys)) none ∙ ap (λ ys. code ∷ ys) (append-nil (inside s v i)) in
+    h.octets ∙ spelled-one s v i o.1 ∙ ap (λ ys. code ∷ (inside s v i ++ ys)) none
+    ∙ ap (λ ys. code ∷ ys) (append-nil (inside s v i)) in
     let first : slice_index xs 0 + 13 ≡ (row t).code = ap (λ ys. slice_index ys 0 + 13) line ∙ sym u.code in
     let infos : map (with_tag octets) v.infos ≡ with_tag octets i ∷ [] = ap (map (with_tag octets)) o.1 in
     let Q : List Info → Type 0 = λ is. AllByRecursion (IsInfo t w) is in
@@ -200,7 +214,16 @@ IsAsdu-tagged s v xs out octets h one is seven all text =
         cause = h.value.cause;
         originator = h.value.originator;
         ca = h.value.ca;
-        infos = subst Q (sym infos) (record { address = info.address; size = info.size ∙ sym u.size; octets = info.octets; tag = IsTag-some (row t).tagged octets u.tagged_one seven all }, tt);
+        infos = subst Q (sym infos) (
+          record {
+            address = info.address;
+            size = info.size ∙ sym u.size;
+            octets =
+                info.octets;
+            tag = IsTag-some (row t).tagged octets u.tagged_one seven all;
+          },
+          tt,
+        );
         order = subst R (sym infos) (AreInOrder-one v.sequence (with_tag octets i));
       };
       octets =
@@ -240,22 +263,26 @@ untagged-tagged_type CRcTa1 is = cc
 untagged-tagged_type CSeTa1 is = cc
 untagged-tagged_type CSeTb1 is = cc
 
-without-with_tag : (tag : List ℕ) (t : TypeId) (w : ℕ) (is : List Info) → (row t).tagged ≡ false → AllByRecursion (IsInfo t w) is → map without_tag (map (with_tag tag) is) ≡ is
+without-with_tag : (tag : List ℕ) (t : TypeId) (w : ℕ) (is : List Info) → (row t).tagged ≡ false
+    → AllByRecursion (IsInfo t w) is → map without_tag (map (with_tag tag) is) ≡ is
 without-with_tag tag t w [] plain all = refl
 without-with_tag tag t w (i ∷ is) plain all =
     let tail = without-with_tag tag t w is plain all.1 in
     let none : i.tag ≡ None = no_tag_at (row t).tagged i.tag plain all.0.tag in
-    ap (λ o. record { address = i.address; element = i.element; tag = o } ∷ map without_tag (map (with_tag tag) is)) (sym none) ∙ ap (λ xs. i ∷ xs) tail
+    ap (λ o. record { address = i.address; element = i.element; tag = o } ∷ map without_tag (map (with_tag tag) is))
+    (sym none) ∙ ap (λ xs. i ∷ xs) tail
   where
     no_tag_at : (b : Bool) (o : Option (List ℕ)) → b ≡ false → IsTag b o → o ≡ None
     no_tag_at true o e h = cc
     no_tag_at false None e h = refl
     no_tag_at false (Some octets) e h = absurd h
 
-pub untagged-tagged : (s : Sizes) (tag : List ℕ) (v : AsduValue) → FitsSizes s v → is_plain_command v.kind ≡ true → untagged (tagged tag v) ≡ v
+pub untagged-tagged : (s : Sizes) (tag : List ℕ) (v : AsduValue) → FitsSizes s v → is_plain_command v.kind ≡ true
+    → untagged (tagged tag v) ≡ v
 untagged-tagged s tag v h is =
     let u = tagged_row v.kind is in
-    ap (λ t. record v { kind = t; infos = map without_tag (map (with_tag tag) v.infos) }) (untagged-tagged_type v.kind is)
+    ap (λ t. record v { kind = t; infos = map without_tag (map (with_tag tag) v.infos) })
+    (untagged-tagged_type v.kind is)
     ∙ ap (λ is. record v { infos = is }) (without-with_tag tag v.kind (ioa_len s.ioa) v.infos u.plain_one h.infos)
 
 -- the type's octet is far from the last

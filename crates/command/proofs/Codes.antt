@@ -5,7 +5,8 @@ use Rattle.std.proofs.lemmas.Bool.{eqb-true}
 use Rattle.elements.specs.Types.{row, types, type_of}
 use Rattle.elements.specs.declared.types.TypeId.{TypeId}
 
-found_at : (p : TypeId → Bool) (x : TypeId) (xs : List TypeId) (t : TypeId) (b : Bool) → p x ≡ b → (if b then Some x else find p xs) ≡ Some t → (find p xs ≡ Some t → p t ≡ true) → p t ≡ true
+found_at : (p : TypeId → Bool) (x : TypeId) (xs : List TypeId) (t : TypeId) (b : Bool) → p x ≡ b
+    → (if b then Some x else find p xs) ≡ Some t → (find p xs ≡ Some t → p t ≡ true) → p t ≡ true
 found_at p x xs t true e h rest = (let same : x ≡ t = cc in subst (λ (y : TypeId). p y ≡ true) same e)
 found_at p x xs t false e h rest = rest h
 

@@ -31,7 +31,8 @@ use Rattle.command.proofs.Judged.{same_target_itself}
 
 -- ---- what becomes of one
 
-pick : (P : Selection → Type 0) (b : Bool) (x y : Option Selection) → Perhaps P x → Perhaps P y → Perhaps P (if b then x else y)
+pick : (P : Selection → Type 0) (b : Bool) (x y : Option Selection) → Perhaps P x → Perhaps P y
+    → Perhaps P (if b then x else y)
 pick P true x y p q = p
 pick P false x y p q = q
 
@@ -59,10 +60,12 @@ loss_keeps z (stage.Live since) = refl
 -- a selection keeps its command as long as it is there
 advanced_keeps : (ms : ℕ) (what : Sign) (z : Selection) → Perhaps (HasCommand z.command) (advanced ms what z)
 advanced_keeps ms (sign.Sending k) z = pick (HasCommand z.command) (z.station == k) _ _ (sending_keeps z z.stage) refl
-advanced_keeps ms (sign.Acceptance k) z = pick (HasCommand z.command) (z.station == k) _ _ (acceptance_keeps z z.stage) refl
+advanced_keeps ms (sign.Acceptance k) z = pick (HasCommand z.command) (z.station == k) _ _
+    (acceptance_keeps z z.stage) refl
 advanced_keeps ms (sign.Loss k) z = pick (HasCommand z.command) (z.station == k) _ _ (loss_keeps z z.stage) refl
 advanced_keeps ms (sign.Over t) z = pick (HasCommand z.command) (same_target (target_of z.command) t) _ _ tt refl
-advanced_keeps ms (sign.Con t e now) z = pick (HasCommand z.command) (same_target (target_of z.command) t && same_element z.command.element e && is_accepted z.stage && nat_lt (now - z.came) ms) _ _ refl refl
+advanced_keeps ms (sign.Con t e now) z = pick (HasCommand z.command) (same_target (target_of z.command) t
+    && same_element z.command.element e && is_accepted z.stage && nat_lt (now - z.came) ms) _ _ refl refl
 advanced_keeps ms (sign.Time now) z = pick (HasCommand z.command) (nat_le ms (now - runs_from z z.stage)) _ _ tt refl
 
 -- ---- lists
@@ -71,16 +74,21 @@ abbrev After : ℕ → Sign → List Selection → List Selection
 After ms what zs = filter_map (advanced ms what) zs
 
 two_stay : (y z w : Selection) → w.command ≡ z.command → HaveTwoTargets y z → HaveTwoTargets y w
-two_stay y z w same h = λ kind ca address. h (kind ∙ ap (λ (c : Command). c.kind) same) (ca ∙ ap (λ (c : Command). c.ca) same) (address ∙ ap (λ (c : Command). c.address) same)
+two_stay y z w same h = λ kind ca address. h (kind ∙ ap (λ (c : Command). c.kind) same) (ca
+    ∙ ap (λ (c : Command). c.ca) same) (address ∙ ap (λ (c : Command). c.address) same)
 
 two_first : (y x z : Selection) → x.command ≡ y.command → HaveTwoTargets y z → HaveTwoTargets x z
-two_first y x z same h = λ kind ca address. h (sym (ap (λ (c : Command). c.kind) same) ∙ kind) (sym (ap (λ (c : Command). c.ca) same) ∙ ca) (sym (ap (λ (c : Command). c.address) same) ∙ address)
+two_first y x z same h = λ kind ca address. h (sym (ap (λ (c : Command). c.kind) same)
+    ∙ kind) (sym (ap (λ (c : Command). c.ca) same) ∙ ca) (sym (ap (λ (c : Command). c.address) same) ∙ address)
 
-others_left : (y : Selection) (ms : ℕ) (what : Sign) (zs : List Selection) → AllByRecursion (HaveTwoTargets y) zs → AllByRecursion (HaveTwoTargets y) (After ms what zs)
+others_left : (y : Selection) (ms : ℕ) (what : Sign) (zs : List Selection) → AllByRecursion (HaveTwoTargets y) zs
+    → AllByRecursion (HaveTwoTargets y) (After ms what zs)
 others_left y ms what [] h = tt
 others_left y ms what (z ∷ zs) h = joined (advanced ms what z) (advanced_keeps ms what z) (others_left y ms what zs h.1)
   where
-    joined : (o : Option Selection) → Perhaps (HasCommand z.command) o → AllByRecursion (HaveTwoTargets y) (After ms what zs) → AllByRecursion (HaveTwoTargets y) (cons_option o (After ms what zs))
+    joined : (o : Option Selection) → Perhaps (HasCommand z.command) o
+        → AllByRecursion (HaveTwoTargets y) (After ms what zs)
+        → AllByRecursion (HaveTwoTargets y) (cons_option o (After ms what zs))
     joined None same rest = rest
     joined (Some w) same rest = (two_stay y z w same h.0, rest)
 
@@ -88,31 +96,45 @@ pub distinct_left : (ms : ℕ) (what : Sign) (zs : List Selection) → AreDistin
 distinct_left ms what [] h = tt
 distinct_left ms what (z ∷ zs) h = joined (advanced ms what z) (advanced_keeps ms what z) (distinct_left ms what zs h.1)
   where
-    joined : (o : Option Selection) → Perhaps (HasCommand z.command) o → AreDistinct (After ms what zs) → AreDistinct (cons_option o (After ms what zs))
+    joined : (o : Option Selection) → Perhaps (HasCommand z.command) o → AreDistinct (After ms what zs)
+        → AreDistinct (cons_option o (After ms what zs))
     joined None same rest = rest
-    joined (Some w) same rest = (all_mapped (HaveTwoTargets z) (HaveTwoTargets w) (λ x p. two_first z w x same p) (After ms what zs) (others_left z ms what zs h.0), rest)
+    joined (Some w) same rest = (
+      all_mapped (HaveTwoTargets z) (HaveTwoTargets w) (λ x p. two_first z w x same p) (After ms what zs)
+          (others_left z ms what zs h.0),
+      rest,
+    )
 
 -- those that are left are of other targets
 targets_are_one : (a b : Target) → a.kind ≡ b.kind → a.ca ≡ b.ca → a.address ≡ b.address → same_target a b ≡ true
 targets_are_one a b kind ca address = rw (kind, ca, address) (same_target_itself b)
 
 other_target : (z y : Selection) → same_target (target_of z.command) (target_of y.command) ≡ false → HaveTwoTargets z y
-other_target z y h = λ kind ca address. let no : false ≡ true = sym h ∙ targets_are_one (target_of z.command) (target_of y.command) kind ca address in search (rules, no)
+other_target z y h =
+    λ kind ca address.
+    let no : false ≡ true = sym h ∙ targets_are_one (target_of z.command) (target_of y.command) kind ca address in
+    search (rules, no)
 
-left_of_over : (ms : ℕ) (y : Selection) (zs : List Selection) → AllByRecursion (λ z. HaveTwoTargets z y) (After ms (sign.Over (target_of y.command)) zs)
+left_of_over : (ms : ℕ) (y : Selection) (zs : List Selection)
+    → AllByRecursion (λ z. HaveTwoTargets z y) (After ms (sign.Over (target_of y.command)) zs)
 left_of_over ms y [] = tt
-left_of_over ms y (z ∷ zs) = joined (same_target (target_of z.command) (target_of y.command)) refl (left_of_over ms y zs)
+left_of_over ms y (z ∷ zs) = joined (same_target (target_of z.command) (target_of y.command)) refl
+    (left_of_over ms y zs)
   where
-    joined : (b : Bool) → same_target (target_of z.command) (target_of y.command) ≡ b → AllByRecursion (λ z. HaveTwoTargets z y) (After ms (sign.Over (target_of y.command)) zs) →
-        AllByRecursion (λ z. HaveTwoTargets z y) (cons_option (if b then None else Some z) (After ms (sign.Over (target_of y.command)) zs))
+    joined : (b : Bool) → same_target (target_of z.command) (target_of y.command) ≡ b
+        → AllByRecursion (λ z. HaveTwoTargets z y) (After ms (sign.Over (target_of y.command)) zs) →
+        AllByRecursion (λ z. HaveTwoTargets z y) (cons_option (if b then None else Some z)
+        (After ms (sign.Over (target_of y.command)) zs))
     joined true e rest = rest
     joined false e rest = (other_target z y e, rest)
 
-one_more : (P : Selection → Type 0) (zs : List Selection) (y : Selection) → AllByRecursion P zs → P y → AllByRecursion P (zs ++ y ∷ [])
+one_more : (P : Selection → Type 0) (zs : List Selection) (y : Selection) → AllByRecursion P zs → P y
+    → AllByRecursion P (zs ++ y ∷ [])
 one_more P [] y a p = (p, tt)
 one_more P (z ∷ zs) y a p = (a.0, one_more P zs y a.1 p)
 
-distinct_more : (zs : List Selection) (y : Selection) → AreDistinct zs → AllByRecursion (λ z. HaveTwoTargets z y) zs → AreDistinct (zs ++ y ∷ [])
+distinct_more : (zs : List Selection) (y : Selection) → AreDistinct zs → AllByRecursion (λ z. HaveTwoTargets z y) zs
+    → AreDistinct (zs ++ y ∷ [])
 distinct_more [] y d a = (tt, tt)
 distinct_more (z ∷ zs) y d a = (one_more (HaveTwoTargets z) zs y d.0 a.0, distinct_more zs y d.1 a.1)
 
@@ -125,7 +147,9 @@ tells : (what : Sign) (s : State) → Keeps s → Keeps (told what s)
 tells what s d = distinct_left s.select_ms what s.selections d
 
 selects : (c : Command) (now : ℕ) (s : State) → Keeps s → Keeps (judging.selected c now s)
-selects c now s d = distinct_more (After s.select_ms (sign.Over (target_of c)) s.selections) (judging.selection_of c now s) (tells (sign.Over (target_of c)) s d) (left_of_over s.select_ms (judging.selection_of c now s) s.selections)
+selects c now s d = distinct_more (After s.select_ms (sign.Over (target_of c)) s.selections)
+    (judging.selection_of c now s) (tells (sign.Over (target_of c)) s d)
+    (left_of_over s.select_ms (judging.selection_of c now s) s.selections)
 
 places : (xs : List ℕ) (c : Command) (now : ℕ) (t : State) → Keeps t → Keeps (judging.placed xs c now t).1
 places xs c now t d = by (lacks_place c t)
@@ -138,16 +162,19 @@ places xs c now t d = by (lacks_place c t)
     by true = d
     by false = chosen (makes_selection t.stations c)
 
-judges : (xs : List ℕ) (now : ℕ) (s : State) → Keeps s → Keeps (judging.judged xs now s).1
-judges xs now s d = on_fault (fault s.sizes s.stations xs)
+judges : (xs : List ℕ) (now : ℕ) (wall : Option ℕ) (s : State) → Keeps s → Keeps (judging.judged xs now wall s).1
+judges xs now wall s d = on_fault (fault s.sizes s.stations s.max_age_ms wall xs)
   where
-    on_ends : (b : Bool) → Keeps (judging.placed xs (command_at xs) now (if b then judging.without_selection (command_at xs) s else s)).1
-    on_ends true = places xs (command_at xs) now (judging.without_selection (command_at xs) s) (tells (sign.Over (target_of (command_at xs))) s d)
+    on_ends : (b : Bool)
+        → Keeps (judging.placed xs (command_at xs) now (if b then judging.without_selection (command_at xs) s else s)).1
+    on_ends true = places xs (command_at xs) now (judging.without_selection (command_at xs) s)
+        (tells (sign.Over (target_of (command_at xs))) s d)
     on_ends false = places xs (command_at xs) now s d
 
     on_lack : (b : Bool) →
         Keeps (if b then judging.refused (negative xs) xs (judging.without_selection (command_at xs) s)
-        else judging.placed xs (command_at xs) now (if ends_selection (command_at xs) then judging.without_selection (command_at xs) s else s)).1
+        else judging.placed xs (command_at xs) now (if ends_selection (command_at xs) then judging.without_selection
+        (command_at xs) s else s)).1
     on_lack true = tells (sign.Over (target_of (command_at xs))) s d
     on_lack false = on_ends (ends_selection (command_at xs))
 
@@ -175,13 +202,17 @@ hears v now s d = by_sign (is_con true v.cause)
     positive true = one v.infos
     positive false = d
 
-    by_sign : (b : Bool) → Keeps (if b then mirrors.all_over v v.infos s else (if is_con false v.cause then mirrors.one_confirmed v v.infos now s else s))
+    by_sign : (b : Bool)
+        → Keeps (if b then mirrors.all_over v v.infos s else
+        (if is_con false v.cause then mirrors.one_confirmed v v.infos now s else s))
     by_sign true = all_over v v.infos s d
     by_sign false = positive (is_con false v.cause)
 
-sends : (k : ℕ) (r : Run) (o : Option Waiting) → oldest k r.state.waiting ≡ o → Keeps r.state → Keeps (calls.after_sending o k r).state
+sends : (k : ℕ) (r : Run) (o : Option Waiting) → oldest k r.state.waiting ≡ o → Keeps r.state
+    → Keeps (calls.after_sending o k r).state
 sends k r None e d = d
-sends k r (Some w) e d = subst (λ (o : Option Waiting). Keeps (state.put_out o k r.state)) (sym e) (tells (sign.Sending k) r.state d)
+sends k r (Some w) e d = subst (λ (o : Option Waiting). Keeps (state.put_out o k r.state)) (sym e)
+    (tells (sign.Sending k) r.state d)
 
 gives : (r : Run) (o : Option (List ℕ)) → Keeps r.state → Keeps (after_answer o r).state
 gives r None d = d
@@ -192,7 +223,7 @@ offers octets s true d = d
 offers octets s false d = d
 
 step_keeps : (call : Call) (r : Run) → Keeps r.state → Keeps (after_call call r).state
-step_keeps (Judge xs now) r d = judges xs now r.state d
+step_keeps (Judge xs now wall) r d = judges xs now wall r.state d
 step_keeps (PutOnLine k) r d = sends k r (oldest k r.state.waiting) refl d
 step_keeps (Accept k) r d = tells (sign.Acceptance k) r.state d
 step_keeps (Busy k) r d = tells (sign.Loss k) r.state d
@@ -203,6 +234,8 @@ step_keeps SendOwn r d = gives r (first_answer r.state.answers) d
 step_keeps Cut r d = tt
 step_keeps (Due now) r d = tells (sign.Time now) r.state d
 
-pub run_distinct : (stations : List StationInfo) (sizes : Sizes) (ms : ℕ) (calls : List Call) → AreDistinct (run stations sizes ms calls).state.selections
-run_distinct stations sizes ms [] = tt
-run_distinct stations sizes ms (call ∷ earlier) = step_keeps call (run stations sizes ms earlier) (run_distinct stations sizes ms earlier)
+pub run_distinct : (stations : List StationInfo) (sizes : Sizes) (ms age : ℕ) (calls : List Call)
+    → AreDistinct (run stations sizes ms age calls).state.selections
+run_distinct stations sizes ms age [] = tt
+run_distinct stations sizes ms age (call ∷ earlier) = step_keeps call (run stations sizes ms age earlier)
+    (run_distinct stations sizes ms age earlier)

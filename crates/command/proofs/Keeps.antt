@@ -21,33 +21,38 @@ held (line.Holds received) = Some received
 held line.CutOff = None
 
 -- what was forwarded to a station and didn't go out waits for it, in the form in which it goes out
-pub record KeepsQueue (sizes : Sizes) (stations : List StationInfo) (ms : ℕ) (waiting : List Waiting) (h : History) : Type 0 where
-  pub count : (k : ℕ) → sent_count sizes stations ms k h ≤ length (forwarded_to sizes stations ms k h)
-  pub in_turn : (k : ℕ) → drop (sent_count sizes stations ms k h) (forwarded_to sizes stations ms k h) ≡ waiting_for k waiting
+pub record KeepsQueue (sizes : Sizes) (stations : List StationInfo) (ms age : ℕ) (waiting : List Waiting)
+    (h : History) : Type 0 where
+  pub count : (k : ℕ) → sent_count sizes stations ms age k h ≤ length (forwarded_to sizes stations ms age k h)
+  pub in_turn : (k : ℕ) → drop (sent_count sizes stations ms age k h) (forwarded_to sizes stations ms age k h)
+      ≡ waiting_for k waiting
   pub shaped : AreShaped sizes stations waiting
-  pub sends : ForwardsCommands sizes stations ms h
+  pub sends : ForwardsCommands sizes stations ms age h
 
 -- each line holds what stands on it
-pub record KeepsLines (sizes : Sizes) (stations : List StationInfo) (ms : ℕ) (lines : List Line) (h : History) : Type 0 where
+pub record KeepsLines (sizes : Sizes) (stations : List StationInfo) (ms age : ℕ) (lines : List Line)
+    (h : History) : Type 0 where
   pub number : length lines ≡ length stations
-  pub held : (k : ℕ) → held (get_or lines k line.Free) ≡ on_line sizes stations ms k h
-  pub used : (k : ℕ) → is_used (get_or lines k line.Free) ≡ is_on_line sizes stations ms k h
+  pub held : (k : ℕ) → held (get_or lines k line.Free) ≡ on_line sizes stations ms age k h
+  pub used : (k : ℕ) → is_used (get_or lines k line.Free) ≡ is_on_line sizes stations ms age k h
 
 -- own answers go out first in, first out
 pub record KeepsOwn (answers : List (List ℕ)) (h : History) : Type 0 where
   pub in_turn : own_kept h ≡ own_sent h ++ answers
   pub kept : KeepsOwnAnswers h
 
-pub record Keeps (sizes : Sizes) (stations : List StationInfo) (ms : ℕ) (waiting : List Waiting) (lines : List Line) (selections : List Selection) (answers : List (List ℕ)) (h : History) : Type 0 where
-  pub queue : KeepsQueue sizes stations ms waiting h
-  pub on_lines : KeepsLines sizes stations ms lines h
+pub record Keeps (sizes : Sizes) (stations : List StationInfo) (ms age : ℕ) (waiting : List Waiting)
+    (lines : List Line) (selections : List Selection) (answers : List (List ℕ)) (h : History) : Type 0 where
+  pub queue : KeepsQueue sizes stations ms age waiting h
+  pub on_lines : KeepsLines sizes stations ms age lines h
   pub own : KeepsOwn answers h
-  pub tied : AllByRecursion (Tied sizes stations ms h) selections
-  pub executes : ExecutesAreSelected sizes stations ms h
-  pub rightly : GivesOwnAnswers sizes stations ms h
+  pub tied : AllByRecursion (Tied sizes stations ms age h) selections
+  pub executes : ExecutesAreSelected sizes stations ms age h
+  pub rightly : GivesOwnAnswers sizes stations ms age h
 
 -- the settings stay
 pub record Same (s t : State) : Type 0 where
   pub sizes : t.sizes ≡ s.sizes
   pub stations : t.stations ≡ s.stations
   pub select_ms : t.select_ms ≡ s.select_ms
+  pub max_age_ms : t.max_age_ms ≡ s.max_age_ms

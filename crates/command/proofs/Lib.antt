@@ -19,5 +19,6 @@ pub mod Distinct
 pub mod Standing
 pub mod Refusals
 pub mod Examples
+pub mod Tagged
 pub mod Staying
 pub mod OwnAnswers

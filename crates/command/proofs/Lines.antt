@@ -17,30 +17,41 @@ freed [] j = refl
 freed (x ∷ xs) zero = refl
 freed (x ∷ xs) (suc j) = freed xs j
 
-pub other_line : (lines : List Line) (j k : ℕ) (x : Line) → (k == j) ≡ false → at_line (set lines j x) k ≡ at_line lines k
+pub other_line : (lines : List Line) (j k : ℕ) (x : Line) → (k == j) ≡ false
+    → at_line (set lines j x) k ≡ at_line lines k
 other_line lines j k x h =
-    let ne : k ≢ j = λ (e : k ≡ j). (let t : (k == j) ≡ true = grind (arith, e) in let f : false ≡ true = sym h ∙ t in search (rules, f)) in
+    let ne : k ≢ j = λ (e : k ≡ j). (let t : (k == j) ≡ true = grind (arith, e) in let f : false ≡ true = sym h ∙ t in
+    search (rules, f)) in
     get_or-set_other lines j k x line.Free ne
 
 -- the command on line j is done
-pub done_held : (lines : List Line) (j k : ℕ) (old : Option (List ℕ)) → held (at_line lines k) ≡ old → (b : Bool) → (k == j) ≡ b → held (at_line (set lines j line.Free) k) ≡ (if b then None else old)
-done_held lines j k old h true e = subst (λ n. held (at_line (set lines j line.Free) n) ≡ None) (sym (eqb-true k j e)) (ap held (freed lines j))
+pub done_held : (lines : List Line) (j k : ℕ) (old : Option (List ℕ)) → held (at_line lines k) ≡ old → (b : Bool)
+    → (k == j) ≡ b → held (at_line (set lines j line.Free) k) ≡ (if b then None else old)
+done_held lines j k old h true e = subst (λ n. held (at_line (set lines j line.Free) n) ≡ None) (sym (eqb-true k j e))
+    (ap held (freed lines j))
 done_held lines j k old h false e = ap held (other_line lines j k line.Free e) ∙ h
 
-pub done_used : (lines : List Line) (j k : ℕ) (old : Bool) → is_used (at_line lines k) ≡ old → (b : Bool) → (k == j) ≡ b → is_used (at_line (set lines j line.Free) k) ≡ (not b && old)
-done_used lines j k old h true e = subst (λ n. is_used (at_line (set lines j line.Free) n) ≡ false) (sym (eqb-true k j e)) (ap is_used (freed lines j))
+pub done_used : (lines : List Line) (j k : ℕ) (old : Bool) → is_used (at_line lines k) ≡ old → (b : Bool)
+    → (k == j) ≡ b → is_used (at_line (set lines j line.Free) k) ≡ (not b && old)
+done_used lines j k old h true e = subst (λ n. is_used (at_line (set lines j line.Free) n) ≡ false)
+    (sym (eqb-true k j e)) (ap is_used (freed lines j))
 done_used lines j k old h false e = ap is_used (other_line lines j k line.Free e) ∙ h
 
 -- a command is put on line j
-pub put_held : (lines : List Line) (j k : ℕ) (xs : List ℕ) (new old : Option (List ℕ)) → j < length lines → (k ≡ j → new ≡ Some xs) → held (at_line lines k) ≡ old → (b : Bool) → (k == j) ≡ b →
+pub put_held : (lines : List Line) (j k : ℕ) (xs : List ℕ) (new old : Option (List ℕ)) → j < length lines
+    → (k ≡ j → new ≡ Some xs) → held (at_line lines k) ≡ old → (b : Bool) → (k == j) ≡ b →
     held (at_line (set lines j (line.Holds xs)) k) ≡ (if b then new else old)
 put_held lines j k xs new old less n h true e =
     let at : k ≡ j = eqb-true k j e in
-    subst (λ m. held (at_line (set lines j (line.Holds xs)) m) ≡ Some xs) (sym at) (ap held (get_or-set_same lines j (line.Holds xs) line.Free less)) ∙ sym (n at)
+    subst (λ m. held (at_line (set lines j (line.Holds xs)) m) ≡ Some xs) (sym at)
+    (ap held (get_or-set_same lines j (line.Holds xs) line.Free less)) ∙ sym (n at)
 put_held lines j k xs new old less n h false e = ap held (other_line lines j k (line.Holds xs) e) ∙ h
 
-pub put_used : (lines : List Line) (j k : ℕ) (xs : List ℕ) (old : Bool) → j < length lines → is_used (at_line lines k) ≡ old → (b : Bool) → (k == j) ≡ b → is_used (at_line (set lines j (line.Holds xs)) k) ≡ (b || old)
-put_used lines j k xs old less h true e = subst (λ m. is_used (at_line (set lines j (line.Holds xs)) m) ≡ true) (sym (eqb-true k j e)) (ap is_used (get_or-set_same lines j (line.Holds xs) line.Free less))
+pub put_used : (lines : List Line) (j k : ℕ) (xs : List ℕ) (old : Bool) → j < length lines
+    → is_used (at_line lines k) ≡ old → (b : Bool) → (k == j) ≡ b
+    → is_used (at_line (set lines j (line.Holds xs)) k) ≡ (b || old)
+put_used lines j k xs old less h true e = subst (λ m. is_used (at_line (set lines j (line.Holds xs)) m) ≡ true)
+    (sym (eqb-true k j e)) (ap is_used (get_or-set_same lines j (line.Holds xs) line.Free less))
 put_used lines j k xs old less h false e = ap is_used (other_line lines j k (line.Holds xs) e) ∙ h
 
 -- the connection ended

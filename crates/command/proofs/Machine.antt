@@ -1,6 +1,6 @@
 -- The selects of a history by the machine's own functions. They are those of specs/History (proofs/Bridge).
 use Rattle.std.proofs.Common.{◌≡◌, ℕ, ◌-◌, ◌<◌, ◌&&◌, Bool, true, false, not, List, [], ◌∷◌, length}
-use Rattle.std.specs.Prelude.{Option, Some, None, if◌then◌else◌, is_none, nat_lt}
+use Rattle.std.specs.Prelude.{◌==◌, Option, Some, None, if◌then◌else◌, is_none, nat_lt}
 use Rattle.std.specs.List.{list_any}
 use Rattle.asdu.specs.Asdu.{AsduValue, Info}
 use Rattle.asdu.specs.declared.sizes.Sizes.{Sizes}
@@ -40,10 +40,11 @@ names_one c v (i ∷ j ∷ is) = false
 abbrev pub confirms : Command → AsduValue → Bool
 confirms c v = not (is_con true v.cause) && is_con false v.cause && names_one c v v.infos
 
-module _ (sizes : Sizes) (stations : List StationInfo) (select_ms : ℕ) where
-  -- the command has no fault of its own, and is for this target
-  abbrev pub names : Target → List ℕ → Bool
-  names target xs = is_none (fault sizes stations xs) && same_target target (target_of (command_at xs))
+module _ (sizes : Sizes) (stations : List StationInfo) (select_ms max_age_ms : ℕ) where
+  -- the command, which came at this wall moment, has no fault of its own, and is for this target
+  abbrev pub names : Target → Option ℕ → List ℕ → Bool
+  names target wall xs = is_none (fault sizes stations max_age_ms wall xs)
+      && same_target target (target_of (command_at xs))
 
   abbrev pub station_of : Command → ℕ
   station_of c = station_number c.ca stations
@@ -52,10 +53,15 @@ module _ (sizes : Sizes) (stations : List StationInfo) (select_ms : ℕ) where
   -- deactivation without a fault of its own, and no negative con, came since.
   abbrev pub standing : Target → History → Option Select
   standing t [] = None
-  standing t (Judged now xs a ∷ h) =
-      if not (names t xs) then standing t h
+  standing t (Judged now wall xs a ∷ h) =
+      if not (names t wall xs) then standing t h
       else (if is_none a && makes_selection stations (command_at xs)
-      then Some (record { command = command_at xs; came = now; place = length (forwarded_to sizes stations select_ms (station_of (command_at xs)) h) })
+      then Some (record {
+        command = command_at xs;
+        came = now;
+        place =
+            length (forwarded_to sizes stations select_ms max_age_ms (station_of (command_at xs)) h);
+      })
       else (if ends_selection (command_at xs) then None else standing t h))
   standing t (Mirrored now v ∷ h) = if negates t v then None else standing t h
   standing t (Ended ∷ h) = None
@@ -65,7 +71,9 @@ module _ (sizes : Sizes) (stations : List StationInfo) (select_ms : ℕ) where
   abbrev pub confirmed_at : Select → History → Option ℕ
   confirmed_at z [] = None
   confirmed_at z (Mirrored now v ∷ h) =
-      if (confirms z.command v && nat_lt (now - z.came) select_ms) && is_accepted_at sizes stations select_ms (station_of z.command) z.place h then Some now else confirmed_at z h
+      if (confirms z.command v && nat_lt (now - z.came) select_ms)
+      && is_accepted_at sizes stations select_ms max_age_ms
+      (station_of z.command) z.place h then Some now else confirmed_at z h
   confirmed_at z (Ended ∷ h) = None
   confirmed_at z (_ ∷ h) = confirmed_at z h
 
@@ -74,6 +82,7 @@ module _ (sizes : Sizes) (stations : List StationInfo) (select_ms : ℕ) where
   pub record IsSelected (x : Command) (now : ℕ) (h : History) : Type 0 where
     pub select : Select
     pub stands : standing (target_of x) h ≡ Some select
+    pub received : (select.command.received == x.received) ≡ true
     pub element : same_element (without_select select.command.element) x.element ≡ true
     pub test : same_test select.command.cause x.cause ≡ true
     pub moment : ℕ
@@ -83,6 +92,7 @@ module _ (sizes : Sizes) (stations : List StationInfo) (select_ms : ℕ) where
   -- each forwarded execute to a station that asks for selects is selected
   abbrev pub ExecutesAreSelected : History → Type 0
   ExecutesAreSelected [] = Unit {0}
-  ExecutesAreSelected (Judged now xs None ∷ h) =
-      (is_guarded stations (command_at xs) ≡ true → is_execute (command_at xs) ≡ true → IsSelected (command_at xs) now h) × ExecutesAreSelected h
+  ExecutesAreSelected (Judged now wall xs None ∷ h) =
+      (is_guarded stations (command_at xs) ≡ true → is_execute (command_at xs) ≡ true
+      → IsSelected (command_at xs) now h) × ExecutesAreSelected h
   ExecutesAreSelected (_ ∷ h) = ExecutesAreSelected h

@@ -14,9 +14,9 @@ use Rattle.command.specs.Octets.{answer, negative, refused_cause}
 use Rattle.command.specs.Command.{is_command_type}
 use Rattle.command.specs.State.{State, line_of, refusal_of}
 use Rattle.command.specs.Judging.{judged}
-use Rattle.command.specs.Standard.{is_process_type, cause_of_fault, first_cause}
+use Rattle.command.specs.Standard.{operates, cause_of_fault, first_cause}
 use Rattle.command.specs.Rules.{rules_for}
-use Rattle.command.proofs.ReadAlike.{types_read}
+use Rattle.command.proofs.ReadAlike.{operates_read}
 use Rattle.command.specs.History.{Judged, Sent, Accepted, Refused, GivenUp, Mirrored, Offered, Answered, Ended, History, first, is_for, forwarded_to, sent_count, next_for, on_line, GivesOwnAnswers}
 use Rattle.command.specs.Calls.{Call, run}
 use Rattle.command.proofs.Spelled.{Names, command_type}
@@ -27,31 +27,38 @@ use Rattle.command.proofs.Runs.{run_holds}
 
 -- ---- one answer
 
-not_passed : (xs : List ℕ) → is_typed_passed_on (type_of (slice_index xs 0)) (slice_index xs 2) ≡ false → monitor_objects_of tcp xs ≡ []
+not_passed : (xs : List ℕ) → is_typed_passed_on (type_of (slice_index xs 0)) (slice_index xs 2) ≡ false
+    → monitor_objects_of tcp xs ≡ []
 unfolding monitor_objects_of
 not_passed xs e = ap (λ (b : Bool). only_if b (objects_of tcp xs)) e
 
-command_not_passed : (o : Option TypeId) (t : TypeId) (cause : ℕ) → o ≡ Some t → (row t).monitor ≡ false → is_typed_passed_on o cause ≡ false
+command_not_passed : (o : Option TypeId) (t : TypeId) (cause : ℕ) → o ≡ Some t → (row t).monitor ≡ false
+    → is_typed_passed_on o cause ≡ false
 command_not_passed o t cause is off = ap (λ (v : Option TypeId). is_typed_passed_on v cause) is ∙ rw off refl
 
-first_stays : (cause : ℕ) (xs : List ℕ) → is_command_type (slice_index xs 0) ≡ true → slice_index (answer cause xs) 0 ≡ slice_index xs 0
+first_stays : (cause : ℕ) (xs : List ℕ) → is_command_type (slice_index xs 0) ≡ true
+    → slice_index (answer cause xs) 0 ≡ slice_index xs 0
 first_stays cause [] is = cc
 first_stays cause (x ∷ []) is = refl
 first_stays cause (x ∷ y ∷ ys) is = refl
 
 -- of a command's type
-pub of_command : (cause : ℕ) (xs : List ℕ) → is_command_type (slice_index xs 0) ≡ true → monitor_objects_of tcp (answer cause xs) ≡ []
+pub of_command : (cause : ℕ) (xs : List ℕ) → is_command_type (slice_index xs 0) ≡ true
+    → monitor_objects_of tcp (answer cause xs) ≡ []
 of_command cause xs is =
     let n : Names (slice_index xs 0) = command_type (slice_index xs 0) is in
     not_passed (answer cause xs)
-    (command_not_passed (type_of (slice_index (answer cause xs) 0)) n.type (slice_index (answer cause xs) 2) (ap type_of (first_stays cause xs is) ∙ n.named) n.monitor)
+    (command_not_passed (type_of (slice_index (answer cause xs) 0)) n.type (slice_index (answer cause xs) 2)
+    (ap type_of (first_stays cause xs is) ∙ n.named) n.monitor)
 
-cause_set : (cause : ℕ) (xs : List ℕ) → 9 ≤ length xs → slice_index (answer cause xs) 2 ≡ refused_cause cause (slice_index xs 2)
+cause_set : (cause : ℕ) (xs : List ℕ) → 9 ≤ length xs → slice_index (answer cause xs) 2
+    ≡ refused_cause cause (slice_index xs 2)
 cause_set cause [] long = absurd (omega (arith, long))
 cause_set cause (x ∷ []) long = absurd (omega (arith, long))
 cause_set cause (x ∷ y ∷ ys) long = refl
 
-unknown_not_passed : (o : Option TypeId) (octet : ℕ) → octet < 256 → is_typed_passed_on o (refused_cause 44 octet) ≡ false
+unknown_not_passed : (o : Option TypeId) (octet : ℕ) → octet < 256
+    → is_typed_passed_on o (refused_cause 44 octet) ≡ false
 unknown_not_passed None octet small = refl
 unknown_not_passed (Some t) octet small = go (octet / 128) refl (omega (arith, small))
   where
@@ -73,42 +80,62 @@ of_unknown xs long small =
 
 -- ---- judging
 
-pub of_judging : (xs : List ℕ) (now : ℕ) (s : State) (a : List ℕ) → 9 ≤ length xs → slice_index xs 2 < 256 → (judged xs now s).0 ≡ Some a → monitor_objects_of tcp a ≡ []
-of_judging xs now s a long small is = by_type (is_process_type (slice_index xs 0) || slice_index xs 0 == 100) refl (sym (first_rule xs now s) ∙ is)
+pub of_judging : (xs : List ℕ) (now : ℕ) (wall : Option ℕ) (s : State) (a : List ℕ) → 9 ≤ length xs
+    → slice_index xs 2 < 256 → (judged xs now wall s).0 ≡ Some a → monitor_objects_of tcp a ≡ []
+of_judging xs now wall s a long small is = by_type (operates xs || slice_index xs 0 == 100) refl
+    (sym (first_rule xs now wall s) ∙ is)
   where
-    of_cause : is_command_type (slice_index xs 0) ≡ true → (o : Option ℕ) → option_map (λ (cause : ℕ). answer cause xs) o ≡ Some a → monitor_objects_of tcp a ≡ []
+    of_cause : is_command_type (slice_index xs 0) ≡ true → (o : Option ℕ)
+        → option_map (λ (cause : ℕ). answer cause xs) o ≡ Some a → monitor_objects_of tcp a ≡ []
     of_cause known None e = cc
     of_cause known (Some cause) e =
         let same : answer cause xs ≡ a = cc in
         subst (λ (ys : List ℕ). monitor_objects_of tcp ys ≡ []) same (of_command cause xs known)
 
-    by_type : (b : Bool) → (is_process_type (slice_index xs 0) || slice_index xs 0 == 100) ≡ b → option_map (λ (cause : ℕ). answer cause xs) (first_cause (rules_for xs now s)) ≡ Some a → monitor_objects_of tcp a ≡ []
-    by_type true known e = of_cause (ap (λ (b : Bool). b || slice_index xs 0 == 100) (types_read (slice_index xs 0)) ∙ known) (first_cause (rules_for xs now s)) e
+    by_type : (b : Bool) → (operates xs || slice_index xs 0 == 100) ≡ b
+        → option_map (λ (cause : ℕ). answer cause xs) (first_cause (rules_for xs now wall s)) ≡ Some a
+        → monitor_objects_of tcp a ≡ []
+    by_type true known e = of_cause (ap (λ (b : Bool). b || slice_index xs 0 == 100) (operates_read xs)
+        ∙ known) (first_cause (rules_for xs now wall s)) e
     by_type false unknown e =
         let same : answer 44 xs ≡ a = (let given : Some (answer 44 xs) ≡ Some a = rw unknown at e in cc) in
         subst (λ (ys : List ℕ). monitor_objects_of tcp ys ≡ []) same (of_unknown xs long small)
 
 -- ---- a busy station
 
-first_of : (P : List ℕ → Type 0) (n : ℕ) (xss : List (List ℕ)) (xs : List ℕ) → AllByRecursion P xss → first (drop n xss) ≡ Some xs → P xs
+first_of : (P : List ℕ → Type 0) (n : ℕ) (xss : List (List ℕ)) (xs : List ℕ) → AllByRecursion P xss
+    → first (drop n xss) ≡ Some xs → P xs
 first_of P zero [] xs all e = cc
 first_of P zero (x ∷ xss) xs all e = (let same : x ≡ xs = cc in subst P same all.0)
 first_of P (suc n) [] xs all e = cc
 first_of P (suc n) (x ∷ xss) xs all e = first_of P n xss xs all.1 e
 
-module _ (sizes : Sizes) (stations : List StationInfo) (ms : ℕ) where
-  abbrev HasNoFault : List ℕ → Type 0
-  HasNoFault xs = cause_of_fault sizes stations xs ≡ None
+-- the type is known where there is no fault
+typed : (sizes : Sizes) (stations : List StationInfo) (age : ℕ) (wall : Option ℕ) (xs : List ℕ)
+    → cause_of_fault sizes stations age wall xs ≡ None → is_command_type (slice_index xs 0) ≡ true
+typed sizes stations age wall xs e = ap (λ (b : Bool). b || slice_index xs 0 == 100) (operates_read xs)
+    ∙ go (operates xs || slice_index xs 0 == 100) _ e
+  where
+    go : (b : Bool) (rest : Option ℕ) → (if not b then Some 44 else rest) ≡ None → b ≡ true
+    go true rest e = refl
+    go false rest e = cc
 
-  one_more : (b : Bool) (xss : List (List ℕ)) (xs : List ℕ) → AllByRecursion HasNoFault xss → HasNoFault xs → AllByRecursion HasNoFault (if b then xss ++ xs ∷ [] else xss)
-  one_more true xss xs all one = all_append HasNoFault xss xs all one
+module _ (sizes : Sizes) (stations : List StationInfo) (ms age : ℕ) where
+  abbrev IsKnown : List ℕ → Type 0
+  IsKnown xs = is_command_type (slice_index xs 0) ≡ true
+
+  one_more : (b : Bool) (xss : List (List ℕ)) (xs : List ℕ) → AllByRecursion IsKnown xss → IsKnown xs
+      → AllByRecursion IsKnown (if b then xss ++ xs ∷ [] else xss)
+  one_more true xss xs all one = all_append IsKnown xss xs all one
   one_more false xss xs all one = all
 
-  -- what is forwarded has no fault
-  all_forwarded : (k : ℕ) (h : History) → GivesOwnAnswers sizes stations ms h → AllByRecursion HasNoFault (forwarded_to sizes stations ms k h)
+  -- what is forwarded is of a known type
+  all_forwarded : (k : ℕ) (h : History) → GivesOwnAnswers sizes stations ms age h
+      → AllByRecursion IsKnown (forwarded_to sizes stations ms age k h)
   all_forwarded k [] g = tt
-  all_forwarded k (Judged now xs None ∷ h) g = one_more (is_for sizes stations ms k xs) (forwarded_to sizes stations ms k h) xs (all_forwarded k h g.1) g.0
-  all_forwarded k (Judged now xs (Some a) ∷ h) g = all_forwarded k h g.1
+  all_forwarded k (Judged now wall xs None ∷ h) g = one_more (is_for sizes stations ms age k xs)
+      (forwarded_to sizes stations ms age k h) xs (all_forwarded k h g.1) (typed sizes stations age wall xs g.0)
+  all_forwarded k (Judged now wall xs (Some a) ∷ h) g = all_forwarded k h g.1
   all_forwarded k (Sent j octets ∷ h) g = all_forwarded k h g
   all_forwarded k (Accepted j ∷ h) g = all_forwarded k h g
   all_forwarded k (Refused j a ∷ h) g = all_forwarded k h g.1
@@ -118,49 +145,50 @@ module _ (sizes : Sizes) (stations : List StationInfo) (ms : ℕ) where
   all_forwarded k (Answered octets ∷ h) g = all_forwarded k h g
   all_forwarded k (Ended ∷ h) g = tt
 
-  gone : (b : Bool) (o : Option (List ℕ)) (xs : List ℕ) → (o ≡ Some xs → HasNoFault xs) → (if b then None else o) ≡ Some xs → HasNoFault xs
+  gone : (b : Bool) (o : Option (List ℕ)) (xs : List ℕ) → (o ≡ Some xs → IsKnown xs)
+      → (if b then None else o) ≡ Some xs → IsKnown xs
   gone true o xs later e = cc
   gone false o xs later e = later e
 
-  put : (b : Bool) (next o : Option (List ℕ)) (xs : List ℕ) → (next ≡ Some xs → HasNoFault xs) → (o ≡ Some xs → HasNoFault xs) → (if b then next else o) ≡ Some xs → HasNoFault xs
+  put : (b : Bool) (next o : Option (List ℕ)) (xs : List ℕ) → (next ≡ Some xs → IsKnown xs)
+      → (o ≡ Some xs → IsKnown xs) → (if b then next else o) ≡ Some xs → IsKnown xs
   put true next o xs now later e = now e
   put false next o xs now later e = later e
 
-  -- what stands on a line has none
-  on_line_faultless : (k : ℕ) (h : History) (xs : List ℕ) → GivesOwnAnswers sizes stations ms h → on_line sizes stations ms k h ≡ Some xs → HasNoFault xs
-  on_line_faultless k [] xs g e = cc
-  on_line_faultless k (Judged now ys None ∷ h) xs g e = on_line_faultless k h xs g.1 e
-  on_line_faultless k (Judged now ys (Some a) ∷ h) xs g e = on_line_faultless k h xs g.1 e
-  on_line_faultless k (Sent j octets ∷ h) xs g e =
-      put (k == j) (next_for sizes stations ms k h) (on_line sizes stations ms k h) xs
-      (first_of HasNoFault (sent_count sizes stations ms k h) (forwarded_to sizes stations ms k h) xs (all_forwarded k h g))
-      (on_line_faultless k h xs g) e
-  on_line_faultless k (Accepted j ∷ h) xs g e = gone (k == j) (on_line sizes stations ms k h) xs (on_line_faultless k h xs g) e
-  on_line_faultless k (Refused j a ∷ h) xs g e = gone (k == j) (on_line sizes stations ms k h) xs (on_line_faultless k h xs g.1) e
-  on_line_faultless k (GivenUp j b ∷ h) xs g e = gone (k == j) (on_line sizes stations ms k h) xs (on_line_faultless k h xs g.1) e
-  on_line_faultless k (Mirrored now v ∷ h) xs g e = on_line_faultless k h xs g e
-  on_line_faultless k (Offered octets kept ∷ h) xs g e = on_line_faultless k h xs g e
-  on_line_faultless k (Answered octets ∷ h) xs g e = on_line_faultless k h xs g e
-  on_line_faultless k (Ended ∷ h) xs g e = cc
+  -- and so is what stands on a line
+  on_line_known : (k : ℕ) (h : History) (xs : List ℕ) → GivesOwnAnswers sizes stations ms age h
+      → on_line sizes stations ms age k h ≡ Some xs → IsKnown xs
+  on_line_known k [] xs g e = cc
+  on_line_known k (Judged now wall ys None ∷ h) xs g e = on_line_known k h xs g.1 e
+  on_line_known k (Judged now wall ys (Some a) ∷ h) xs g e = on_line_known k h xs g.1 e
+  on_line_known k (Sent j octets ∷ h) xs g e =
+      put (k == j) (next_for sizes stations ms age k h) (on_line sizes stations ms age k h) xs
+      (first_of IsKnown (sent_count sizes stations ms age k h) (forwarded_to sizes stations ms age k h) xs
+      (all_forwarded k h g))
+      (on_line_known k h xs g) e
+  on_line_known k (Accepted j ∷ h) xs g e = gone (k == j) (on_line sizes stations ms age k h) xs
+      (on_line_known k h xs g) e
+  on_line_known k (Refused j a ∷ h) xs g e = gone (k == j) (on_line sizes stations ms age k h) xs
+      (on_line_known k h xs g.1) e
+  on_line_known k (GivenUp j b ∷ h) xs g e = gone (k == j) (on_line sizes stations ms age k h) xs
+      (on_line_known k h xs g.1) e
+  on_line_known k (Mirrored now v ∷ h) xs g e = on_line_known k h xs g e
+  on_line_known k (Offered octets kept ∷ h) xs g e = on_line_known k h xs g e
+  on_line_known k (Answered octets ∷ h) xs g e = on_line_known k h xs g e
+  on_line_known k (Ended ∷ h) xs g e = cc
 
--- the type is known where there is no fault
-typed : (sizes : Sizes) (stations : List StationInfo) (xs : List ℕ) → cause_of_fault sizes stations xs ≡ None → is_command_type (slice_index xs 0) ≡ true
-typed sizes stations xs e = ap (λ (b : Bool). b || slice_index xs 0 == 100) (types_read (slice_index xs 0)) ∙ go (is_process_type (slice_index xs 0) || slice_index xs 0 == 100) _ e
+pub of_busy : (sizes : Sizes) (stations : List StationInfo) (ms age : ℕ) (calls : List Call) (k : ℕ) (a : List ℕ) →
+    refusal_of (line_of k (run stations sizes ms age calls).state) ≡ Some a → monitor_objects_of tcp a ≡ []
+of_busy sizes stations ms age calls k a is = go (line_of k (run stations sizes ms age calls).state)
+    ((run_holds sizes stations ms age calls).keeps.on_lines.held k) is
   where
-    go : (b : Bool) (rest : Option ℕ) → (if not b then Some 44 else rest) ≡ None → b ≡ true
-    go true rest e = refl
-    go false rest e = cc
-
-pub of_busy : (sizes : Sizes) (stations : List StationInfo) (ms : ℕ) (calls : List Call) (k : ℕ) (a : List ℕ) →
-    refusal_of (line_of k (run stations sizes ms calls).state) ≡ Some a → monitor_objects_of tcp a ≡ []
-of_busy sizes stations ms calls k a is = go (line_of k (run stations sizes ms calls).state) ((run_holds sizes stations ms calls).keeps.on_lines.held k) is
-  where
-    go : (l : Line) → held l ≡ on_line sizes stations ms k (run stations sizes ms calls).history → refusal_of l ≡ Some a → monitor_objects_of tcp a ≡ []
+    go : (l : Line) → held l ≡ on_line sizes stations ms age k (run stations sizes ms age calls).history
+        → refusal_of l ≡ Some a → monitor_objects_of tcp a ≡ []
     go line.Free h e = cc
     go (line.Holds xs) h e =
         let same : answer (negative xs) xs ≡ a = cc in
         subst (λ (ys : List ℕ). monitor_objects_of tcp ys ≡ []) same
         (of_command (negative xs) xs
-        (typed sizes stations xs
-        (on_line_faultless sizes stations ms k (run stations sizes ms calls).history xs (run_holds sizes stations ms calls).keeps.rightly (sym h))))
+        (on_line_known sizes stations ms age k (run stations sizes ms age calls).history xs
+        (run_holds sizes stations ms age calls).keeps.rightly (sym h)))
     go line.CutOff h e = cc

@@ -13,15 +13,18 @@ same_test_bit cause z known octet = by (z / 128) refl (omega (arith, octet))
     by (suc (suc q)) e h = absurd (omega (arith, h))
 
 is_negative : (cause z : ℕ) → cause < 64 → nat_le 64 (refused_cause cause z % 128) ≡ true
-is_negative cause z known = (let low : (z / 128 * 128 + 64 + cause) % 128 ≡ 64 + cause = omega (arith, known) in rw low (grind arith))
+is_negative cause z known = (let low : (z / 128 * 128 + 64 + cause) % 128 ≡ 64 + cause = omega (arith, known) in
+    rw low (grind arith))
 
-other_octets : (cause x y z : ℕ) (zs : List ℕ) (k : ℕ) → k ≢ 2 → slice_index (answer cause (x ∷ y ∷ z ∷ zs)) k ≡ slice_index (x ∷ y ∷ z ∷ zs) k
+other_octets : (cause x y z : ℕ) (zs : List ℕ) (k : ℕ) → k ≢ 2
+    → slice_index (answer cause (x ∷ y ∷ z ∷ zs)) k ≡ slice_index (x ∷ y ∷ z ∷ zs) k
 other_octets cause x y z zs zero h = refl
 other_octets cause x y z zs (suc zero) h = refl
 other_octets cause x y z zs (suc (suc zero)) h = absurd (h refl)
 other_octets cause x y z zs (suc (suc (suc k))) h = refl
 
-pub refuses : (cause : ℕ) (xs : List ℕ) → cause < 64 → 9 ≤ length xs → slice_index xs 2 < 256 → IsRefusal cause xs (answer cause xs)
+pub refuses : (cause : ℕ) (xs : List ℕ) → cause < 64 → 9 ≤ length xs → slice_index xs 2 < 256
+    → IsRefusal cause xs (answer cause xs)
 refuses cause [] known long octet = absurd (omega (arith, long))
 refuses cause (x ∷ []) known long octet = absurd (omega (arith, long))
 refuses cause (x ∷ y ∷ []) known long octet = absurd (omega (arith, long))

@@ -1,5 +1,5 @@
 -- What this crate proves of every list of calls, and of its calls, gathered for crates above.
-use Rattle.std.specs.Prelude.{◌≡◌, ℕ, ◌<◌, ◌≤◌, ◌++◌, ◌==◌, false, List, [], length, slice_index, Some}
+use Rattle.std.specs.Prelude.{◌≡◌, ℕ, ◌<◌, ◌≤◌, ◌++◌, ◌==◌, false, List, [], length, slice_index, Option, Some, option_map}
 use Rattle.asdu.specs.Sizes.{tcp}
 use Rattle.asdu.specs.Asdu.{AsduValue}
 use Rattle.asdu.specs.InformationObjects.{monitor_objects_of}
@@ -7,52 +7,71 @@ use Rattle.asdu.specs.declared.sizes.Sizes.{Sizes}
 use Rattle.command.specs.declared.station.StationInfo.{StationInfo}
 use Rattle.command.specs.State.{State, octets_waiting, line_of, refusal_of, sent}
 use Rattle.command.specs.Judging.{judged}
-use Rattle.command.specs.Mirrors.{mirrored}
-use Rattle.command.specs.History.{ForwardsCommands, ExecutesAreSelected, GivesOwnAnswers, KeepsOwnAnswers, own_kept, own_sent}
+use Rattle.command.specs.Mirrors.{mirrored, tag_for}
+use Rattle.command.specs.History.{ForwardsCommands, SendsFreshCommands, mirror_tag, ExecutesAreSelected, GivesOwnAnswers, KeepsOwnAnswers, own_kept, own_sent}
 use Rattle.command.specs.Calls.{Call, Run, after_call, first_run}
 use Rattle.command.specs.Laws.{AfterEachRun, IsRun, OfEachRun}
 
 -- by the calls
 pub record CommandLaws : Type 0 where
-  pub forwarded : AfterEachRun (λ stations sizes select_ms s h.
-      ForwardsCommands sizes stations select_ms h)
-  pub selected : AfterEachRun (λ stations sizes select_ms s h.
-      ExecutesAreSelected sizes stations select_ms h)
-  pub right : AfterEachRun (λ stations sizes select_ms s h.
-      GivesOwnAnswers sizes stations select_ms h)
-  pub in_turn : AfterEachRun (λ stations sizes select_ms s h. own_kept h ≡ own_sent h ++ s.answers)
-  pub kept : AfterEachRun (λ stations sizes select_ms s h. KeepsOwnAnswers h)
-  pub judged_waits : (xs : List ℕ) (now k : ℕ) (s : State) (octets : List ℕ) →
-      octets_waiting k s ≡ Some octets → octets_waiting k (judged xs now s).1 ≡ Some octets
-  pub mirrored_waits : (v : AsduValue) (now : ℕ) (s : State) → (mirrored v now s).waiting ≡ s.waiting
+  pub forwarded : AfterEachRun (λ stations sizes select_ms max_age_ms s h.
+      ForwardsCommands sizes stations select_ms max_age_ms h)
+  pub selected : AfterEachRun (λ stations sizes select_ms max_age_ms s h.
+      ExecutesAreSelected sizes stations select_ms max_age_ms h)
+  pub right : AfterEachRun (λ stations sizes select_ms max_age_ms s h.
+      GivesOwnAnswers sizes stations select_ms max_age_ms h)
+  pub in_turn : AfterEachRun (λ stations sizes select_ms max_age_ms s h.
+      own_kept h ≡ own_sent h ++ s.answers)
+  pub kept : AfterEachRun (λ stations sizes select_ms max_age_ms s h. KeepsOwnAnswers h)
+  pub fresh : AfterEachRun (λ stations sizes select_ms max_age_ms s h.
+      SendsFreshCommands sizes stations select_ms max_age_ms h)
+  pub tags : AfterEachRun (λ stations sizes select_ms max_age_ms s h. (v : AsduValue) →
+      option_map (λ tag. tag.0) (tag_for v v.infos s)
+      ≡ mirror_tag sizes stations select_ms max_age_ms v v.infos h)
+  pub judged_waits : (xs : List ℕ) (now : ℕ) (wall : Option ℕ) (k : ℕ) (s : State)
+      (octets : List ℕ) → octets_waiting k s ≡ Some octets →
+      octets_waiting k (judged xs now wall s).1 ≡ Some octets
+  pub mirrored_waits : (v : AsduValue) (now : ℕ) (s : State) →
+      (mirrored v now s).waiting ≡ s.waiting
   pub sent_waits : (j k : ℕ) (s : State) → (k == j) ≡ false →
       octets_waiting k (sent j s) ≡ octets_waiting k s
-  pub judged_answers : (xs : List ℕ) (now : ℕ) (s : State) → (judged xs now s).1.answers ≡ s.answers
+  pub judged_answers : (xs : List ℕ) (now : ℕ) (wall : Option ℕ) (s : State) →
+      (judged xs now wall s).1.answers ≡ s.answers
   pub mirrored_answers : (v : AsduValue) (now : ℕ) (s : State) →
       (mirrored v now s).answers ≡ s.answers
   pub sent_answers : (j : ℕ) (s : State) → (sent j s).answers ≡ s.answers
-  pub judged_plain : (xs : List ℕ) (now : ℕ) (s : State) (a : List ℕ) → 9 ≤ length xs →
-      slice_index xs 2 < 256 → (judged xs now s).0 ≡ Some a → monitor_objects_of tcp a ≡ []
-  pub busy_plain : AfterEachRun (λ stations sizes select_ms s h. (k : ℕ) (a : List ℕ) →
-      refusal_of (line_of k s) ≡ Some a → monitor_objects_of tcp a ≡ [])
+  pub judged_plain : (xs : List ℕ) (now : ℕ) (wall : Option ℕ) (s : State) (a : List ℕ) →
+      9 ≤ length xs → slice_index xs 2 < 256 → (judged xs now wall s).0 ≡ Some a →
+      monitor_objects_of tcp a ≡ []
+  pub busy_plain : AfterEachRun (λ stations sizes select_ms max_age_ms s h. (k : ℕ)
+      (a : List ℕ) → refusal_of (line_of k s) ≡ Some a → monitor_objects_of tcp a ≡ [])
 
 -- The same by the state and the history that calls leave, for a crate that keeps these two and not
 -- the calls.
 pub record RunLaws : Type 0 where
-  pub first : (stations : List StationInfo) (sizes : Sizes) (select_ms : ℕ) →
-      IsRun stations sizes select_ms (first_run stations sizes select_ms)
-  pub next : (stations : List StationInfo) (sizes : Sizes) (select_ms : ℕ) (call : Call) (r : Run) →
-      IsRun stations sizes select_ms r → IsRun stations sizes select_ms (after_call call r)
-  pub stations : OfEachRun (λ stations sizes select_ms s h. s.stations ≡ stations)
-  pub sizes : OfEachRun (λ stations sizes select_ms s h. s.sizes ≡ sizes)
-  pub select_ms : OfEachRun (λ stations sizes select_ms s h. s.select_ms ≡ select_ms)
-  pub forwarded : OfEachRun (λ stations sizes select_ms s h.
-      ForwardsCommands sizes stations select_ms h)
-  pub selected : OfEachRun (λ stations sizes select_ms s h.
-      ExecutesAreSelected sizes stations select_ms h)
-  pub right : OfEachRun (λ stations sizes select_ms s h.
-      GivesOwnAnswers sizes stations select_ms h)
-  pub in_turn : OfEachRun (λ stations sizes select_ms s h. own_kept h ≡ own_sent h ++ s.answers)
-  pub kept : OfEachRun (λ stations sizes select_ms s h. KeepsOwnAnswers h)
-  pub busy_plain : OfEachRun (λ stations sizes select_ms s h. (k : ℕ) (a : List ℕ) →
-      refusal_of (line_of k s) ≡ Some a → monitor_objects_of tcp a ≡ [])
+  pub first : (stations : List StationInfo) (sizes : Sizes) (select_ms max_age_ms : ℕ) →
+      IsRun stations sizes select_ms max_age_ms (first_run stations sizes select_ms max_age_ms)
+  pub next : (stations : List StationInfo) (sizes : Sizes) (select_ms max_age_ms : ℕ) (call : Call)
+      (r : Run) → IsRun stations sizes select_ms max_age_ms r →
+      IsRun stations sizes select_ms max_age_ms (after_call call r)
+  pub stations : OfEachRun (λ stations sizes select_ms max_age_ms s h. s.stations ≡ stations)
+  pub sizes : OfEachRun (λ stations sizes select_ms max_age_ms s h. s.sizes ≡ sizes)
+  pub select_ms : OfEachRun (λ stations sizes select_ms max_age_ms s h. s.select_ms ≡ select_ms)
+  pub max_age_ms : OfEachRun (λ stations sizes select_ms max_age_ms s h.
+      s.max_age_ms ≡ max_age_ms)
+  pub forwarded : OfEachRun (λ stations sizes select_ms max_age_ms s h.
+      ForwardsCommands sizes stations select_ms max_age_ms h)
+  pub selected : OfEachRun (λ stations sizes select_ms max_age_ms s h.
+      ExecutesAreSelected sizes stations select_ms max_age_ms h)
+  pub right : OfEachRun (λ stations sizes select_ms max_age_ms s h.
+      GivesOwnAnswers sizes stations select_ms max_age_ms h)
+  pub fresh : OfEachRun (λ stations sizes select_ms max_age_ms s h.
+      SendsFreshCommands sizes stations select_ms max_age_ms h)
+  pub tags : OfEachRun (λ stations sizes select_ms max_age_ms s h. (v : AsduValue) →
+      option_map (λ tag. tag.0) (tag_for v v.infos s)
+      ≡ mirror_tag sizes stations select_ms max_age_ms v v.infos h)
+  pub in_turn : OfEachRun (λ stations sizes select_ms max_age_ms s h.
+      own_kept h ≡ own_sent h ++ s.answers)
+  pub kept : OfEachRun (λ stations sizes select_ms max_age_ms s h. KeepsOwnAnswers h)
+  pub busy_plain : OfEachRun (λ stations sizes select_ms max_age_ms s h. (k : ℕ)
+      (a : List ℕ) → refusal_of (line_of k s) ≡ Some a → monitor_objects_of tcp a ≡ [])

@@ -17,9 +17,11 @@ state_of a = record {
   stations = a.stations.items;
   sizes = a.sizes;
   select_ms = a.select_ms;
+  max_age_ms = a.max_age_ms;
   waiting = a.waiting.items;
   lines = a.lines.items;
   selections = a.selections.items;
+  sendings = a.sendings.items;
   answers = octets_of a.answers.items;
 }
 
@@ -30,4 +32,5 @@ pub record IsSound (a : Inside) : Type 0 where
   -- room that was taken at the start
   pub waiting : 64 ≤ vec_capacity a.waiting
   pub room : a.answers.capacity ≡ 16
+  pub sent : a.sendings.capacity ≡ 16
   pub asdus : AreAsdus a.answers.items

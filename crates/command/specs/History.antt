@@ -1,22 +1,23 @@
 -- What can be seen of commands from outside, and what the rules make of it. Nothing here knows how
 -- it is kept.
-use Rattle.std.specs.Prelude.{◌≡◌, ℕ, suc, ◌+◌, ◌-◌, ◌<◌, Bool, true, false, not, ◌&&◌, ◌||◌, ◌==◌, nat_lt, if◌then◌else◌, List, [], ◌∷◌, ◌++◌, length, drop, Option, Some, None, option_map, is_none, unwrap_or, slice_get, slice_index}
+use Rattle.std.specs.Prelude.{◌≡◌, ℕ, suc, ◌+◌, ◌-◌, ◌<◌, Bool, true, false, not, ◌&&◌, ◌||◌, ◌==◌, nat_lt, if◌then◌else◌, List, [], ◌∷◌, ◌++◌, length, take, drop, Option, Some, None, option_map, is_none, unwrap_or, slice_get, slice_index}
 use Rattle.std.specs.Option.{option_map_or}
 use Rattle.elements.specs.declared.types.TypeId.{TypeId}
 use Rattle.elements.specs.Types.{type_of}
 use Rattle.asdu.specs.Sizes.{tcp}
-use Rattle.asdu.specs.Asdu.{AsduValue, spelled}
+use Rattle.asdu.specs.Asdu.{AsduValue, Info, spelled}
 use Rattle.asdu.specs.Fields.{value_at}
 use Rattle.asdu.specs.Writing.{carried}
+use Rattle.asdu.specs.Tagging.{untagged}
 use Rattle.asdu.specs.declared.sizes.Sizes.{Sizes}
 use Rattle.command.specs.Octets.{answer}
-use Rattle.command.specs.Standard.{is_deactivating, selects, executes, have_one_target, have_one_element, have_one_test_bit, confirms_command, refuses_command, is_for_station, must_be_selected, station_of, negative_of, cause_of_fault}
+use Rattle.command.specs.Standard.{operates, has_tag, tag_if_any, is_activation, is_deactivating, selects, executes, have_one_target, have_one_type, have_one_element, have_one_test_bit, is_object_of, confirms_command, refuses_command, is_for_station, must_be_selected, station_of, negative_of, cause_of_fault, IsFresh}
 use Rattle.command.specs.declared.station.StationInfo.{StationInfo}
 
 pub data Told : Type 0 where
-  -- at this moment an ASDU came from the control centre; it was answered so, or forwarded (no
-  -- answer)
-  Judged : ℕ → List ℕ → Option (List ℕ) → Told
+  -- at this moment, and at this one of the wall, if that was known, an ASDU came from the control
+  -- centre; it was answered so, or forwarded (no answer)
+  Judged : ℕ → Option ℕ → List ℕ → Option (List ℕ) → Told
   -- a command went to the station for the first time, with these octets
   Sent : ℕ → List ℕ → Told
   -- the station accepted the command on its line
@@ -42,15 +43,32 @@ abbrev pub first : List (List ℕ) → Option (List ℕ)
 first [] = None
 first (xs ∷ xss) = Some xs
 
+abbrev pub first_known : List (Option ℕ) → Option ℕ
+first_known [] = None
+first_known (wall ∷ walls) = wall
+
 -- ---- Commands on their way
 
--- the ASDU in the sizes of the line, with this common address
+-- the ASDU without a time tag, in the sizes of the line, with this common address
 abbrev pub typed_line_octets : Sizes → ℕ → Option TypeId → List ℕ → List ℕ
 typed_line_octets sizes ca None xs = []
-typed_line_octets sizes ca (Some t) xs = spelled sizes (carried sizes (record (value_at tcp t xs) { ca = ca }))
+typed_line_octets sizes ca (Some t) xs =
+    spelled sizes (carried sizes (record (untagged (value_at tcp t xs)) { ca = ca }))
 
 abbrev pub line_octets : Sizes → List ℕ → StationInfo → List ℕ
 line_octets sizes xs station = typed_line_octets sizes station.ca (type_of (slice_index xs 0)) xs
+
+-- ---- First sendings
+
+-- the ASDU that goes out, if it operates an object
+abbrev pub if_operates : Option (List ℕ) → List (List ℕ)
+if_operates None = []
+if_operates (Some xs) = if operates xs then xs ∷ [] else []
+
+-- the tag of the first of these that is of the object
+abbrev pub tag_among : List (List ℕ) → AsduValue → Info → Option (List ℕ)
+tag_among [] v i = None
+tag_among (xs ∷ xss) v i = if is_object_of xs v i then tag_if_any xs else tag_among xss v i
 
 -- ---- Selects
 
@@ -66,7 +84,7 @@ abbrev pub is_place : ℕ → Option ℕ → Bool
 is_place place None = false
 is_place place (Some n) = n == place
 
-module _ (sizes : Sizes) (stations : List StationInfo) (select_ms : ℕ) where
+module _ (sizes : Sizes) (stations : List StationInfo) (select_ms max_age_ms : ℕ) where
   -- the ASDU is for station k
   abbrev pub is_for : ℕ → List ℕ → Bool
   is_for k xs = option_map_or (is_for_station xs) (slice_get stations k) false
@@ -74,7 +92,8 @@ module _ (sizes : Sizes) (stations : List StationInfo) (select_ms : ℕ) where
   -- the ASDUs forwarded to station k on the open connection, oldest first
   abbrev pub forwarded_to : ℕ → History → List (List ℕ)
   forwarded_to k [] = []
-  forwarded_to k (Judged now xs None ∷ h) = if is_for k xs then forwarded_to k h ++ xs ∷ [] else forwarded_to k h
+  forwarded_to k (Judged now wall xs None ∷ h) =
+      if is_for k xs then forwarded_to k h ++ xs ∷ [] else forwarded_to k h
   forwarded_to k (Ended ∷ h) = []
   forwarded_to k (_ ∷ h) = forwarded_to k h
 
@@ -91,7 +110,9 @@ module _ (sizes : Sizes) (stations : List StationInfo) (select_ms : ℕ) where
 
   -- its octets on the line
   abbrev pub next_octets : ℕ → History → Option (List ℕ)
-  next_octets k h = option_map (λ xs. option_map_or (line_octets sizes xs) (slice_get stations k) []) (next_for k h)
+  next_octets k h =
+      option_map (λ xs. option_map_or (line_octets sizes xs) (slice_get stations k) [])
+      (next_for k h)
 
   -- Each first sending is the oldest command that was forwarded to its station on the open
   -- connection and didn't go out: in the order in which they came, each once, and only while their
@@ -100,6 +121,49 @@ module _ (sizes : Sizes) (stations : List StationInfo) (select_ms : ℕ) where
   ForwardsCommands [] = Unit {0}
   ForwardsCommands (Sent k octets ∷ h) = (next_octets k h ≡ Some octets) × ForwardsCommands h
   ForwardsCommands (_ ∷ h) = ForwardsCommands h
+
+  -- ---- Time tags
+
+  -- what came with a tag as an activation is fresh at this moment of the wall
+  abbrev pub IsFreshIfTagged : Option ℕ → List ℕ → Type 0
+  IsFreshIfTagged wall xs =
+      has_tag (slice_index xs 0) ≡ true → is_activation xs ≡ true → IsFresh max_age_ms wall xs
+
+  -- the moments of the wall at which the ASDUs forwarded to station k came
+  abbrev pub walls_of : ℕ → History → List (Option ℕ)
+  walls_of k [] = []
+  walls_of k (Judged now wall xs None ∷ h) =
+      if is_for k xs then walls_of k h ++ wall ∷ [] else walls_of k h
+  walls_of k (Ended ∷ h) = []
+  walls_of k (_ ∷ h) = walls_of k h
+
+  -- that of the oldest that didn't go out; none where it wasn't known, or nothing waits
+  abbrev pub next_wall : ℕ → History → Option ℕ
+  next_wall k h = first_known (drop (sent_count k h) (walls_of k h))
+
+  -- Each command that goes out for the first time, if it is an activation that came with a tag, was
+  -- fresh when it came.
+  abbrev pub SendsFreshCommands : History → Type 0
+  SendsFreshCommands [] = Unit {0}
+  SendsFreshCommands (Sent k octets ∷ h) =
+      ((xs : List ℕ) → next_for k h ≡ Some xs → IsFreshIfTagged (next_wall k h) xs)
+      × SendsFreshCommands h
+  SendsFreshCommands (_ ∷ h) = SendsFreshCommands h
+
+  -- the ASDUs of types 45 to 49, and of these with a tag, that went out for the first time on the
+  -- open connection, the newest first
+  abbrev pub first_sendings : History → List (List ℕ)
+  first_sendings [] = []
+  first_sendings (Sent k octets ∷ h) = if_operates (next_for k h) ++ first_sendings h
+  first_sendings (Ended ∷ h) = []
+  first_sendings (_ ∷ h) = first_sendings h
+
+  -- The tag with which a station's answer is passed on: that of the newest first sending of its
+  -- type and addresses among the latest sixteen, where it has one object.
+  abbrev pub mirror_tag : AsduValue → List Info → History → Option (List ℕ)
+  mirror_tag v [] h = None
+  mirror_tag v (i ∷ []) h = tag_among (take 16 (first_sendings h)) v i
+  mirror_tag v (i ∷ j ∷ is) h = None
 
   -- ---- The line
 
@@ -127,8 +191,9 @@ module _ (sizes : Sizes) (stations : List StationInfo) (select_ms : ℕ) where
 
   -- the cause of the answer to an ASDU that isn't forwarded: that of its own fault, or else a
   -- negative one
-  abbrev pub cause_given : List ℕ → ℕ
-  cause_given xs = unwrap_or (cause_of_fault sizes stations xs) (negative_of xs)
+  abbrev pub cause_given : Option ℕ → List ℕ → ℕ
+  cause_given wall xs =
+      unwrap_or (cause_of_fault sizes stations max_age_ms wall xs) (negative_of xs)
 
   -- the answer that a busy station's command gets: a negative one, where its connection is open
   abbrev pub busy_answer : ℕ → History → Option (List ℕ)
@@ -138,17 +203,21 @@ module _ (sizes : Sizes) (stations : List StationInfo) (select_ms : ℕ) where
   -- of its own is forwarded.
   abbrev pub GivesOwnAnswers : History → Type 0
   GivesOwnAnswers [] = Unit {0}
-  GivesOwnAnswers (Judged now xs (Some a) ∷ h) = (a ≡ answer (cause_given xs) xs) × GivesOwnAnswers h
-  GivesOwnAnswers (Judged now xs None ∷ h) = (cause_of_fault sizes stations xs ≡ None) × GivesOwnAnswers h
+  GivesOwnAnswers (Judged now wall xs (Some a) ∷ h) =
+      (a ≡ answer (cause_given wall xs) xs) × GivesOwnAnswers h
+  GivesOwnAnswers (Judged now wall xs None ∷ h) =
+      (cause_of_fault sizes stations max_age_ms wall xs ≡ None) × GivesOwnAnswers h
   GivesOwnAnswers (Refused k a ∷ h) = (a ≡ busy_answer k h) × GivesOwnAnswers h
   GivesOwnAnswers (GivenUp k b ∷ h) = (b ≡ is_on_line k h) × GivesOwnAnswers h
   GivesOwnAnswers (_ ∷ h) = GivesOwnAnswers h
 
   -- ---- Selections
 
-  -- nothing is wrong with the command ys, and its target is that of xs
-  abbrev pub is_of_target : List ℕ → List ℕ → Bool
-  is_of_target xs ys = is_none (cause_of_fault sizes stations ys) && have_one_target xs ys
+  -- nothing is wrong with the command ys, which came at this wall moment, and its target is that of
+  -- xs
+  abbrev pub is_of_target : List ℕ → Option ℕ → List ℕ → Bool
+  is_of_target xs wall ys =
+      is_none (cause_of_fault sizes stations max_age_ms wall ys) && have_one_target xs ys
 
   -- it was forwarded, and selects at a station that asks for selects
   abbrev pub begins_selection : Option (List ℕ) → List ℕ → Bool
@@ -159,9 +228,14 @@ module _ (sizes : Sizes) (stations : List StationInfo) (select_ms : ℕ) where
   -- nothing is wrong with (forwarded or not), and a station's negative confirmation of this target.
   abbrev pub standing : List ℕ → History → Option Select
   standing xs [] = None
-  standing xs (Judged now ys a ∷ h) =
-      if not (is_of_target xs ys) then standing xs h
-      else (if begins_selection a ys then Some (record { octets = ys; came = now; place = length (forwarded_to (station_of stations ys) h) })
+  standing xs (Judged now wall ys a ∷ h) =
+      if not (is_of_target xs wall ys) then standing xs h
+      else (if begins_selection a ys
+      then Some (record {
+        octets = ys;
+        came = now;
+        place = length (forwarded_to (station_of stations ys) h);
+      })
       else (if is_deactivating ys || executes ys then None else standing xs h))
   standing xs (Mirrored now v ∷ h) = if refuses_command xs v then None else standing xs h
   standing xs (Ended ∷ h) = None
@@ -180,7 +254,8 @@ module _ (sizes : Sizes) (stations : List StationInfo) (select_ms : ℕ) where
   -- station k accepted the command of this place on the open connection
   abbrev pub is_accepted_at : ℕ → ℕ → History → Bool
   is_accepted_at k place [] = false
-  is_accepted_at k place (Accepted j ∷ h) = (k == j && is_place place (place_on_line k h)) || is_accepted_at k place h
+  is_accepted_at k place (Accepted j ∷ h) =
+      (k == j && is_place place (place_on_line k h)) || is_accepted_at k place h
   is_accepted_at k place (Ended ∷ h) = false
   is_accepted_at k place (_ ∷ h) = is_accepted_at k place h
 
@@ -189,16 +264,20 @@ module _ (sizes : Sizes) (stations : List StationInfo) (select_ms : ℕ) where
   abbrev pub confirmed_at : Select → History → Option ℕ
   confirmed_at z [] = None
   confirmed_at z (Mirrored now v ∷ h) =
-      if (confirms_command z.octets v && nat_lt (now - z.came) select_ms) && is_accepted_at (station_of stations z.octets) z.place h then Some now else confirmed_at z h
+      if (confirms_command z.octets v && nat_lt (now - z.came) select_ms)
+      && is_accepted_at (station_of stations z.octets) z.place h
+      then Some now
+      else confirmed_at z h
   confirmed_at z (Ended ∷ h) = None
   confirmed_at z (_ ∷ h) = confirmed_at z h
 
   -- The execute xs, which comes now, is selected: a select of its type and addresses stands, with
-  -- its test bit and its element apart from S/E; the station accepted it, and confirmed it less
-  -- than select_ms ago.
+  -- the type that it was received with, its test bit and its element apart from S/E; the station
+  -- accepted it, and confirmed it less than select_ms ago.
   pub record IsSelected (xs : List ℕ) (now : ℕ) (h : History) : Type 0 where
     pub select : Select
     pub stands : standing xs h ≡ Some select
+    pub received : have_one_type select.octets xs ≡ true
     pub element : have_one_element select.octets xs ≡ true
     pub test : have_one_test_bit select.octets xs ≡ true
     pub moment : ℕ
@@ -208,8 +287,9 @@ module _ (sizes : Sizes) (stations : List StationInfo) (select_ms : ℕ) where
   -- each forwarded execute to a station that asks for selects is selected
   abbrev pub ExecutesAreSelected : History → Type 0
   ExecutesAreSelected [] = Unit {0}
-  ExecutesAreSelected (Judged now xs None ∷ h) =
-      (must_be_selected stations xs ≡ true → executes xs ≡ true → IsSelected xs now h) × ExecutesAreSelected h
+  ExecutesAreSelected (Judged now wall xs None ∷ h) =
+      (must_be_selected stations xs ≡ true → executes xs ≡ true → IsSelected xs now h)
+      × ExecutesAreSelected h
   ExecutesAreSelected (_ ∷ h) = ExecutesAreSelected h
 
 -- ---- Own answers
@@ -231,5 +311,6 @@ own_sent (_ ∷ h) = own_sent h
 -- an own answer is kept exactly where fewer than 16 are kept that didn't go out
 abbrev pub KeepsOwnAnswers : History → Type 0
 KeepsOwnAnswers [] = Unit {0}
-KeepsOwnAnswers (Offered octets kept ∷ h) = (kept ≡ nat_lt (length (own_kept h)) (length (own_sent h) + 16)) × KeepsOwnAnswers h
+KeepsOwnAnswers (Offered octets kept ∷ h) =
+    (kept ≡ nat_lt (length (own_kept h)) (length (own_sent h) + 16)) × KeepsOwnAnswers h
 KeepsOwnAnswers (_ ∷ h) = KeepsOwnAnswers h

@@ -5,8 +5,9 @@ use Rattle.asdu.specs.Sizes.{ioa_len, tcp}
 use Rattle.asdu.specs.Fields.{ca_at, first_address}
 use Rattle.asdu.specs.declared.sizes.Sizes.{Sizes}
 use Rattle.command.specs.Octets.{answer, negative}
-use Rattle.command.specs.Command.{is_command_type, element_len, command_at, command_octets, is_permitted, is_deactivation, is_select, is_execute}
+use Rattle.command.specs.Command.{is_command_type, command_len, command_at, command_octets, is_permitted, is_deactivation, is_select, is_execute}
 use Rattle.command.specs.Selection.{advanced, lets_through, target_of}
+use Rattle.command.specs.Tags.{is_stale}
 use Rattle.command.specs.Stations.{is_global, is_addressed, is_known, is_guarded, station_number}
 use Rattle.command.specs.State.{State, told}
 use Rattle.command.specs.declared.act.Act.{Act}
@@ -31,30 +32,38 @@ is_object sizes code address =
     if code == 100 then address == 0
     else not (address == 0) && nat_lt address (256 ^ ioa_len sizes.ioa)
 
--- one object with its address, and its whole element
+-- one object with its address, its whole element and its tag, if its type has one
 abbrev pub is_single : List ℕ → Bool
-is_single xs = slice_index xs 1 == 1 && length xs == 9 + element_len (slice_index xs 0)
+is_single xs = slice_index xs 1 == 1 && length xs == command_len (slice_index xs 0)
 
--- the form of the command
-abbrev pub form_fault : List ℕ → Option ℕ
-form_fault xs =
+-- the form of the command, then its age
+abbrev pub form_fault : ℕ → Option ℕ → List ℕ → Option ℕ
+form_fault max_age_ms wall xs =
     if not (is_single xs) then Some (negative xs)
     else (if not (is_permitted (command_at xs)) then Some (negative xs)
-    else None)
+    else (if is_stale max_age_ms wall xs then Some (negative xs)
+    else None))
 
--- its addresses, then its form
-abbrev pub address_fault : Sizes → List StationInfo → List ℕ → Option ℕ
-address_fault sizes stations xs =
-    if not (is_global (slice_index xs 0) (ca_at tcp xs) || is_known stations (ca_at tcp xs)) then Some 46
+-- its addresses, then the rest
+abbrev pub address_fault : Sizes → List StationInfo → ℕ → Option ℕ → List ℕ → Option ℕ
+address_fault sizes stations max_age_ms wall xs =
+    if not (is_global (slice_index xs 0) (ca_at tcp xs) || is_known stations (ca_at tcp xs))
+    then Some 46
     else (if not (is_object sizes (slice_index xs 0) (first_address tcp xs)) then Some 47
-    else form_fault xs)
+    else form_fault max_age_ms wall xs)
 
--- The cause of the answer, by the first fault of the ASDU: its type, its cause, its addresses, its form.
-abbrev pub fault : Sizes → List StationInfo → List ℕ → Option ℕ
-fault sizes stations xs =
+-- its cause, then the rest
+abbrev pub cause_fault : Sizes → List StationInfo → ℕ → Option ℕ → List ℕ → Option ℕ
+cause_fault sizes stations max_age_ms wall xs =
+    if not (slice_index xs 2 % 64 == 6) && not (slice_index xs 2 % 64 == 8) then Some 45
+    else address_fault sizes stations max_age_ms wall xs
+
+-- The cause of the answer, by the first fault of the ASDU: its type, its cause, its addresses, its
+-- form, its age where it has a tag, which needs a wall moment (ms since 1970-01-01).
+abbrev pub fault : Sizes → List StationInfo → ℕ → Option ℕ → List ℕ → Option ℕ
+fault sizes stations max_age_ms wall xs =
     if not (is_command_type (slice_index xs 0)) then Some 44
-    else (if not (slice_index xs 2 % 64 == 6) && not (slice_index xs 2 % 64 == 8) then Some 45
-    else address_fault sizes stations xs)
+    else cause_fault sizes stations max_age_ms wall xs
 
 -- ---- What is kept
 
@@ -68,7 +77,8 @@ without_selection c s = told (sign.Over (target_of c)) s
 -- an execute that no live selection lets through
 abbrev pub lacks_selection : Command → ℕ → State → Bool
 lacks_selection c now s =
-    is_guarded s.stations c && is_execute c && not (list_any (lets_through s.select_ms c now) s.selections)
+    is_guarded s.stations c && is_execute c
+    && not (list_any (lets_through s.select_ms c now) s.selections)
 
 abbrev pub makes_selection : List StationInfo → Command → Bool
 makes_selection stations c = is_guarded stations c && is_select c
@@ -90,18 +100,29 @@ abbrev pub copies : Sizes → List ℕ → ℕ → List StationInfo → List Wai
 copies sizes xs i [] = []
 copies sizes xs i (station ∷ stations) =
     if is_addressed (command_at xs) station
-    then record { station = i; received = xs; octets = command_octets sizes station.ca (command_at xs) } ∷ copies sizes xs (i + 1) stations
+    then record {
+      station = i;
+      received = xs;
+      octets = command_octets sizes station.ca (command_at xs);
+    }
+    ∷ copies sizes xs (i + 1) stations
     else copies sizes xs (i + 1) stations
 
 -- how many commands wait for the station
 abbrev pub waiting_count : ℕ → List Waiting → ℕ
 waiting_count station [] = 0
-waiting_count station (w ∷ ws) = if w.station == station then waiting_count station ws + 1 else waiting_count station ws
+waiting_count station (w ∷ ws) =
+    if w.station == station then waiting_count station ws + 1 else waiting_count station ws
 
 abbrev pub selection_of : Command → ℕ → State → Selection
 selection_of c now s =
     let station : ℕ = station_number c.ca s.stations in
-    record { station = station; command = c; came = now; stage = Queued (waiting_count station s.waiting) }
+    record {
+      station = station;
+      command = c;
+      came = now;
+      stage = Queued (waiting_count station s.waiting);
+    }
 
 -- a select makes a selection, or replaces that of its target
 abbrev pub selected : Command → ℕ → State → State
@@ -125,7 +146,8 @@ refused cause xs s = (Some (answer cause xs), s)
 
 -- a command that has places, or not
 abbrev pub placed : List ℕ → Command → ℕ → State → Judgement
-placed xs c now s = if lacks_place c s then refused (negative xs) xs s else (None, forwarded xs c now s)
+placed xs c now s =
+    if lacks_place c s then refused (negative xs) xs s else (None, forwarded xs c now s)
 
 -- a command without a fault
 abbrev pub admitted : List ℕ → Command → ℕ → State → Judgement
@@ -137,5 +159,5 @@ abbrev pub by_fault : Option ℕ → List ℕ → ℕ → State → Judgement
 by_fault (Some cause) xs now s = refused cause xs s
 by_fault None xs now s = admitted xs (command_at xs) now s
 
-abbrev pub judged : List ℕ → ℕ → State → Judgement
-judged xs now s = by_fault (fault s.sizes s.stations xs) xs now s
+abbrev pub judged : List ℕ → ℕ → Option ℕ → State → Judgement
+judged xs now wall s = by_fault (fault s.sizes s.stations s.max_age_ms wall xs) xs now s

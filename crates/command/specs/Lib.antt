@@ -2,6 +2,7 @@ pub mod Octets
 pub mod Standard
 pub mod Command
 pub mod Selection
+pub mod Tags
 pub mod Stations
 pub mod State
 pub mod Judging

@@ -1,12 +1,15 @@
--- What a station's answer to a command does to selections (IEC 60870-5-101, 7.2.3: cause 7 is an activation con).
+-- What a station's answer to a command does to selections, and which tag it is passed on with (IEC
+-- 60870-5-101, 7.2.3: cause 7 is an activation con).
 use Rattle.std.specs.Prelude.{ℕ, ◌%◌, Bool, true, false, not, ◌&&◌, ◌==◌, nat_le, if◌then◌else◌, List, [], ◌∷◌, Option, Some, None}
 use Rattle.elements.specs.Types.{row}
+use Rattle.elements.specs.declared.tag.Cp56.{Cp56}
 use Rattle.asdu.specs.Asdu.{AsduValue, Info}
 use Rattle.command.specs.declared.content.Target.{Target}
 use Rattle.command.specs.declared.content.Element.{Element}
 use Rattle.command.specs.declared.content.Element.TheVariants.{Octet, SetPoint}
 use Rattle.command.specs.declared.selection.Sign.TheVariants as sign
 use Rattle.command.specs.State.{State, told}
+use Rattle.command.specs.Tags.{newest_tag}
 
 -- an activation con with this P/N
 abbrev pub is_con : Bool → ℕ → Bool
@@ -43,3 +46,9 @@ mirrored v now s =
     if is_con true v.cause then all_over v v.infos s
     else (if is_con false v.cause then one_confirmed v v.infos now s
     else s)
+
+-- the tag of the newest first sending of its type and addresses, where the answer has one object
+abbrev pub tag_for : AsduValue → List Info → State → Option Cp56
+tag_for v [] s = None
+tag_for v (i ∷ []) s = newest_tag (target_at v i) None s.sendings
+tag_for v (i ∷ j ∷ is) s = None

@@ -1,4 +1,5 @@
--- The gateway's own answer to an ASDU (IEC 60870-5-101, 7.2.3: test bit, P/N and cause stand in one octet).
+-- The gateway's own answer to an ASDU (IEC 60870-5-101, 7.2.3: test bit, P/N and cause stand in one
+-- octet).
 use Rattle.std.specs.Prelude.{ℕ, ◌+◌, ◌*◌, ◌/◌, ◌%◌, ◌==◌, if◌then◌else◌, List, ◌∷◌, ◌++◌, take, drop, slice_index}
 
 -- the octets of the cause: test bit kept, P/N set, this cause
@@ -9,6 +10,7 @@ refused_cause cause octet = octet / 128 * 128 + 64 + cause
 abbrev pub answer : ℕ → List ℕ → List ℕ
 answer cause xs = take 2 xs ++ refused_cause cause (slice_index xs 2) ∷ drop 3 xs
 
--- the cause of a negative answer: activation con (7) to an activation (6), deactivation con (9) to a deactivation (8)
+-- the cause of a negative answer: activation con (7) to an activation (6), deactivation con (9) to
+-- a deactivation (8)
 abbrev pub negative : List ℕ → ℕ
 negative xs = if slice_index xs 2 % 64 == 6 then 7 else 9

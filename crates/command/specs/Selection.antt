@@ -1,5 +1,5 @@
--- A selection, and what becomes of it (IEC 60870-5-101, 7.2.6.26 and 7.2.6.39: S/E; how long a selection lasts and
--- what ends it is this gateway's own profile).
+-- A selection, and what becomes of it (IEC 60870-5-101, 7.2.6.26 and 7.2.6.39: S/E; how long a
+-- selection lasts and what ends it is this gateway's own profile).
 use Rattle.std.specs.Prelude.{ℕ, ◌-◌, Bool, true, false, not, ◌&&◌, ◌==◌, nat_lt, nat_le, if◌then◌else◌, Option, Some, None}
 use Rattle.command.specs.declared.content.Command.{Command}
 use Rattle.command.specs.declared.content.Element.{Element}
@@ -12,7 +12,7 @@ use Rattle.command.specs.declared.selection.Sign.{Sign}
 use Rattle.command.specs.declared.selection.Sign.TheVariants as sign
 use Rattle.command.specs.Command.{without_select}
 
--- type and addresses
+-- type on the line, and addresses
 abbrev pub target_of : Command → Target
 target_of c = record { kind = c.kind; ca = c.ca; address = c.address }
 
@@ -32,10 +32,11 @@ same_test a b = if nat_le 128 a then nat_le 128 b else not (nat_le 128 b)
 abbrev pub with_stage : Stage → Selection → Selection
 with_stage stage z = record z { stage = stage }
 
--- A command goes to its station for the first time. A select that was on the line has then been replaced there
--- without an answer: its selection is over.
+-- A command goes to its station for the first time. A select that was on the line has then been
+-- replaced there without an answer: its selection is over.
 abbrev pub after_sending : Stage → Selection → Option Selection
-after_sending (Queued ahead) z = if ahead == 0 then Some (with_stage Sent z) else Some (with_stage (Queued (ahead - 1)) z)
+after_sending (Queued ahead) z =
+    if ahead == 0 then Some (with_stage Sent z) else Some (with_stage (Queued (ahead - 1)) z)
 after_sending Sent z = None
 after_sending Accepted z = Some z
 after_sending (Live since) z = Some z
@@ -69,15 +70,21 @@ runs_from z (Live since) = since
 
 -- what a sign leaves of a selection
 abbrev pub advanced : ℕ → Sign → Selection → Option Selection
-advanced select_ms (sign.Sending station) z = if z.station == station then after_sending z.stage z else Some z
-advanced select_ms (sign.Acceptance station) z = if z.station == station then after_acceptance z.stage z else Some z
-advanced select_ms (sign.Loss station) z = if z.station == station then after_loss z.stage z else Some z
-advanced select_ms (sign.Over target) z = if same_target (target_of z.command) target then None else Some z
+advanced select_ms (sign.Sending station) z =
+    if z.station == station then after_sending z.stage z else Some z
+advanced select_ms (sign.Acceptance station) z =
+    if z.station == station then after_acceptance z.stage z else Some z
+advanced select_ms (sign.Loss station) z =
+    if z.station == station then after_loss z.stage z else Some z
+advanced select_ms (sign.Over target) z =
+    if same_target (target_of z.command) target then None else Some z
 advanced select_ms (sign.Con target element now) z =
-    if same_target (target_of z.command) target && same_element z.command.element element && is_accepted z.stage && nat_lt (now - z.came) select_ms
+    if same_target (target_of z.command) target && same_element z.command.element element
+    && is_accepted z.stage && nat_lt (now - z.came) select_ms
     then Some (with_stage (Live now) z)
     else Some z
-advanced select_ms (sign.Time now) z = if nat_le select_ms (now - runs_from z z.stage) then None else Some z
+advanced select_ms (sign.Time now) z =
+    if nat_le select_ms (now - runs_from z z.stage) then None else Some z
 
 -- it is confirmed, less than select_ms ago
 abbrev pub is_live : ℕ → ℕ → Stage → Bool
@@ -86,8 +93,11 @@ is_live select_ms now (Queued ahead) = false
 is_live select_ms now Sent = false
 is_live select_ms now Accepted = false
 
--- A live selection lets this execute through: type, addresses, element apart from S/E, and test bit are equal.
+-- A live selection lets this execute through: type, received type, addresses, element apart from
+-- S/E, and test bit are equal.
 abbrev pub lets_through : ℕ → Command → ℕ → Selection → Bool
 lets_through select_ms c now z =
-    same_target (target_of z.command) (target_of c) && same_element (without_select z.command.element) c.element
-    && same_test z.command.cause c.cause && is_live select_ms now z.stage
+    same_target (target_of z.command) (target_of c)
+    && same_element (without_select z.command.element) c.element
+    && same_test z.command.cause c.cause && z.command.received == c.received
+    && is_live select_ms now z.stage

@@ -4,17 +4,17 @@ use Rattle.std.specs.Prelude.{◌≡◌, ℕ, ◌+◌, ◌-◌, ◌<◌, Bool, t
 use Rattle.std.specs.List.{AllByRecursion}
 use Rattle.asdu.specs.declared.sizes.Sizes.{Sizes}
 use Rattle.command.specs.Command.{command_at}
-use Rattle.command.specs.Standard.{common_address, object_address, station_of}
+use Rattle.command.specs.Standard.{plain_type, common_address, object_address, station_of}
 use Rattle.command.specs.History.{History, Select, sent_count, place_on_line, is_accepted_at, standing, confirmed_at}
 use Rattle.command.specs.declared.station.StationInfo.{StationInfo}
 use Rattle.command.specs.declared.selection.Selection.{Selection}
 use Rattle.command.specs.declared.selection.Stage.{Stage}
 use Rattle.command.specs.declared.selection.Stage.TheVariants.{Queued, Sent, Accepted, Live}
 
--- it has the type, the common address and the object address of these octets
+-- it has the type on the line, the common address and the object address of these octets
 abbrev pub is_of : List ℕ → Selection → Bool
 is_of xs y =
-    slice_index xs 0 == y.command.kind && common_address xs == y.command.ca
+    plain_type (slice_index xs 0) == y.command.kind && common_address xs == y.command.ca
     && object_address xs == y.command.address
 
 -- they differ in type, common address or object address
@@ -28,19 +28,23 @@ abbrev pub AreDistinct : List Selection → Type 0
 AreDistinct [] = Unit {0}
 AreDistinct (y ∷ ys) = AllByRecursion (HaveTwoTargets y) ys × AreDistinct ys
 
-module _ (sizes : Sizes) (stations : List StationInfo) (select_ms : ℕ) where
+module _ (sizes : Sizes) (stations : List StationInfo) (select_ms max_age_ms : ℕ) where
   -- How far the select has come: so many commands of its station go out before it; it stands on the
   -- line; the station accepted it; its latest confirmation came at this moment.
   abbrev pub HasCome : Stage → Select → History → Type 0
   HasCome (Queued ahead) z h =
-      z.place ≡ sent_count sizes stations select_ms (station_of stations z.octets) h + ahead
+      z.place
+      ≡ sent_count sizes stations select_ms max_age_ms (station_of stations z.octets) h + ahead
   HasCome Sent z h =
-      place_on_line sizes stations select_ms (station_of stations z.octets) h ≡ Some z.place
+      place_on_line sizes stations select_ms max_age_ms (station_of stations z.octets) h
+      ≡ Some z.place
   HasCome Accepted z h =
-      is_accepted_at sizes stations select_ms (station_of stations z.octets) z.place h ≡ true
+      is_accepted_at sizes stations select_ms max_age_ms (station_of stations z.octets) z.place h
+      ≡ true
   HasCome (Live since) z h =
-      (is_accepted_at sizes stations select_ms (station_of stations z.octets) z.place h ≡ true)
-      × (confirmed_at sizes stations select_ms z h ≡ Some since)
+      (is_accepted_at sizes stations select_ms max_age_ms (station_of stations z.octets) z.place h
+      ≡ true)
+      × (confirmed_at sizes stations select_ms max_age_ms z h ≡ Some since)
 
   -- the selection is this select, as far as it has come
   pub record IsSelect (h : History) (y : Selection) (z : Select) : Type 0 where
@@ -53,11 +57,11 @@ module _ (sizes : Sizes) (stations : List StationInfo) (select_ms : ℕ) where
   abbrev pub IsStanding : History → List ℕ → Selection → Type 0
   IsStanding h xs y =
       is_of xs y ≡ true
-      → (z : Select) × (standing sizes stations select_ms xs h ≡ Some z) × IsSelect h y z
+      → (z : Select) × (standing sizes stations select_ms max_age_ms xs h ≡ Some z) × IsSelect h y z
 
   -- that select, or its latest confirmation, came less than select_ms ago
   abbrev pub IsInTime : ℕ → History → List ℕ → Selection → Type 0
   IsInTime now h xs y =
       is_of xs y ≡ true
-      → (z : Select) × (standing sizes stations select_ms xs h ≡ Some z)
-      × (now - unwrap_or (confirmed_at sizes stations select_ms z h) z.came < select_ms)
+      → (z : Select) × (standing sizes stations select_ms max_age_ms xs h ≡ Some z)
+      × (now - unwrap_or (confirmed_at sizes stations select_ms max_age_ms z h) z.came < select_ms)

@@ -1,13 +1,16 @@
--- What is kept of commands, and what the calls round the line, the own answers and the connection make of it.
+-- What is kept of commands, and what the calls round the line, the own answers and the connection
+-- make of it.
 use Rattle.std.specs.Prelude.{ℕ, Bool, true, false, ◌==◌, nat_lt, if◌then◌else◌, List, [], ◌∷◌, ◌++◌, length, map, drop, set, get_or, Option, Some, None, option_map}
 use Rattle.std.specs.List.{filter_map}
 use Rattle.asdu.specs.declared.sizes.Sizes.{Sizes}
 use Rattle.command.specs.Octets.{answer, negative}
 use Rattle.command.specs.Selection.{advanced}
+use Rattle.command.specs.Tags.{with_sending}
 use Rattle.command.specs.declared.station.StationInfo.{StationInfo}
 use Rattle.command.specs.declared.selection.Selection.{Selection}
 use Rattle.command.specs.declared.selection.Sign.{Sign}
 use Rattle.command.specs.declared.selection.Sign.TheVariants as sign
+use Rattle.command.specs.declared.tags.Sending.{Sending}
 use Rattle.command.specs.declared.waiting.Waiting.{Waiting}
 use Rattle.command.specs.declared.waiting.Line.{Line}
 use Rattle.command.specs.declared.waiting.Line.TheVariants.{Free, Holds, CutOff}
@@ -17,25 +20,30 @@ pub record State : Type 0 where
   pub stations : List StationInfo
   pub sizes : Sizes
   pub select_ms : ℕ
+  pub max_age_ms : ℕ
   -- the commands that were forwarded and never put on the line, oldest first
   pub waiting : List Waiting
   -- for each station, what was put on its line and isn't done
   pub lines : List Line
   pub selections : List Selection
+  -- the latest first sendings of types 45 to 49 on the open connection, oldest first
+  pub sendings : List Sending
   -- the own answers that weren't sent, oldest first
   pub answers : List (List ℕ)
 
 abbrev pub free_line : StationInfo → Line
 free_line station = Free
 
-abbrev pub new_state : List StationInfo → Sizes → ℕ → State
-new_state stations sizes select_ms = record {
+abbrev pub new_state : List StationInfo → Sizes → ℕ → ℕ → State
+new_state stations sizes select_ms max_age_ms = record {
   stations = stations;
   sizes = sizes;
   select_ms = select_ms;
+  max_age_ms = max_age_ms;
   waiting = [];
   lines = map free_line stations;
   selections = [];
+  sendings = [];
   answers = [];
 }
 
@@ -64,9 +72,16 @@ without_oldest station (w ∷ ws) = if w.station == station then ws else w ∷ w
 abbrev pub with_line : ℕ → Line → State → State
 with_line station line s = record s { lines = set s.lines station line }
 
+-- a command goes out for the first time, which came so
+abbrev pub noted : List ℕ → State → State
+noted xs s = record s { sendings = with_sending xs s.sendings }
+
 abbrev pub put_out : Option Waiting → ℕ → State → State
 put_out None station s = s
-put_out (Some w) station s = with_line station (Holds w.received) (record (told (sign.Sending station) s) { waiting = without_oldest station s.waiting })
+put_out (Some w) station s =
+    with_line station (Holds w.received) (noted w.received (record (told (sign.Sending station) s) {
+      waiting = without_oldest station s.waiting;
+    }))
 
 -- the oldest command that waits for the station, if any, goes out for the first time
 abbrev pub sent : ℕ → State → State
@@ -83,7 +98,8 @@ accepted station s = with_line station Free (told (sign.Acceptance station) s)
 abbrev pub given_up : ℕ → State → State
 given_up station s = with_line station Free (told (sign.Loss station) s)
 
--- the answer to a command that a busy station refused: a negative one, where its connection is open
+-- the answer to a command that a busy station refused: a negative one, where its connection is
+-- open
 abbrev pub refusal_of : Line → Option (List ℕ)
 refusal_of Free = None
 refusal_of (Holds received) = Some (answer (negative received) received)
@@ -121,9 +137,15 @@ cut_off Free = Free
 cut_off (Holds received) = CutOff
 cut_off CutOff = CutOff
 
--- nothing that was never put on the line is left, no selection and no own answer
+-- nothing that was never put on the line is left, no selection, no first sending and no own answer
 abbrev pub closed : State → State
-closed s = record s { waiting = []; lines = map cut_off s.lines; selections = []; answers = [] }
+closed s = record s {
+  waiting = [];
+  lines = map cut_off s.lines;
+  selections = [];
+  sendings = [];
+  answers = [];
+}
 
 -- selections whose time has passed are over
 abbrev pub timed : ℕ → State → State

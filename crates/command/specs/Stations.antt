@@ -29,4 +29,5 @@ is_guarded stations c = list_any (is_guarded_at c) stations
 -- the number of the first station with this common address, or how many there are
 abbrev pub station_number : ℕ → List StationInfo → ℕ
 station_number ca [] = 0
-station_number ca (station ∷ stations) = if station.ca == ca then 0 else station_number ca stations + 1
+station_number ca (station ∷ stations) =
+    if station.ca == ca then 0 else station_number ca stations + 1

@@ -4,25 +4,30 @@ ghost use Rattle.arrayvec.specs.ArrayVec.{array_vec_len};
 ghost use Rattle.elements.specs.Types.{row};
 ghost use Rattle.asdu.specs.Reading.{value_of};
 ghost use Rattle.command.specs.Octets.{negative};
-ghost use Rattle.command.specs.Command.{element_len, command_at};
-ghost use Rattle.command.specs.Mirrors.{all_over, one_confirmed, confirmed, mirrored, element_of as element_in};
+ghost use Rattle.command.specs.Command.{command_len, command_at};
+ghost use Rattle.command.specs.Mirrors.{all_over, one_confirmed, confirmed, mirrored, tag_for, element_of as element_in};
 
 use crate::act::{Act, Answer};
-use crate::content::{Command, Target, append, is_command_type, read_command, refuse};
+use crate::content::{
+    Command, Target, append, is_command_type, is_process_command, line_kind, read_command, refuse,
+};
 use crate::judging::{
-    count_addressed, form_fault, is_addressee, is_guarded, is_object, is_selected, negative_cause,
+    count_addressed, form_fault, is_addressee, is_guarded, is_object, is_other_cause, is_selected,
+    negative_cause,
 };
 use crate::keeping::{
-    advanced, count_waiting, cut_all, free_lines, is_used_at, place_of, push_copies, refusal_at,
-    station_number,
+    advanced, count_waiting, cut_all, free_lines, is_used_at, kept_stations, place_of, push_copies,
+    refusal_at, station_number,
 };
 use crate::mirrors::{element_of, is_con};
 use crate::selection::{Selection, Sign, Stage};
 use crate::station::StationInfo;
+use crate::tags::{Sending, newest_tag, no_sendings};
 use crate::waiting::{Line, Waiting};
 use arrayvec::ArrayVec;
 use asdu::{Asdu, Sizes, head};
 use circular_buffer::HeapCircularBuffer;
+use elements::Cp56;
 use std::alloc::Global;
 use std::marker::Model;
 use thiserror::Error;
@@ -47,11 +52,14 @@ pub struct Commands {
     stations: Vec<StationInfo>,
     sizes: Sizes,
     select_ms: u64,
+    max_age_ms: u64,
     /// Those that were never put on the line, oldest first.
     waiting: Vec<Waiting>,
     /// What was put on the line of each station and isn't done.
     lines: Vec<Line>,
     selections: ArrayVec<Selection, 16>,
+    /// The latest first sendings of types 45 to 49 on the open connection, oldest first.
+    sendings: HeapCircularBuffer<Sending>,
     answers: HeapCircularBuffer<Answer>,
 }
 
@@ -68,33 +76,39 @@ impl Model for Commands {
 }
 
 impl Commands {
-    ghost use Rattle.command.specs.State.{new_state, told, has_room, offered, first_answer, answered, closed, timed, octets_waiting, with_line, sent as after_sending, accepted as after_acceptance, given_up, line_of, is_used, refusal_of};
-    ghost use Rattle.command.specs.Judging.{answer_of, judged, admitted, placed, ends_selection, without_selection, fault as fault_of, address_fault as fault_of_addresses, lacks_selection, lacks_place, makes_selection, forwarded, selected, others};
+    ghost use Rattle.command.specs.State.{new_state, told, has_room, offered, first_answer, answered, closed, timed, octets_waiting, with_line, sent as after_sending, noted, accepted as after_acceptance, given_up, line_of, is_used, refusal_of};
+    ghost use Rattle.command.specs.Judging.{answer_of, judged, admitted, placed, ends_selection, without_selection, fault as fault_of, cause_fault as fault_of_cause, address_fault as fault_of_addresses, lacks_selection, lacks_place, makes_selection, forwarded, selected, others};
 
     /// No command, no selection and no own answer. This alone takes memory.
     ///
-    /// `stations` are those of the line, in the order of the settings, at most 32; `sizes` those of the line's ASDUs;
-    /// `select_ms` is how long a select may wait for its con, and how long an execute may come after the con, in ms.
+    /// `stations` are those of the line, in the order of the settings, at most 32; `sizes` those of
+    /// the line's ASDUs; `select_ms` is how long a select may wait for its con, and how long an
+    /// execute may come after the con, in ms; `max_age_ms` is how far the tag of an activation that
+    /// has one may be from the wall's moment, before or behind it, in ms.
     pub fn new(
         alloc: Global,
         stations: &[StationInfo],
         sizes: Sizes,
         select_ms: u64,
+        max_age_ms: u64,
     ) -> Result<Commands, NoMemory>
         requires { length stations.now ≤ 32 }
-        ensures { IfOk result (λ c. c ≡ new_state stations.now sizes select_ms) }
+        ensures { IfOk result (λ c. c ≡ new_state stations.now sizes select_ms max_age_ms) }
     {
-        let known = stations.to_vec(alloc).map_err(|_| NoMemory)?;
+        let known = kept_stations(alloc, stations)?;
         let waiting = Vec::with_capacity(alloc, MOST_WAITING).map_err(|_| NoMemory)?;
         let lines = free_lines(alloc, stations)?;
+        let sendings = no_sendings(alloc)?;
         let answers = HeapCircularBuffer::with_capacity(alloc, MOST_ANSWERS).map_err(|_| NoMemory)?;
         Ok(Commands {
             stations: known,
             sizes,
             select_ms,
+            max_age_ms,
             waiting,
             lines,
             selections: ArrayVec::new(),
+            sendings,
             answers,
         })
     }
@@ -109,43 +123,58 @@ impl Commands {
         self.selections = advanced(self.selections.as_slice(), self.select_ms, sign);
     }
 
-    /// Judges an ASDU of 9 to 249 octets from the control centre, at moment `now` in ms: it is forwarded, or answered by the
-    /// first rule that applies. The answer is no report.
-    pub fn judge_command(&mut self, octets: &[u8], now: u64) -> Act
+    /// Judges an ASDU of 9 to 249 octets from the control centre, at moment `now` in ms, when the
+    /// wall's moment is `wall`, in ms since 1970-01-01 UTC, if that is known: it is forwarded, or
+    /// answered by the first rule that applies. The answer is no report.
+    pub fn judge_command(&mut self, octets: &[u8], now: u64, wall: Option<u64>) -> Act
         requires long { 9 ≤ length octets.now }
         requires fits { length octets.now ≤ 249 }
-        ensures judged { (answer_of result, self.new) ≡ judged octets.now now self.old }
-        ensures fits { IfSome (answer_of result) (λ answer. (9 ≤ length answer) × (length answer ≤ 249)) }
+        ensures judged { (answer_of result, self.new) ≡ judged octets.now now wall self.old }
+        ensures fits { IfSome (answer_of result)
+            (λ answer. (9 ≤ length answer) × (length answer ≤ 249)) }
     {
-        match self.fault(octets) {
+        match self.fault(octets, wall) {
             Some(cause) => Act::Own(refuse(cause, octets)),
             None => self.admit(octets, read_command(octets), now),
         }
     }
 
     /// What is wrong with the ASDU itself: the cause of its answer, by the first rule that applies.
-    fn fault(&self, octets: &[u8]) -> Option<u8>
+    fn fault(&self, octets: &[u8], wall: Option<u64>) -> Option<u8>
         requires long { 9 ≤ length octets.now }
-        ensures value { result ≡ fault_of self.now.sizes self.now.stations octets.now }
+        ensures value { result ≡
+            fault_of self.now.sizes self.now.stations self.now.max_age_ms wall octets.now }
         ensures known { IfSome result (λ cause. cause < 64) }
-        ensures whole { IfNone result (length octets.now ≡ 9 + element_len (slice_index octets.now 0)) }
+        ensures whole { IfNone result (length octets.now ≡ command_len (slice_index octets.now 0)) }
     {
-        let cause = octets[2] & 0x3F;
         if !is_command_type(octets[0]) {
             return Some(44);
         }
-        if cause != 6 && cause != 8 {
-            return Some(45);
-        }
-        self.address_fault(octets)
+        self.cause_fault(octets, wall)
     }
 
-    /// What is wrong with its addresses or its form.
-    fn address_fault(&self, octets: &[u8]) -> Option<u8>
+    /// What is wrong with its cause, its addresses, its form or its age.
+    fn cause_fault(&self, octets: &[u8], wall: Option<u64>) -> Option<u8>
         requires long { 9 ≤ length octets.now }
-        ensures value { result ≡ fault_of_addresses self.now.sizes self.now.stations octets.now }
+        ensures value { result ≡
+            fault_of_cause self.now.sizes self.now.stations self.now.max_age_ms wall octets.now }
         ensures known { IfSome result (λ cause. cause < 64) }
-        ensures whole { IfNone result (length octets.now ≡ 9 + element_len (slice_index octets.now 0)) }
+        ensures whole { IfNone result (length octets.now ≡ command_len (slice_index octets.now 0)) }
+    {
+        if is_other_cause(octets[2]) {
+            return Some(45);
+        }
+        self.address_fault(octets, wall)
+    }
+
+    /// What is wrong with its addresses, its form or its age.
+    fn address_fault(&self, octets: &[u8], wall: Option<u64>) -> Option<u8>
+        requires long { 9 ≤ length octets.now }
+        ensures value { result ≡
+            fault_of_addresses self.now.sizes self.now.stations self.now.max_age_ms wall
+            octets.now }
+        ensures known { IfSome result (λ cause. cause < 64) }
+        ensures whole { IfNone result (length octets.now ≡ command_len (slice_index octets.now 0)) }
     {
         let Some(head) = head(Sizes::TCP, octets) else {
             unreachable!();
@@ -156,16 +185,17 @@ impl Commands {
         if !is_object(self.sizes, head.kind, head.ioa) {
             return Some(47);
         }
-        form_fault(octets)
+        form_fault(octets, self.max_age_ms, wall)
     }
 
     /// A command without a fault of its own.
     fn admit(&mut self, octets: &[u8], command: Command, now: u64) -> Act
         requires long { 9 ≤ length octets.now }
-        requires whole { length octets.now ≡ 9 + element_len (slice_index octets.now 0) }
+        requires whole { length octets.now ≡ command_len (slice_index octets.now 0) }
         requires read { command ≡ command_at octets.now }
         ensures judged { (answer_of result, self.new) ≡ admitted octets.now command now self.old }
-        ensures fits { IfSome (answer_of result) (λ answer. (9 ≤ length answer) × (length answer ≤ 249)) }
+        ensures fits { IfSome (answer_of result)
+            (λ answer. (9 ≤ length answer) × (length answer ≤ 249)) }
     {
         let lacks_selection = self.lacks_selection(command, now);
         self.end_selection(command);
@@ -177,7 +207,8 @@ impl Commands {
 
     /// An execute or a deactivation ends the selection of its target.
     fn end_selection(&mut self, command: Command)
-        ensures { self.new ≡ (if ends_selection command then without_selection command self.old else self.old) }
+        ensures { self.new ≡
+            (if ends_selection command then without_selection command self.old else self.old) }
     {
         if command.is_deactivation() || command.is_execute() {
             self.tell(Sign::Over(command.target()));
@@ -187,10 +218,11 @@ impl Commands {
     /// A command that may go, where there are places for it.
     fn place(&mut self, octets: &[u8], command: Command, now: u64) -> Act
         requires long { 9 ≤ length octets.now }
-        requires whole { length octets.now ≡ 9 + element_len (slice_index octets.now 0) }
+        requires whole { length octets.now ≡ command_len (slice_index octets.now 0) }
         requires read { command ≡ command_at octets.now }
         ensures judged { (answer_of result, self.new) ≡ placed octets.now command now self.old }
-        ensures fits { IfSome (answer_of result) (λ answer. (9 ≤ length answer) × (length answer ≤ 249)) }
+        ensures fits { IfSome (answer_of result)
+            (λ answer. (9 ≤ length answer) × (length answer ≤ 249)) }
     {
         if self.lacks_place(command) {
             return Act::Own(refuse(negative_cause(octets), octets));
@@ -237,7 +269,7 @@ impl Commands {
     /// The command waits for the line.
     fn forward(&mut self, octets: &[u8], command: Command, now: u64)
         requires long { 9 ≤ length octets.now }
-        requires whole { length octets.now ≡ 9 + element_len (slice_index octets.now 0) }
+        requires whole { length octets.now ≡ command_len (slice_index octets.now 0) }
         requires read { command ≡ command_at octets.now }
         requires places { lacks_place command self.old ≡ false }
         ensures { self.new ≡ forwarded octets.now command now self.old }
@@ -268,12 +300,13 @@ impl Commands {
         });
     }
 
-    /// The octets of the oldest command that waits for the station: the ASDU in the sizes of the line, with the station's
-    /// own common address.
+    /// The octets of the oldest command that waits for the station: the ASDU in the sizes of the
+    /// line, with the station's own common address, and without a time tag.
     pub fn waiting(&self, station: usize) -> Option<&[u8]>
         ensures some { IfSome result (λ octets. octets_waiting station self.now ≡ Some octets.now) }
         ensures none { IfNone result (octets_waiting station self.now ≡ None) }
-        ensures fits { IfSome result (λ octets. (1 ≤ length octets.now) × (length octets.now ≤ 12)) }
+        ensures fits { IfSome result
+            (λ octets. (1 ≤ length octets.now) × (length octets.now ≤ 12)) }
     {
         let place = place_of(self.waiting.as_slice(), station)?;
         Some(self.waiting[place].octets.as_slice())
@@ -301,7 +334,18 @@ impl Commands {
             received,
             octets: _,
         } = self.waiting.remove(place);
+        self.note_sending(received.as_slice());
         self.set_line(station, Line::Holds(received));
+    }
+
+    /// A command goes out for the first time: of types 45 to 49 the latest are kept.
+    fn note_sending(&mut self, octets: &[u8])
+        requires { length octets.now ≡ command_len (slice_index octets.now 0) }
+        ensures { self.new ≡ noted octets.now self.old }
+    {
+        if is_process_command(line_kind(octets[0])) {
+            let _oldest = self.sendings.push_back(Sending::of(octets));
+        }
     }
 
     /// The station accepted the command on its line.
@@ -312,11 +356,13 @@ impl Commands {
         self.set_line(station, Line::Free);
     }
 
-    /// The station refused the command on its line as busy. The answer is for the control centre, and no report; there is
-    /// none where the connection that sent the command has ended.
+    /// The station refused the command on its line as busy. The answer is for the control centre,
+    /// and no report; there is none where the connection that sent the command has ended.
     pub fn busy(&mut self, station: usize) -> Option<Answer>
-        ensures answer { option_map (λ answer. answer.items) result ≡ refusal_of (line_of station self.old) }
-        ensures fits { IfSome result (λ answer. (9 ≤ array_vec_len answer) × (array_vec_len answer ≤ 249)) }
+        ensures answer { option_map (λ answer. answer.items) result ≡
+            refusal_of (line_of station self.old) }
+        ensures fits { IfSome result
+            (λ answer. (9 ≤ array_vec_len answer) × (array_vec_len answer ≤ 249)) }
         ensures state { self.new ≡ given_up station self.old }
     {
         let answer = refusal_at(self.lines.as_slice(), station);
@@ -336,17 +382,41 @@ impl Commands {
         there
     }
 
-    /// A station answered a command, at moment `now` in ms: what that does to selections. Other ASDUs do nothing.
+    /// A station answered a command, at moment `now` in ms: what that does to selections, and the
+    /// tag with which the answer is passed on, if it has one: that of the newest first sending of
+    /// its type and addresses among the latest 16. Other ASDUs do nothing.
     #[tactic(auto, using(crate::proofs::Codes::kind_code))]
-    pub fn mirror(&mut self, asdu: &Asdu, now: u64)
-        ensures { self.new ≡ mirrored (value_of asdu.now) now self.old }
+    pub fn mirror(&mut self, asdu: &Asdu, now: u64) -> Option<Cp56>
+        ensures state { self.new ≡ mirrored (value_of asdu.now) now self.old }
+        ensures tag { result ≡ tag_for (value_of asdu.now) (value_of asdu.now).infos self.old }
     {
+        let tag = self.mirror_tag(asdu);
         let head = asdu.head();
         if is_con(true, head.cause) {
             self.end_all(head.kind, head.ca, asdu);
         } else if is_con(false, head.cause) {
             self.confirm(head.kind, head.ca, asdu, now);
         }
+        tag
+    }
+
+    /// The tag with which a station's answer is passed on.
+    #[tactic(auto, using(crate::proofs::Codes::kind_code))]
+    fn mirror_tag(&self, asdu: &Asdu) -> Option<Cp56>
+        ensures { result ≡ tag_for (value_of asdu.now) (value_of asdu.now).infos self.now }
+    {
+        let head = asdu.head();
+        let mut objects = asdu.objects();
+        let object = objects.next()?;
+        if objects.next().is_some() {
+            return None;
+        }
+        let target = Target {
+            kind: head.kind,
+            ca: head.ca,
+            address: object.address,
+        };
+        newest_tag(&self.sendings, target)
     }
 
     /// The selection of each object ends.
@@ -368,7 +438,8 @@ impl Commands {
     fn confirm(&mut self, kind: u8, ca: u16, asdu: &Asdu, now: u64)
         requires kind { kind ≡ (row (value_of asdu.now).kind).code }
         requires ca { ca ≡ (value_of asdu.now).ca }
-        ensures { self.new ≡ one_confirmed (value_of asdu.now) (value_of asdu.now).infos now self.old }
+        ensures { self.new ≡
+            one_confirmed (value_of asdu.now) (value_of asdu.now).infos now self.old }
     {
         let mut objects = asdu.objects();
         let Some(object) = objects.next() else {
@@ -394,8 +465,9 @@ impl Commands {
         }
     }
 
-    /// Keeps an own answer of 9 to 249 octets, as it is. It is false, and nothing changes, where 16 are kept. That it is no
-    /// report to the control centre is for the caller to see to: the answers that are made here are none.
+    /// Keeps an own answer of 9 to 249 octets, as it is. It is false, and nothing changes, where 16
+    /// are kept. That it is no report to the control centre is for the caller to see to: the
+    /// answers that are made here are none.
     pub fn own(&mut self, octets: &[u8]) -> bool
         requires long { 9 ≤ length octets.now }
         requires fits { length octets.now ≤ 249 }
@@ -414,7 +486,8 @@ impl Commands {
     pub fn own_answer(&self) -> Option<&[u8]>
         ensures some { IfSome result (λ octets. first_answer self.now.answers ≡ Some octets.now) }
         ensures none { IfNone result (first_answer self.now.answers ≡ None) }
-        ensures fits { IfSome result (λ octets. (9 ≤ length octets.now) × (length octets.now ≤ 249)) }
+        ensures fits { IfSome result
+            (λ octets. (9 ≤ length octets.now) × (length octets.now ≤ 249)) }
     {
         let answer = self.answers.front()?;
         Some(answer.as_slice())
@@ -428,17 +501,20 @@ impl Commands {
         let _ = self.answers.pop_front();
     }
 
-    /// The connection has ended: what was never put on the line, selections and own answers are gone.
+    /// The connection has ended: what was never put on the line, selections, first sendings and own
+    /// answers are gone.
     pub fn cut(&mut self)
         ensures { self.new ≡ closed self.old }
     {
         self.waiting.clear();
         self.selections.clear();
+        self.sendings.clear();
         self.answers.clear();
         cut_all(&mut self.lines);
     }
 
-    /// Selections end with time: those that wait for their con, and those whose con came, `select_ms` ago.
+    /// Selections end with time: those that wait for their con, and those whose con came,
+    /// `select_ms` ago.
     pub fn due(&mut self, now: u64)
         ensures { self.new ≡ timed now self.old }
     {

@@ -4,7 +4,7 @@ ghost use Rattle.byteorder.specs.Endian.{little_bytes};
 ghost use Rattle.arrayvec.specs.ArrayVec.{array_vec_len};
 ghost use Rattle.asdu.specs.Sizes.{ca_len, ioa_len};
 ghost use Rattle.asdu.specs.Asdu.{originator_octets};
-ghost use Rattle.command.specs.Command.{command_at, element_at, element_octets, command_octets, element_len, is_set_point as set_point, qualifier as qualifier_of, is_select as selects, is_execute as executes, is_deactivation as deactivates, is_permitted as permitted, is_process_command as process_command, is_command_type as command_type, without_select as execute_of};
+ghost use Rattle.command.specs.Command.{command_at, element_at, element_octets, command_octets, element_len, command_len, tag_len, is_tagged as has_tag, line_kind as kind_on_line, is_set_point as set_point, qualifier as qualifier_of, is_select as selects, is_execute as executes, is_deactivation as deactivates, is_permitted as permitted, is_process_command as process_command, is_command_type as command_type, without_select as execute_of};
 ghost use Rattle.command.specs.Selection.{target_of};
 ghost use Rattle.command.specs.Octets.{answer};
 
@@ -21,7 +21,7 @@ pub(crate) enum Element {
     SetPoint(u8, u8, u8),
 }
 
-/// What a selection is of: type, common address, and address of the object.
+/// What a selection is of: type on the line, common address, and address of the object.
 #[derive(Clone, Copy, Debug, PartialEq, Eq)]
 pub(crate) struct Target {
     pub kind: u8,
@@ -32,7 +32,10 @@ pub(crate) struct Target {
 /// A command with one object.
 #[derive(Clone, Copy, Debug, Default, PartialEq, Eq)]
 pub(crate) struct Command {
+    /// The type on the line, which has no time tag.
     pub kind: u8,
+    /// The type that it came with.
+    pub received: u8,
     /// The cause octet: bit 7 test, bit 6 P/N, bits 5 to 0 the cause.
     pub cause: u8,
     pub originator: u8,
@@ -76,11 +79,33 @@ pub(crate) fn is_process_command(kind: u8) -> bool
     45 <= kind && kind <= 49
 }
 
-/// Whether it is a type that the control centre may send: 45 to 49, and 100.
+/// How far a type with a time tag lies above the same one without: 58 to 62 are 45 to 49 (IEC
+/// 60870-5-104, 8).
+const TAGGED_ABOVE: u8 = 13;
+
+/// Whether it is a command with a time tag: 58 to 62.
+pub(crate) fn is_tagged(kind: u8) -> bool
+    ensures { result ≡ has_tag kind }
+{
+    58 <= kind && kind <= 62
+}
+
+/// The type of a command on the line, without a time tag.
+pub(crate) fn line_kind(kind: u8) -> u8
+    ensures { result ≡ kind_on_line kind }
+{
+    if is_tagged(kind) {
+        kind - TAGGED_ABOVE
+    } else {
+        kind
+    }
+}
+
+/// Whether it is a type that the control centre may send: 45 to 49, 58 to 62, and 100.
 pub(crate) fn is_command_type(kind: u8) -> bool
     ensures { result ≡ command_type kind }
 {
-    is_process_command(kind) || kind == 100
+    is_process_command(line_kind(kind)) || kind == 100
 }
 
 fn is_set_point(kind: u8) -> bool
@@ -89,12 +114,22 @@ fn is_set_point(kind: u8) -> bool
     kind == 48 || kind == 49
 }
 
-/// How many octets the element of a command type has.
-pub(crate) fn element_octets_of(kind: u8) -> usize
+/// How many octets the element of a type on the line has.
+fn element_octets_of(kind: u8) -> usize
     ensures value { result ≡ element_len kind }
     ensures high { result ≤ 3 }
 {
     if is_set_point(kind) { 3 } else { 1 }
+}
+
+/// How many octets a command of this type has as it comes, with one object.
+pub(crate) fn command_octets_of(kind: u8) -> usize
+    ensures value { result ≡ command_len kind }
+    ensures low { 10 ≤ result }
+    ensures high { result ≤ 19 }
+{
+    let tag = if is_tagged(kind) { 7 } else { 0 };
+    9 + element_octets_of(line_kind(kind)) + tag
 }
 
 /// The element at the front of the octets.
@@ -112,19 +147,21 @@ fn read_element(kind: u8, octets: &[u8]) -> Element
 /// The one command that the octets from the control centre hold.
 pub(crate) fn read_command(octets: &[u8]) -> Command
     requires long { 9 ≤ length octets.now }
-    requires whole { length octets.now ≡ 9 + element_len (slice_index octets.now 0) }
+    requires whole { length octets.now ≡ command_len (slice_index octets.now 0) }
     ensures { result ≡ command_at octets.now }
 {
     let Some(head) = head(Sizes::TCP, octets) else {
         unreachable!();
     };
+    let kind = line_kind(head.kind);
     Command {
-        kind: head.kind,
+        kind,
+        received: head.kind,
         cause: head.cause,
         originator: head.originator,
         ca: head.ca,
         address: head.ioa,
-        element: read_element(head.kind, &octets[9..]),
+        element: read_element(kind, &octets[9..]),
     }
 }
 

@@ -1,15 +1,16 @@
 //! The tests by which an ASDU from the control centre is judged.
-ghost use Rattle.std.specs.Prelude.{◌≡◌, ◌≤◌, ◌<◌, ◌+◌, ◌||◌, length, IfSome, IfNone, slice_index, count_by};
+ghost use Rattle.std.specs.Prelude.{◌≡◌, ◌≤◌, ◌<◌, ◌%◌, ◌||◌, ◌&&◌, ◌==◌, not, length, IfSome, IfNone, slice_index, count_by};
 ghost use Rattle.std.specs.List.{list_any};
 ghost use Rattle.command.specs.Octets.{negative};
-ghost use Rattle.command.specs.Command.{element_len};
+ghost use Rattle.command.specs.Command.{command_len};
 ghost use Rattle.command.specs.Selection.{lets_through};
 ghost use Rattle.command.specs.Stations.{is_addressed, is_global as global, is_known as known, is_guarded as guarded};
 ghost use Rattle.command.specs.Judging.{form_fault as fault_of_form, is_object as object};
 
-use crate::content::{Command, element_octets_of, read_command};
+use crate::content::{Command, command_octets_of, read_command};
 use crate::selection::Selection;
 use crate::station::StationInfo;
+use crate::tags::is_stale;
 use asdu::Sizes;
 
 /// The common address of each station, to which an interrogation may be (IEC 60870-5-101, 7.2.4).
@@ -22,6 +23,13 @@ pub(crate) fn negative_cause(octets: &[u8]) -> u8
     ensures known { result < 64 }
 {
     if octets[2] & 0x3F == 6 { 7 } else { 9 }
+}
+
+/// Whether it is the cause octet of neither an activation nor a deactivation.
+pub(crate) fn is_other_cause(octet: u8) -> bool
+    ensures { result ≡ (not (octet % 64 == 6) && not (octet % 64 == 8)) }
+{
+    octet & 0x3F != 6 && octet & 0x3F != 8
 }
 
 /// Whether the common address is of a station, or for all of them.
@@ -48,17 +56,21 @@ pub(crate) fn is_object(sizes: Sizes, kind: u8, address: u32) -> bool
     }
 }
 
-/// What is wrong with the form of the command: not one object, or one that it may not have.
-pub(crate) fn form_fault(octets: &[u8]) -> Option<u8>
+/// What is wrong with the form of the command, not one object or one that it may not have, or with
+/// its age.
+pub(crate) fn form_fault(octets: &[u8], max_age_ms: u64, wall: Option<u64>) -> Option<u8>
     requires long { 9 ≤ length octets.now }
-    ensures value { result ≡ fault_of_form octets.now }
+    ensures value { result ≡ fault_of_form max_age_ms wall octets.now }
     ensures known { IfSome result (λ cause. cause < 64) }
-    ensures whole { IfNone result (length octets.now ≡ 9 + element_len (slice_index octets.now 0)) }
+    ensures whole { IfNone result (length octets.now ≡ command_len (slice_index octets.now 0)) }
 {
-    if octets[1] != 1 || octets.len() != 9 + element_octets_of(octets[0]) {
+    if octets[1] != 1 || octets.len() != command_octets_of(octets[0]) {
         return Some(negative_cause(octets));
     }
     if !read_command(octets).is_permitted() {
+        return Some(negative_cause(octets));
+    }
+    if is_stale(max_age_ms, wall, octets) {
         return Some(negative_cause(octets));
     }
     None

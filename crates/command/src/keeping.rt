@@ -2,7 +2,7 @@
 ghost use Rattle.std.specs.Prelude.{◌≡◌, ◌≤◌, ◌<◌, ◌+◌, ◌++◌, length, map, remove, get_or, count_by, slice_index, slice_index_or, IfOk, IfSome, IfNone, Some, None, option_map, vec_len, vec_capacity};
 ghost use Rattle.std.specs.List.{filter_map};
 ghost use Rattle.arrayvec.specs.ArrayVec.{array_vec_len};
-ghost use Rattle.command.specs.Command.{element_len, command_at};
+ghost use Rattle.command.specs.Command.{command_len, command_at};
 ghost use Rattle.command.specs.Selection.{advanced as next_of};
 ghost use Rattle.command.specs.Stations.{is_addressed, station_number as number_of};
 ghost use Rattle.command.specs.State.{cut_off, free_line, oldest, without_oldest, is_used, refusal_of};
@@ -39,6 +39,16 @@ pub(crate) fn advanced(
     left
 }
 
+/// The stations, kept.
+pub(crate) fn kept_stations(
+    alloc: Global,
+    stations: &[StationInfo],
+) -> Result<Vec<StationInfo>, NoMemory>
+    ensures { IfOk result (λ kept. kept.items ≡ stations.now) }
+{
+    stations.to_vec(alloc).map_err(|_| NoMemory)
+}
+
 /// A free line for each station.
 pub(crate) fn free_lines(alloc: Global, stations: &[StationInfo]) -> Result<Vec<Line>, NoMemory>
     ensures { IfOk result (λ lines. lines.items ≡ map free_line stations.now) }
@@ -69,8 +79,10 @@ fn cut(line: &mut Line)
 
 /// The negative answer to the command on the station's line, where its connection is open.
 pub(crate) fn refusal_at(lines: &[Line], station: usize) -> Option<Answer>
-    ensures answer { option_map (λ answer. answer.items) result ≡ refusal_of (get_or lines.now station Free) }
-    ensures fits { IfSome result (λ answer. (9 ≤ array_vec_len answer) × (array_vec_len answer ≤ 249)) }
+    ensures answer { option_map (λ answer. answer.items) result ≡
+        refusal_of (get_or lines.now station Free) }
+    ensures fits { IfSome result
+        (λ answer. (9 ≤ array_vec_len answer) × (array_vec_len answer ≤ 249)) }
 {
     if station < lines.len() {
         refusal(&lines[station])
@@ -81,7 +93,8 @@ pub(crate) fn refusal_at(lines: &[Line], station: usize) -> Option<Answer>
 
 fn refusal(line: &Line) -> Option<Answer>
     ensures answer { option_map (λ answer. answer.items) result ≡ refusal_of line.now }
-    ensures fits { IfSome result (λ answer. (9 ≤ array_vec_len answer) × (array_vec_len answer ≤ 249)) }
+    ensures fits { IfSome result
+        (λ answer. (9 ≤ array_vec_len answer) × (array_vec_len answer ≤ 249)) }
 {
     match line {
         Line::Holds(received) => {
@@ -103,7 +116,8 @@ pub(crate) fn is_used_at(lines: &[Line], station: usize) -> bool
 pub(crate) fn place_of(waiting: &[Waiting], station: usize) -> Option<usize>
     ensures within { IfSome result (λ i. i < length waiting.now) }
     ensures rest { IfSome result (λ i. remove waiting.now i ≡ without_oldest station waiting.now) }
-    ensures found { IfSome result (λ i. (w : Waiting) → oldest station waiting.now ≡ Some (slice_index_or waiting.now i w)) }
+    ensures found { IfSome result (λ i. (w : Waiting) →
+        oldest station waiting.now ≡ Some (slice_index_or waiting.now i w)) }
     ensures none { IfNone result (oldest station waiting.now ≡ None) }
 {
     for i in 0..waiting.len() {
@@ -147,9 +161,11 @@ pub(crate) fn push_copies(
     octets: &[u8],
 )
     requires long { 9 ≤ length octets.now }
-    requires whole { length octets.now ≡ 9 + element_len (slice_index octets.now 0) }
-    requires room { vec_len waiting.old + count_by (is_addressed (command_at octets.now)) stations.now ≤ vec_capacity waiting.old }
-    ensures items { waiting.new.items ≡ waiting.old.items ++ copies sizes octets.now 0 stations.now }
+    requires whole { length octets.now ≡ command_len (slice_index octets.now 0) }
+    requires room { vec_len waiting.old
+        + count_by (is_addressed (command_at octets.now)) stations.now ≤ vec_capacity waiting.old }
+    ensures items { waiting.new.items ≡
+        waiting.old.items ++ copies sizes octets.now 0 stations.now }
     ensures capacity { vec_capacity waiting.new ≡ vec_capacity waiting.old }
 {
     let command = read_command(octets);

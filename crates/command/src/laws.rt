@@ -1,9 +1,10 @@
 //! What holds of every list of calls, in the words of what can be seen from outside.
 //!
-//! The history has what came from the control centre and what became of it, what went to the stations and what they
-//! answered, and the own answers. Each law says what the calls do by what the rules make of that history.
+//! The history has what came from the control centre and what became of it, what went to the
+//! stations and what they answered, and the own answers. Each law says what the calls do by what
+//! the rules make of that history.
 
-ghost use Rattle.std.specs.Prelude.{◌≡◌, ◌≤◌, ◌<◌, ◌==◌, ◌++◌, ℕ, List, [], length, slice_index, Some, None, false, true, option_map};
+ghost use Rattle.std.specs.Prelude.{◌≡◌, ◌≤◌, ◌<◌, ◌==◌, ◌++◌, ℕ, List, [], length, slice_index, Option, Some, None, false, true, option_map};
 ghost use Rattle.std.specs.List.{AllByRecursion};
 ghost use Rattle.asdu.specs.Asdu.{AsduValue};
 ghost use Rattle.asdu.specs.InformationObjects.{monitor_objects_of};
@@ -11,85 +12,124 @@ ghost use Rattle.asdu.specs.Sizes.{tcp};
 ghost use Rattle.command.specs.Octets.{answer};
 ghost use Rattle.command.specs.State.{State, octets_waiting, sent, line_of, refusal_of};
 ghost use Rattle.command.specs.Judging.{judged};
-ghost use Rattle.command.specs.Mirrors.{mirrored};
+ghost use Rattle.command.specs.Mirrors.{mirrored, tag_for};
 ghost use Rattle.command.specs.Standard.{first_cause, cause_of_fault, executes, IsRefusal};
 ghost use Rattle.command.specs.Rules.{rules_for, not_selected, no_place};
-ghost use Rattle.command.specs.History.{ForwardsCommands, next_octets, ExecutesAreSelected, IsSelected, GivesOwnAnswers, own_kept, own_sent, KeepsOwnAnswers};
+ghost use Rattle.command.specs.History.{ForwardsCommands, next_octets, SendsFreshCommands, mirror_tag, ExecutesAreSelected, IsSelected, GivesOwnAnswers, own_kept, own_sent, KeepsOwnAnswers};
 ghost use Rattle.command.specs.Selections.{AreDistinct, IsStanding, IsInTime};
-ghost use Rattle.command.specs.Examples.{OctetExamples, IsRight, WaitsSo, rule_examples, selection_examples, line_examples};
+ghost use Rattle.command.specs.Examples.{OctetExamples, IsRight, WaitsSo, rule_examples, selection_examples, line_examples, tag_examples, BearsIt, mirror_examples};
 ghost use Rattle.command.specs.Laws.{AfterEachRun, AtEachMoment, AfterEachDue};
 ghost use Rattle.command.specs.CommandLaws.{CommandLaws, RunLaws};
 
 /// The answer to an ASDU is the one that the first rule that applies gives; where none applies it
 /// is forwarded.
 pub fn judgement_is_the_first_rule_that_applies()
-    ensures { (xs : List ℕ) (now : ℕ) (s : State) → (judged xs now s).0 ≡ option_map (λ cause. answer cause xs) (first_cause (rules_for xs now s)) }
+    ensures { (xs : List ℕ) (now : ℕ) (wall : Option ℕ) (s : State) →
+        (judged xs now wall s).0
+        ≡ option_map (λ cause. answer cause xs) (first_cause (rules_for xs now wall s)) }
 {}
 
 /// First sendings to a station are the commands forwarded to it, in their order, each once, and
-/// only while their connection is open. What waits is the next of them.
+/// only while their connection is open, without their time tag. What waits is the next of them.
 pub fn commands_are_forwarded()
-    ensures in_turn { AfterEachRun (λ stations sizes select_ms s h. ForwardsCommands sizes stations select_ms h) }
-    ensures waiting { AfterEachRun (λ stations sizes select_ms s h. (k : ℕ) → octets_waiting k s ≡ next_octets sizes stations select_ms k h) }
+    ensures in_turn { AfterEachRun (λ stations sizes select_ms max_age_ms s h.
+        ForwardsCommands sizes stations select_ms max_age_ms h) }
+    ensures waiting { AfterEachRun (λ stations sizes select_ms max_age_ms s h.
+        (k : ℕ) → octets_waiting k s ≡ next_octets sizes stations select_ms max_age_ms k h) }
+{}
+
+/// A command that goes out for the first time, if it is an activation that came with a time tag,
+/// came with a good one, at a known moment of the wall, and the two were at most `max_age_ms`
+/// apart.
+pub fn sent_commands_are_fresh()
+    ensures { AfterEachRun (λ stations sizes select_ms max_age_ms s h.
+        SendsFreshCommands sizes stations select_ms max_age_ms h) }
+{}
+
+/// The tag with which a station's answer to a command is passed on is that of the newest first
+/// sending of its type and addresses, among the latest sixteen of the open connection; there is
+/// none where that command came without one, and where the answer hasn't one object.
+pub fn mirrors_bear_the_newest_tag()
+    ensures { AfterEachRun (λ stations sizes select_ms max_age_ms s h. (v : AsduValue) →
+        option_map (λ tag. tag.0) (tag_for v v.infos s)
+        ≡ mirror_tag sizes stations select_ms max_age_ms v v.infos h) }
 {}
 
 /// Before each forwarded execute to a station that asks for selects its select stands: the latest
-/// of its type and addresses, accepted on the line and confirmed in time, with nothing between that
-/// ends it.
+/// of its type and addresses, received with its type, accepted on the line and confirmed in time,
+/// with nothing between that ends it.
 pub fn executes_are_selected()
-    ensures { AfterEachRun (λ stations sizes select_ms s h. ExecutesAreSelected sizes stations select_ms h) }
+    ensures { AfterEachRun (λ stations sizes select_ms max_age_ms s h.
+        ExecutesAreSelected sizes stations select_ms max_age_ms h) }
 {}
 
 /// Where moments never fall, a selected execute is refused for no want of a selection: one that is
 /// live lets it through. So it is forwarded where there are places for it.
 pub fn selected_executes_pass()
-    ensures selected { AtEachMoment (λ stations sizes select_ms now s h.
-        (xs : List ℕ) → cause_of_fault sizes stations xs ≡ None → executes xs ≡ true
-        → IsSelected sizes stations select_ms xs now h → (not_selected xs now s).applies ≡ false) }
-    ensures forwarded { AtEachMoment (λ stations sizes select_ms now s h.
-        (xs : List ℕ) → cause_of_fault sizes stations xs ≡ None → executes xs ≡ true
-        → IsSelected sizes stations select_ms xs now h → (no_place xs s).applies ≡ false
-        → (judged xs now s).0 ≡ None) }
+    ensures selected { AtEachMoment (λ stations sizes select_ms max_age_ms now s h.
+        (xs : List ℕ) (wall : Option ℕ) →
+        cause_of_fault sizes stations max_age_ms wall xs ≡ None → executes xs ≡ true
+        → IsSelected sizes stations select_ms max_age_ms xs now h
+        → (not_selected xs now s).applies ≡ false) }
+    ensures forwarded { AtEachMoment (λ stations sizes select_ms max_age_ms now s h.
+        (xs : List ℕ) (wall : Option ℕ) →
+        cause_of_fault sizes stations max_age_ms wall xs ≡ None → executes xs ≡ true
+        → IsSelected sizes stations select_ms max_age_ms xs now h
+        → (no_place xs s).applies ≡ false → (judged xs now wall s).0 ≡ None) }
 {}
 
 /// No two selections are of one target, and each is the select that stands for its target, as far
 /// as that has come. After `due`, where moments never fall, each one's select, or its latest
 /// confirmation, came less than `select_ms` ago.
 pub fn selections_are_selects_that_stand()
-    ensures distinct { AfterEachRun (λ stations sizes select_ms s h. AreDistinct s.selections) }
-    ensures standing { AfterEachRun (λ stations sizes select_ms s h.
-        (xs : List ℕ) → AllByRecursion (IsStanding sizes stations select_ms h xs) s.selections) }
-    ensures in_time { AfterEachDue (λ stations sizes select_ms now s h.
-        (xs : List ℕ) → AllByRecursion (IsInTime sizes stations select_ms now h xs) s.selections) }
+    ensures distinct { AfterEachRun (λ stations sizes select_ms max_age_ms s h.
+        AreDistinct s.selections) }
+    ensures standing { AfterEachRun (λ stations sizes select_ms max_age_ms s h. (xs : List ℕ) →
+        AllByRecursion (IsStanding sizes stations select_ms max_age_ms h xs) s.selections) }
+    ensures in_time { AfterEachDue (λ stations sizes select_ms max_age_ms now s h.
+        (xs : List ℕ) →
+        AllByRecursion (IsInTime sizes stations select_ms max_age_ms now h xs) s.selections) }
 {}
 
 /// Each answer is the right one: the ASDU that came, with another cause, P/N 1, and its test bit
 /// and all other octets as they were. The own answers that are kept go out first in, first out: 16
 /// of them at most wait, and the end of a connection removes them.
 pub fn own_answers_are_given()
-    ensures right { AfterEachRun (λ stations sizes select_ms s h. GivesOwnAnswers sizes stations select_ms h) }
-    ensures in_turn { AfterEachRun (λ stations sizes select_ms s h. own_kept h ≡ own_sent h ++ s.answers) }
-    ensures kept { AfterEachRun (λ stations sizes select_ms s h. KeepsOwnAnswers h) }
-    ensures spelled { (cause : ℕ) (xs : List ℕ) → cause < 64 → 9 ≤ length xs → slice_index xs 2 < 256
-        → IsRefusal cause xs (answer cause xs) }
+    ensures right { AfterEachRun (λ stations sizes select_ms max_age_ms s h.
+        GivesOwnAnswers sizes stations select_ms max_age_ms h) }
+    ensures in_turn { AfterEachRun (λ stations sizes select_ms max_age_ms s h.
+        own_kept h ≡ own_sent h ++ s.answers) }
+    ensures kept { AfterEachRun (λ stations sizes select_ms max_age_ms s h. KeepsOwnAnswers h) }
+    ensures spelled { (cause : ℕ) (xs : List ℕ) → cause < 64 → 9 ≤ length xs
+        → slice_index xs 2 < 256 → IsRefusal cause xs (answer cause xs) }
 {}
 
 /// No call changes the settings.
 pub fn settings_stay()
-    ensures stations { AfterEachRun (λ stations sizes select_ms s h. s.stations ≡ stations) }
-    ensures sizes { AfterEachRun (λ stations sizes select_ms s h. s.sizes ≡ sizes) }
-    ensures select_ms { AfterEachRun (λ stations sizes select_ms s h. s.select_ms ≡ select_ms) }
+    ensures stations { AfterEachRun (λ stations sizes select_ms max_age_ms s h.
+        s.stations ≡ stations) }
+    ensures sizes { AfterEachRun (λ stations sizes select_ms max_age_ms s h. s.sizes ≡ sizes) }
+    ensures select_ms { AfterEachRun (λ stations sizes select_ms max_age_ms s h.
+        s.select_ms ≡ select_ms) }
+    ensures max_age_ms { AfterEachRun (λ stations sizes select_ms max_age_ms s h.
+        s.max_age_ms ≡ max_age_ms) }
 {}
 
 /// What waits for a station first stays so until it goes out or its connection ends: no ASDU, no
 /// station's answer and nothing that goes out to another station changes it. Nor do they change the
 /// own answers that are kept.
 pub fn waiting_commands_stay()
-    ensures judged { (xs : List ℕ) (now k : ℕ) (s : State) (octets : List ℕ) → octets_waiting k s ≡ Some octets → octets_waiting k (judged xs now s).1 ≡ Some octets }
-    ensures mirrored { (v : AsduValue) (now : ℕ) (s : State) → (mirrored v now s).waiting ≡ s.waiting }
-    ensures sent { (j k : ℕ) (s : State) → (k == j) ≡ false → octets_waiting k (sent j s) ≡ octets_waiting k s }
-    ensures answers_judged { (xs : List ℕ) (now : ℕ) (s : State) → (judged xs now s).1.answers ≡ s.answers }
-    ensures answers_mirrored { (v : AsduValue) (now : ℕ) (s : State) → (mirrored v now s).answers ≡ s.answers }
+    ensures judged { (xs : List ℕ) (now : ℕ) (wall : Option ℕ) (k : ℕ) (s : State)
+        (octets : List ℕ) → octets_waiting k s ≡ Some octets →
+        octets_waiting k (judged xs now wall s).1 ≡ Some octets }
+    ensures mirrored { (v : AsduValue) (now : ℕ) (s : State) →
+        (mirrored v now s).waiting ≡ s.waiting }
+    ensures sent { (j k : ℕ) (s : State) → (k == j) ≡ false →
+        octets_waiting k (sent j s) ≡ octets_waiting k s }
+    ensures answers_judged { (xs : List ℕ) (now : ℕ) (wall : Option ℕ) (s : State) →
+        (judged xs now wall s).1.answers ≡ s.answers }
+    ensures answers_mirrored { (v : AsduValue) (now : ℕ) (s : State) →
+        (mirrored v now s).answers ≡ s.answers }
     ensures answers_sent { (j : ℕ) (s : State) → (sent j s).answers ≡ s.answers }
 {}
 
@@ -98,17 +138,23 @@ pub fn waiting_commands_stay()
 /// 'unknown type' with P/N set. So none of them is a report to the control centre. Of what is
 /// handed to `own` this says nothing: that is kept and given back as it is.
 pub fn own_answers_bear_no_objects()
-    ensures judged { (xs : List ℕ) (now : ℕ) (s : State) (a : List ℕ) → 9 ≤ length xs → slice_index xs 2 < 256 → (judged xs now s).0 ≡ Some a → monitor_objects_of tcp a ≡ [] }
-    ensures busy { AfterEachRun (λ stations sizes select_ms s h. (k : ℕ) (a : List ℕ) → refusal_of (line_of k s) ≡ Some a → monitor_objects_of tcp a ≡ []) }
+    ensures judged { (xs : List ℕ) (now : ℕ) (wall : Option ℕ) (s : State) (a : List ℕ) →
+        9 ≤ length xs → slice_index xs 2 < 256 → (judged xs now wall s).0 ≡ Some a →
+        monitor_objects_of tcp a ≡ [] }
+    ensures busy { AfterEachRun (λ stations sizes select_ms max_age_ms s h. (k : ℕ)
+        (a : List ℕ) → refusal_of (line_of k s) ≡ Some a → monitor_objects_of tcp a ≡ []) }
 {}
 
 /// Examples worked by hand: which octets say what, which answer a command gets by each rule, what
-/// lets an execute through and what doesn't, and what goes to the line.
+/// lets an execute through and what doesn't, what goes to the line, and which tags are good enough,
+/// kept and passed on.
 pub fn worked_examples_hold()
     ensures octets { OctetExamples }
     ensures rules { AllByRecursion IsRight rule_examples }
     ensures selections { AllByRecursion IsRight selection_examples }
     ensures line { AllByRecursion WaitsSo line_examples }
+    ensures tags { AllByRecursion IsRight tag_examples }
+    ensures mirrors { AllByRecursion BearsIt mirror_examples }
 {}
 
 /// What crates above use of these laws, in one record; and the same of a state and a history that

@@ -197,7 +197,9 @@ impl Selection {
     }
 
     fn is_named(self, target: Target, element: Element) -> bool
-        ensures { result ≡ are_same_targets (target_of self.command) target && are_same_elements self.command.element element }
+        ensures { result ≡
+            are_same_targets (target_of self.command) target
+            && are_same_elements self.command.element element }
     {
         same_target(self.command.target(), target) && same_element(self.command.element, element)
     }
@@ -209,6 +211,7 @@ impl Selection {
         same_target(self.command.target(), command.target())
             && same_element(self.command.element.without_select(), command.element)
             && (self.command.cause >= 128) == (command.cause >= 128)
+            && self.command.received == command.received
             && self.is_live(select_ms, now)
     }
 

@@ -2,9 +2,11 @@ mod limits;
 mod own;
 mod rules;
 mod selections;
+mod tags;
 
 use crate::{Act, Commands, NoMemory, StationInfo};
 use asdu::{CaSize, CauseSize, IoaSize, Sizes, read};
+use elements::Cp56;
 use std::alloc::Global;
 
 /// The smallest sizes.
@@ -24,6 +26,9 @@ pub const MIDDLE: Sizes = Sizes {
 /// How long a selection lasts, in ms.
 pub const SELECT_MS: u64 = 10_000;
 
+/// How old a command with a tag may be, in ms.
+pub const MAX_AGE_MS: u64 = 10_000;
+
 /// A select of object 10 (single command, on), its execute, and the negative answer to that.
 pub const SELECT: [u8; 10] = [0x2D, 0x01, 0x06, 0x00, 0x01, 0x00, 0x0A, 0x00, 0x00, 0x81];
 
@@ -34,7 +39,8 @@ pub const REFUSED: [u8; 10] = [0x2D, 0x01, 0x47, 0x00, 0x01, 0x00, 0x0A, 0x00, 0
 /// The deactivation, and the negative answer to it.
 pub const STOP: [u8; 10] = [0x2D, 0x01, 0x08, 0x00, 0x01, 0x00, 0x0A, 0x00, 0x00, 0x01];
 
-/// The select and the execute on the line, in the sizes `MIDDLE`, and the select's con, positive and negative.
+/// The select and the execute on the line, in the sizes `MIDDLE`, and the select's con, positive
+/// and negative.
 pub const LINE_SELECT: [u8; 7] = [0x2D, 0x01, 0x06, 0x01, 0x0A, 0x00, 0x81];
 
 pub const LINE_EXECUTE: [u8; 7] = [0x2D, 0x01, 0x06, 0x01, 0x0A, 0x00, 0x01];
@@ -55,6 +61,10 @@ pub enum Step<'a> {
     Forwards(&'a [u8], u64),
     /// An ASDU comes at this moment and gets this answer.
     Answers(&'a [u8], u64, &'a [u8]),
+    /// An ASDU comes at this moment of the wall and is forwarded.
+    ForwardsAt(&'a [u8], u64),
+    /// An ASDU comes at this moment of the wall and gets this answer.
+    AnswersAt(&'a [u8], u64, &'a [u8]),
     /// These octets wait for the line of the station, and go out.
     Sends(usize, &'a [u8]),
     /// Nothing waits for the station.
@@ -66,8 +76,10 @@ pub enum Step<'a> {
     Silent(usize),
     /// The command on the station's line is given up; whether there was one.
     Loses(usize, bool),
-    /// A station's ASDU comes in the sizes `MIDDLE`, at this moment.
+    /// A station's ASDU comes in the sizes `MIDDLE`, at this moment; no tag is answered.
     Mirrors(&'a [u8], u64),
+    /// A station's ASDU comes in the sizes `MIDDLE`; this tag is answered.
+    Bears(&'a [u8], [u8; 7]),
     /// An own answer is handed over; whether it is kept.
     Keeps(&'a [u8], bool),
     /// This is the oldest own answer.
@@ -90,7 +102,7 @@ pub fn two_stations(alloc: Global, sizes: Sizes) -> Result<Commands, NoMemory> {
             select: false,
         },
     ];
-    Commands::new(alloc, &stations, sizes, SELECT_MS)
+    Commands::new(alloc, &stations, sizes, SELECT_MS, MAX_AGE_MS)
 }
 
 /// How many of the calls, in their order, answer what they are to.
@@ -111,7 +123,7 @@ pub fn count_of_refusals(commands: &mut Commands, table: &[([u8; 10], u8)]) -> u
     for (octets, cause) in table {
         let mut wanted = *octets;
         wanted[2] = *cause;
-        if !is_answered(commands, octets, 1, &wanted) {
+        if !is_answered(commands, octets, (1, None), &wanted) {
             return count;
         }
         count = count.wrapping_add(1);
@@ -123,14 +135,21 @@ pub fn count_of_refusals(commands: &mut Commands, table: &[([u8; 10], u8)]) -> u
 fn is_right(commands: &mut Commands, step: &Step) -> bool {
     match step {
         Step::Forwards(octets, now) => return forwards(commands, octets, *now),
-        Step::Answers(octets, now, answer) => return is_answered(commands, octets, *now, answer),
+        Step::Answers(octets, now, answer) => {
+            return is_answered(commands, octets, (*now, None), answer);
+        }
+        Step::ForwardsAt(octets, wall) => return forwards_at(commands, octets, (1, Some(*wall))),
+        Step::AnswersAt(octets, wall, answer) => {
+            return is_answered(commands, octets, (1, Some(*wall)), answer);
+        }
         Step::Sends(station, octets) => return sends(commands, *station, octets),
         Step::Rests(station) => return commands.waiting(*station).is_none(),
         Step::Accepts(station) => commands.accepted(*station),
         Step::Busy(station, answer) => return refuses(commands, *station, answer),
         Step::Silent(station) => return commands.busy(*station).is_none(),
         Step::Loses(station, there) => return commands.lost(*station) == *there,
-        Step::Mirrors(octets, now) => return mirrors(commands, octets, *now),
+        Step::Mirrors(octets, now) => return mirrors(commands, octets, *now, None),
+        Step::Bears(octets, tag) => return mirrors(commands, octets, 1, Some(Cp56(*tag))),
         Step::Keeps(octets, kept) => return keeps(commands, octets, *kept),
         Step::Oldest(octets) => return commands.own_answer() == Some(*octets),
         Step::Empty => return commands.own_answer().is_none(),
@@ -141,17 +160,27 @@ fn is_right(commands: &mut Commands, step: &Step) -> bool {
 }
 
 pub fn forwards(commands: &mut Commands, octets: &[u8], now: u64) -> bool {
-    if octets.len() < 9 || octets.len() > 249 {
-        return false;
-    }
-    matches!(commands.judge_command(octets, now), Act::Forward)
+    forwards_at(commands, octets, (now, None))
 }
 
-fn is_answered(commands: &mut Commands, octets: &[u8], now: u64, wanted: &[u8]) -> bool {
+/// Whether it is forwarded at this moment, and this one of the wall.
+fn forwards_at(commands: &mut Commands, octets: &[u8], at: (u64, Option<u64>)) -> bool {
     if octets.len() < 9 || octets.len() > 249 {
         return false;
     }
-    match commands.judge_command(octets, now) {
+    matches!(commands.judge_command(octets, at.0, at.1), Act::Forward)
+}
+
+fn is_answered(
+    commands: &mut Commands,
+    octets: &[u8],
+    at: (u64, Option<u64>),
+    wanted: &[u8],
+) -> bool {
+    if octets.len() < 9 || octets.len() > 249 {
+        return false;
+    }
+    match commands.judge_command(octets, at.0, at.1) {
         Act::Forward => false,
         Act::Own(answer) => answer.as_slice() == wanted,
     }
@@ -170,12 +199,9 @@ fn refuses(commands: &mut Commands, station: usize, wanted: &[u8]) -> bool {
     }
 }
 
-fn mirrors(commands: &mut Commands, octets: &[u8], now: u64) -> bool {
+fn mirrors(commands: &mut Commands, octets: &[u8], now: u64, wanted: Option<Cp56>) -> bool {
     match read(MIDDLE, octets) {
-        Ok(asdu) => {
-            commands.mirror(&asdu, now);
-            true
-        }
+        Ok(asdu) => commands.mirror(&asdu, now) == wanted,
         Err(_) => false,
     }
 }

@@ -1,6 +1,7 @@
 //! Commands on their way to the line.
-ghost use Rattle.std.specs.Prelude.{◌≡◌, ◌≤◌, ℕ, List, length};
+ghost use Rattle.std.specs.Prelude.{◌≡◌, ◌≤◌, ℕ, List, length, slice_index};
 ghost use Rattle.arrayvec.specs.ArrayVec.{array_vec_len};
+ghost use Rattle.command.specs.Command.{command_len};
 
 use arrayvec::ArrayVec;
 use std::marker::Model;
@@ -8,7 +9,7 @@ use std::marker::Model;
 /// The ASDU of a command as it came from the control centre.
 #[derive(Drop)]
 pub(crate) struct Received {
-    octets: ArrayVec<u8, 12>,
+    octets: ArrayVec<u8, 19>,
 }
 
 impl Model for Received {
@@ -16,14 +17,14 @@ impl Model for Received {
 
     ghost view = { λ a. a.octets.items };
 
-    ghost invariant = { λ a. 9 ≤ array_vec_len a.octets };
+    ghost invariant = { λ a. length a.octets.items ≡ command_len (slice_index a.octets.items 0) };
 }
 
 impl Received {
     /// Keeps a copy of the octets.
     pub(crate) fn copied(octets: &[u8]) -> Received
-        requires long { 9 ≤ length octets.now }
-        requires fits { length octets.now ≤ 12 }
+        requires whole { length octets.now ≡ command_len (slice_index octets.now 0) }
+        requires fits { length octets.now ≤ 19 }
         ensures { result ≡ octets.now }
     {
         let mut copy = ArrayVec::new();
@@ -35,8 +36,8 @@ impl Received {
 
     pub(crate) fn as_slice(&self) -> &[u8]
         ensures value { result.now ≡ self.now }
-        ensures long { 9 ≤ length result.now }
-        ensures fits { length result.now ≤ 12 }
+        ensures whole { length result.now ≡ command_len (slice_index result.now 0) }
+        ensures fits { length result.now ≤ 19 }
     {
         self.octets.as_slice()
     }

@@ -1,10 +1,9 @@
 -- The definitions, computed on a line with one station: link address 1, common address 1, one octet each for link address, cause and
 -- common address, two for object addresses. All octets are written by hand.
-use Rattle.std.proofs.Common.{◌≡◌, ℕ, true, false, List, [], ◌∷◌, map, inl, inr, Some, None, refl, arith}
+use Rattle.std.proofs.Common.{◌≡◌, ℕ, true, false, List, [], ◌∷◌, map, inl, inr, Some, None, refl, arith, ◌++◌, sym, subst}
 use Rattle.ft12.specs.declared.frame.LinkSize.TheVariants as sizes_of_link
 use Rattle.ft12.specs.declared.frame.Frame.TheVariants.{Single, Fixed}
 use Rattle.ft12.specs.Fronts.{front_of}
-use Rattle.elements.specs.Types.{type_of}
 use Rattle.apci.specs.declared.apdu.Apdu.TheVariants.{I, S, U}
 use Rattle.apci.specs.declared.apdu.Uf.TheVariants.{StartAct}
 use Rattle.asdu.specs.declared.sizes.CauseSize.TheVariants as causes
@@ -13,13 +12,15 @@ use Rattle.asdu.specs.declared.sizes.IoaSize.TheVariants as ioas
 use Rattle.link.specs.declared.service.Asked.TheVariants.{Status}
 use Rattle.link.specs.Outstation.{Turn, Accepted as Done}
 use Rattle.link.specs.Delivery.{Session}
-use Rattle.command.specs.History.{History, Judged, Sent, Accepted, Refused, Ended}
-use Rattle.gateway.specs.Log.{Log, Came, Went, LineIn, LineOut, Ticked}
+use Rattle.command.specs.History.{History, Told, Judged, Sent, Accepted, Refused, GivenUp, Ended}
+use Rattle.gateway.specs.Log.{Log, Came, Went, Opened, CutOff, TcpIn, LineIn, LineOut, Ticked, WallIs}
 use Rattle.gateway.specs.Frames.{Connection, new_connection}
 use Rattle.gateway.specs.Reports.{Setup, AreFound, exchanges_with}
 use Rattle.delivery.specs.Merges.{IsSublist}
 use Rattle.delivery.specs.Delivery.{before_sessions, sessions_of}
-use Rattle.delivery.specs.Commands.{LineStep, Begun, Confirmed, Busy, steps_in, first_sendings, steps_told, sent_to, forwarded_in, asdus_received, on_line_of, AreCommandsOf}
+use Rattle.delivery.specs.Commands.{LineStep, Begun, Confirmed, Busy, Lost, steps_in, first_sendings, steps_told, sent_to, forwarded_in, as_judged, on_line_of, AreCommandsOf}
+use Rattle.delivery.specs.Selections.{AreAt, TellsAtMoments}
+use Rattle.delivery.specs.Arrivals.{Arrival, arrivals, arrivals_by, ShowsAt}
 
 abbrev example : Setup
 example = record {
@@ -30,6 +31,7 @@ example = record {
   session = record { k = 12; w = 8; t1 = 15000; t2 = 10000; t3 = 20000 };
   stations = record { ca = 1; select = false } ∷ [];
   select_ms = 30000;
+  max_age_ms = 10000;
 }
 
 -- A single command on (type 45, activation) to object 10 of station 1: as it comes from the control centre, and as it goes to the line
@@ -41,12 +43,18 @@ abbrev to_line : List ℕ
 to_line = 45 ∷ 1 ∷ 6 ∷ 1 ∷ 10 ∷ 0 ∷ 1 ∷ []
 
 in_line_sizes : on_line_of example 0 from_centre ≡ to_line
-unfolding type_of
 in_line_sizes = refl
+
+-- the same with a time tag (type 58) goes to the line without it
+without_tag : on_line_of example 0 (58 ∷ 1 ∷ 6 ∷ 0 ∷ 1 ∷ 0 ∷ 10 ∷ 0 ∷ 0 ∷ 1 ∷ 0 ∷ 0 ∷ 30 ∷ 12 ∷ 24 ∷ 11 ∷ 25 ∷ []) ≡ to_line
+without_tag = refl
+
+-- and a set point (type 48) with its three octets
+set_point : on_line_of example 0 (61 ∷ 1 ∷ 6 ∷ 0 ∷ 1 ∷ 0 ∷ 10 ∷ 0 ∷ 0 ∷ 7 ∷ 8 ∷ 9 ∷ 0 ∷ 0 ∷ 30 ∷ 12 ∷ 24 ∷ 11 ∷ 25 ∷ []) ≡ 48 ∷ 1 ∷ 6 ∷ 1 ∷ 10 ∷ 0 ∷ 7 ∷ 8 ∷ 9 ∷ []
+set_point = refl
 
 -- an interrogation to the global address goes to the line with the station's own
 own_address : on_line_of example 0 (100 ∷ 1 ∷ 6 ∷ 0 ∷ 255 ∷ 255 ∷ 0 ∷ 0 ∷ 0 ∷ 20 ∷ []) ≡ 100 ∷ 1 ∷ 6 ∷ 1 ∷ 0 ∷ 0 ∷ 20 ∷ []
-unfolding type_of
 own_address = refl
 
 -- The line: status, reset, and the command with FCB 1
@@ -73,7 +81,7 @@ abbrev put : Log
 put = Went 20 (LineOut command) ∷ started
 
 abbrev steps : Log → List LineStep
-steps log = steps_in 1 None (exchanges_with example 0 log)
+steps log = steps_in example.link 1 0 None (exchanges_with example 0 log)
 
 -- nothing is said of a command before it goes out
 none_yet : steps started ≡ []
@@ -124,6 +132,44 @@ two_commands : first_sendings 1 None (exchanges_with example 0 (Went 50 (LineOut
 unfolding front_of
 two_commands = refl
 
+-- that answer takes the link down, function 15 does, and function 9 (no data) is none to a command
+answered_14 : steps started_again ≡ Begun to_line ∷ Lost ∷ []
+unfolding front_of
+answered_14 = refl
+
+answered_15 : steps (Came 30 (LineIn (0x10 ∷ 0x0F ∷ 0x01 ∷ 0x10 ∷ 0x16 ∷ [])) ∷ put) ≡ Begun to_line ∷ Lost ∷ []
+unfolding front_of
+answered_15 = refl
+
+answered_9 : steps (Came 30 (LineIn (0x10 ∷ 0x09 ∷ 0x01 ∷ 0x0A ∷ 0x16 ∷ [])) ∷ put) ≡ Begun to_line ∷ []
+unfolding front_of
+answered_9 = refl
+
+-- one sending without an answer is none too many with one repeat, two are, at their last moment and not before
+abbrev steps_of_reset : Log → List LineStep
+steps_of_reset log = steps_in (record { size = sizes_of_link.One; answer_ms = 100; retries = 1; hold = false; burst = 3 }) 1 0 None (exchanges_with example 0 log)
+
+abbrev sent_again : Log
+sent_again = Went 120 (LineOut command) ∷ Came 120 Ticked ∷ put
+
+silent_once : steps_of_reset (Came 219 Ticked ∷ sent_again) ≡ Begun to_line ∷ []
+unfolding front_of
+silent_once = refl
+
+silent_twice : steps_of_reset (Came 220 Ticked ∷ sent_again) ≡ Begun to_line ∷ Lost ∷ []
+unfolding front_of
+silent_twice = refl
+
+-- an answer between them counts anew
+answered_between : steps_of_reset (Came 330 Ticked ∷ Went 230 (LineOut command) ∷ Came 230 (LineIn (0xE5 ∷ [])) ∷ sent_again) ≡ Begun to_line ∷ Confirmed to_line ∷ Begun to_line ∷ []
+unfolding front_of
+answered_between = refl
+
+-- where the service is held instead, silence takes no link down
+held_back : steps (Came 320 Ticked ∷ Went 220 (LineOut command) ∷ Came 220 Ticked ∷ sent_again) ≡ Begun to_line ∷ []
+unfolding front_of
+held_back = refl
+
 -- Sessions: the status alone is before the first one
 
 abbrev turns : List Turn
@@ -146,14 +192,32 @@ told = Refused 0 None ∷ Sent 0 (2 ∷ []) ∷ Sent 1 (3 ∷ []) ∷ Ended ∷ 
 told_of_first : steps_told 0 told ≡ Begun (1 ∷ []) ∷ Confirmed (1 ∷ []) ∷ Begun (2 ∷ []) ∷ Busy (2 ∷ []) ∷ []
 told_of_first = refl
 
+-- what is given up is told for its own station alone
+told_lost : steps_told 0 (GivenUp 1 true ∷ GivenUp 0 true ∷ Sent 0 (1 ∷ []) ∷ []) ≡ Begun (1 ∷ []) ∷ Lost ∷ []
+told_lost = refl
+
 told_of_second : steps_told 1 told ≡ Begun (3 ∷ []) ∷ []
 told_of_second = refl
+
+-- An ASDU is told with the moment of its entry of the log, and with no other.
+at_its_moment : TellsAtMoments (Came 9 Ticked ∷ Came 5 (TcpIn []) ∷ []) (Judged 5 None from_centre None ∷ [])
+at_its_moment = ([], Judged 5 None from_centre None ∷ [], refl, tt, (Judged 5 None from_centre None ∷ [], [], refl, (refl, tt), tt))
+
+not_before_it : TellsAtMoments (Came 9 Ticked ∷ []) (Judged 5 None from_centre None ∷ []) → ⊥
+not_before_it h = go h.0 h.1 h.2 h.3 h.4
+  where
+    go : (new older : History) → Judged 5 None from_centre None ∷ [] ≡ new ++ older → AreAt 9 new → AreAt 0 older → ⊥
+    go [] older e is all = let then_0 : AreAt 0 (Judged 5 None from_centre None ∷ []) = subst (AreAt 0) (sym e) all in let no : 5 ≡ 0 = then_0.0 in cc
+    go (x ∷ new) older e is all =
+        let same : x ≡ Judged 5 None from_centre None = cc in
+        let then_9 : AreAt 9 (Judged 5 None from_centre None ∷ new) = subst (λ (y : Told). AreAt 9 (y ∷ new)) same is in
+        let no : 5 ≡ 9 = then_9.0 in cc
 
 sent_to_first : sent_to 0 told ≡ (1 ∷ []) ∷ (2 ∷ []) ∷ []
 sent_to_first = refl
 
 -- what is answered isn't forwarded, nor what is for another station
-forwarded_alone : forwarded_in example 0 (Judged 3 (45 ∷ 1 ∷ 6 ∷ 0 ∷ 2 ∷ 0 ∷ 10 ∷ 0 ∷ 0 ∷ 1 ∷ []) None ∷ Judged 2 from_centre None ∷ Judged 1 from_centre (Some []) ∷ []) ≡ from_centre ∷ []
+forwarded_alone : forwarded_in example 0 (Judged 3 None (45 ∷ 1 ∷ 6 ∷ 0 ∷ 2 ∷ 0 ∷ 10 ∷ 0 ∷ 0 ∷ 1 ∷ []) None ∷ Judged 2 None from_centre None ∷ Judged 1 None from_centre (Some []) ∷ []) ≡ (from_centre, None) ∷ []
 forwarded_alone = refl
 
 -- From the control centre: the ASDUs of all connections, the oldest first
@@ -164,8 +228,30 @@ first_connection = record { sent_frames = []; received_frames = I 0 0 (record { 
 abbrev second_connection : Connection
 second_connection = record { sent_frames = []; received_frames = I 1 0 (record { items = 3 ∷ [] }) ∷ S 0 ∷ I 0 0 (record { items = 2 ∷ [] }) ∷ U StartAct ∷ [] }
 
-received_in_order : asdus_received (second_connection ∷ first_connection ∷ []) ≡ (1 ∷ []) ∷ (2 ∷ []) ∷ (3 ∷ []) ∷ []
+received_in_order : map (λ (x : Arrival). x.asdu) (arrivals_by (second_connection ∷ first_connection ∷ []) ([] ∷ [] ∷ [])) ≡ (1 ∷ []) ∷ (2 ∷ []) ∷ (3 ∷ []) ∷ []
 received_in_order = refl
+
+-- A frame comes in two pieces, the wall clock is told between them, and again: the frame came with its last octet, and the ASDU after that wall moment.
+
+abbrev in_pieces : Log
+in_pieces = Came 3 (TcpIn (0 ∷ 1 ∷ [])) ∷ Came 2 (WallIs 500) ∷ Came 1 (TcpIn (0x68 ∷ 5 ∷ 0 ∷ 0 ∷ 0 ∷ [])) ∷ Came 0 Opened ∷ []
+
+abbrev with_one : Connection
+with_one = record { sent_frames = []; received_frames = I 0 0 (record { items = 1 ∷ [] }) ∷ [] }
+
+came_whole : arrivals (Came 4 Ticked ∷ in_pieces) (with_one ∷ []) ≡ record { asdu = 1 ∷ []; log = in_pieces } ∷ []
+came_whole = refl
+
+came_then : map as_judged (arrivals (Came 9 (WallIs 7) ∷ in_pieces) (with_one ∷ [])) ≡ (1 ∷ [], Some 501) ∷ []
+came_then = refl
+
+-- on a connection that is over now, too
+came_before : arrivals (Came 5 CutOff ∷ in_pieces) (new_connection ∷ with_one ∷ []) ≡ record { asdu = 1 ∷ []; log = in_pieces } ∷ []
+came_before = refl
+
+-- the wall clock stands where the latest event says, and not where one before it said
+shows_latest : ShowsAt (Came 4 (WallIs 9) ∷ in_pieces) 5 10
+shows_latest = record { since = []; now = 4; number = 9; before = in_pieces; told = refl; latest_told = tt; shows = refl }
 
 -- one of two is some of them, but neither one twice nor two in another order
 one_of_two : IsSublist {A = ℕ} (2 ∷ []) (1 ∷ 2 ∷ [])
@@ -181,24 +267,23 @@ not_turned (inr (inl h)) = h.1
 not_turned (inr (inr h)) = h
 
 -- a command is none of the centre's where none came, and one is not two
-not_invented : AreCommandsOf example 0 (new_connection ∷ []) (to_line ∷ []) → ⊥
+not_invented : AreCommandsOf example 0 [] (to_line ∷ []) → ⊥
 not_invented h = go h.given h.received h.whole
   where
-    go : (given : List (List ℕ)) → IsSublist given [] → to_line ∷ [] ≡ map (λ (asdu : List ℕ). on_line_of example 0 asdu) given → ⊥
+    go : (given : List Arrival) → IsSublist given [] → to_line ∷ [] ≡ map (λ (x : Arrival). on_line_of example 0 x.asdu) given → ⊥
     go [] part whole = cc
-    go (asdu ∷ given) part whole = part
+    go (x ∷ given) part whole = part
 
-abbrev one_came : Connection
-one_came = record { sent_frames = []; received_frames = I 0 0 (record { items = from_centre }) ∷ U StartAct ∷ [] }
+abbrev one_came : Arrival
+one_came = record { asdu = from_centre; log = in_pieces }
 
 is_given : AreCommandsOf example 0 (one_came ∷ []) (to_line ∷ [])
-unfolding type_of
-is_given = record { given = from_centre ∷ []; received = inl (refl, tt); each = (record { addressed = refl; faultless = refl }, tt); whole = refl }
+is_given = record { given = one_came ∷ []; received = inl (refl, tt); each = (record { addressed = refl; faultless = refl; fresh = λ tagged active. cc }, tt); whole = refl }
 
 not_given_twice : AreCommandsOf example 0 (one_came ∷ []) (to_line ∷ to_line ∷ []) → ⊥
 not_given_twice h = go h.given h.received h.whole
   where
-    go : (given : List (List ℕ)) → IsSublist given (from_centre ∷ []) → to_line ∷ to_line ∷ [] ≡ map (λ (asdu : List ℕ). on_line_of example 0 asdu) given → ⊥
+    go : (given : List Arrival) → IsSublist given (one_came ∷ []) → to_line ∷ to_line ∷ [] ≡ map (λ (x : Arrival). on_line_of example 0 x.asdu) given → ⊥
     go [] part whole = cc
     go (x ∷ []) part whole = cc
     go (x ∷ (y ∷ given)) (inl h) whole = h.1

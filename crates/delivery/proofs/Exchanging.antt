@@ -1,5 +1,5 @@
 -- What an event or a request makes of the steps of commands, as the exchanges show them and as the course tells them.
-use Rattle.std.specs.Prelude.{◌==◌, ◌&&◌, not}
+use Rattle.std.specs.Prelude.{◌==◌, ◌&&◌, not, suc, nat_lt}
 use Rattle.std.proofs.Common.{◌≡◌, ℕ, Bool, true, false, List, [], ◌∷◌, ◌++◌, map, Option, Some, None, refl, ap, sym, ◌∙◌, append_assoc, eq-eqb, if◌then◌else◌}
 use Rattle.std.proofs.lemmas.List.{append-nil}
 use Rattle.std.proofs.lemmas.Bool.{eqb-true}
@@ -16,12 +16,14 @@ use Rattle.link.specs.declared.outcome.Outcome.TheVariants as outcome
 use Rattle.link.specs.declared.procedure.Link.{Link}
 use Rattle.link.specs.declared.procedure.Link.TheVariants.{Down, Available, Next, Held}
 use Rattle.link.specs.Exchanges.{Exchange, LineExchange, OpenExchange, Exchanges, all_of, answer_to, view, views, with_station}
-use Rattle.link.specs.Procedure.{MaySend, is_held}
+use Rattle.link.specs.declared.settings.LinkSettings.{LinkSettings}
+use Rattle.link.specs.Procedure.{MaySend, is_held, is_up, held, after_silence}
+use Rattle.link.specs.Runs.{silence_outcome}
 use Rattle.link.specs.Primary.{is_command, outcome_of}
 use Rattle.link.specs.Delivery.{pending_by, pending_after, first_sending}
-use Rattle.command.specs.History.{History, Sent, Accepted, Refused}
-use Rattle.delivery.specs.Commands.{LineStep, Begun, Confirmed, Busy, said_of, steps_in, first_sendings, last_sent, steps_told, sent_to}
-use Rattle.delivery.proofs.Steps.{pending_more, steps_more, sendings_more, Pends, AreProper, none_said, no_first}
+use Rattle.command.specs.History.{History, Sent, Accepted, Refused, GivenUp}
+use Rattle.delivery.specs.Commands.{LineStep, Begun, Confirmed, Busy, Lost, said_of, is_silent, goes_down, steps_in, first_sendings, last_sent, steps_told, sent_to}
+use Rattle.delivery.proofs.Steps.{pending_more, missed_after, steps_more, sendings_more, Pends, AreProper, none_said, no_first, Counts, so_far, still_up}
 use Rattle.delivery.proofs.History.{LineTold, line_told}
 
 pub other_place : (a b : ℕ) → (a == b) ≡ false → (b == a) ≡ false
@@ -51,28 +53,34 @@ abbrev pub alone : ℕ → LineExchange → List Exchange
 alone i v = if v.station == i then v.exchange ∷ [] else []
 
 -- What is told of a station's line is what its exchanges show; and the command that isn't done was sent last.
-pub record IsTold (a : ℕ) (xs : List Exchange) (k : ℕ) (h : History) : Type 0 where
-  pub steps : steps_told k h ≡ steps_in a None xs
+pub record IsTold (s : LinkSettings) (a : ℕ) (xs : List Exchange) (k : ℕ) (h : History) : Type 0 where
+  pub steps : steps_told k h ≡ steps_in s a 0 None xs
   pub last : (asdu : List ℕ) → pending_after a None xs ≡ Some (Command asdu) → last_sent k h ≡ asdu
   pub sent : sent_to k h ≡ first_sendings a None xs
 
-pub stays_told : (a : ℕ) (xs : List Exchange) (k : ℕ) (h new : History) → line_told k new ≡ line_told k h → IsTold a xs k h → IsTold a xs k new
-stays_told a xs k h new same t = record {
+pub stays_told : (s : LinkSettings) (a : ℕ) (xs : List Exchange) (k : ℕ) (h new : History) → line_told k new ≡ line_told k h → IsTold s a xs k h → IsTold s a xs k new
+stays_told s a xs k h new same t = record {
   steps = ap (λ (l : LineTold). l.steps) same ∙ t.steps;
   last = λ asdu e. ap (λ (l : LineTold). l.last) same ∙ t.last asdu e;
   sent = ap (λ (l : LineTold). l.sent) same ∙ t.sent;
 }
 
+abbrev lost_if : Bool → List LineStep
+lost_if b = if b then Lost ∷ [] else []
+
 -- another exchange with the same answer in place of the last one
-pub alike_told : (a k : ℕ) (xs : List Exchange) (request : Asked) (front later : Option Frame) (closed over : Bool) (h new : History) →
-    answer_to a (record { request = request; front = front; closed = closed }) ≡ answer_to a (record { request = request; front = later; closed = over }) → line_told k new ≡ line_told k h →
-    IsTold a (xs ++ record { request = request; front = front; closed = closed } ∷ []) k h → IsTold a (xs ++ record { request = request; front = later; closed = over } ∷ []) k new
-alike_told a k xs request front later closed over h new alike same t =
+pub alike_told : (s : LinkSettings) (a k : ℕ) (xs : List Exchange) (request : Asked) (front later : Option Frame) (closed over : Bool) (h new : History) →
+    answer_to a (record { request = request; front = front; closed = closed }) ≡ answer_to a (record { request = request; front = later; closed = over }) →
+    goes_down s (missed_after a 0 xs) request closed (answer_to a (record { request = request; front = later; closed = over })) ≡ goes_down s (missed_after a 0 xs) request over (answer_to a (record { request = request; front = later; closed = over })) →
+    line_told k new ≡ line_told k h →
+    IsTold s a (xs ++ record { request = request; front = front; closed = closed } ∷ []) k h → IsTold s a (xs ++ record { request = request; front = later; closed = over } ∷ []) k new
+alike_told s a k xs request front later closed over h new alike down same t =
     let pending : Option Service = pending_after a None xs in
     let x : Exchange = record { request = request; front = front; closed = closed } in
     let y : Exchange = record { request = request; front = later; closed = over } in
     record {
-      steps = ap (λ (l : LineTold). l.steps) same ∙ t.steps ∙ steps_more a None xs x ∙ ap (λ (o : Option Answer). steps_in a None xs ++ (map (λ (asdu : List ℕ). Begun asdu) (first_sending pending request) ++ said_of request o)) alike ∙ sym (steps_more a None xs y);
+      steps = ap (λ (l : LineTold). l.steps) same ∙ t.steps ∙ steps_more s a 0 None xs x ∙ ap (λ (o : Option Answer). steps_in s a 0 None xs ++ (map (λ (asdu : List ℕ). Begun asdu) (first_sending pending request) ++ (said_of request o ++ lost_if (goes_down s (missed_after a 0 xs) request closed o)))) alike
+          ∙ ap (λ (b : Bool). steps_in s a 0 None xs ++ (map (λ (asdu : List ℕ). Begun asdu) (first_sending pending request) ++ (said_of request (answer_to a y) ++ lost_if b))) down ∙ sym (steps_more s a 0 None xs y);
       last = λ asdu e. ap (λ (l : LineTold). l.last) same ∙ t.last asdu (pending_more a None xs x ∙ ap (λ (o : Option Answer). pending_by request o pending) alike ∙ sym (pending_more a None xs y) ∙ e);
       sent = ap (λ (l : LineTold). l.sent) same ∙ t.sent ∙ sendings_more a None xs x ∙ sym (sendings_more a None xs y);
     }
@@ -83,6 +91,7 @@ alike_told a k xs request front later closed over h new alike same t =
 abbrev pub told_by : Outcome → History → History
 told_by (outcome.Accepted station) h = Accepted station ∷ h
 told_by (outcome.Busy station) h = Refused station None ∷ h
+told_by (outcome.Down station) h = GivenUp station false ∷ h
 told_by other h = h
 
 -- what is pending after an answer was pending before
@@ -104,23 +113,28 @@ pending_back (Counted fcb s) (Some (answer.Report asdu)) pending service e = cc
 pending_back (Counted fcb s) (Some answer.NoData) pending service e = cc
 pending_back (Counted fcb s) (Some answer.Unable) pending service e = e
 
-module _ (a k : ℕ) (xs : List Exchange) (request : Asked) (front later : Option Frame) (closed over : Bool) where
+module _ (s : LinkSettings) (a k : ℕ) (xs : List Exchange) (request : Asked) (front later : Option Frame) (over : Bool) where
   abbrev before_it : Exchange
-  before_it = record { request = request; front = front; closed = closed }
+  before_it = record { request = request; front = front; closed = false }
 
   abbrev after_it : Exchange
   after_it = record { request = request; front = later; closed = over }
 
-  -- the steps grow by what the answer says
-  grown : (m : Option Answer) → answer_to a before_it ≡ None → answer_to a after_it ≡ m → steps_in a None (xs ++ after_it ∷ []) ≡ steps_in a None (xs ++ before_it ∷ []) ++ said_of request m
+  -- the steps grow by what the answer says, or its want
+  grown : (m : Option Answer) → answer_to a before_it ≡ None → answer_to a after_it ≡ m →
+      steps_in s a 0 None (xs ++ after_it ∷ []) ≡ steps_in s a 0 None (xs ++ before_it ∷ []) ++ (said_of request m ++ lost_if (goes_down s (missed_after a 0 xs) request over m))
   grown m none is =
       let pending : Option Service = pending_after a None xs in
+      let missed : ℕ = missed_after a 0 xs in
       let first : List LineStep = map (λ (asdu : List ℕ). Begun asdu) (first_sending pending request) in
-      let old : List LineStep = steps_in a None xs in
-      let was : steps_in a None (xs ++ before_it ∷ []) ≡ old ++ first =
-      steps_more a None xs before_it ∙ ap (λ (o : Option Answer). old ++ (first ++ said_of request o)) none ∙ ap (λ (l : List LineStep). old ++ (first ++ l)) (none_said request) ∙ ap (λ (l : List LineStep). old ++ l) (append-nil first) in
-      steps_more a None xs after_it ∙ ap (λ (o : Option Answer). old ++ (first ++ said_of request o)) is
-      ∙ sym (append_assoc old first (said_of request m)) ∙ ap (λ (l : List LineStep). l ++ said_of request m) (sym was)
+      let old : List LineStep = steps_in s a 0 None xs in
+      let more : List LineStep = said_of request m ++ lost_if (goes_down s missed request over m) in
+      let was : steps_in s a 0 None (xs ++ before_it ∷ []) ≡ old ++ first =
+      steps_more s a 0 None xs before_it ∙ ap (λ (o : Option Answer). old ++ (first ++ (said_of request o ++ lost_if (goes_down s missed request false o)))) none
+      ∙ ap (λ (l : List LineStep). old ++ (first ++ (l ++ lost_if (goes_down s missed request false None)))) (none_said request)
+      ∙ ap (λ (b : Bool). old ++ (first ++ lost_if b)) (still_up s missed request) ∙ ap (λ (l : List LineStep). old ++ l) (append-nil first) in
+      steps_more s a 0 None xs after_it ∙ ap (λ (o : Option Answer). old ++ (first ++ (said_of request o ++ lost_if (goes_down s missed request over o)))) is
+      ∙ sym (append_assoc old first more) ∙ ap (λ (l : List LineStep). l ++ more) (sym was)
 
   same_sendings : first_sendings a None (xs ++ after_it ∷ []) ≡ first_sendings a None (xs ++ before_it ∷ [])
   same_sendings = sendings_more a None xs after_it ∙ sym (sendings_more a None xs before_it)
@@ -132,72 +146,82 @@ module _ (a k : ℕ) (xs : List Exchange) (request : Asked) (front later : Optio
       ∙ pending_back request m pending service (ap (λ (o : Option Answer). pending_by request o pending) (sym is) ∙ sym (pending_more a None xs after_it) ∙ e)
 
   -- nothing is said of a command
-  quiet_told : (m : Option Answer) (h new : History) → answer_to a before_it ≡ None → answer_to a after_it ≡ m → said_of request m ≡ [] → line_told k new ≡ line_told k h →
-      IsTold a (xs ++ before_it ∷ []) k h → IsTold a (xs ++ after_it ∷ []) k new
+  quiet_told : (m : Option Answer) (h new : History) → answer_to a before_it ≡ None → answer_to a after_it ≡ m → said_of request m ++ lost_if (goes_down s (missed_after a 0 xs) request over m) ≡ [] → line_told k new ≡ line_told k h →
+      IsTold s a (xs ++ before_it ∷ []) k h → IsTold s a (xs ++ after_it ∷ []) k new
   quiet_told m h new none is nothing same t = record {
-    steps = ap (λ (l : LineTold). l.steps) same ∙ t.steps ∙ sym (append-nil (steps_in a None (xs ++ before_it ∷ []))) ∙ ap (λ (l : List LineStep). steps_in a None (xs ++ before_it ∷ []) ++ l) (sym nothing) ∙ sym (grown m none is);
+    steps = ap (λ (l : LineTold). l.steps) same ∙ t.steps ∙ sym (append-nil (steps_in s a 0 None (xs ++ before_it ∷ []))) ∙ ap (λ (l : List LineStep). steps_in s a 0 None (xs ++ before_it ∷ []) ++ l) (sym nothing) ∙ sym (grown m none is);
     last = λ asdu e. ap (λ (l : LineTold). l.last) same ∙ t.last asdu (still_pending m none is (Command asdu) e);
     sent = ap (λ (l : LineTold). l.sent) same ∙ t.sent ∙ sym same_sendings;
   }
 
   -- the command that went out last is spoken of
   spoken_told : (m : Option Answer) (asdu : List ℕ) (step : List ℕ → LineStep) (h new : History) → answer_to a before_it ≡ None → answer_to a after_it ≡ m →
-      said_of request m ≡ step asdu ∷ [] → pending_by request None (pending_after a None xs) ≡ Some (Command asdu) → pending_by request m (pending_after a None xs) ≡ None →
+      said_of request m ++ lost_if (goes_down s (missed_after a 0 xs) request over m) ≡ step asdu ∷ [] → pending_by request None (pending_after a None xs) ≡ Some (Command asdu) → pending_by request m (pending_after a None xs) ≡ None →
       steps_told k new ≡ steps_told k h ++ step (last_sent k h) ∷ [] → sent_to k new ≡ sent_to k h →
-      IsTold a (xs ++ before_it ∷ []) k h → IsTold a (xs ++ after_it ∷ []) k new
+      IsTold s a (xs ++ before_it ∷ []) k h → IsTold s a (xs ++ after_it ∷ []) k new
   spoken_told m asdu step h new none is says held done steps sent t =
       let pending : Option Service = pending_after a None xs in
       let it : last_sent k h ≡ asdu = t.last asdu (pending_more a None xs before_it ∙ ap (λ (o : Option Answer). pending_by request o pending) none ∙ held) in
       let over : pending_after a None (xs ++ after_it ∷ []) ≡ None = pending_more a None xs after_it ∙ ap (λ (o : Option Answer). pending_by request o pending) is ∙ done in
       record {
-        steps = steps ∙ ap (λ (l : List LineStep). l ++ step (last_sent k h) ∷ []) t.steps ∙ ap (λ (x : List ℕ). steps_in a None (xs ++ before_it ∷ []) ++ step x ∷ []) it
-            ∙ ap (λ (l : List LineStep). steps_in a None (xs ++ before_it ∷ []) ++ l) (sym says) ∙ sym (grown m none is);
+        steps = steps ∙ ap (λ (l : List LineStep). l ++ step (last_sent k h) ∷ []) t.steps ∙ ap (λ (x : List ℕ). steps_in s a 0 None (xs ++ before_it ∷ []) ++ step x ∷ []) it
+            ∙ ap (λ (l : List LineStep). steps_in s a 0 None (xs ++ before_it ∷ []) ++ l) (sym says) ∙ sym (grown m none is);
         last = λ other e. let no : None ≡ Some (Command other) = sym over ∙ e in cc;
         sent = sent ∙ t.sent ∙ sym same_sendings;
       }
 
+  -- what stands on the line is lost
+  lost_told : (m : Option Answer) (h new : History) → answer_to a before_it ≡ None → answer_to a after_it ≡ m → said_of request m ++ lost_if (goes_down s (missed_after a 0 xs) request over m) ≡ Lost ∷ [] →
+      line_told k new ≡ line_told k (GivenUp k false ∷ h) → IsTold s a (xs ++ before_it ∷ []) k h → IsTold s a (xs ++ after_it ∷ []) k new
+  lost_told m h new none is says same t = record {
+    steps = ap (λ (l : LineTold). l.steps) same ∙ ap (λ (b : Bool). if b then steps_told k h ++ Lost ∷ [] else steps_told k h) (eq-eqb k k refl) ∙ ap (λ (l : List LineStep). l ++ Lost ∷ []) t.steps
+        ∙ ap (λ (l : List LineStep). steps_in s a 0 None (xs ++ before_it ∷ []) ++ l) (sym says) ∙ sym (grown m none is);
+    last = λ asdu e. ap (λ (l : LineTold). l.last) same ∙ t.last asdu (still_pending m none is (Command asdu) e);
+    sent = ap (λ (l : LineTold). l.sent) same ∙ t.sent ∙ sym same_sendings;
+  }
+
 here_is : (k : ℕ) → (k == k) ≡ true
 here_is k = eq-eqb k k refl
 
-pub heard_one : (a k : ℕ) (xs : List Exchange) (request : Asked) (front later : Option Frame) (closed over : Bool) (m : Option Answer) (h new : History) →
-    answer_to a (record { request = request; front = front; closed = closed }) ≡ None → answer_to a (record { request = request; front = later; closed = over }) ≡ m → AreProper request m →
+pub heard_one : (s : LinkSettings) (a k : ℕ) (xs : List Exchange) (request : Asked) (front later : Option Frame) (m : Option Answer) (h new : History) →
+    answer_to a (record { request = request; front = front; closed = false }) ≡ None → answer_to a (record { request = request; front = later; closed = false }) ≡ m → AreProper request m →
     line_told k new ≡ line_told k (told_by (outcome_of k request m) h) →
-    IsTold a (xs ++ record { request = request; front = front; closed = closed } ∷ []) k h → IsTold a (xs ++ record { request = request; front = later; closed = over } ∷ []) k new
-heard_one a k xs request front later closed over None h new none is proper same t = quiet_told a k xs request front later closed over None h new none is (none_said request) same t
-heard_one a k xs Status front later closed over (Some answer.Ready) h new none is proper same t = quiet_told a k xs Status front later closed over (Some answer.Ready) h new none is refl same t
-heard_one a k xs Status front later closed over (Some answer.Unable) h new none is proper same t = quiet_told a k xs Status front later closed over (Some answer.Unable) h new none is refl same t
-heard_one a k xs Status front later closed over (Some answer.Confirmed) h new none is proper same t = absurd proper
-heard_one a k xs Status front later closed over (Some answer.Busy) h new none is proper same t = absurd proper
-heard_one a k xs Status front later closed over (Some (answer.Report asdu)) h new none is proper same t = absurd proper
-heard_one a k xs Status front later closed over (Some answer.NoData) h new none is proper same t = absurd proper
-heard_one a k xs Reset front later closed over (Some answer.Confirmed) h new none is proper same t = quiet_told a k xs Reset front later closed over (Some answer.Confirmed) h new none is refl same t
-heard_one a k xs Reset front later closed over (Some answer.Ready) h new none is proper same t = absurd proper
-heard_one a k xs Reset front later closed over (Some answer.Unable) h new none is proper same t = absurd proper
-heard_one a k xs Reset front later closed over (Some answer.Busy) h new none is proper same t = absurd proper
-heard_one a k xs Reset front later closed over (Some (answer.Report asdu)) h new none is proper same t = absurd proper
-heard_one a k xs Reset front later closed over (Some answer.NoData) h new none is proper same t = absurd proper
-heard_one a k xs (Counted fcb Class1) front later closed over (Some (answer.Report asdu)) h new none is proper same t = quiet_told a k xs (Counted fcb Class1) front later closed over (Some (answer.Report asdu)) h new none is refl same t
-heard_one a k xs (Counted fcb Class1) front later closed over (Some answer.NoData) h new none is proper same t = quiet_told a k xs (Counted fcb Class1) front later closed over (Some answer.NoData) h new none is refl same t
-heard_one a k xs (Counted fcb Class1) front later closed over (Some answer.Unable) h new none is proper same t = quiet_told a k xs (Counted fcb Class1) front later closed over (Some answer.Unable) h new none is refl same t
-heard_one a k xs (Counted fcb Class1) front later closed over (Some answer.Ready) h new none is proper same t = absurd proper
-heard_one a k xs (Counted fcb Class1) front later closed over (Some answer.Confirmed) h new none is proper same t = absurd proper
-heard_one a k xs (Counted fcb Class1) front later closed over (Some answer.Busy) h new none is proper same t = absurd proper
-heard_one a k xs (Counted fcb Class2) front later closed over (Some (answer.Report asdu)) h new none is proper same t = quiet_told a k xs (Counted fcb Class2) front later closed over (Some (answer.Report asdu)) h new none is refl same t
-heard_one a k xs (Counted fcb Class2) front later closed over (Some answer.NoData) h new none is proper same t = quiet_told a k xs (Counted fcb Class2) front later closed over (Some answer.NoData) h new none is refl same t
-heard_one a k xs (Counted fcb Class2) front later closed over (Some answer.Unable) h new none is proper same t = quiet_told a k xs (Counted fcb Class2) front later closed over (Some answer.Unable) h new none is refl same t
-heard_one a k xs (Counted fcb Class2) front later closed over (Some answer.Ready) h new none is proper same t = absurd proper
-heard_one a k xs (Counted fcb Class2) front later closed over (Some answer.Confirmed) h new none is proper same t = absurd proper
-heard_one a k xs (Counted fcb Class2) front later closed over (Some answer.Busy) h new none is proper same t = absurd proper
-heard_one a k xs (Counted fcb (Command asdu)) front later closed over (Some answer.Confirmed) h new none is proper same t =
-    spoken_told a k xs (Counted fcb (Command asdu)) front later closed over (Some answer.Confirmed) asdu (λ x. Confirmed x) h new none is refl refl refl
+    IsTold s a (xs ++ record { request = request; front = front; closed = false } ∷ []) k h → IsTold s a (xs ++ record { request = request; front = later; closed = false } ∷ []) k new
+heard_one s a k xs request front later None h new none is proper same t = quiet_told s a k xs request front later false None h new none is (ap (λ (l : List LineStep). l ++ lost_if (goes_down s (missed_after a 0 xs) request false None)) (none_said request) ∙ ap lost_if (still_up s (missed_after a 0 xs) request)) same t
+heard_one s a k xs Status front later (Some answer.Ready) h new none is proper same t = quiet_told s a k xs Status front later false (Some answer.Ready) h new none is refl same t
+heard_one s a k xs Status front later (Some answer.Unable) h new none is proper same t = lost_told s a k xs Status front later false (Some answer.Unable) h new none is refl same t
+heard_one s a k xs Status front later (Some answer.Confirmed) h new none is proper same t = absurd proper
+heard_one s a k xs Status front later (Some answer.Busy) h new none is proper same t = absurd proper
+heard_one s a k xs Status front later (Some (answer.Report asdu)) h new none is proper same t = absurd proper
+heard_one s a k xs Status front later (Some answer.NoData) h new none is proper same t = absurd proper
+heard_one s a k xs Reset front later (Some answer.Confirmed) h new none is proper same t = quiet_told s a k xs Reset front later false (Some answer.Confirmed) h new none is refl same t
+heard_one s a k xs Reset front later (Some answer.Ready) h new none is proper same t = absurd proper
+heard_one s a k xs Reset front later (Some answer.Unable) h new none is proper same t = absurd proper
+heard_one s a k xs Reset front later (Some answer.Busy) h new none is proper same t = absurd proper
+heard_one s a k xs Reset front later (Some (answer.Report asdu)) h new none is proper same t = absurd proper
+heard_one s a k xs Reset front later (Some answer.NoData) h new none is proper same t = absurd proper
+heard_one s a k xs (Counted fcb Class1) front later (Some (answer.Report asdu)) h new none is proper same t = quiet_told s a k xs (Counted fcb Class1) front later false (Some (answer.Report asdu)) h new none is refl same t
+heard_one s a k xs (Counted fcb Class1) front later (Some answer.NoData) h new none is proper same t = quiet_told s a k xs (Counted fcb Class1) front later false (Some answer.NoData) h new none is refl same t
+heard_one s a k xs (Counted fcb Class1) front later (Some answer.Unable) h new none is proper same t = lost_told s a k xs (Counted fcb Class1) front later false (Some answer.Unable) h new none is refl same t
+heard_one s a k xs (Counted fcb Class1) front later (Some answer.Ready) h new none is proper same t = absurd proper
+heard_one s a k xs (Counted fcb Class1) front later (Some answer.Confirmed) h new none is proper same t = absurd proper
+heard_one s a k xs (Counted fcb Class1) front later (Some answer.Busy) h new none is proper same t = absurd proper
+heard_one s a k xs (Counted fcb Class2) front later (Some (answer.Report asdu)) h new none is proper same t = quiet_told s a k xs (Counted fcb Class2) front later false (Some (answer.Report asdu)) h new none is refl same t
+heard_one s a k xs (Counted fcb Class2) front later (Some answer.NoData) h new none is proper same t = quiet_told s a k xs (Counted fcb Class2) front later false (Some answer.NoData) h new none is refl same t
+heard_one s a k xs (Counted fcb Class2) front later (Some answer.Unable) h new none is proper same t = lost_told s a k xs (Counted fcb Class2) front later false (Some answer.Unable) h new none is refl same t
+heard_one s a k xs (Counted fcb Class2) front later (Some answer.Ready) h new none is proper same t = absurd proper
+heard_one s a k xs (Counted fcb Class2) front later (Some answer.Confirmed) h new none is proper same t = absurd proper
+heard_one s a k xs (Counted fcb Class2) front later (Some answer.Busy) h new none is proper same t = absurd proper
+heard_one s a k xs (Counted fcb (Command asdu)) front later (Some answer.Confirmed) h new none is proper same t =
+    spoken_told s a k xs (Counted fcb (Command asdu)) front later false (Some answer.Confirmed) asdu (λ x. Confirmed x) h new none is refl refl refl
     (ap (λ (l : LineTold). l.steps) same ∙ ap (λ (b : Bool). if b then steps_told k h ++ Confirmed (last_sent k h) ∷ [] else steps_told k h) (here_is k)) (ap (λ (l : LineTold). l.sent) same) t
-heard_one a k xs (Counted fcb (Command asdu)) front later closed over (Some answer.Busy) h new none is proper same t =
-    spoken_told a k xs (Counted fcb (Command asdu)) front later closed over (Some answer.Busy) asdu (λ x. Busy x) h new none is refl refl refl
+heard_one s a k xs (Counted fcb (Command asdu)) front later (Some answer.Busy) h new none is proper same t =
+    spoken_told s a k xs (Counted fcb (Command asdu)) front later false (Some answer.Busy) asdu (λ x. Busy x) h new none is refl refl refl
     (ap (λ (l : LineTold). l.steps) same ∙ ap (λ (b : Bool). if b then steps_told k h ++ Busy (last_sent k h) ∷ [] else steps_told k h) (here_is k)) (ap (λ (l : LineTold). l.sent) same) t
-heard_one a k xs (Counted fcb (Command asdu)) front later closed over (Some answer.Unable) h new none is proper same t = quiet_told a k xs (Counted fcb (Command asdu)) front later closed over (Some answer.Unable) h new none is refl same t
-heard_one a k xs (Counted fcb (Command asdu)) front later closed over (Some answer.Ready) h new none is proper same t = absurd proper
-heard_one a k xs (Counted fcb (Command asdu)) front later closed over (Some (answer.Report report)) h new none is proper same t = absurd proper
-heard_one a k xs (Counted fcb (Command asdu)) front later closed over (Some answer.NoData) h new none is proper same t = absurd proper
+heard_one s a k xs (Counted fcb (Command asdu)) front later (Some answer.Unable) h new none is proper same t = lost_told s a k xs (Counted fcb (Command asdu)) front later false (Some answer.Unable) h new none is refl same t
+heard_one s a k xs (Counted fcb (Command asdu)) front later (Some answer.Ready) h new none is proper same t = absurd proper
+heard_one s a k xs (Counted fcb (Command asdu)) front later (Some (answer.Report report)) h new none is proper same t = absurd proper
+heard_one s a k xs (Counted fcb (Command asdu)) front later (Some answer.NoData) h new none is proper same t = absurd proper
 
 -- What is told of one station says nothing of another.
 
@@ -206,6 +230,9 @@ accepted_far k j h far = ap (λ (t : Bool). let r : LineTold = record { steps = 
 
 busy_far : (k j : ℕ) (h : History) → (k == j) ≡ false → line_told k (Refused j None ∷ h) ≡ line_told k h
 busy_far k j h far = ap (λ (t : Bool). let r : LineTold = record { steps = if t then steps_told k h ++ Busy (last_sent k h) ∷ [] else steps_told k h; last = last_sent k h; sent = sent_to k h } in r) far
+
+lost_far : (k j : ℕ) (was : Bool) (h : History) → (k == j) ≡ false → line_told k (GivenUp j was ∷ h) ≡ line_told k h
+lost_far k j was h far = ap (λ (t : Bool). let r : LineTold = record { steps = if t then steps_told k h ++ Lost ∷ [] else steps_told k h; last = last_sent k h; sent = sent_to k h } in r) far
 
 sent_far : (k j : ℕ) (asdu : List ℕ) (h : History) → (k == j) ≡ false → line_told k (Sent j asdu ∷ h) ≡ line_told k h
 sent_far k j asdu h far = ap (λ (t : Bool). let r : LineTold = record {
@@ -249,9 +276,9 @@ heard_far k j request (Some answer.NoData) h far = by_request request
 heard_far k j request (Some answer.Unable) h far = by_request request
   where
     by_request : (r : Asked) → line_told k (told_by (outcome_of j r (Some answer.Unable)) h) ≡ line_told k h
-    by_request Status = refl
-    by_request Reset = refl
-    by_request (Counted fcb service) = refl
+    by_request Status = lost_far k j false h far
+    by_request Reset = lost_far k j false h far
+    by_request (Counted fcb service) = lost_far k j false h far
 
 -- A request goes out
 
@@ -268,17 +295,20 @@ asked_far true k j (Counted fcb Class2) h far = refl
 asked_far true k j (Counted fcb (Command asdu)) h far = sent_far k j asdu h far
 asked_far false k j request h far = refl
 
-module _ (a k : ℕ) (xs : List Exchange) (request : Asked) (front : Option Frame) where
+module _ (s : LinkSettings) (a k : ℕ) (xs : List Exchange) (request : Asked) (front : Option Frame) where
   abbrev new_one : Exchange
   new_one = record { request = request; front = front; closed = false }
 
-  asked_steps : (first : List (List ℕ)) → answer_to a new_one ≡ None → first_sending (pending_after a None xs) request ≡ first → steps_in a None (xs ++ new_one ∷ []) ≡ steps_in a None xs ++ map (λ (asdu : List ℕ). Begun asdu) first
+  asked_steps : (first : List (List ℕ)) → answer_to a new_one ≡ None → first_sending (pending_after a None xs) request ≡ first → steps_in s a 0 None (xs ++ new_one ∷ []) ≡ steps_in s a 0 None xs ++ map (λ (asdu : List ℕ). Begun asdu) first
   asked_steps first none is =
-      steps_more a None xs new_one
-      ∙ ap (λ (o : Option Answer). steps_in a None xs ++ (map (λ (asdu : List ℕ). Begun asdu) (first_sending (pending_after a None xs) request) ++ said_of request o)) none
-      ∙ ap (λ (l : List (List ℕ)). steps_in a None xs ++ (map (λ (asdu : List ℕ). Begun asdu) l ++ said_of request None)) is
-      ∙ ap (λ (l : List LineStep). steps_in a None xs ++ (map (λ (asdu : List ℕ). Begun asdu) first ++ l)) (none_said request)
-      ∙ ap (λ (l : List LineStep). steps_in a None xs ++ l) (append-nil (map (λ (asdu : List ℕ). Begun asdu) first))
+      let missed : ℕ = missed_after a 0 xs in
+      let old : List LineStep = steps_in s a 0 None xs in
+      steps_more s a 0 None xs new_one
+      ∙ ap (λ (o : Option Answer). old ++ (map (λ (asdu : List ℕ). Begun asdu) (first_sending (pending_after a None xs) request) ++ (said_of request o ++ lost_if (goes_down s missed request false o)))) none
+      ∙ ap (λ (l : List (List ℕ)). old ++ (map (λ (asdu : List ℕ). Begun asdu) l ++ (said_of request None ++ lost_if (goes_down s missed request false None)))) is
+      ∙ ap (λ (l : List LineStep). old ++ (map (λ (asdu : List ℕ). Begun asdu) first ++ (l ++ lost_if (goes_down s missed request false None)))) (none_said request)
+      ∙ ap (λ (b : Bool). old ++ (map (λ (asdu : List ℕ). Begun asdu) first ++ lost_if b)) (still_up s missed request)
+      ∙ ap (λ (l : List LineStep). old ++ l) (append-nil (map (λ (asdu : List ℕ). Begun asdu) first))
 
   asked_sendings : (first : List (List ℕ)) → first_sending (pending_after a None xs) request ≡ first → first_sendings a None (xs ++ new_one ∷ []) ≡ first_sendings a None xs ++ first
   asked_sendings first is = sendings_more a None xs new_one ∙ ap (λ (l : List (List ℕ)). first_sendings a None xs ++ l) is
@@ -288,16 +318,16 @@ module _ (a k : ℕ) (xs : List Exchange) (request : Asked) (front : Option Fram
 
   -- no command is sent for the first time
   again_told : (h new : History) → answer_to a new_one ≡ None → first_sending (pending_after a None xs) request ≡ [] → ((asdu : List ℕ) → pending_by request None (pending_after a None xs) ≡ Some (Command asdu) → pending_after a None xs ≡ Some (Command asdu)) →
-      line_told k new ≡ line_told k h → IsTold a xs k h → IsTold a (xs ++ new_one ∷ []) k new
+      line_told k new ≡ line_told k h → IsTold s a xs k h → IsTold s a (xs ++ new_one ∷ []) k new
   again_told h new none nothing back same t = record {
-    steps = ap (λ (l : LineTold). l.steps) same ∙ t.steps ∙ sym (append-nil (steps_in a None xs)) ∙ sym (asked_steps [] none nothing);
+    steps = ap (λ (l : LineTold). l.steps) same ∙ t.steps ∙ sym (append-nil (steps_in s a 0 None xs)) ∙ sym (asked_steps [] none nothing);
     last = λ asdu e. ap (λ (l : LineTold). l.last) same ∙ t.last asdu (back asdu (sym (asked_pending none) ∙ e));
     sent = ap (λ (l : LineTold). l.sent) same ∙ t.sent ∙ sym (append-nil (first_sendings a None xs)) ∙ sym (asked_sendings [] nothing);
   }
 
   -- a command is
   first_told : (fcb : Bool) (asdu : List ℕ) (h new : History) → answer_to a new_one ≡ None → request ≡ Counted fcb (Command asdu) → pending_after a None xs ≡ None →
-      line_told k new ≡ line_told k (Sent k asdu ∷ h) → IsTold a xs k h → IsTold a (xs ++ new_one ∷ []) k new
+      line_told k new ≡ line_told k (Sent k asdu ∷ h) → IsTold s a xs k h → IsTold s a (xs ++ new_one ∷ []) k new
   first_told fcb asdu h new none is free same t =
       let first : first_sending (pending_after a None xs) request ≡ asdu ∷ [] = ap (λ (o : Option Service). first_sending o request) free ∙ ap (λ (r : Asked). first_sending None r) is in
       record {
@@ -311,17 +341,75 @@ module _ (a k : ℕ) (xs : List Exchange) (request : Asked) (front : Option Fram
             ∙ ap (λ (l : List (List ℕ)). l ++ asdu ∷ []) t.sent ∙ sym (asked_sendings (asdu ∷ []) first);
       }
 
-pub asked_one : (a k : ℕ) (xs : List Exchange) (request : Asked) (front : Option Frame) (link : Link) (h new : History) →
+pub asked_one : (s : LinkSettings) (a k : ℕ) (xs : List Exchange) (request : Asked) (front : Option Frame) (link : Link) (h new : History) →
     answer_to a (record { request = request; front = front; closed = false }) ≡ None → MaySend link request → Pends link (pending_after a None xs) →
     line_told k new ≡ line_told k (told_asked (is_command request && not (is_held link)) k request h) →
-    IsTold a xs k h → IsTold a (xs ++ record { request = request; front = front; closed = false } ∷ []) k new
-asked_one a k xs Status front link h new none may pends same t = again_told a k xs Status front h new none (no_first (pending_after a None xs) Status (λ fcb asdu e. cc)) (λ asdu e. e) same t
-asked_one a k xs Reset front link h new none may pends same t = again_told a k xs Reset front h new none (no_first (pending_after a None xs) Reset (λ fcb asdu e. cc)) (λ asdu e. e) same t
-asked_one a k xs (Counted fcb Class1) front link h new none may pends same t = again_told a k xs (Counted fcb Class1) front h new none (no_first (pending_after a None xs) (Counted fcb Class1) (λ f asdu e. cc)) (λ asdu e. cc) same t
-asked_one a k xs (Counted fcb Class2) front link h new none may pends same t = again_told a k xs (Counted fcb Class2) front h new none (no_first (pending_after a None xs) (Counted fcb Class2) (λ f asdu e. cc)) (λ asdu e. cc) same t
-asked_one a k xs (Counted fcb (Command asdu)) front Down h new none may pends same t = absurd may
-asked_one a k xs (Counted fcb (Command asdu)) front Available h new none may pends same t = absurd may
-asked_one a k xs (Counted fcb (Command asdu)) front (Next due) h new none may pends same t = first_told a k xs (Counted fcb (Command asdu)) front fcb asdu h new none refl pends same t
-asked_one a k xs (Counted fcb (Command asdu)) front (Held due service missed) h new none may pends same t =
-    again_told a k xs (Counted fcb (Command asdu)) front h new none (ap (λ (o : Option Service). first_sending o (Counted fcb (Command asdu))) pends)
+    IsTold s a xs k h → IsTold s a (xs ++ record { request = request; front = front; closed = false } ∷ []) k new
+asked_one s a k xs Status front link h new none may pends same t = again_told s a k xs Status front h new none (no_first (pending_after a None xs) Status (λ fcb asdu e. cc)) (λ asdu e. e) same t
+asked_one s a k xs Reset front link h new none may pends same t = again_told s a k xs Reset front h new none (no_first (pending_after a None xs) Reset (λ fcb asdu e. cc)) (λ asdu e. e) same t
+asked_one s a k xs (Counted fcb Class1) front link h new none may pends same t = again_told s a k xs (Counted fcb Class1) front h new none (no_first (pending_after a None xs) (Counted fcb Class1) (λ f asdu e. cc)) (λ asdu e. cc) same t
+asked_one s a k xs (Counted fcb Class2) front link h new none may pends same t = again_told s a k xs (Counted fcb Class2) front h new none (no_first (pending_after a None xs) (Counted fcb Class2) (λ f asdu e. cc)) (λ asdu e. cc) same t
+asked_one s a k xs (Counted fcb (Command asdu)) front Down h new none may pends same t = absurd may
+asked_one s a k xs (Counted fcb (Command asdu)) front Available h new none may pends same t = absurd may
+asked_one s a k xs (Counted fcb (Command asdu)) front (Next due) h new none may pends same t = first_told s a k xs (Counted fcb (Command asdu)) front fcb asdu h new none refl pends same t
+asked_one s a k xs (Counted fcb (Command asdu)) front (Held due service missed) h new none may pends same t =
+    again_told s a k xs (Counted fcb (Command asdu)) front h new none (ap (λ (o : Option Service). first_sending o (Counted fcb (Command asdu))) pends)
     (λ other e. pends ∙ ap (λ (s : Service). Some s) (sym may.1) ∙ e) same t
+
+-- A moment ends an exchange without an answer
+
+-- what silence tells
+abbrev pub told_due : Outcome → History → History
+told_due (outcome.Down station) h = GivenUp station false ∷ h
+told_due other h = h
+
+abbrev down_if : ℕ → Bool → Outcome
+down_if j b = if b then outcome.Down j else outcome.None
+
+held_goes : (fcb : Bool) (service : Service) (n m : ℕ) (b c : Bool) → not (is_up (if b then (if c then Held fcb service n else Down) else Held fcb service m)) ≡ (not c && b)
+held_goes fcb service n m true true = refl
+held_goes fcb service n m true false = refl
+held_goes fcb service n m false true = refl
+held_goes fcb service n m false false = refl
+
+same_silence : (hold : Bool) (retries n m : ℕ) → (hold ≡ false → n ≡ m) → (not hold && nat_lt retries (suc m)) ≡ (not hold && nat_lt retries (suc n))
+same_silence true retries n m same = refl
+same_silence false retries n m same = ap (λ (i : ℕ). nat_lt retries (suc i)) (sym (same refl))
+
+pub silence_is : (s : LinkSettings) (j : ℕ) (request : Asked) (link : Link) (n : ℕ) → MaySend link request → Counts s link n →
+    silence_outcome j link (after_silence s request true link) ≡ down_if j (is_silent s n request true)
+silence_is s j Status Down n may c = refl
+silence_is s j Status Available n may c = refl
+silence_is s j Status (Next fcb) n may c = absurd may
+silence_is s j Status (Held fcb service missed) n may c = absurd may
+silence_is s j Reset Down n may c = refl
+silence_is s j Reset Available n may c = refl
+silence_is s j Reset (Next fcb) n may c = absurd may
+silence_is s j Reset (Held fcb service missed) n may c = absurd may
+silence_is s j (Counted fcb service) Down n may c = absurd may
+silence_is s j (Counted fcb service) Available n may c = absurd may
+silence_is s j (Counted fcb service) (Next due) n may c =
+    ap (down_if j) (held_goes fcb service (suc s.retries) 1 (nat_lt s.retries 1) s.hold ∙ same_silence s.hold s.retries n 0 (so_far s (Next due) fcb service n may c))
+silence_is s j (Counted fcb service) (Held due other missed) n may c =
+    ap (down_if j) (held_goes fcb service (suc s.retries) (suc missed) (nat_lt s.retries (suc missed)) s.hold ∙ same_silence s.hold s.retries n missed (so_far s (Held due other missed) fcb service n may c))
+
+pub closed_one : (s : LinkSettings) (a k : ℕ) (xs : List Exchange) (request : Asked) (front : Option Frame) (link : Link) (h new : History) →
+    answer_to a (record { request = request; front = front; closed = false }) ≡ None → MaySend link request → Counts s link (missed_after a 0 xs) →
+    line_told k new ≡ line_told k (told_due (silence_outcome k link (after_silence s request true link)) h) →
+    IsTold s a (xs ++ record { request = request; front = front; closed = false } ∷ []) k h → IsTold s a (xs ++ record { request = request; front = front; closed = true } ∷ []) k new
+closed_one s a k xs request front link h new none may counts same t =
+    go (is_silent s (missed_after a 0 xs) request true) refl (same ∙ ap (λ (o : Outcome). line_told k (told_due o h)) (silence_is s k request link (missed_after a 0 xs) may counts))
+  where
+    says : (b : Bool) → is_silent s (missed_after a 0 xs) request true ≡ b → said_of request None ++ lost_if (is_silent s (missed_after a 0 xs) request true) ≡ lost_if b
+    says b is = ap (λ (l : List LineStep). l ++ lost_if (is_silent s (missed_after a 0 xs) request true)) (none_said request) ∙ ap lost_if is
+
+    go : (b : Bool) → is_silent s (missed_after a 0 xs) request true ≡ b → line_told k new ≡ line_told k (told_due (down_if k b) h) → IsTold s a (xs ++ record { request = request; front = front; closed = true } ∷ []) k new
+    go true is same = lost_told s a k xs request front front true None h new none none (says true is) same t
+    go false is same = quiet_told s a k xs request front front true None h new none none (says false is) same t
+
+pub closed_far : (k j : ℕ) (before later : Link) (h : History) → (k == j) ≡ false → line_told k (told_due (silence_outcome j before later) h) ≡ line_told k h
+closed_far k j before later h far = go (is_up before && not (is_up later))
+  where
+    go : (b : Bool) → line_told k (told_due (down_if j b) h) ≡ line_told k h
+    go true = lost_far k j false h far
+    go false = refl

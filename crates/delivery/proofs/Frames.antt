@@ -5,7 +5,7 @@ use Rattle.apci.specs.declared.apdu.Apdu.TheVariants.{I, S, U}
 use Rattle.apci.specs.Spelling.{spelling}
 use Rattle.session.specs.declared.kinds.Close.TheVariants.{Grammar, SendNumber, ReceiveNumber, Stopped, Timeout, OwnAnswers, Replaced}
 use Rattle.session.specs.History.{History}
-use Rattle.gateway.specs.Log.{Log, Came, Went, Opened, LineIn, TcpIn, CutOff, Ticked, LineOut, TcpOut, Closed, GapOut, latest}
+use Rattle.gateway.specs.Log.{Log, Came, Went, Opened, LineIn, TcpIn, CutOff, Ticked, WallIs, LineOut, TcpOut, Closed, GapOut, latest}
 use Rattle.gateway.specs.Streams.{spelled, AllFit}
 use Rattle.gateway.specs.Connections.{Channel, present}
 use Rattle.gateway.specs.Reports.{Setup}
@@ -20,10 +20,10 @@ no_frames (frame ∷ older) rest h =
     absurd (omega (arith, count, length-append (spelled older ++ spelling frame) rest, length-append (spelled older) (spelling frame)))
 
 -- octets come, where a connection is open
-abbrev joined_by : Bool → Channel → List ℕ → Channel
+abbrev pub joined_by : Bool → Channel → List ℕ → Channel
 joined_by b c octets = if b then record { is_open = true; sent = c.sent; received = c.received ++ octets; overfull = c.overfull } else c
 
-none_received : (log : Log) → (present log).is_open ≡ false → (present log).received ≡ []
+pub none_received : (log : Log) → (present log).is_open ≡ false → (present log).received ≡ []
 none_received [] h = refl
 none_received (Came now Opened ∷ log) h = cc
 none_received (Came now CutOff ∷ log) h = refl
@@ -34,6 +34,7 @@ none_received (Came now (TcpIn octets) ∷ log) h = go (present log).is_open ref
     go false is e ih = ih is
 none_received (Came now (LineIn octets) ∷ log) h = none_received log h
 none_received (Came now Ticked ∷ log) h = none_received log h
+none_received (Came now (WallIs number) ∷ log) h = none_received log h
 none_received (Went now (LineOut octets) ∷ log) h = none_received log h
 none_received (Went now (GapOut station session) ∷ log) h = none_received log h
 none_received (Went now (TcpOut octets) ∷ log) h = none_received log h
@@ -65,6 +66,7 @@ none_came p (Came now (TcpIn octets) ∷ log) c r closed = taken_none (Came (lat
 none_came p (Came now (LineIn octets) ∷ log) c r closed =
     ap (λ (x : Course). came_frames x.talk) r.5.2 ∙ ap (λ (x : Course). came_frames x.talk) r.4.is ∙ none_came p log r.0 r.2 closed
 none_came p (Came now Ticked ∷ log) c r closed = ap (λ (x : Course). came_frames x.talk) r.5 ∙ ap (λ (x : Course). came_frames x.talk) r.4.is ∙ none_came p log r.0 r.2 closed
+none_came p (Came now (WallIs number) ∷ log) c r closed = ap (λ (x : Course). came_frames x.talk) r.5 ∙ ap (λ (x : Course). came_frames x.talk) r.4.is ∙ none_came p log r.0 r.2 closed
 none_came p (Went now (LineOut octets) ∷ log) c r closed = ap (λ (x : Course). came_frames x.talk) r.2.is ∙ none_came p log r.0 r.1 closed
 none_came p (Went now (GapOut station session) ∷ log) c r closed = ap (λ (x : Course). came_frames x.talk) r.2.is ∙ none_came p log r.0 r.1 closed
 none_came p (Went now (TcpOut octets) ∷ log) c r closed = taken_none (Went now (TcpOut octets) ∷ log) (came_frames c.talk) r.4.rest closed r.4.joined

@@ -2,21 +2,20 @@
 use Rattle.std.proofs.Common.{◌≡◌, ℕ, Bool, true, false, List, [], ◌∷◌, Option, Some, None, refl, ◌∙◌, if◌then◌else◌}
 use Rattle.command.specs.State.{State, has_room, offered, first_answer}
 use Rattle.command.specs.Judging.{judged}
-use Rattle.command.specs.History.{Judged, GivenUp, Offered, Answered, Ended, History}
+use Rattle.command.specs.History.{Judged, Offered, Answered, Ended, History}
 use Rattle.command.specs.Calls.{Call, Judge, Own, SendOwn, Run, after_call, after_answer}
 use Rattle.gateway.specs.Reports.{Setup}
 use Rattle.gateway.specs.Serial.{kept_until, listed}
 use Rattle.gateway.specs.Works.{Works, tasks_of, told, told_kept, told_judged}
-use Rattle.delivery.specs.Commands.{LineStep, last_sent, steps_told, sent_to, asdus_judged}
+use Rattle.delivery.specs.Commands.{LineStep, last_sent, steps_told, sent_to, judged_in}
 use Rattle.delivery.specs.Joined.{mirrored_in}
 use Rattle.delivery.proofs.Waiting.{AllFitLine, AnswersStay, IsFitCall, call_fits}
 
--- A reading of a history that own answers, ends of connections and given up commands leave as it is
+-- A reading of a history that own answers and ends of connections leave as it is
 pub record Ignores {X : Type 0} (F : History → X) : Type 0 where
   pub kept : (octets : List ℕ) (is_kept : Bool) (h : History) → F (Offered octets is_kept ∷ h) ≡ F h
   pub answered : (octets : List ℕ) (h : History) → F (Answered octets ∷ h) ≡ F h
   pub ended : (h : History) → F (Ended ∷ h) ≡ F h
-  pub given_up : (k : ℕ) (was : Bool) (h : History) → F (GivenUp k was ∷ h) ≡ F h
 
 -- what is told of the line of station k
 pub record LineTold : Type 0 where
@@ -28,13 +27,13 @@ abbrev pub line_told : ℕ → History → LineTold
 line_told k h = record { steps = steps_told k h; last = last_sent k h; sent = sent_to k h }
 
 pub line_ignores : (k : ℕ) → Ignores (line_told k)
-line_ignores k = record { kept = λ octets is_kept h. refl; answered = λ octets h. refl; ended = λ h. refl; given_up = λ j was h. refl }
+line_ignores k = record { kept = λ octets is_kept h. refl; answered = λ octets h. refl; ended = λ h. refl }
 
 pub mirrors_ignore : Ignores mirrored_in
-mirrors_ignore = record { kept = λ octets is_kept h. refl; answered = λ octets h. refl; ended = λ h. refl; given_up = λ j was h. refl }
+mirrors_ignore = record { kept = λ octets is_kept h. refl; answered = λ octets h. refl; ended = λ h. refl }
 
-pub judged_ignore : Ignores asdus_judged
-judged_ignore = record { kept = λ octets is_kept h. refl; answered = λ octets h. refl; ended = λ h. refl; given_up = λ j was h. refl }
+pub judged_ignore : Ignores judged_in
+judged_ignore = record { kept = λ octets is_kept h. refl; answered = λ octets h. refl; ended = λ h. refl }
 
 pub keeping : {X : Type 0} (F : History → X) → Ignores F → (xs : List (List ℕ)) (s : State) (h : History) → F (told_kept xs s h) ≡ F h
 keeping {X} F i [] s h = refl
@@ -55,8 +54,8 @@ sending_own {X} F i w = go (first_answer w.serial.commands.answers)
     go None = refl
     go (Some octets) = i.answered octets w.history
 
-pub judging : {X : Type 0} (F : History → X) → Ignores F → (xs : List ℕ) (now : ℕ) (w : Works) → F (told_judged xs now w) ≡ F (Judged now xs (judged xs now w.serial.commands).0 ∷ w.history)
-judging {X} F i xs now w = keeping F i (listed (judged xs now w.serial.commands).0) (judged xs now w.serial.commands).1 (told (Judge xs now) w)
+pub judging : {X : Type 0} (F : History → X) → Ignores F → (xs : List ℕ) (now : ℕ) (wall : Option ℕ) (w : Works) → F (told_judged xs now wall w) ≡ F (Judged now wall xs (judged xs now wall w.serial.commands).0 ∷ w.history)
+judging {X} F i xs now wall w = keeping F i (listed (judged xs now wall w.serial.commands).0) (judged xs now wall w.serial.commands).1 (told (Judge xs now wall) w)
 
 -- What waits fits the line.
 

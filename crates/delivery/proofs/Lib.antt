@@ -9,13 +9,18 @@ pub mod Waiting
 pub mod History
 pub mod Exchanging
 pub mod Line
+pub mod Skipping
 pub mod Works
 pub mod Frames
+pub mod Arriving
 pub mod Joining
 pub mod Judgements
 pub mod Given
 pub mod Accepted
+pub mod Fresh
+pub mod Plain
 pub mod Centre
 pub mod Settings
 pub mod Confirmed
+pub mod InTime
 mod Examples

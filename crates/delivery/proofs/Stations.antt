@@ -9,7 +9,7 @@ use Rattle.link.specs.declared.answer.Answer.{Answer}
 use Rattle.link.specs.declared.answer.Answer.TheVariants.{Report, Ready, Confirmed, Busy, NoData, Unable}
 use Rattle.link.specs.Exchanges.{OpenExchange, Exchanges, Sending, as_list, all_of, heard_current, timed_current, begun_by, view, views, answer_to, report_by, reports_of}
 use Rattle.link.specs.Requests.{request_in}
-use Rattle.gateway.specs.Log.{Log, Came, Went, Opened, LineIn, TcpIn, CutOff, Ticked, LineOut, TcpOut, Closed, GapOut, latest}
+use Rattle.gateway.specs.Log.{Log, Came, Went, Opened, LineIn, TcpIn, CutOff, Ticked, WallIs, LineOut, TcpOut, Closed, GapOut, latest}
 use Rattle.gateway.specs.Reports.{Setup, address_at, index_of, sent_to, sending_in, exchanges_of, reports_in}
 
 index_within : (address : ℕ) (addresses : List ℕ) (i : ℕ) → index_of address addresses ≡ Some i → i < length addresses
@@ -85,6 +85,7 @@ are_below p (Came now Opened ∷ log) = timed_below p (latest (Came now Opened �
 are_below p (Came now (TcpIn octets) ∷ log) = timed_below p (latest (Came now (TcpIn octets) ∷ log)) (exchanges_of p log) (are_below p log)
 are_below p (Came now CutOff ∷ log) = timed_below p (latest (Came now CutOff ∷ log)) (exchanges_of p log) (are_below p log)
 are_below p (Came now Ticked ∷ log) = timed_below p (latest (Came now Ticked ∷ log)) (exchanges_of p log) (are_below p log)
+are_below p (Came now (WallIs number) ∷ log) = timed_below p (latest (Came now (WallIs number) ∷ log)) (exchanges_of p log) (are_below p log)
 are_below p (Went now (LineOut octets) ∷ log) = below_begun p now (sending_in p octets) octets (exchanges_of p log) refl (are_below p log)
 are_below p (Went now (TcpOut octets) ∷ log) = are_below p log
 are_below p (Went now (Closed cause) ∷ log) = are_below p log

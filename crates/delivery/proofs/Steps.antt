@@ -17,7 +17,7 @@ use Rattle.link.specs.Answers.{unable_answer, code_answer, single_answer, data_a
 use Rattle.link.specs.Exchanges.{Exchange, answer_to}
 use Rattle.link.specs.Procedure.{held, after, after_outcome, after_silence, link_after, missed_so_far, MaySend, KeepsFrameCountBit}
 use Rattle.link.specs.Delivery.{pending_by, pending_after, first_sending}
-use Rattle.delivery.specs.Commands.{LineStep, said_of, steps_at, steps_in, first_sendings}
+use Rattle.delivery.specs.Commands.{LineStep, said_of, missed_by, goes_down, steps_at, steps_in, first_sendings}
 
 -- One more exchange
 
@@ -26,12 +26,19 @@ pub pending_more : (a : ℕ) (pending : Option Service) (xs : List Exchange) (x 
 pending_more a pending [] x = refl
 pending_more a pending (y ∷ xs) x = pending_more a (pending_by y.request (answer_to a y) pending) xs x
 
-pub steps_more : (a : ℕ) (pending : Option Service) (xs : List Exchange) (x : Exchange) →
-    steps_in a pending (xs ++ x ∷ []) ≡ steps_in a pending xs ++ steps_at a (pending_after a pending xs) x
-steps_more a pending [] x = append-nil (steps_at a pending x)
-steps_more a pending (y ∷ xs) x =
-    ap (λ (l : List LineStep). steps_at a pending y ++ l) (steps_more a (pending_by y.request (answer_to a y) pending) xs x)
-    ∙ sym (append_assoc (steps_at a pending y) (steps_in a (pending_by y.request (answer_to a y) pending) xs) (steps_at a (pending_after a pending (y ∷ xs)) x))
+-- how often in a row a counted request had no answer in time, after these exchanges
+abbrev pub missed_after : ℕ → ℕ → List Exchange → ℕ
+missed_after a missed [] = missed
+missed_after a missed (x ∷ xs) = missed_after a (missed_by x.request x.closed (answer_to a x) missed) xs
+
+pub steps_more : (s : LinkSettings) (a missed : ℕ) (pending : Option Service) (xs : List Exchange) (x : Exchange) →
+    steps_in s a missed pending (xs ++ x ∷ []) ≡ steps_in s a missed pending xs ++ steps_at s a (missed_after a missed xs) (pending_after a pending xs) x
+steps_more s a missed pending [] x = append-nil (steps_at s a missed pending x)
+steps_more s a missed pending (y ∷ xs) x =
+    let missed_then : ℕ = missed_by y.request y.closed (answer_to a y) missed in
+    ap (λ (l : List LineStep). steps_at s a missed pending y ++ l) (steps_more s a missed_then (pending_by y.request (answer_to a y) pending) xs x)
+    ∙ sym (append_assoc (steps_at s a missed pending y) (steps_in s a missed_then (pending_by y.request (answer_to a y) pending) xs)
+    (steps_at s a (missed_after a missed (y ∷ xs)) (pending_after a pending (y ∷ xs)) x))
 
 pub sendings_more : (a : ℕ) (pending : Option Service) (xs : List Exchange) (x : Exchange) →
     first_sendings a pending (xs ++ x ∷ []) ≡ first_sendings a pending xs ++ first_sending (pending_after a pending xs) x.request
@@ -216,3 +223,76 @@ no_first None (Counted fcb Class1) h = refl
 no_first None (Counted fcb Class2) h = refl
 no_first None (Counted fcb (Command asdu)) h = absurd (h fcb asdu refl)
 no_first (Some service) request h = refl
+
+-- How often a service was unanswered in a row is what the link counts, as long as it is up, and may be reset by silence.
+
+abbrev pub Counts : LinkSettings → Link → ℕ → Type 0
+Counts s Down n = Unit {0}
+Counts s Available n = Unit {0}
+Counts s (Next fcb) n = n ≡ 0
+Counts s (Held fcb service missed) n = s.hold ≡ false → n ≡ missed
+
+-- before another sending of a counted request
+pub so_far : (s : LinkSettings) (link : Link) (fcb : Bool) (service : Service) (n : ℕ) → MaySend link (Counted fcb service) → Counts s link n → s.hold ≡ false → n ≡ missed_so_far link
+so_far s Down fcb service n may c h = absurd may
+so_far s Available fcb service n may c h = absurd may
+so_far s (Next due) fcb service n may c h = c
+so_far s (Held due held missed) fcb service n may c h = c h
+
+held_counts : (s : LinkSettings) (fcb : Bool) (service : Service) (n missed : ℕ) → (s.hold ≡ false → n ≡ missed) → Counts s (held s fcb service missed) n
+held_counts s fcb service n missed same = by_repeats (nat_lt s.retries missed) s.hold refl
+  where
+    by_repeats : (b c : Bool) → s.hold ≡ c → Counts s (if b then (if c then Held fcb service (suc s.retries) else Down) else Held fcb service missed) n
+    by_repeats true true is = λ no. let e : true ≡ false = sym is ∙ no in cc
+    by_repeats true false is = tt
+    by_repeats false c is = same
+
+down_counts : (s : LinkSettings) (link : Link) (n : ℕ) → IsDown link → Counts s link n
+down_counts s Down n h = tt
+down_counts s Available n h = tt
+down_counts s (Next fcb) n h = absurd h
+down_counts s (Held fcb service missed) n h = absurd h
+
+one_counts : (s : LinkSettings) (request : Asked) (m : Option Answer) (front : Option Frame) (closed : Bool) (link : Link) (n : ℕ) → MaySend link request → Counts s link n →
+    Counts s (after_outcome s m (record { request = request; front = front; closed = closed }) link) (missed_by request closed m n)
+one_counts s Status None front closed link n may c = tt
+one_counts s Status (Some Ready) front closed link n may c = tt
+one_counts s Status (Some Confirmed) front closed link n may c = down_counts s link 0 (may_status link may)
+one_counts s Status (Some Busy) front closed link n may c = down_counts s link 0 (may_status link may)
+one_counts s Status (Some (Report asdu)) front closed link n may c = down_counts s link 0 (may_status link may)
+one_counts s Status (Some NoData) front closed link n may c = down_counts s link 0 (may_status link may)
+one_counts s Status (Some Unable) front closed link n may c = tt
+one_counts s Reset None front closed link n may c = tt
+one_counts s Reset (Some Ready) front closed link n may c = down_counts s link 0 (may_reset link may)
+one_counts s Reset (Some Confirmed) front closed link n may c = refl
+one_counts s Reset (Some Busy) front closed link n may c = down_counts s link 0 (may_reset link may)
+one_counts s Reset (Some (Report asdu)) front closed link n may c = down_counts s link 0 (may_reset link may)
+one_counts s Reset (Some NoData) front closed link n may c = down_counts s link 0 (may_reset link may)
+one_counts s Reset (Some Unable) front closed link n may c = down_counts s link 0 (may_reset link may)
+one_counts s (Counted fcb service) None front true link n may c = held_counts s fcb service (suc n) (suc (missed_so_far link)) (λ h. ap suc (so_far s link fcb service n may c h))
+one_counts s (Counted fcb service) None front false link n may c = so_far s link fcb service n may c
+one_counts s (Counted fcb service) (Some Ready) front closed link n may c = refl
+one_counts s (Counted fcb service) (Some Confirmed) front closed link n may c = refl
+one_counts s (Counted fcb service) (Some Busy) front closed link n may c = refl
+one_counts s (Counted fcb service) (Some (Report asdu)) front closed link n may c = refl
+one_counts s (Counted fcb service) (Some NoData) front closed link n may c = refl
+one_counts s (Counted fcb service) (Some Unable) front closed link n may c = tt
+
+pub counts : (s : LinkSettings) (a : ℕ) (link : Link) (n : ℕ) (xs : List Exchange) → KeepsFrameCountBit s a link xs → Counts s link n → Counts s (link_after s a link xs) (missed_after a n xs)
+counts s a link n [] h c = c
+counts s a link n (x ∷ xs) h c = counts s a (after s a x link) (missed_by x.request x.closed (answer_to a x) n) xs h.1 (one_counts s x.request (answer_to a x) x.front x.closed link n h.0 c)
+
+-- No link goes down where an answer is still awaited.
+pub still_up : (s : LinkSettings) (missed : ℕ) (request : Asked) → goes_down s missed request false None ≡ false
+still_up s missed Status = refl
+still_up s missed Reset = refl
+still_up s missed (Counted fcb service) = refl
+
+-- that an answered exchange is over changes nothing
+pub answered_alike : (s : LinkSettings) (missed : ℕ) (request : Asked) (closed over : Bool) (m : Answer) → goes_down s missed request closed (Some m) ≡ goes_down s missed request over (Some m)
+answered_alike s missed request closed over Ready = refl
+answered_alike s missed request closed over Confirmed = refl
+answered_alike s missed request closed over Busy = refl
+answered_alike s missed request closed over (Report asdu) = refl
+answered_alike s missed request closed over NoData = refl
+answered_alike s missed request closed over Unable = refl

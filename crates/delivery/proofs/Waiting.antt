@@ -1,5 +1,5 @@
 -- What waits for the line fits a frame.
-use Rattle.std.proofs.Common.{◌≡◌, ℕ, zero, suc, ◌+◌, ◌≤◌, Bool, true, false, All, List, [], ◌∷◌, ◌++◌, length, drop, Option, Some, None, refl, ap, sym, subst, arith, length-append, if◌then◌else◌}
+use Rattle.std.proofs.Common.{◌≡◌, ℕ, zero, suc, ◌+◌, ◌-◌, ◌≤◌, Bool, true, false, All, List, [], ◌∷◌, ◌++◌, length, drop, Option, Some, None, refl, ap, sym, subst, arith, length-append, if◌then◌else◌}
 use Rattle.std.specs.Prelude.{◌==◌, ◌^◌, ◌/◌, slice_index}
 use Rattle.std.specs.List.{AllByRecursion}
 use Rattle.std.specs.Int.{byte_at, bytes_low_first}
@@ -23,7 +23,7 @@ use Rattle.command.specs.declared.content.Command.{Command}
 use Rattle.command.specs.declared.content.Element.{Element}
 use Rattle.command.specs.declared.content.Element.TheVariants.{Octet, SetPoint}
 use Rattle.command.specs.declared.station.StationInfo.{StationInfo}
-use Rattle.command.specs.Command.{command_at, command_octets, element_octets, is_set_point}
+use Rattle.command.specs.Command.{is_tagged, line_kind, command_at, command_octets, element_octets, is_set_point}
 use Rattle.command.specs.Stations.{is_addressed}
 use Rattle.command.specs.State as tasks
 use Rattle.command.specs.Octets.{negative}
@@ -88,17 +88,21 @@ element_count (SetPoint x y z) = omega arith
 
 -- A command on the line
 
+kind_is : (b : Bool) (n : ℕ) → IsOctet n → IsOctet (if b then n - 13 else n)
+kind_is true n h = omega (arith, h)
+kind_is false n h = h
+
 command_are : (s : Sizes) (ca : ℕ) (xs : List ℕ) → All IsOctet xs → All IsOctet (command_octets s ca (command_at xs))
 command_are s ca xs h =
     let c : Command = command_at xs in
-    let code : ℕ = slice_index xs 0 in
+    let code : ℕ = line_kind (slice_index xs 0) in
     let rest : List ℕ = drop 9 xs in
     let element = element_are (is_set_point code) (slice_index rest 0) (slice_index rest 1) (slice_index rest 2) (octet_at rest 0 (octets_drop 9 xs h)) (octet_at rest 1 (octets_drop 9 xs h)) (octet_at rest 2 (octets_drop 9 xs h)) in
     let addressed = All-append IsOctet (bytes_low_first 0 (ioa_len s.ioa) c.address) (element_octets c.element) (bytes_are 0 (ioa_len s.ioa) c.address) element in
     let common = All-append IsOctet (bytes_low_first 0 (ca_len s.ca) ca) (bytes_low_first 0 (ioa_len s.ioa) c.address ++ element_octets c.element) (bytes_are 0 (ca_len s.ca) ca) addressed in
     let behind : List ℕ = originator_octets s.cause c.originator ++ (bytes_low_first 0 (ca_len s.ca) ca ++ (bytes_low_first 0 (ioa_len s.ioa) c.address ++ element_octets c.element)) in
     let all = All-append IsOctet (originator_octets s.cause c.originator) (bytes_low_first 0 (ca_len s.ca) ca ++ (bytes_low_first 0 (ioa_len s.ioa) c.address ++ element_octets c.element)) (originator_are s.cause c.originator (octet_at xs 3 h)) common in
-    All-cons IsOctet code (1 ∷ c.cause ∷ behind) (octet_at xs 0 h) (All-cons IsOctet 1 (c.cause ∷ behind) (omega arith) (All-cons IsOctet c.cause behind (octet_at xs 2 h) all))
+    All-cons IsOctet code (1 ∷ c.cause ∷ behind) (kind_is (is_tagged (slice_index xs 0)) (slice_index xs 0) (octet_at xs 0 h)) (All-cons IsOctet 1 (c.cause ∷ behind) (omega arith) (All-cons IsOctet c.cause behind (octet_at xs 2 h) all))
 
 command_count : (s : Sizes) (ca : ℕ) (c : Command) → length (command_octets s ca c) ≤ 12
 command_count s ca c =
@@ -166,8 +170,8 @@ admitted_fit size xs c now s h k = go (lacks_selection c now s) (ends_selection 
     go true d = k
     go false d = placed_fit size xs c now (if d then without_selection c s else s) h (ending d)
 
-judged_fit : (size : LinkSize) (xs : List ℕ) (now : ℕ) (s : State) → All IsOctet xs → Fit size s → Fit size (judged xs now s).1
-judged_fit size xs now s h k = go (fault s.sizes s.stations xs)
+judged_fit : (size : LinkSize) (xs : List ℕ) (now : ℕ) (wall : Option ℕ) (s : State) → All IsOctet xs → Fit size s → Fit size (judged xs now wall s).1
+judged_fit size xs now wall s h k = go (fault s.sizes s.stations s.max_age_ms wall xs)
   where
     go : (m : Option ℕ) → Fit size (by_fault m xs now s).1
     go (Some cause) = k
@@ -187,7 +191,7 @@ put_fit size k s (Some w) h = without_fit size k s.waiting h
 
 -- the ASDU of a judgement is octets
 abbrev pub IsFitCall : Call → Type 0
-IsFitCall (Judge xs now) = All IsOctet xs
+IsFitCall (Judge xs now wall) = All IsOctet xs
 IsFitCall call = Unit {0}
 
 -- no station's answer changes what waits
@@ -195,7 +199,7 @@ abbrev pub AnswersStay : Type 0
 AnswersStay = (v : AsduValue) (now : ℕ) (s : State) → (mirrored v now s).waiting ≡ s.waiting
 
 pub call_fits : (stay : AnswersStay) (size : LinkSize) (call : Call) (r : Run) → IsFitCall call → AllFitLine size r.state.waiting → AllFitLine size (after_call call r).state.waiting
-call_fits stay size (Judge xs now) r h k = judged_fit size xs now r.state h k
+call_fits stay size (Judge xs now wall) r h k = judged_fit size xs now wall r.state h k
 call_fits stay size (PutOnLine i) r h k = go (oldest_for i r.state)
   where
     go : (o : Option Waiting) → Fit size (after_sending o i r).state

@@ -1,5 +1,5 @@
 -- What the parts of a step make of the works of a course, beside its exchanges.
-use Rattle.std.specs.Prelude.{option_map}
+use Rattle.std.specs.Prelude.{◌==◌, option_map}
 use Rattle.std.proofs.Common.{◌≡◌, ℕ, zero, suc, ◌≤◌, Bool, true, false, List, [], ◌∷◌, ◌++◌, length, Option, Some, None, refl, ap, sym, subst, ◌∙◌, arith, if◌then◌else◌}
 use Rattle.std.proofs.lemmas.List.{append-nil}
 use Rattle.asdu.specs.declared.sizes.Sizes.{Sizes}
@@ -13,27 +13,54 @@ use Rattle.link.specs.declared.service.Asked.TheVariants.{Status, Reset, Counted
 use Rattle.arrayvec.specs.ArrayVec.{ArrayVec}
 use Rattle.link.specs.declared.outcome.Outcome.{Outcome}
 use Rattle.link.specs.declared.outcome.Outcome.TheVariants as outcome
+use Rattle.link.specs.Counts.{saturated}
 use Rattle.link.specs.Exchanges.{Exchanges}
 use Rattle.link.specs.Requests.{IsUserData}
 use Rattle.link.specs.Primary.{Primary, is_command}
 use Rattle.link.specs.declared.settings.LinkSettings.{LinkSettings}
 use Rattle.link.specs.Telling.{Tells, report_in}
 use Rattle.command.specs.declared.waiting.Waiting.{Waiting}
-use Rattle.command.specs.State.{State, octets_waiting, oldest, oldest_for, put_out, given_up}
+use Rattle.command.specs.State.{State, octets_waiting, oldest, oldest_for, put_out, given_up, is_used, line_of}
 use Rattle.command.specs.Mirrors.{mirrored}
 use Rattle.command.specs.Judging.{judged}
 use Rattle.command.specs.History.{History, Sent}
 use Rattle.command.specs.Calls.{Judge, PutOnLine, Accept, Busy, Lose, Mirror, after_sending}
 use Rattle.gateway.specs.Objects.{has_objects}
 use Rattle.gateway.specs.Reports.{Setup}
-use Rattle.gateway.specs.Serial.{refusals, reported, with_gap, listed, unless_silent, offered_by, offered_upto, put_on_line}
+use Rattle.gateway.specs.Serial.{refusals, reported, with_gap, listed, silent_by, unless_silent, offered_by, offered_upto, put_on_line}
 use Rattle.gateway.specs.Works.{Works, tasks_of, told, LearnsOf, LearnsReport, is_command_report, mirrored_works, accepted_works, refused_works, given_up_works, heard_works, answered_works, sent_works, told_silent, settled_works, told_put}
-use Rattle.delivery.specs.Commands.{asdus_judged}
-use Rattle.delivery.specs.Joined.{mirrored_in, command_reports, AreValues}
+use Rattle.delivery.specs.Commands.{Lost, judged_in}
+use Rattle.delivery.specs.Joined.{mirrored_in, command_reports, skipped_among, AreValues}
+use Rattle.delivery.proofs.Skipping.{skip_one, skip_none, lost_skips}
 use Rattle.delivery.proofs.Waiting.{AnswersStay, AllFitLine, oldest_fits}
-use Rattle.delivery.proofs.History.{line_told, line_ignores, mirrors_ignore, judged_ignore, keeping, sending_own, judging, WaitsFit, one_fits, kept_fit}
-use Rattle.delivery.proofs.Exchanging.{told_by, told_asked}
+use Rattle.delivery.proofs.History.{LineTold, line_told, line_ignores, mirrors_ignore, judged_ignore, keeping, sending_own, judging, WaitsFit, one_fits, kept_fit}
+use Rattle.delivery.proofs.Exchanging.{told_by, told_asked, told_due}
 use Rattle.delivery.proofs.Line.{LinkLaws}
+
+-- The history once all is told
+
+abbrev pub all_told : Works → History
+all_told w = told_silent w.serial.silent w
+
+-- where the step is done, nothing is still to be told
+abbrev pub IsAllTold : Works → Type 0
+IsAllTold w = w.is_due ≡ false → w.serial.silent ≡ None
+
+-- what is still to be told makes no difference
+pub told_alike : (k : ℕ) (o : Option ℕ) (w z : Works) → line_told k z.history ≡ line_told k w.history → line_told k (told_silent o z) ≡ line_told k (told_silent o w)
+told_alike k None w z same = same
+told_alike k (Some j) w z same = ap (λ (l : LineTold). let r : LineTold = record { steps = if k == j then l.steps ++ Lost ∷ [] else l.steps; last = l.last; sent = l.sent } in r) same
+
+-- what the line's silence tells
+pub silent_told : (k : ℕ) (o : Outcome) (w : Works) → line_told k (told_silent (silent_by o) w) ≡ line_told k (told_due o w.history)
+silent_told k outcome.None w = refl
+silent_told k (outcome.Started station) w = refl
+silent_told k (outcome.StartedGap station session) w = refl
+silent_told k (outcome.Empty station) w = refl
+silent_told k (outcome.Accepted station) w = refl
+silent_told k (outcome.Busy station) w = refl
+silent_told k (outcome.Down station) w = refl
+silent_told k (outcome.Report station asdu) w = refl
 
 -- Reports of command types
 
@@ -57,10 +84,16 @@ values_more sizes (x ∷ vs) (y ∷ rs) v r h k = (h.0, values_more sizes vs rs 
 
 pub record IsLearnt (p : Setup) (o : Outcome) (w z : Works) : Type 0 where
   pub line : z.serial.line ≡ w.serial.line
+  pub silent : z.serial.silent ≡ w.serial.silent
   pub told : (k : ℕ) → line_told k z.history ≡ line_told k (told_by o w.history)
   pub fits : WaitsFit p w.serial.commands → WaitsFit p z.serial.commands
   pub mirrors : (rs : List (ℕ × List ℕ)) → AreValues p.sizes (mirrored_in w.history) (command_reports p.sizes rs) → AreValues p.sizes (mirrored_in z.history) (command_reports p.sizes (rs ++ report_in o))
-  pub judged : asdus_judged z.history ≡ asdus_judged w.history
+  pub judged : judged_in z.history ≡ judged_in w.history
+  pub skips : (rs : List (ℕ × List ℕ)) → w.serial.counts.skipped ≡ saturated (skipped_among p.sizes rs) → z.serial.counts.skipped ≡ saturated (skipped_among p.sizes (rs ++ report_in o))
+
+-- without a report
+same_skips : (sizes : Sizes) (n m : ℕ) (rs : List (ℕ × List ℕ)) → n ≡ m → m ≡ saturated (skipped_among sizes rs) → n ≡ saturated (skipped_among sizes (rs ++ []))
+same_skips sizes n m rs same h = same ∙ h ∙ ap (λ (l : List (ℕ × List ℕ)). saturated (skipped_among sizes l)) (sym (append-nil rs))
 
 no_report : (sizes : Sizes) (vs : List AsduValue) (rs : List (ℕ × List ℕ)) → AreValues sizes vs (command_reports sizes rs) → AreValues sizes vs (command_reports sizes (rs ++ []))
 no_report sizes vs rs h = subst (λ (l : List (ℕ × List ℕ)). AreValues sizes vs (command_reports sizes l)) (sym (append-nil rs)) h
@@ -68,29 +101,35 @@ no_report sizes vs rs h = subst (λ (l : List (ℕ × List ℕ)). AreValues size
 same_learnt : (p : Setup) (o : Outcome) (w z : Works) → report_in o ≡ [] → ((h : History) → told_by o h ≡ h) → z ≡ w → IsLearnt p o w z
 same_learnt p o w z none quiet is = record {
   line = ap (λ (x : Works). x.serial.line) is;
+  silent = ap (λ (x : Works). x.serial.silent) is;
   told = λ k. ap (λ (x : Works). line_told k x.history) is ∙ ap (λ (h : History). line_told k h) (sym (quiet w.history));
   fits = λ f. subst (λ (x : Works). WaitsFit p x.serial.commands) (sym is) f;
   mirrors = λ rs h. subst (λ (x : Works). AreValues p.sizes (mirrored_in x.history) (command_reports p.sizes (rs ++ report_in o))) (sym is)
       (subst (λ (l : List (ℕ × List ℕ)). AreValues p.sizes (mirrored_in w.history) (command_reports p.sizes (rs ++ l))) (sym none) (no_report p.sizes (mirrored_in w.history) rs h));
-  judged = ap (λ (x : Works). asdus_judged x.history) is;
+  judged = ap (λ (x : Works). judged_in x.history) is;
+  skips = λ rs h. same_skips p.sizes z.serial.counts.skipped w.serial.counts.skipped rs (ap (λ (x : Works). x.serial.counts.skipped) is) h ∙ ap (λ (l : List (ℕ × List ℕ)). saturated (skipped_among p.sizes (rs ++ l))) (sym none);
 }
 
 gap_learnt : (p : Setup) (station session : ℕ) (w : Works) → IsLearnt p (outcome.StartedGap station session) w (record w { serial = with_gap station session w.serial })
 gap_learnt p station session w = record {
   line = refl;
+  silent = refl;
   told = λ k. refl;
   fits = λ f. f;
   mirrors = λ rs h. no_report p.sizes (mirrored_in w.history) rs h;
   judged = refl;
+  skips = λ rs h. same_skips p.sizes w.serial.counts.skipped w.serial.counts.skipped rs refl h;
 }
 
 accepted_learnt : (stay : AnswersStay) (p : Setup) (station : ℕ) (w : Works) → IsLearnt p (outcome.Accepted station) w (accepted_works station w)
 accepted_learnt stay p station w = record {
   line = refl;
+  silent = refl;
   told = λ k. refl;
   fits = λ f. one_fits stay p (Accept station) (tasks_of w) tt f;
   mirrors = λ rs h. no_report p.sizes (mirrored_in w.history) rs h;
   judged = refl;
+  skips = λ rs h. same_skips p.sizes w.serial.counts.skipped w.serial.counts.skipped rs refl h;
 }
 
 busy_learnt : (stay : AnswersStay) (p : Setup) (station : ℕ) (w : Works) → IsLearnt p (outcome.Busy station) w (refused_works station w)
@@ -100,20 +139,24 @@ busy_learnt stay p station w =
     let tells : History = told (Busy station) w in
     record {
       line = refl;
+      silent = refl;
       told = λ k. keeping (line_told k) (line_ignores k) own s tells;
       fits = λ f. kept_fit stay p own s (one_fits stay p (Busy station) (tasks_of w) tt f);
       mirrors = λ rs h. subst (λ (vs : List AsduValue). AreValues p.sizes vs (command_reports p.sizes (rs ++ []))) (sym (keeping mirrored_in mirrors_ignore own s tells))
           (no_report p.sizes (mirrored_in w.history) rs h);
-      judged = keeping asdus_judged judged_ignore own s tells;
+      judged = keeping judged_in judged_ignore own s tells;
+      skips = λ rs h. same_skips p.sizes w.serial.counts.skipped w.serial.counts.skipped rs refl h;
     }
 
 down_learnt : (stay : AnswersStay) (p : Setup) (station : ℕ) (w : Works) → IsLearnt p (outcome.Down station) w (given_up_works station w)
 down_learnt stay p station w = record {
   line = refl;
+  silent = refl;
   told = λ k. refl;
   fits = λ f. one_fits stay p (Lose station) (tasks_of w) tt f;
   mirrors = λ rs h. no_report p.sizes (mirrored_in w.history) rs h;
   judged = refl;
+  skips = λ rs h. same_skips p.sizes (given_up_works station w).serial.counts.skipped w.serial.counts.skipped rs (lost_skips (is_used (line_of station w.serial.commands)) w.serial.counts) h;
 }
 
 module _ (stay : AnswersStay) (p : Setup) (at : ℕ) (station : ℕ) (asdu : ArrayVec ℕ) (w : Works) where
@@ -123,11 +166,13 @@ module _ (stay : AnswersStay) (p : Setup) (at : ℕ) (station : ℕ) (asdu : Arr
   plain_report : is_command_report p.sizes asdu.items ≡ false → IsLearnt p said w (record w { serial = reported p.sizes asdu.items w.serial })
   plain_report other = record {
     line = refl;
+    silent = refl;
     told = λ k. refl;
     fits = λ f. f;
     mirrors = λ rs h. subst (λ (l : List (List ℕ)). AreValues p.sizes (mirrored_in w.history) l)
         (sym (reports_more p.sizes rs (station, asdu.items) ∙ ap (λ (b : Bool). command_reports p.sizes rs ++ (if b then asdu.items ∷ [] else [])) other ∙ append-nil (command_reports p.sizes rs))) h;
     judged = refl;
+    skips = λ rs h. skip_one p.sizes station asdu.items w.serial.counts rs other h;
   }
 
   more_mirrored : (v : AsduValue) (rs : List (ℕ × List ℕ)) → is_command_report p.sizes asdu.items ≡ true → IsAsdu p.sizes v asdu.items →
@@ -142,21 +187,25 @@ module _ (stay : AnswersStay) (p : Setup) (at : ℕ) (station : ℕ) (asdu : Arr
       let tells : History = told (Mirror v at) w in
       record {
         line = refl;
+        silent = refl;
         told = λ k. keeping (line_told k) (line_ignores k) pieces s tells;
         fits = λ f. kept_fit stay p pieces s (one_fits stay p (Mirror v at) (tasks_of w) tt f);
         mirrors = λ rs h. subst (λ (vs : List AsduValue). AreValues p.sizes vs (command_reports p.sizes (rs ++ (station, asdu.items) ∷ []))) (sym (keeping mirrored_in mirrors_ignore pieces s tells)) (more_mirrored v rs command value h);
-        judged = keeping asdus_judged judged_ignore pieces s tells;
+        judged = keeping judged_in judged_ignore pieces s tells;
+        skips = λ rs h. h ∙ ap saturated (sym (skip_none p.sizes station asdu.items rs command));
       }
   command_report false v pieces command value = record {
     line = refl;
+    silent = refl;
     told = λ k. refl;
     fits = λ f. one_fits stay p (Mirror v at) (tasks_of w) tt f;
     mirrors = λ rs h. more_mirrored v rs command value h;
     judged = refl;
+    skips = λ rs h. h ∙ ap saturated (sym (skip_none p.sizes station asdu.items rs command));
   }
 
   report_learnt : (running b : Bool) (z : Works) → is_command_report p.sizes asdu.items ≡ b → LearnsReport p at running b asdu.items w z → IsLearnt p said w z
-  report_learnt running true z is h = subst (λ (x : Works). IsLearnt p said w x) (sym h.3) (command_report running h.0 h.1 is h.2.value)
+  report_learnt running true z is h = subst (λ (x : Works). IsLearnt p said w x) (sym h.5) (command_report running h.0 h.2 is h.3.value)
   report_learnt running false z is h = subst (λ (x : Works). IsLearnt p said w x) (sym h) (plain_report is)
 
 pub learnt_of : (stay : AnswersStay) (p : Setup) (at : ℕ) (running : Bool) (o : Outcome) (w z : Works) → LearnsOf p at running o w z → IsLearnt p o w z
@@ -174,42 +223,46 @@ learnt_of stay p at running (outcome.Report station asdu) w z h = report_learnt 
 
 -- the same is told of the line, of stations' answers and of what waits
 pub record IsQuiet (p : Setup) (w z : Works) : Type 0 where
-  pub told : (k : ℕ) → line_told k z.history ≡ line_told k w.history
+  pub told : (k : ℕ) → line_told k (all_told z) ≡ line_told k (all_told w)
+  pub left : IsAllTold w → IsAllTold z
   pub mirrors : mirrored_in z.history ≡ mirrored_in w.history
   pub fits : WaitsFit p w.serial.commands → WaitsFit p z.serial.commands
+  pub skips : z.serial.counts.skipped ≡ w.serial.counts.skipped
 
-pub heard_quiet : (stay : AnswersStay) (p : Setup) (frame : Apdu) (now : ℕ) (w : Works) → Fits frame → IsQuiet p w (heard_works frame now w)
-heard_quiet stay p (I ns nr asdu) now w fits =
+pub heard_quiet : (stay : AnswersStay) (p : Setup) (frame : Apdu) (now : ℕ) (wall : Option ℕ) (w : Works) → Fits frame → IsQuiet p w (heard_works frame now wall w)
+heard_quiet stay p (I ns nr asdu) now wall w fits =
     let s : State = w.serial.commands in
     record {
-      told = λ k. judging (line_told k) (line_ignores k) asdu.items now w;
-      mirrors = judging mirrored_in mirrors_ignore asdu.items now w;
-      fits = λ f. kept_fit stay p (listed (judged asdu.items now s).0) (judged asdu.items now s).1 (one_fits stay p (Judge asdu.items now) (tasks_of w) fits.2 f);
+      told = λ k. told_alike k w.serial.silent w (heard_works (I ns nr asdu) now wall w) (judging (line_told k) (line_ignores k) asdu.items now wall w);
+      left = λ h. h;
+      mirrors = judging mirrored_in mirrors_ignore asdu.items now wall w;
+      fits = λ f. kept_fit stay p (listed (judged asdu.items now wall s).0) (judged asdu.items now wall s).1 (one_fits stay p (Judge asdu.items now wall) (tasks_of w) fits.2 f);
+      skips = refl;
     }
-heard_quiet stay p (S nr) now w fits = record { told = λ k. refl; mirrors = refl; fits = λ f. f }
-heard_quiet stay p (U u) now w fits = record { told = λ k. refl; mirrors = refl; fits = λ f. f }
+heard_quiet stay p (S nr) now wall w fits = record { told = λ k. refl; left = λ h. h; mirrors = refl; fits = λ f. f; skips = refl }
+heard_quiet stay p (U u) now wall w fits = record { told = λ k. refl; left = λ h. h; mirrors = refl; fits = λ f. f; skips = refl }
 
-pub heard_line : (frame : Apdu) (now : ℕ) (w : Works) → (heard_works frame now w).serial.line ≡ w.serial.line
-heard_line frame now w = refl
+pub heard_line : (frame : Apdu) (now : ℕ) (wall : Option ℕ) (w : Works) → (heard_works frame now wall w).serial.line ≡ w.serial.line
+heard_line frame now wall w = refl
 
--- the ASDU of an I frame
-abbrev pub judged_by : Apdu → List (List ℕ)
-judged_by (I ns nr asdu) = asdu.items ∷ []
-judged_by frame = []
+-- the ASDU of an I frame, and what the wall clock shows
+abbrev pub judged_by : Apdu → Option ℕ → List (List ℕ × Option ℕ)
+judged_by (I ns nr asdu) wall = (asdu.items, wall) ∷ []
+judged_by frame wall = []
 
-pub heard_judged : (frame : Apdu) (now : ℕ) (w : Works) → asdus_judged (heard_works frame now w).history ≡ asdus_judged w.history ++ judged_by frame
-heard_judged (I ns nr asdu) now w = judging asdus_judged judged_ignore asdu.items now w
-heard_judged (S nr) now w = sym (append-nil (asdus_judged w.history))
-heard_judged (U u) now w = sym (append-nil (asdus_judged w.history))
+pub heard_judged : (frame : Apdu) (now : ℕ) (wall : Option ℕ) (w : Works) → judged_in (heard_works frame now wall w).history ≡ judged_in w.history ++ judged_by frame wall
+heard_judged (I ns nr asdu) now wall w = judging judged_in judged_ignore asdu.items now wall w
+heard_judged (S nr) now wall w = sym (append-nil (judged_in w.history))
+heard_judged (U u) now wall w = sym (append-nil (judged_in w.history))
 
 pub sent_quiet : (stay : AnswersStay) (p : Setup) (frame : Apdu) (w : Works) → IsQuiet p w (sent_works frame w)
 sent_quiet stay p (I ns nr asdu) w = go (has_objects asdu.items)
   where
     go : (b : Bool) → IsQuiet p w (if b then w else answered_works w)
-    go true = record { told = λ k. refl; mirrors = refl; fits = λ f. f }
-    go false = record { told = λ k. sending_own (line_told k) (line_ignores k) w; mirrors = sending_own mirrored_in mirrors_ignore w; fits = λ f. f }
-sent_quiet stay p (S nr) w = record { told = λ k. refl; mirrors = refl; fits = λ f. f }
-sent_quiet stay p (U u) w = record { told = λ k. refl; mirrors = refl; fits = λ f. f }
+    go true = record { told = λ k. refl; left = λ h. h; mirrors = refl; fits = λ f. f; skips = refl }
+    go false = record { told = λ k. told_alike k w.serial.silent w (answered_works w) (sending_own (line_told k) (line_ignores k) w); left = λ h. h; mirrors = sending_own mirrored_in mirrors_ignore w; fits = λ f. f; skips = refl }
+sent_quiet stay p (S nr) w = record { told = λ k. refl; left = λ h. h; mirrors = refl; fits = λ f. f; skips = refl }
+sent_quiet stay p (U u) w = record { told = λ k. refl; left = λ h. h; mirrors = refl; fits = λ f. f; skips = refl }
 
 pub sent_line : (frame : Apdu) (w : Works) → (sent_works frame w).serial.line ≡ w.serial.line
 sent_line (I ns nr asdu) w = go (has_objects asdu.items)
@@ -220,22 +273,18 @@ sent_line (I ns nr asdu) w = go (has_objects asdu.items)
 sent_line (S nr) w = refl
 sent_line (U u) w = refl
 
-pub sent_judged : (frame : Apdu) (w : Works) → asdus_judged (sent_works frame w).history ≡ asdus_judged w.history
+pub sent_judged : (frame : Apdu) (w : Works) → judged_in (sent_works frame w).history ≡ judged_in w.history
 sent_judged (I ns nr asdu) w = go (has_objects asdu.items)
   where
-    go : (b : Bool) → asdus_judged (if b then w else answered_works w).history ≡ asdus_judged w.history
+    go : (b : Bool) → judged_in (if b then w else answered_works w).history ≡ judged_in w.history
     go true = refl
-    go false = sending_own asdus_judged judged_ignore w
+    go false = sending_own judged_in judged_ignore w
 sent_judged (S nr) w = refl
 sent_judged (U u) w = refl
 
 pub settled_quiet : (stay : AnswersStay) (p : Setup) (at : ℕ) (w : Works) → IsQuiet p w (settled_works at w)
-settled_quiet stay p at w = record { told = λ k. said k w.serial.silent; mirrors = answers w.serial.silent; fits = fit w.serial.silent }
+settled_quiet stay p at w = record { told = λ k. refl; left = λ h due. refl; mirrors = answers w.serial.silent; fits = fit w.serial.silent; skips = count w.serial.silent }
   where
-    said : (k : ℕ) (o : Option ℕ) → line_told k (told_silent o w) ≡ line_told k w.history
-    said k None = refl
-    said k (Some station) = refl
-
     answers : (o : Option ℕ) → mirrored_in (told_silent o w) ≡ mirrored_in w.history
     answers None = refl
     answers (Some station) = refl
@@ -244,6 +293,10 @@ settled_quiet stay p at w = record { told = λ k. said k w.serial.silent; mirror
     fit None f = f
     fit (Some station) f = one_fits stay p (Lose station) (tasks_of w) tt f
 
+    count : (o : Option ℕ) → (unless_silent o w.serial).counts.skipped ≡ w.serial.counts.skipped
+    count None = refl
+    count (Some station) = lost_skips (is_used (line_of station w.serial.commands)) w.serial.counts
+
 pub settled_line : (at : ℕ) (w : Works) → (settled_works at w).serial.line ≡ w.serial.line
 settled_line at w = go w.serial.silent
   where
@@ -251,10 +304,10 @@ settled_line at w = go w.serial.silent
     go None = refl
     go (Some station) = refl
 
-pub settled_judged : (at : ℕ) (w : Works) → asdus_judged (settled_works at w).history ≡ asdus_judged w.history
+pub settled_judged : (at : ℕ) (w : Works) → judged_in (settled_works at w).history ≡ judged_in w.history
 settled_judged at w = go w.serial.silent
   where
-    go : (o : Option ℕ) → asdus_judged (told_silent o w) ≡ asdus_judged w.history
+    go : (o : Option ℕ) → judged_in (told_silent o w) ≡ judged_in w.history
     go None = refl
     go (Some station) = refl
 
@@ -305,11 +358,11 @@ put_mirrors true station w = go (oldest_for station w.serial.commands)
     go None = refl
     go (Some x) = refl
 
-pub put_judged : (first : Bool) (station : ℕ) (w : Works) → asdus_judged (told_put first station w) ≡ asdus_judged w.history
+pub put_judged : (first : Bool) (station : ℕ) (w : Works) → judged_in (told_put first station w) ≡ judged_in w.history
 put_judged false station w = refl
 put_judged true station w = go (oldest_for station w.serial.commands)
   where
-    go : (o : Option Waiting) → asdus_judged (after_sending o station (tasks_of w)).history ≡ asdus_judged w.history
+    go : (o : Option Waiting) → judged_in (after_sending o station (tasks_of w)).history ≡ judged_in w.history
     go None = refl
     go (Some x) = refl
 

@@ -1,32 +1,42 @@
 -- Commands on a station's line: what the exchanges of the log show of them, and what the gateway's
 -- course tells of them (IEC 60870-5-2, unbalanced transmission procedures: SEND/CONFIRM; IEC
 -- 60870-5-101, 7.2).
-use Rattle.std.specs.Prelude.{◌≡◌, ℕ, ◌==◌, true, List, [], ◌∷◌, ◌++◌, map}
-use Rattle.std.specs.Prelude.{slice_get, Option, Some, None, if◌then◌else◌}
+use Rattle.std.specs.Prelude.{◌≡◌, ℕ, suc, ◌==◌, ◌&&◌, not, nat_lt, Bool, true, false}
+use Rattle.std.specs.Prelude.{List, [], ◌∷◌, ◌++◌, map}
+use Rattle.std.specs.Prelude.{slice_get, slice_index, Option, Some, None, if◌then◌else◌}
 use Rattle.std.specs.Option.{option_map_or}
 use Rattle.std.specs.List.{AllByRecursion}
-use Rattle.apci.specs.declared.apdu.Apdu.{Apdu}
-use Rattle.apci.specs.declared.apdu.Apdu.TheVariants.{I}
+use Rattle.std.specs.Int.{bytes_low_first}
+use Rattle.asdu.specs.Asdu.{originator_octets}
+use Rattle.asdu.specs.Sizes.{ca_len, ioa_len}
+use Rattle.asdu.specs.declared.sizes.Sizes.{Sizes}
 use Rattle.link.specs.declared.service.Service.{Service}
 use Rattle.link.specs.declared.service.Service.TheVariants.{Command}
 use Rattle.link.specs.declared.service.Asked.{Asked}
 use Rattle.link.specs.declared.service.Asked.TheVariants.{Counted}
 use Rattle.link.specs.declared.answer.Answer.{Answer}
 use Rattle.link.specs.declared.answer.Answer.TheVariants as answer
+use Rattle.link.specs.declared.settings.LinkSettings.{LinkSettings}
 use Rattle.link.specs.Exchanges.{Exchange, answer_to}
 use Rattle.link.specs.Delivery.{first_sending, pending_by}
-use Rattle.command.specs.Standard.{cause_of_fault}
-use Rattle.command.specs.History.{History, Judged, Sent, Accepted, Refused, is_for, line_octets}
-use Rattle.gateway.specs.Frames.{Connection}
+use Rattle.command.specs.Standard.{cause_of_fault, has_tag, is_activation, plain_type}
+use Rattle.command.specs.Standard.{object_address, element_part}
+use Rattle.command.specs.declared.station.StationInfo.{StationInfo}
+use Rattle.command.specs.History.{History, Judged, Sent, Accepted, Refused, GivenUp, is_for}
+use Rattle.gateway.specs.Log.{latest}
 use Rattle.gateway.specs.Reports.{Setup}
+use Rattle.gateway.specs.Walls.{wall_on}
+use Rattle.delivery.specs.Arrivals.{Arrival, IsFreshOn}
 use Rattle.delivery.specs.Merges.{IsSublist}
 
 -- What becomes of a command on the line: it is sent for the first time, it is confirmed (function
--- 0, or the single character), or the link is busy (function 1).
+-- 0, or the single character), or the link is busy (function 1); and the link goes down, with
+-- whatever command stands on it.
 pub data LineStep : Type 0 where
   Begun : (asdu : List ℕ) → LineStep
   Confirmed : (asdu : List ℕ) → LineStep
   Busy : (asdu : List ℕ) → LineStep
+  Lost : LineStep
 
 -- As the exchanges with a station show it
 
@@ -36,19 +46,44 @@ said_of (Counted fcb (Command asdu)) (Some answer.Confirmed) = Confirmed asdu �
 said_of (Counted fcb (Command asdu)) (Some answer.Busy) = Busy asdu ∷ []
 said_of request said = []
 
--- an exchange: its command, where it isn't the repeat of an unanswered one, and what the answer
--- says of it
-abbrev pub steps_at : (station : ℕ) → Option Service → Exchange → List LineStep
-steps_at station pending x =
+-- how often in a row a counted request had no answer in time, with this exchange, where it was so
+-- often before
+abbrev pub missed_by : Asked → (closed : Bool) → Option Answer → ℕ → ℕ
+missed_by (Counted fcb service) closed None missed = if closed then suc missed else missed
+missed_by request closed said missed = 0
+
+-- A counted request had no answer in time, nor had any of its repeats, and then the link is to be
+-- reset (profile).
+abbrev pub is_silent : LinkSettings → (missed : ℕ) → Asked → (closed : Bool) → Bool
+is_silent settings missed (Counted fcb service) true =
+    not settings.hold && nat_lt settings.retries (suc missed)
+is_silent settings missed request closed = false
+
+-- The link goes down where the station answers that it can't serve (function 14 or 15), and where
+-- it is silent.
+abbrev pub goes_down : LinkSettings → (missed : ℕ) → Asked → (closed : Bool) → Option Answer → Bool
+goes_down settings missed request closed (Some answer.Unable) = true
+goes_down settings missed request closed (Some said) = false
+goes_down settings missed request closed None = is_silent settings missed request closed
+
+-- an exchange: its command, where it isn't the repeat of an unanswered one, what the answer says of
+-- it, and whether the link goes down
+abbrev pub steps_at : LinkSettings → (station missed : ℕ) → Option Service → Exchange →
+    List LineStep
+steps_at settings station missed pending x =
     map (λ asdu. Begun asdu) (first_sending pending x.request)
-    ++ said_of x.request (answer_to station x)
+    ++ (said_of x.request (answer_to station x)
+    ++ (if goes_down settings missed x.request x.closed (answer_to station x) then Lost ∷ []
+    else []))
 
 -- exchanges with the station, one after another, the oldest first
-abbrev pub steps_in : (station : ℕ) → Option Service → List Exchange → List LineStep
-steps_in station pending [] = []
-steps_in station pending (x ∷ xs) =
-    steps_at station pending x
-    ++ steps_in station (pending_by x.request (answer_to station x) pending) xs
+abbrev pub steps_in : LinkSettings → (station missed : ℕ) → Option Service → List Exchange →
+    List LineStep
+steps_in settings station missed pending [] = []
+steps_in settings station missed pending (x ∷ xs) =
+    steps_at settings station missed pending x
+    ++ steps_in settings station (missed_by x.request x.closed (answer_to station x) missed)
+    (pending_by x.request (answer_to station x) pending) xs
 
 -- the commands among them that aren't the repeat of an unanswered one
 abbrev pub first_sendings : (station : ℕ) → Option Service → List Exchange → List (List ℕ)
@@ -71,7 +106,8 @@ last_sent k [] = []
 last_sent k (Sent j octets ∷ h) = if k == j then octets else last_sent k h
 last_sent k (_ ∷ h) = last_sent k h
 
--- what became of the commands to station k, the oldest first
+-- what became of the commands to station k, and where what stood on its line was given up, the
+-- oldest first
 abbrev pub steps_told : ℕ → History → List LineStep
 steps_told k [] = []
 steps_told k (Sent j octets ∷ h) =
@@ -80,6 +116,8 @@ steps_told k (Accepted j ∷ h) =
     if k == j then steps_told k h ++ Confirmed (last_sent k h) ∷ [] else steps_told k h
 steps_told k (Refused j a ∷ h) =
     if k == j then steps_told k h ++ Busy (last_sent k h) ∷ [] else steps_told k h
+steps_told k (GivenUp j was ∷ h) =
+    if k == j then steps_told k h ++ Lost ∷ [] else steps_told k h
 steps_told k (_ ∷ h) = steps_told k h
 
 -- the commands sent to station k for the first time, the oldest first
@@ -90,47 +128,58 @@ sent_to k (_ ∷ h) = sent_to k h
 
 -- From the control centre
 
--- the ASDUs that were judged, the oldest first
-abbrev pub asdus_judged : History → List (List ℕ)
-asdus_judged [] = []
-asdus_judged (Judged now xs a ∷ h) = asdus_judged h ++ xs ∷ []
-asdus_judged (_ ∷ h) = asdus_judged h
+-- the ASDUs that were judged, each with what the wall clock showed, if that was known; the oldest
+-- first
+abbrev pub judged_in : History → List (List ℕ × Option ℕ)
+judged_in [] = []
+judged_in (Judged now wall xs a ∷ h) = judged_in h ++ (xs, wall) ∷ []
+judged_in (_ ∷ h) = judged_in h
 
 -- those of them that were forwarded to station k, on any connection
-abbrev pub forwarded_in : Setup → ℕ → History → List (List ℕ)
+abbrev pub forwarded_in : Setup → ℕ → History → List (List ℕ × Option ℕ)
 forwarded_in p k [] = []
-forwarded_in p k (Judged now xs None ∷ h) =
-    if is_for p.sizes p.stations p.select_ms k xs then forwarded_in p k h ++ xs ∷ []
+forwarded_in p k (Judged now wall xs None ∷ h) =
+    if is_for p.sizes p.stations p.select_ms p.max_age_ms k xs
+    then forwarded_in p k h ++ (xs, wall) ∷ []
     else forwarded_in p k h
 forwarded_in p k (_ ∷ h) = forwarded_in p k h
 
--- the ASDUs of I frames received, the oldest first
-abbrev pub asdus_in : List Apdu → List (List ℕ)
-asdus_in [] = []
-asdus_in (I ns nr asdu ∷ older) = asdus_in older ++ asdu.items ∷ []
-asdus_in (_ ∷ older) = asdus_in older
+-- As the control centre sent it
 
--- and those of all these connections, the latest of which comes first
-abbrev pub asdus_received : List Connection → List (List ℕ)
-asdus_received [] = []
-asdus_received (c ∷ before) = asdus_received before ++ asdus_in c.received_frames
+-- an ASDU that came, with what the log tells of the wall clock there
+abbrev pub as_judged : Arrival → List ℕ × Option ℕ
+as_judged x = (x.asdu, wall_on x.log (latest x.log))
 
--- The command is for station k, and nothing is wrong with it (IEC 60870-5-101, 7.2.3: causes 44 to
--- 47).
-pub record IsCommandTo (p : Setup) (k : ℕ) (asdu : List ℕ) : Type 0 where
-  pub addressed : is_for p.sizes p.stations p.select_ms k asdu ≡ true
-  pub faultless : cause_of_fault p.sizes p.stations asdu ≡ None
+-- The command is for station k, and nothing is wrong with it at the moment at which it came (IEC
+-- 60870-5-101, 7.2.3: causes 44 to 47): an activation with a time tag (IEC 60870-5-104, 8) has a
+-- good one, and by the wall clock it isn't too old.
+pub record IsCommandTo (p : Setup) (k : ℕ) (x : Arrival) : Type 0 where
+  pub addressed : is_for p.sizes p.stations p.select_ms p.max_age_ms k x.asdu ≡ true
+  pub faultless : cause_of_fault p.sizes p.stations p.max_age_ms (wall_on x.log (latest x.log))
+      x.asdu ≡ None
+  pub fresh : has_tag (slice_index x.asdu 0) ≡ true → is_activation x.asdu ≡ true →
+      IsFreshOn p.max_age_ms x.log x.asdu
 
--- the command as it is put on the line for station k: in the line's sizes, with the station's own
--- common address
+-- The command as it goes to a line of these sizes, octet by octet (IEC 60870-5-101, 7.1 and 7.2):
+-- its type, for types 58 to 62 (IEC 60870-5-104, 8) that of the command without a time tag, 45 to
+-- 49; one object; the cause octet, and the originator where causes have two octets; the station's
+-- own common address; the object address; and the element, without the tag.
+abbrev pub line_form : Sizes → List ℕ → StationInfo → List ℕ
+line_form sizes xs station =
+    plain_type (slice_index xs 0) ∷ 1 ∷ slice_index xs 2
+    ∷ (originator_octets sizes.cause (slice_index xs 3)
+    ++ (bytes_low_first 0 (ca_len sizes.ca) station.ca
+    ++ (bytes_low_first 0 (ioa_len sizes.ioa) (object_address xs) ++ element_part xs)))
+
+-- the command as it is put on the line for station k
 abbrev pub on_line_of : Setup → ℕ → List ℕ → List ℕ
-on_line_of p k asdu = option_map_or (line_octets p.sizes asdu) (slice_get p.stations k) []
+on_line_of p k asdu = option_map_or (line_form p.sizes asdu) (slice_get p.stations k) []
 
--- These commands, as they were put on the line for station k, are some of the ASDUs of the I frames
--- received on these connections, each I frame at most once, and in the order in which they came.
-pub record AreCommandsOf (p : Setup) (k : ℕ) (connections : List Connection)
+-- These commands, as they were put on the line for station k, are some of the ASDUs that came, each
+-- at most once, and in the order in which they came.
+pub record AreCommandsOf (p : Setup) (k : ℕ) (came : List Arrival)
     (done : List (List ℕ)) : Type 0 where
-  pub given : List (List ℕ)
-  pub received : IsSublist given (asdus_received connections)
-  pub each : AllByRecursion (λ asdu. IsCommandTo p k asdu) given
-  pub whole : done ≡ map (λ asdu. on_line_of p k asdu) given
+  pub given : List Arrival
+  pub received : IsSublist given came
+  pub each : AllByRecursion (λ x. IsCommandTo p k x) given
+  pub whole : done ≡ map (λ x. on_line_of p k x.asdu) given

@@ -17,6 +17,7 @@ use Rattle.gateway.specs.Reports.{Setup, address_at, exchanges_with, reports_in,
 use Rattle.gateway.specs.Frames.{Connection, AreInOrder}
 use Rattle.gateway.specs.Connections.{present, past, AreConnections, IsBegun}
 use Rattle.delivery.specs.Merges.{values_of, IsMerge}
+use Rattle.delivery.specs.Arrivals.{arrivals}
 use Rattle.delivery.specs.Commands.{first_sendings, AreCommandsOf}
 use Rattle.delivery.specs.Joined.{IsSetUp}
 
@@ -84,8 +85,10 @@ pub record IsRelayed (p : Setup) (log : Log) (i : ℕ) (turns : List Turn) : Typ
 -- contiguous run of the objects taken, from the first that no earlier connection acknowledged; the
 -- objects taken are a merge of those taken from the stations; and from an honest outstation whose
 -- link stays up, what was taken is what it reported, or all but its last report. Each command that
--- is put on the line for the first time is one of the control centre's, given once; and so is each
--- that an honest outstation accepted, also where its link was reset on the way.
+-- is put on the line for the first time is one of the control centre's, given once, in the line's
+-- octets and without a time tag, and came while its tag, if it had one, was fresh by the wall
+-- moments of the log; and so is each that an honest outstation accepted, also where its link was
+-- reset on the way.
 pub record Delivers (p : Setup) (log : Log) : Type 0 where
   pub here : Connection
   pub begun : IsBegun (present log) here
@@ -95,7 +98,8 @@ pub record Delivers (p : Setup) (log : Log) : Type 0 where
   pub merged : IsMerge (length p.addresses) (taken_from p log) (taken_objects p log)
   pub relayed : (i : ℕ) (turns : List Turn) → i < length p.addresses →
       IsHonest p log i turns → IsSteady p log i → IsRelayed p log i turns
-  pub sent : IsSetUp p → (i : ℕ) → AreCommandsOf p i (here ∷ earlier)
+  pub sent : IsSetUp p → (i : ℕ) → AreCommandsOf p i (arrivals log (here ∷ earlier))
       (first_sendings (address_at p.addresses i) None (exchanges_with p i log))
   pub accepted : IsSetUp p → (i : ℕ) (turns : List Turn) → i < length p.addresses →
-      IsHonest p log i turns → AreCommandsOf p i (here ∷ earlier) (commands (all_done turns))
+      IsHonest p log i turns → AreCommandsOf p i (arrivals log (here ∷ earlier))
+      (commands (all_done turns))

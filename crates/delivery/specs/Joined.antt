@@ -1,19 +1,23 @@
 -- The course of a log and the exchanges of its line are one story (IEC 60870-5-2, unbalanced
 -- transmission procedures; IEC 60870-5-101, 7.2: commands and their answers).
-use Rattle.std.specs.Prelude.{◌≡◌, ℕ, ◌<◌, List, [], ◌∷◌, ◌++◌, All, length, None, if◌then◌else◌}
+use Rattle.std.specs.Prelude.{◌==◌, ◌&&◌, not, suc, Bool, false}
+use Rattle.std.specs.Prelude.{◌≡◌, ℕ, ◌<◌, List, [], ◌∷◌, ◌++◌, All, map, length, None, if◌then◌else◌}
 use Rattle.asdu.specs.declared.sizes.Sizes.{Sizes}
 use Rattle.asdu.specs.Asdu.{AsduValue, IsAsdu}
+use Rattle.link.specs.Counts.{saturated}
 use Rattle.link.specs.Delivery.{learnt, commands}
 use Rattle.link.specs.Requests.{FitsAddress}
 use Rattle.link.specs.Telling.{Tells}
 use Rattle.command.specs.History.{History, Mirrored}
 use Rattle.gateway.specs.Log.{Log}
+use Rattle.gateway.specs.Objects.{monitor_objects}
 use Rattle.gateway.specs.Reports.{Setup, AreFound, address_at}
 use Rattle.gateway.specs.Reports.{exchanges_of, exchanges_with, reports_in}
-use Rattle.gateway.specs.Works.{is_command_report}
+use Rattle.gateway.specs.Works.{is_command_report, told_silent}
 use Rattle.gateway.specs.Course.{Course, here_of}
 use Rattle.delivery.specs.Commands.{steps_in, steps_told, confirmed_by, first_sendings, sent_to}
-use Rattle.delivery.specs.Commands.{asdus_judged, asdus_received}
+use Rattle.delivery.specs.Commands.{judged_in, as_judged}
+use Rattle.delivery.specs.Arrivals.{arrivals}
 
 -- There are stations, their link addresses fit the line, and each is another.
 pub record IsSetUp (p : Setup) : Type 0 where
@@ -34,6 +38,20 @@ command_reports sizes (report ∷ reports) =
     if is_command_report sizes report.1 then report.1 ∷ command_reports sizes reports
     else command_reports sizes reports
 
+-- A report is skipped that has nothing to be passed on and is no answer to a command: it can't be
+-- read, or it is of a monitor type with a negative 'unknown type' (7.2.3; this gateway's own
+-- profile).
+abbrev pub is_skipped : Sizes → List ℕ → Bool
+is_skipped sizes report =
+    length (monitor_objects sizes report) == 0 && not (is_command_report sizes report)
+
+-- how many of the reports
+abbrev pub skipped_among : Sizes → List (ℕ × List ℕ) → ℕ
+skipped_among sizes [] = 0
+skipped_among sizes (report ∷ reports) =
+    if is_skipped sizes report.1 then suc (skipped_among sizes reports)
+    else skipped_among sizes reports
+
 -- the values are those of the reports, one after another
 abbrev pub AreValues : Sizes → List AsduValue → List (List ℕ) → Type 0
 AreValues sizes [] [] = Unit {0}
@@ -44,10 +62,14 @@ AreValues sizes _ _ = ⊥
 pub record IsJoined (p : Setup) (log : Log) (c : Course) : Type 0 where
   -- its primary station is what the exchanges make it
   pub tells : Tells p.link p.addresses c.works.serial.line (exchanges_of p log)
-  -- what it tells of commands on each station's line, which of them was confirmed and which found
-  -- the link busy, is what the exchanges show
-  pub steps : (k : ℕ) → steps_told k c.works.history
-      ≡ steps_in (address_at p.addresses k) None (exchanges_with p k log)
+  -- What it tells of commands on each station's line, which of them was confirmed and which found
+  -- the link busy, is what the exchanges show; and what stands on a line is given up exactly where
+  -- they show that its link goes down. What silence takes down is told in the same step, once the
+  -- event's frames are taken; so this is said of the history with what is still to be told.
+  pub steps : (k : ℕ) → steps_told k (told_silent c.works.serial.silent c.works)
+      ≡ steps_in p.link (address_at p.addresses k) 0 None (exchanges_with p k log)
+  -- once the step is done, nothing is
+  pub all_told : c.works.is_due ≡ false → c.works.serial.silent ≡ None
   pub sent : (k : ℕ) → sent_to k c.works.history
       ≡ first_sendings (address_at p.addresses k) None (exchanges_with p k log)
   -- those confirmed are those that the exchanges told of as accepted by the outstation
@@ -56,5 +78,10 @@ pub record IsJoined (p : Setup) (log : Log) (c : Course) : Type 0 where
   -- the stations' answers to commands are, in order, the reports of command types that were taken
   pub mirrored : AreValues p.sizes (mirrored_in c.works.history)
       (command_reports p.sizes (reports_in p log))
-  -- and what it judged are the ASDUs of the I frames of its connections
-  pub judged : asdus_judged c.works.history ≡ asdus_received (here_of c ∷ c.earlier)
+  -- the reports that it counts as skipped are those of the log that are skipped
+  pub skipped : c.works.serial.counts.skipped
+      ≡ saturated (skipped_among p.sizes (reports_in p log))
+  -- and what it judged are the ASDUs of the I frames of its connections, each with what the wall
+  -- clock showed when it had come
+  pub judged : judged_in c.works.history
+      ≡ map as_judged (arrivals log (here_of c ∷ c.earlier))

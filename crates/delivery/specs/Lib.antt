@@ -1,5 +1,7 @@
 pub mod Merges
+pub mod Arrivals
 pub mod Commands
 pub mod Joined
 pub mod Delivery
 pub mod Sessions
+pub mod Selections

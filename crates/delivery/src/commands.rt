@@ -9,11 +9,14 @@ ghost use Rattle.gateway.specs.Log.{Log};
 ghost use Rattle.gateway.specs.Reports.{Setup, address_at, exchanges_with};
 ghost use Rattle.gateway.specs.Setups.{setup_of};
 ghost use Rattle.gateway.specs.Traffic.{IsFaithful};
+ghost use Rattle.delivery.specs.Arrivals.{arrivals};
 ghost use Rattle.delivery.specs.Commands.{first_sendings, AreCommandsOf};
 ghost use Rattle.delivery.specs.Delivery.{IsHonest};
 ghost use Rattle.delivery.specs.Joined.{IsSetUp, IsJoined};
+ghost use Rattle.delivery.specs.Selections.{KeepsSelections};
 
-use command::waiting_commands_stay;
+use apci::one_front;
+use command::{selections_are_selects_that_stand, waiting_commands_stay};
 use gateway::courses_keep_commands;
 use link::{
     commands_are_accepted, master_tells_the_log, offers_wait, outcomes_are_answers,
@@ -30,8 +33,11 @@ pub fn settings_are_set_up()
 
 /// The course of a log says of the line what its exchanges say: its primary station is what they
 /// make it; which command went out for the first time, which was confirmed and which found the link
-/// busy is, in the same order, what they show; a station's answer to a command is a report that was
-/// taken; and what was judged are the ASDUs of the I frames of the log's connections.
+/// busy is, in the same order, what they show, and what stands on a line is given up exactly where
+/// they show that its link goes down; a station's answer to a command is a report that was taken;
+/// and what was judged are the ASDUs of the I frames of the log's connections, each with what the
+/// wall clock showed by the log at the event that brought the frame's last octet. What it counts as
+/// skipped is how many of the log's reports have nothing to be passed on and answer no command.
 pub fn the_course_is_the_logs()
     ensures { (p : Setup) (log : Log) (c : Course) → IsFaithful p log → IsSetUp p → Runs p log c →
         IsJoined p log c }
@@ -43,20 +49,37 @@ pub fn the_course_is_the_logs()
     requests_are_read_back();
     offers_wait();
     waiting_commands_stay();
+    one_front();
+}
+
+/// Selections last no longer than `select_ms`, by the moments of the log: each execute that is
+/// forwarded to a station that asks for selects had its select there, confirmed less than that
+/// before; and once the timers of a step are done, each selection that is kept has a select that
+/// stands, and that, or its latest confirmation, came less than that before. What came from the
+/// control centre and what stations answered is told with the moment of its entry of the log.
+pub fn selections_end_in_time()
+    ensures { (p : Setup) (log : Log) (c : Course) → Runs p log c → KeepsSelections p log c }
+{
+    courses_keep_commands();
+    selections_are_selects_that_stand();
 }
 
 /// Each command that is put on the line for the first time is the ASDU of one I frame that the
-/// log's connections received, in the line's sizes and with the station's own common address, in
-/// the order in which they came, each at most once. So is each command that an honest outstation
-/// accepted, whatever is lost, whatever times out, and however often the link is reset. (The
-/// connections of the course are those of the log: `IsFaithful`.)
+/// log's connections received, in the order in which they came, each at most once. On the line it
+/// has the line's sizes, the station's own common address, and no time tag: types 58 to 62 (IEC
+/// 60870-5-104, 8) go out as 45 to 49. An activation that came with a time tag had a good one, a
+/// wall moment stood before it in the log, and by that the tag was at most `max_age_ms` off when
+/// the frame's last octet came. All this holds of each command that an honest outstation accepted
+/// too, whatever is lost, whatever times out, and however often the link is reset. (The connections
+/// of the course are those of the log: `IsFaithful`.)
 pub fn each_command_is_given_once()
     ensures sent { (p : Setup) (log : Log) (i : ℕ) (f : IsFaithful p log) → IsSetUp p →
-        AreCommandsOf p i (here_of f.course ∷ f.course.earlier)
+        AreCommandsOf p i (arrivals log (here_of f.course ∷ f.course.earlier))
         (first_sendings (address_at p.addresses i) None (exchanges_with p i log)) }
     ensures accepted { (p : Setup) (log : Log) (i : ℕ) (turns : List Turn)
         (f : IsFaithful p log) → IsSetUp p → i < length p.addresses → IsHonest p log i turns →
-        AreCommandsOf p i (here_of f.course ∷ f.course.earlier) (commands (all_done turns)) }
+        AreCommandsOf p i (arrivals log (here_of f.course ∷ f.course.earlier))
+        (commands (all_done turns)) }
 {
     the_course_is_the_logs();
     courses_keep_commands();

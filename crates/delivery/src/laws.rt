@@ -26,7 +26,8 @@ use link::{
 /// reset is caused, the monitor objects sent on each connection are a contiguous run, equal in all
 /// parts, of a merge of the outstations' reports, beginning at the first unacknowledged. Each
 /// command that is put on the line for the first time, and each that an honest outstation accepted,
-/// is one of the control centre's, given once.
+/// is one of the control centre's, given once; an activation with a time tag came while that was
+/// fresh.
 pub fn nothing_is_lost()
     ensures { (p : Setup) (log : Log) → IsFaithful p log → Delivers p log }
 {

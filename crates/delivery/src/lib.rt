@@ -6,7 +6,8 @@
 //! [`each_session_is_known`] for links that are reset on the way, where [`losses_are_told`] as gaps
 //! and [`losses_have_gaps`] says how many there are at most. Downwards:
 //! [`each_command_is_given_once`]. Between them: [`the_course_is_the_logs`], that what the
-//! gateway's course tells of the line and of commands is what the octets of the log show.
+//! gateway's course tells of the line and of commands is what the octets of the log show; and
+//! [`selections_end_in_time`], by the log's moments.
 //!
 //! Their premises are of the line alone: serial answers are neither late nor altered unseen
 //! (`IsHonest`), and for the first law no link reset is caused (`IsSteady`; the start of a link is
@@ -20,7 +21,9 @@
 mod commands;
 mod laws;
 
-pub use commands::{each_command_is_given_once, settings_are_set_up, the_course_is_the_logs};
+pub use commands::{
+    each_command_is_given_once, selections_end_in_time, settings_are_set_up, the_course_is_the_logs,
+};
 pub use laws::{
     each_session_is_known, losses_are_told, losses_have_gaps, nothing_is_lost, silence_is_no_reset,
 };

@@ -87,8 +87,20 @@ pub layouts_hold : LayoutExamples
 layouts_hold = record { short = refl; word = refl; long = refl }
 
 pub values_hold : AllByRecursion IsShownSo value_examples
-values_hold = (refl, (refl, (refl, (refl, (refl, (refl, (refl, (refl, (refl, (refl, (refl, (refl, (refl, (refl, tt))))))))))))))
+values_hold = (
+  refl,
+  (refl, (refl, (refl, (refl, (refl, (refl, (refl, (refl, (refl, (refl, (refl, (refl, (refl, tt))))))))))))),
+)
 
 pub tags_hold : AllByRecursion IsJudgedSo tag_examples
 unfolding days_from_civil day_count days_of_years days_of_months weekday_number
-tags_hold = (refl, (refl, (refl, (refl, (refl, (refl, (refl, (refl, (refl, (refl, (refl, (refl, (refl, (refl, (refl, (refl, tt))))))))))))))))
+tags_hold = (
+  refl,
+  (
+    refl,
+    (
+      refl,
+      (refl, (refl, (refl, (refl, (refl, (refl, (refl, (refl, (refl, (refl, (refl, (refl, (refl, tt))))))))))))),
+    ),
+  ),
+)

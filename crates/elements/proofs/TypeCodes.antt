@@ -37,7 +37,8 @@ type_of-code CRcTa1 = refl
 type_of-code CSeTa1 = refl
 type_of-code CSeTb1 = refl
 
-first_passes : {X : Type 0} (p : X → Bool) (x y : X) (rest : Option X) (b : Bool) → p x ≡ b → (rest ≡ Some y → p y ≡ true) → cond b (Some x) rest ≡ Some y → p y ≡ true
+first_passes : {X : Type 0} (p : X → Bool) (x y : X) (rest : Option X) (b : Bool) → p x ≡ b
+    → (rest ≡ Some y → p y ≡ true) → cond b (Some x) rest ≡ Some y → p y ≡ true
 first_passes p x y rest true here later h = cc
 first_passes p x y rest false here later h = later h
 

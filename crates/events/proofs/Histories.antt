@@ -12,18 +12,23 @@ record Kept (places : ℕ) (calls : List Call) : Type 0 where
   pub sent : length (run places calls).sent ≡ sent_count calls
   pub room : length (kept (run places calls)) ≤ places
 
-push_pieces : (q : Queue) (xs pieces : List (List ℕ)) (n : ℕ) → n ≤ length xs → kept q ≡ drop n xs → kept (pushed pieces q) ≡ drop n (xs ++ pieces)
+push_pieces : (q : Queue) (xs pieces : List (List ℕ)) (n : ℕ) → n ≤ length xs → kept q ≡ drop n xs
+    → kept (pushed pieces q) ≡ drop n (xs ++ pieces)
 push_pieces q xs pieces n few here =
-    sym (append_assoc q.sent q.unsent pieces) ∙ ap (λ (l : List (List ℕ)). l ++ pieces) here ∙ sym (drop-append-le n xs pieces few)
+    sym (append_assoc q.sent q.unsent pieces) ∙ ap (λ (l : List (List ℕ)). l ++ pieces) here
+    ∙ sym (drop-append-le n xs pieces few)
 
 mark_pieces : (q : Queue) → kept (marked_sent q) ≡ kept q
-mark_pieces q = append_assoc q.sent (take 1 q.unsent) (drop 1 q.unsent) ∙ ap (λ (l : List (List ℕ)). q.sent ++ l) (take-append-drop 1 q.unsent)
+mark_pieces q = append_assoc q.sent (take 1 q.unsent) (drop 1 q.unsent)
+    ∙ ap (λ (l : List (List ℕ)). q.sent ++ l) (take-append-drop 1 q.unsent)
 
-acknowledge_pieces : (q : Queue) (xs : List (List ℕ)) (n k : ℕ) → n ≤ length q.sent → kept q ≡ drop k xs → kept (acknowledged n q) ≡ drop (k + n) xs
+acknowledge_pieces : (q : Queue) (xs : List (List ℕ)) (n k : ℕ) → n ≤ length q.sent → kept q ≡ drop k xs
+    → kept (acknowledged n q) ≡ drop (k + n) xs
 acknowledge_pieces q xs n k le here =
     sym (drop-append-le n q.sent q.unsent le) ∙ ap (λ (l : List (List ℕ)). drop n l) here ∙ drop-drop n k xs
 
-after : (places : ℕ) (call : Call) (earlier : List Call) → MayCome call (run places earlier) → Kept places earlier → Kept places (call ∷ earlier)
+after : (places : ℕ) (call : Call) (earlier : List Call) → MayCome call (run places earlier) → Kept places earlier
+    → Kept places (call ∷ earlier)
 after places (Push pieces) earlier may k =
     let long = length-append (kept (run places earlier)) pieces in
     let assoc = append_assoc (run places earlier).sent (run places earlier).unsent pieces in

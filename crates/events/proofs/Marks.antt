@@ -13,13 +13,17 @@ same_queue : (s t u v : List (List ℕ)) (n : ℕ) → s ≡ t → u ≡ v → q
 same_queue s t u v n e f = ap (λ x. queue_from x u n) e ∙ ap (λ x. queue_from t x n) f
 
 -- what stands before the mark, one further on
-take_next : (xs : List (ArrayVec ℕ)) (m : ℕ) → octets_of (take (m + 1) xs) ≡ octets_of (take m xs) ++ take 1 (octets_of (drop m xs))
+take_next : (xs : List (ArrayVec ℕ)) (m : ℕ) → octets_of (take (m + 1) xs) ≡ octets_of (take m xs)
+    ++ take 1 (octets_of (drop m xs))
 take_next xs m =
     let split : take (m + 1) xs ≡ take m xs ++ take 1 (drop m xs) =
-    sym (take-append-drop m (take (m + 1) xs)) ∙ ap (λ l. l ++ drop m (take (m + 1) xs)) (take-take m (m + 1) xs (omega arith)) ∙ ap (λ l. take m xs ++ l) (drop-take m 1 xs) in
-    ap octets_of split ∙ map-append (λ p. p.items) (take m xs) (take 1 (drop m xs)) ∙ ap (λ l. octets_of (take m xs) ++ l) (sym (take-map (λ p. p.items) 1 (drop m xs)))
+    sym (take-append-drop m (take (m + 1) xs)) ∙ ap (λ l. l ++ drop m (take (m + 1) xs))
+    (take-take m (m + 1) xs (omega arith)) ∙ ap (λ l. take m xs ++ l) (drop-take m 1 xs) in
+    ap octets_of split ∙ map-append (λ p. p.items) (take m xs) (take 1 (drop m xs))
+    ∙ ap (λ l. octets_of (take m xs) ++ l) (sym (take-map (λ p. p.items) 1 (drop m xs)))
 
-pub queue_of-marked : (xs : List (ArrayVec ℕ)) (m places : ℕ) → queue_of xs (m + 1) places ≡ marked_sent (queue_of xs m places)
+pub queue_of-marked : (xs : List (ArrayVec ℕ)) (m places : ℕ)
+    → queue_of xs (m + 1) places ≡ marked_sent (queue_of xs m places)
 queue_of-marked xs m places = same_queue _ _ _ _ places (take_next xs m)
     (ap octets_of (sym (drop-drop 1 m xs)) ∙ sym (drop-map (λ p. p.items) 1 (drop m xs)))
 
@@ -27,24 +31,34 @@ pub queue_of-rewound : (xs : List (ArrayVec ℕ)) (m places : ℕ) → queue_of 
 queue_of-rewound xs m places = same_queue _ _ _ _ places refl
     (ap octets_of (sym (take-append-drop m xs)) ∙ map-append (λ p. p.items) (take m xs) (drop m xs))
 
-pub queue_of-acknowledged : (xs : List (ArrayVec ℕ)) (m places n : ℕ) → n ≤ m → queue_of (drop n xs) (m - n) places ≡ acknowledged n (queue_of xs m places)
+pub queue_of-acknowledged : (xs : List (ArrayVec ℕ)) (m places n : ℕ) → n ≤ m
+    → queue_of (drop n xs) (m - n) places ≡ acknowledged n (queue_of xs m places)
 queue_of-acknowledged xs m places n le =
     let there : n + (m - n) ≡ m = omega arith in
     same_queue _ _ _ _ places
-    (ap octets_of (sym (drop-take n (m - n) xs) ∙ ap (λ k. drop n (take k xs)) there) ∙ sym (drop-map (λ p. p.items) n (take m xs)))
+    (ap octets_of (sym (drop-take n (m - n) xs) ∙ ap (λ k. drop n (take k xs)) there)
+    ∙ sym (drop-map (λ p. p.items) n (take m xs)))
     (ap octets_of (drop-drop (m - n) n xs ∙ ap (λ k. drop k xs) there))
 
-pub queue_of-pushed : (xs more : List (ArrayVec ℕ)) (m places : ℕ) → m ≤ length xs → queue_of (xs ++ more) m places ≡ pushed (octets_of more) (queue_of xs m places)
+pub queue_of-pushed : (xs more : List (ArrayVec ℕ)) (m places : ℕ) → m ≤ length xs
+    → queue_of (xs ++ more) m places ≡ pushed (octets_of more) (queue_of xs m places)
 queue_of-pushed xs more m places le = same_queue _ _ _ _ places
     (ap octets_of (take-append-le m xs more le))
     (ap octets_of (drop-append-le m xs more le) ∙ map-append (λ p. p.items) (drop m xs) more)
 
-pub within_mark : (xs : List (ArrayVec ℕ)) (m places n : ℕ) (q : Queue) → queue_of xs m places ≡ q → n ≤ length q.sent → n ≤ m
+pub within_mark : (xs : List (ArrayVec ℕ)) (m places n : ℕ) (q : Queue) → queue_of xs m places ≡ q → n ≤ length q.sent
+    → n ≤ m
 within_mark xs m places n q e h =
-    omega (arith, ap (λ (p : Queue). length p.sent) e, length-map (take m xs) (λ (p : ArrayVec ℕ). p.items), length-take m xs)
+    omega (
+      arith,
+      ap (λ (p : Queue). length p.sent) e,
+      length-map (take m xs) (λ (p : ArrayVec ℕ). p.items),
+      length-take m xs,
+    )
 
 -- what stands at the mark
-pub unsent_some : (xs : List (ArrayVec ℕ)) (m : ℕ) (p : ArrayVec ℕ) → slice_get xs m ≡ Some p → octets_of (drop m xs) ≡ p.items ∷ drop 1 (octets_of (drop m xs))
+pub unsent_some : (xs : List (ArrayVec ℕ)) (m : ℕ) (p : ArrayVec ℕ) → slice_get xs m ≡ Some p
+    → octets_of (drop m xs) ≡ p.items ∷ drop 1 (octets_of (drop m xs))
 unsent_some [] m p h = cc
 unsent_some (x ∷ xs) zero p h = let same : x ≡ p = cc in ap (λ (y : ArrayVec ℕ). y.items ∷ octets_of xs) same
 unsent_some (x ∷ xs) (suc m) p h = unsent_some xs m p h
@@ -70,7 +84,9 @@ asdus-drop zero xs h = h
 asdus-drop (suc n) [] h = h
 asdus-drop (suc n) (x ∷ xs) h = asdus-drop n xs h.1
 
-pub asdus-get : (xs : List (ArrayVec ℕ)) (m : ℕ) (p : ArrayVec ℕ) → AreAsdus xs → slice_get xs m ≡ Some p → (9 ≤ length p.items) × (length p.items ≤ 249)
+pub asdus-get : (xs : List (ArrayVec ℕ)) (m : ℕ) (p : ArrayVec ℕ) → AreAsdus xs → slice_get xs m ≡ Some p
+    → (9 ≤ length p.items) × (length p.items ≤ 249)
 asdus-get [] m p h e = cc
-asdus-get (x ∷ xs) zero p h e = (let same : x ≡ p = cc in subst (λ (y : ArrayVec ℕ). (9 ≤ length y.items) × (length y.items ≤ 249)) same h.0)
+asdus-get (x ∷ xs) zero p h e = (let same : x ≡ p = cc in
+    subst (λ (y : ArrayVec ℕ). (9 ≤ length y.items) × (length y.items ≤ 249)) same h.0)
 asdus-get (x ∷ xs) (suc m) p h e = asdus-get xs m p h.1 e

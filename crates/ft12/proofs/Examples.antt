@@ -6,8 +6,26 @@ use Rattle.ft12.specs.Examples.{IsSpelledSo, IsRefusedSo, spelling_examples, ref
 
 pub spellings_hold : AllByRecursion IsSpelledSo spelling_examples
 unfolding front_of
-spellings_hold = ((refl, refl), ((refl, refl), ((refl, refl), ((refl, refl), ((refl, refl), ((refl, refl), ((refl, refl), ((refl, refl), tt))))))))
+spellings_hold = (
+  (refl, refl),
+  ((refl, refl), ((refl, refl), ((refl, refl), ((refl, refl), ((refl, refl), ((refl, refl), ((refl, refl), tt))))))),
+)
 
 pub refusals_hold : AllByRecursion IsRefusedSo refusal_examples
 unfolding front_of
-refusals_hold = ((refl, refl), ((refl, refl), ((refl, refl), ((refl, refl), ((refl, refl), ((refl, refl), ((refl, refl), ((refl, refl), ((refl, refl), ((refl, refl), ((refl, refl), tt)))))))))))
+refusals_hold = (
+  (refl, refl),
+  (
+    (refl, refl),
+    (
+      (refl, refl),
+      (
+        (refl, refl),
+        (
+          (refl, refl),
+          ((refl, refl), ((refl, refl), ((refl, refl), ((refl, refl), ((refl, refl), ((refl, refl), tt)))))),
+        ),
+      ),
+    ),
+  ),
+)

@@ -57,19 +57,25 @@ pub checked_spoilt : (place : ℕ) (u v rest more : List ℕ) → All IsOctet u 
     spoilt place (checked u) ++ rest ≡ checked v ++ more → ⊥
 checked_spoilt place u v rest more fits len lt e = elim (cases_lt place (length u)) [
   | inl in_user ↦
-      let at : spoilt place (checked u) ≡ spoilt place u ++ sum u % 256 ∷ 0x16 ∷ [] = spoilt_front place u (sum u % 256 ∷ 0x16 ∷ []) in_user in
+      let at : spoilt place (checked u) ≡ spoilt place u ++ sum u % 256 ∷ 0x16 ∷ [] =
+      spoilt_front place u (sum u % 256 ∷ 0x16 ∷ []) in_user in
       let whole : spoilt place u ++ (sum u % 256 ∷ 0x16 ∷ rest) ≡ v ++ (sum v % 256 ∷ 0x16 ∷ more) =
-      sym (append_assoc (spoilt place u) (sum u % 256 ∷ 0x16 ∷ []) rest) ∙ ap (λ (l : List ℕ). l ++ rest) (sym at) ∙ e ∙ append_assoc v (sum v % 256 ∷ 0x16 ∷ []) more in
-      let parts = append_parts (spoilt place u) v (sum u % 256 ∷ 0x16 ∷ rest) (sum v % 256 ∷ 0x16 ∷ more) (omega (arith, length-spoilt place u, len)) whole in
+      sym (append_assoc (spoilt place u) (sum u % 256 ∷ 0x16 ∷ []) rest) ∙ ap (λ (l : List ℕ). l ++ rest) (sym at) ∙ e
+      ∙ append_assoc v (sum v % 256 ∷ 0x16 ∷ []) more in
+      let parts = append_parts (spoilt place u) v (sum u % 256 ∷ 0x16 ∷ rest) (sum v % 256 ∷ 0x16 ∷ more)
+      (omega (arith, length-spoilt place u, len)) whole in
       let sums : sum u % 256 ≡ sum v % 256 = heads (sum u % 256) (sum v % 256) _ _ parts.1 in
       let spoilt_sum : sum (spoilt place u) ≡ sum v = ap sum parts.0 in
-      off_is_other (sum (spoilt place u)) (sum u) (sum-spoilt place u fits in_user) (ap (λ (n : ℕ). n % 256) spoilt_sum ∙ sym sums)
+      off_is_other (sum (spoilt place u)) (sum u) (sum-spoilt place u fits in_user) (ap (λ (n : ℕ). n % 256) spoilt_sum
+      ∙ sym sums)
   | inr after ↦
       let split : place ≡ length u + (place - length u) = omega (arith, after) in
       let at : spoilt place (checked u) ≡ u ++ spoilt (place - length u) (sum u % 256 ∷ 0x16 ∷ []) =
       ap (λ (p : ℕ). spoilt p (checked u)) split ∙ spoilt_back (place - length u) u (sum u % 256 ∷ 0x16 ∷ []) in
-      let whole : u ++ (spoilt (place - length u) (sum u % 256 ∷ 0x16 ∷ []) ++ rest) ≡ v ++ (sum v % 256 ∷ 0x16 ∷ more) =
-      sym (append_assoc u (spoilt (place - length u) (sum u % 256 ∷ 0x16 ∷ [])) rest) ∙ ap (λ (l : List ℕ). l ++ rest) (sym at) ∙ e ∙ append_assoc v (sum v % 256 ∷ 0x16 ∷ []) more in
+      let whole : u ++ (spoilt (place - length u) (sum u % 256 ∷ 0x16 ∷ []) ++ rest) ≡ v
+      ++ (sum v % 256 ∷ 0x16 ∷ more) =
+      sym (append_assoc u (spoilt (place - length u) (sum u % 256 ∷ 0x16 ∷ [])) rest)
+      ∙ ap (λ (l : List ℕ). l ++ rest) (sym at) ∙ e ∙ append_assoc v (sum v % 256 ∷ 0x16 ∷ []) more in
       let parts = append_parts u v _ _ len whole in
       last (place - length u) (sum u) (sum v) (ap sum parts.0) (omega (arith, lt, after)) parts.1
 ]
@@ -91,7 +97,8 @@ checked_spoilt place u v rest more fits len lt e = elim (cases_lt place (length 
 same_length : (size : LinkSize) (c a d b : ℕ) → length (user size c a []) ≡ length (user size d b [])
 same_length size c a d b = omega (arith, length-user size c a [], length-user size d b [])
 
-fixed_spoilt : (size : LinkSize) (c a place : ℕ) (g : Frame) (rest more : List ℕ) → FitsAddress size c a → place < length (spelling size (Fixed c a)) →
+fixed_spoilt : (size : LinkSize) (c a place : ℕ) (g : Frame) (rest more : List ℕ) → FitsAddress size c a
+    → place < length (spelling size (Fixed c a)) →
     spoilt place (spelling size (Fixed c a)) ++ rest ≡ spelling size g ++ more → ⊥
 fixed_spoilt size c a zero Single rest more fits lt e = omega (arith, heads 0xEF 0xE5 _ _ e)
 fixed_spoilt size c a zero (Fixed d b) rest more fits lt e = omega (arith, heads 0xEF 0x10 _ _ e)
@@ -99,7 +106,8 @@ fixed_spoilt size c a zero (Data d b body) rest more fits lt e = omega (arith, h
 fixed_spoilt size c a (suc place) Single rest more fits lt e = omega (arith, heads 0x10 0xE5 _ _ e)
 fixed_spoilt size c a (suc place) (Data d b body) rest more fits lt e = omega (arith, heads 0x10 0x68 _ _ e)
 fixed_spoilt size c a (suc place) (Fixed d b) rest more fits lt e =
-    checked_spoilt place (user size c a []) (user size d b []) rest more (user_fits size c a [] fits (All-nil IsOctet)) (same_length size c a d b)
+    checked_spoilt place (user size c a []) (user size d b []) rest more (user_fits size c a [] fits (All-nil IsOctet))
+    (same_length size c a d b)
     (omega (arith, lt, length-checked (user size c a []))) (tails 0x10 0x10 _ _ e)
 
 odd_length : (m n : ℕ) → m < 256 → 255 - m ≡ n → m ≡ n → ⊥
@@ -128,16 +136,19 @@ data_spoilt (suc (suc (suc (suc place)))) u v rest more fits small lt e =
     let b = tails 0x68 0x68 _ _ (tails (length u) (length v) _ _ (tails (length u) (length v) _ _ a)) in
     checked_spoilt place u v rest more fits lengths (omega (arith, lt)) b
 
-data_other : (size : LinkSize) (place : ℕ) (u : List ℕ) (g : Frame) (rest more : List ℕ) → All IsOctet u → length u < 256 → place < length u + 6 →
+data_other : (size : LinkSize) (place : ℕ) (u : List ℕ) (g : Frame) (rest more : List ℕ) → All IsOctet u
+    → length u < 256 → place < length u + 6 →
     spoilt place (header (length u) ++ checked u) ++ rest ≡ spelling size g ++ more → ⊥
 data_other size zero u Single rest more fits small lt e = omega (arith, heads 0x97 0xE5 _ _ e)
 data_other size zero u (Fixed d b) rest more fits small lt e = omega (arith, heads 0x97 0x10 _ _ e)
 data_other size (suc place) u Single rest more fits small lt e = omega (arith, heads 0x68 0xE5 _ _ e)
 data_other size (suc place) u (Fixed d b) rest more fits small lt e = omega (arith, heads 0x68 0x10 _ _ e)
-data_other size place u (Data d b body) rest more fits small lt e = data_spoilt place u (user size d b body.items) rest more fits small lt e
+data_other size place u (Data d b body) rest more fits small lt e =
+    data_spoilt place u (user size d b body.items) rest more fits small lt e
 
 -- no spelling stands at the front of a spoilt one, nor the other way round
-pub no_line : (size : LinkSize) (f g : Frame) (place : ℕ) (rest more : List ℕ) → Fits size f → place < length (spelling size f) →
+pub no_line : (size : LinkSize) (f g : Frame) (place : ℕ) (rest more : List ℕ) → Fits size f
+    → place < length (spelling size f) →
     spoilt place (spelling size f) ++ rest ≡ spelling size g ++ more → ⊥
 no_line size Single Single zero rest more fits lt e = omega (arith, heads 0x1A 0xE5 _ _ e)
 no_line size Single (Fixed d b) zero rest more fits lt e = omega (arith, heads 0x1A 0x10 _ _ e)

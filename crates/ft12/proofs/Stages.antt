@@ -25,30 +25,36 @@ use Rattle.ft12.proofs.Returns.{header_1, header_2, header_3, fixed_more, fixed_
 
 -- ---- octets, sum and end after what stands before the control octet
 
-any_more : (size : LinkSize) (kind : Kind) (len : ℕ) (y : List ℕ) → IsLen size kind len → All IsOctet y → IsTail len y Incomplete → IsProperBeginning size (head kind len ++ y)
+any_more : (size : LinkSize) (kind : Kind) (len : ℕ) (y : List ℕ) → IsLen size kind len → All IsOctet y
+    → IsTail len y Incomplete → IsProperBeginning size (head kind len ++ y)
 any_more size Fixed len y l fits t = fixed_more size len y l fits t
 any_more size Variable len y l fits t = variable_more size len y l.1 l.0 fits t
 
-any_sum : (size : LinkSize) (kind : Kind) (len : ℕ) (y : List ℕ) → IsLen size kind len → All IsOctet y → IsTail len y WrongSum →
+any_sum : (size : LinkSize) (kind : Kind) (len : ℕ) (y : List ℕ) → IsLen size kind len → All IsOctet y
+    → IsTail len y WrongSum →
     IsFront size (head kind len ++ y) (front.Never (length (head kind len) + len) why.Sum)
 any_sum size Fixed len y l fits t = fixed_sum size len y l fits t
 any_sum size Variable len y l fits t = variable_sum size len y l.1 l.0 fits t
 
-any_end : (size : LinkSize) (kind : Kind) (len : ℕ) (y : List ℕ) → IsLen size kind len → All IsOctet y → IsTail len y WrongEnd →
+any_end : (size : LinkSize) (kind : Kind) (len : ℕ) (y : List ℕ) → IsLen size kind len → All IsOctet y
+    → IsTail len y WrongEnd →
     IsFront size (head kind len ++ y) (front.Never (length (head kind len) + len + 1) why.End)
 any_end size Fixed len y l fits t =
     let place : 2 + len ≡ 1 + len + 1 = omega arith in
     subst (λ (p : ℕ). IsFront size (0x10 ∷ y) (front.Never p why.End)) place (fixed_end size len y l fits t)
 any_end size Variable len y l fits t =
     let place : 5 + len ≡ 4 + len + 1 = omega arith in
-    subst (λ (p : ℕ). IsFront size (header len ++ y) (front.Never p why.End)) place (variable_end size len y l.1 l.0 fits t)
+    subst (λ (p : ℕ). IsFront size (header len ++ y) (front.Never p why.End)) place
+    (variable_end size len y l.1 l.0 fits t)
 
 -- fewer octets than the length, or as many
-pub user_more : (size : LinkSize) (kind : Kind) (len : ℕ) (u : List ℕ) → IsLen size kind len → All IsOctet u → length u ≤ len → IsProperBeginning size (head kind len ++ u)
+pub user_more : (size : LinkSize) (kind : Kind) (len : ℕ) (u : List ℕ) → IsLen size kind len → All IsOctet u
+    → length u ≤ len → IsProperBeginning size (head kind len ++ u)
 user_more size kind len u l fits short = any_more size kind len u l fits (omega arith, λ lt. absurd (omega arith))
 
 -- the octets and one more
-at_sum : (u : List ℕ) (len o : ℕ) → length u ≡ len → (get_or (u ++ o ∷ []) len 0 ≡ o) × (take len (u ++ o ∷ []) ≡ u) × (length (u ++ o ∷ []) ≡ len + 1)
+at_sum : (u : List ℕ) (len o : ℕ) → length u ≡ len → (get_or (u ++ o ∷ []) len 0 ≡ o) × (take len (u ++ o ∷ []) ≡ u)
+    × (length (u ++ o ∷ []) ≡ len + 1)
 at_sum u len o e = (get_or_push u o 0 len e, take_at u (o ∷ []) len e, length_push u o ∙ ap (λ (n : ℕ). n + 1) e)
 
 -- the octets, their sum and one more
@@ -61,7 +67,8 @@ pub record AtEnd (u : List ℕ) (len total o : ℕ) : Type 0 where
 at_end : (u : List ℕ) (len total o : ℕ) → length u ≡ len → AtEnd u len total o
 at_end u len total o e = record {
   sum_at = get_or_at u total (o ∷ []) 0 len e;
-  end_at = ap (λ (l : List ℕ). get_or l (len + 1) 0) (sym (append_assoc u (total ∷ []) (o ∷ []))) ∙ get_or_push (u ++ total ∷ []) o 0 (len + 1) (length_push u total ∙ ap (λ (n : ℕ). n + 1) e);
+  end_at = ap (λ (l : List ℕ). get_or l (len + 1) 0) (sym (append_assoc u (total ∷ []) (o ∷ [])))
+      ∙ get_or_push (u ++ total ∷ []) o 0 (len + 1) (length_push u total ∙ ap (λ (n : ℕ). n + 1) e);
   front = take_at u (total ∷ o ∷ []) len e;
   long = omega (arith, length-append u (total ∷ o ∷ []));
 }
@@ -74,22 +81,28 @@ octets_of size s kept d = user_fits size s.c s.a kept d.fits d.octets
 sum_fits : (size : LinkSize) (s : Summed) (kept : List ℕ) → IsSummed size s kept → s.sum < 256
 sum_fits size s kept d = omega (arith, d.sum_is)
 
-right_more : (size : LinkSize) (s : Summed) (kept : List ℕ) → IsSummed size s kept → IsProperBeginning size (head s.kind s.len ++ (user size s.c s.a kept ++ s.sum ∷ []))
+right_more : (size : LinkSize) (s : Summed) (kept : List ℕ) → IsSummed size s kept
+    → IsProperBeginning size (head s.kind s.len ++ (user size s.c s.a kept ++ s.sum ∷ []))
 right_more size s kept d =
     let u : List ℕ = user size s.c s.a kept in
     let at = at_sum u s.len s.sum d.all in
-    any_more size s.kind s.len (u ++ s.sum ∷ []) d.len_fits (All-push IsOctet u s.sum (octets_of size s kept d) (sum_fits size s kept d))
+    any_more size s.kind s.len (u ++ s.sum ∷ []) d.len_fits
+    (All-push IsOctet u s.sum (octets_of size s kept d) (sum_fits size s kept d))
     (omega (arith, at.2), λ lt. at.0 ∙ d.sum_is ∙ ap (λ (l : List ℕ). sum l % 256) (sym at.1))
 
-pub sum_right : (size : LinkSize) (s : Summed) (kept : List ℕ) → IsSummed size s kept → IsProperBeginning size (summed_octets size s kept ++ s.sum ∷ [])
-sum_right size s kept d = subst (IsProperBeginning size) (sym (append_assoc (head s.kind s.len) (user size s.c s.a kept) (s.sum ∷ []))) (right_more size s kept d)
+pub sum_right : (size : LinkSize) (s : Summed) (kept : List ℕ) → IsSummed size s kept
+    → IsProperBeginning size (summed_octets size s kept ++ s.sum ∷ [])
+sum_right size s kept d = subst (IsProperBeginning size)
+    (sym (append_assoc (head s.kind s.len) (user size s.c s.a kept) (s.sum ∷ []))) (right_more size s kept d)
 
-pub sum_wrong : (size : LinkSize) (s : Summed) (kept : List ℕ) (o : ℕ) → IsSummed size s kept → o < 256 → (o ≡ s.sum → ⊥) →
+pub sum_wrong : (size : LinkSize) (s : Summed) (kept : List ℕ) (o : ℕ) → IsSummed size s kept → o < 256
+    → (o ≡ s.sum → ⊥) →
     IsFront size (summed_octets size s kept ++ o ∷ []) (front.Never (length (head s.kind s.len) + s.len) why.Sum)
 sum_wrong size s kept o d octet apart =
     let u : List ℕ = user size s.c s.a kept in
     let at = at_sum u s.len o d.all in
-    subst (λ (l : List ℕ). IsFront size l (front.Never (length (head s.kind s.len) + s.len) why.Sum)) (sym (append_assoc (head s.kind s.len) u (o ∷ [])))
+    subst (λ (l : List ℕ). IsFront size l (front.Never (length (head s.kind s.len) + s.len) why.Sum))
+    (sym (append_assoc (head s.kind s.len) u (o ∷ [])))
     (any_sum size s.kind s.len (u ++ o ∷ []) d.len_fits (All-push IsOctet u o (octets_of size s kept d) octet)
     (omega (arith, at.2), λ e. apart (sym at.0 ∙ e ∙ ap (λ (l : List ℕ). sum l % 256) at.1 ∙ sym d.sum_is)))
 
@@ -97,51 +110,76 @@ joined : (h u : List ℕ) (s o : ℕ) → ((h ++ u) ++ s ∷ []) ++ o ∷ [] ≡
 joined h u s o = append_assoc (h ++ u) (s ∷ []) (o ∷ []) ∙ append_assoc h u (s ∷ o ∷ [])
 
 sum_at_end : (size : LinkSize) (s : Summed) (kept : List ℕ) (o : ℕ) → IsSummed size s kept →
-    get_or (user size s.c s.a kept ++ s.sum ∷ o ∷ []) s.len 0 ≡ sum (take s.len (user size s.c s.a kept ++ s.sum ∷ o ∷ [])) % 256
+    get_or (user size s.c s.a kept ++ s.sum ∷ o ∷ []) s.len 0
+    ≡ sum (take s.len (user size s.c s.a kept ++ s.sum ∷ o ∷ [])) % 256
 sum_at_end size s kept o d =
     let at = at_end (user size s.c s.a kept) s.len s.sum o d.all in
     at.sum_at ∙ d.sum_is ∙ ap (λ (l : List ℕ). sum l % 256) (sym at.front)
 
-pub end_wrong : (size : LinkSize) (s : Summed) (kept : List ℕ) (o : ℕ) → IsSummed size s kept → o < 256 → (o ≡ 0x16 → ⊥) →
-    IsFront size ((summed_octets size s kept ++ s.sum ∷ []) ++ o ∷ []) (front.Never (length (head s.kind s.len) + s.len + 1) why.End)
+pub end_wrong : (size : LinkSize) (s : Summed) (kept : List ℕ) (o : ℕ) → IsSummed size s kept → o < 256
+    → (o ≡ 0x16 → ⊥) →
+    IsFront size ((summed_octets size s kept ++ s.sum ∷ []) ++ o ∷ [])
+    (front.Never (length (head s.kind s.len) + s.len + 1) why.End)
 end_wrong size s kept o d octet apart =
     let u : List ℕ = user size s.c s.a kept in
     let at = at_end u s.len s.sum o d.all in
     let fits : All IsOctet (u ++ s.sum ∷ o ∷ []) =
-    All-append IsOctet u (s.sum ∷ o ∷ []) (octets_of size s kept d) (All-cons IsOctet s.sum (o ∷ []) (sum_fits size s kept d) (All-cons IsOctet o [] octet (All-nil IsOctet))) in
-    subst (λ (l : List ℕ). IsFront size l (front.Never (length (head s.kind s.len) + s.len + 1) why.End)) (sym (joined (head s.kind s.len) u s.sum o))
-    (any_end size s.kind s.len (u ++ s.sum ∷ o ∷ []) d.len_fits fits (omega (arith, at.long), sum_at_end size s kept o d, λ e. apart (sym at.end_at ∙ e)))
+    All-append IsOctet u (s.sum ∷ o ∷ []) (octets_of size s kept d)
+    (All-cons IsOctet s.sum (o ∷ []) (sum_fits size s kept d) (All-cons IsOctet o [] octet (All-nil IsOctet))) in
+    subst (λ (l : List ℕ). IsFront size l (front.Never (length (head s.kind s.len) + s.len + 1) why.End))
+    (sym (joined (head s.kind s.len) u s.sum o))
+    (any_end size s.kind s.len (u ++ s.sum ∷ o ∷ []) d.len_fits fits (
+      omega (arith, at.long),
+      sum_at_end size s kept o d,
+      λ e. apart (sym at.end_at ∙ e),
+    ))
 
 -- ---- what is kept is the beginning of a frame
 
-fields_fit : (size : LinkSize) (f : Fields) (kept : List ℕ) → IsFields size f kept → All IsOctet (fields_octets size f kept)
+fields_fit : (size : LinkSize) (f : Fields) (kept : List ℕ) → IsFields size f kept
+    → All IsOctet (fields_octets size f kept)
 fields_fit size fields.Nothing kept h = All-nil IsOctet
 fields_fit size (fields.Control c) kept h = All-cons IsOctet c [] h.0 (All-nil IsOctet)
-fields_fit size (fields.LowAddress c low) kept h = All-cons IsOctet c (low ∷ []) h.1 (All-cons IsOctet low [] h.2 (All-nil IsOctet))
+fields_fit size (fields.LowAddress c low) kept h = All-cons IsOctet c (low ∷ []) h.1
+    (All-cons IsOctet low [] h.2 (All-nil IsOctet))
 fields_fit size (fields.Address c a) kept h = user_fits size c a kept h.0 h.1
 
-pub stage_more : (size : LinkSize) (s : Stage) (kept : List ℕ) → IsStage size s kept → IsProperBeginning size (so_far size s kept)
+pub stage_more : (size : LinkSize) (s : Stage) (kept : List ℕ) → IsStage size s kept
+    → IsProperBeginning size (so_far size s kept)
 stage_more size stage.Start kept h = proper_nil size
 stage_more size stage.Length kept h = header_1 size
 stage_more size (stage.LengthAgain len) kept h = header_2 size len h.0.1 h.0.0
 stage_more size (stage.SecondStart len) kept h = header_3 size len h.0.1 h.0.0
-stage_more size (stage.User s) kept h = user_more size s.kind s.len (fields_octets size s.fields kept) h.len_fits (fields_fit size s.fields kept h.fields_fit) (omega (arith, h.short))
-stage_more size (stage.Sum s) kept h = user_more size s.kind s.len (user size s.c s.a kept) h.len_fits (octets_of size s kept h) (omega (arith, h.all))
+stage_more size (stage.User s) kept h = user_more size s.kind s.len (fields_octets size s.fields kept) h.len_fits
+    (fields_fit size s.fields kept h.fields_fit) (omega (arith, h.short))
+stage_more size (stage.Sum s) kept h = user_more size s.kind s.len (user size s.c s.a kept) h.len_fits
+    (octets_of size s kept h) (omega (arith, h.all))
 stage_more size (stage.End s) kept h = sum_right size s kept h
 
 -- octets that come to begin no frame do so at the last of them
-pub refused_here : (size : LinkSize) (x : List ℕ) (o place : ℕ) (w : Why) → IsProperBeginning size x → IsFront size (x ++ o ∷ []) (front.Never place w) → place ≡ length x
+pub refused_here : (size : LinkSize) (x : List ℕ) (o place : ℕ) (w : Why) → IsProperBeginning size x
+    → IsFront size (x ++ o ∷ []) (front.Never place w) → place ≡ length x
 refused_here size x o place w p r = elim (cases_lt place (length x)) [
   | inl lt ↦
-      let whole : IsBeginning size (take (place + 1) x ++ drop (place + 1) x) = subst (IsBeginning size) (sym (take-append-drop (place + 1) x)) (beginning_from_proper size x p) in
-      absurd (r.0.here (subst (IsBeginning size) (sym (take-append-le (place + 1) x (o ∷ []) (omega arith))) (beginning_front size (take (place + 1) x) (drop (place + 1) x) whole)))
+      let whole : IsBeginning size (take (place + 1) x ++ drop (place + 1) x) =
+      subst (IsBeginning size) (sym (take-append-drop (place + 1) x)) (beginning_from_proper size x p) in
+      absurd (r.0.here (subst (IsBeginning size) (sym (take-append-le (place + 1) x (o ∷ []) (omega arith)))
+      (beginning_front size (take (place + 1) x) (drop (place + 1) x) whole)))
   | inr le ↦ omega (arith, r.0.within, length_push x o)
 ]
 
 -- how many octets were looked at when one begins no frame
-pub counted_refusal : (size : LinkSize) (before piece x : List ℕ) (i o place : ℕ) (w : Why) (initial looked new : ℕ) → x ≡ before ++ take i piece → i < length piece →
-    IsProperBeginning size x → IsFront size (x ++ o ∷ []) (front.Never place w) → looked ≡ min (initial + i) (2 ^ 64 - 1) → new ≡ min (looked + 1) (2 ^ 64 - 1) →
+pub counted_refusal : (size : LinkSize) (before piece x : List ℕ) (i o place : ℕ) (w : Why) (initial looked new : ℕ)
+    → x ≡ before ++ take i piece → i < length piece →
+    IsProperBeginning size x → IsFront size (x ++ o ∷ []) (front.Never place w)
+    → looked ≡ min (initial + i) (2 ^ 64 - 1) → new ≡ min (looked + 1) (2 ^ 64 - 1) →
     new ≡ min (initial + (place + 1 - length before)) (2 ^ 64 - 1)
 counted_refusal size before piece x i o place w initial looked new joined lt p r so_far counted =
-    let place_is : place ≡ length before + i = refused_here size x o place w p r ∙ omega (arith, ap length joined, length-append before (take i piece), length-take-le i piece (omega arith)) in
+    let place_is : place ≡ length before + i = refused_here size x o place w p r
+    ∙ omega (
+      arith,
+      ap length joined,
+      length-append before (take i piece),
+      length-take-le i piece (omega arith),
+    ) in
     omega (arith, place_is, so_far, counted)

@@ -18,7 +18,7 @@ use Rattle.gateway.specs.Phases.{resting}
 use Rattle.gateway.specs.State.{State}
 use Rattle.gateway.specs.Agrees.{Agrees, Carries, Follows}
 use Rattle.gateway.specs.Accounts.{IsAccounted}
-use Rattle.gateway.proofs.Agreement.{stands_now}
+use Rattle.gateway.proofs.Closing.{stands_now}
 use Rattle.gateway.proofs.Objects.{carries_end}
 
 accounted_at : (p : Setup) (s : State) (log : Log) (a : Agrees p s log [] (resting log)) → IsAccounted p s log
@@ -26,16 +26,22 @@ accounted_at p s log a = record {
   course = a.course;
   course_runs = a.talk.course_runs;
   are = record { open_one = stands_now p s log (resting log) a; earlier = a.before.are };
-  left = sym (ap (λ n. drop n (taken_objects p log)) (sym all.front) ∙ ap (drop (length all.gone)) all.joined ∙ drop-append_seam all.gone (flat_map objects (kept s.centre.queue)));
+  left = sym (ap (λ n. drop n (taken_objects p log)) (sym all.front) ∙ ap (drop (length all.gone)) all.joined
+      ∙ drop-append_seam all.gone (flat_map objects (kept s.centre.queue)));
   counts = counted log a;
   spoilt = a.line.spoilt;
 }
   where
-    all : Carries (taken_objects p log) (parts_of_all p.sizes (reports_in p log)) (here_of a.course ∷ a.course.earlier) [] (kept s.centre.queue)
-    all = carries_end (taken_objects p log) (parts_of_all p.sizes (reports_in p log)) a.course.earlier (here_of a.course) s.centre.session s.centre.queue.sent s.centre.queue.unsent a.here.tied a.carries
+    all : Carries (taken_objects p log) (parts_of_all p.sizes (reports_in p log)) (here_of a.course ∷ a.course.earlier)
+        [] (kept s.centre.queue)
+    all = carries_end (taken_objects p log) (parts_of_all p.sizes (reports_in p log)) a.course.earlier
+        (here_of a.course) s.centre.session s.centre.queue.sent s.centre.queue.unsent a.here.tied a.carries
 
-    counted : (log : Log) (a : Agrees p s log [] (resting log)) → s.serial.counts ≡ (done_in p log a.course).serial.counts
-    counted [] a = ap (λ (z : Serial). z.counts) a.stands.does ∙ sym (ap (λ b. (if b then unasked_works (latest []) (room_in p [] a.course) (ready_works (latest []) a.course.works) else a.course.works).serial.counts) a.stands.asks.0)
+    counted : (log : Log) (a : Agrees p s log [] (resting log))
+        → s.serial.counts ≡ (done_in p log a.course).serial.counts
+    counted [] a = ap (λ (z : Serial). z.counts) a.stands.does
+        ∙ sym (ap (λ b. (if b then unasked_works (latest []) (room_in p [] a.course)
+        (ready_works (latest []) a.course.works) else a.course.works).serial.counts) a.stands.asks.0)
     counted (entry ∷ log) a = ap (λ (z : Serial). z.counts) a.stands.does
 
 untold : (old : Option Log) → tell old [] ≡ old
@@ -47,7 +53,10 @@ accounted p s None h = tt
 accounted p s (Some log) h = accounted_at p s log h.0
 
 -- at the end of a run, where no more has come
-pub ends_accounted : (e : End) (p : Setup) (s : State) (old new : Option Log) (news : Log) → Follows p s old → new ≡ tell old news → news ≡ [] → UnlessDevice e (IfSome new (IsAccounted p s))
-ends_accounted Finished p s old new news h told none = accounted p s new (subst (Follows p s) (sym (told ∙ ap (tell old) none ∙ untold old)) h)
-ends_accounted Turns p s old new news h told none = accounted p s new (subst (Follows p s) (sym (told ∙ ap (tell old) none ∙ untold old)) h)
+pub ends_accounted : (e : End) (p : Setup) (s : State) (old new : Option Log) (news : Log) → Follows p s old
+    → new ≡ tell old news → news ≡ [] → UnlessDevice e (IfSome new (IsAccounted p s))
+ends_accounted Finished p s old new news h told none =
+    accounted p s new (subst (Follows p s) (sym (told ∙ ap (tell old) none ∙ untold old)) h)
+ends_accounted Turns p s old new news h told none = accounted p s new
+    (subst (Follows p s) (sym (told ∙ ap (tell old) none ∙ untold old)) h)
 ends_accounted Device p s old new news h told none = tt

@@ -17,9 +17,10 @@ use Rattle.link.specs.Telling.{Tells}
 use Rattle.session.specs.declared.kinds.Close.TheVariants.{OwnAnswers, Replaced}
 use Rattle.command.specs.State.{octets_waiting}
 use Rattle.events.specs.Queue.{free_places}
+use Rattle.session.specs.Session.{is_open}
 use Rattle.session.specs.Ends.{IsConfirmed}
 use Rattle.gateway.proofs.Talking.{kept_talk, talk_on, all_taken}
-use Rattle.gateway.specs.Log.{Log, LogEntry, events_of, Input, Opened, TcpIn, CutOff, Ticked, LineIn, Came, Went, LineOut, Closed, GapOut, latest, tell}
+use Rattle.gateway.specs.Log.{Log, LogEntry, events_of, Input, Opened, TcpIn, CutOff, Ticked, WallIs, LineIn, Came, Went, LineOut, Closed, GapOut, latest, tell}
 use Rattle.gateway.specs.Frames.{AreInOrder}
 use Rattle.gateway.specs.Connections.{Channel, receiving, received_before, present}
 use Rattle.gateway.specs.Reports.{Setup, sending_in, exchanges_of, taken_objects, reports_in, parts_of_all}
@@ -36,15 +37,20 @@ use Rattle.gateway.specs.Phases.{Phase, Fresh, Taking, Idle, Crowded, Timed, Ask
 use Rattle.link.specs.LineLaws.{LineLaws}
 use Rattle.gateway.specs.Traffic.{IsFaithful}
 use Rattle.gateway.specs.Runs.{events_told, MoreEvents}
-use Rattle.gateway.specs.State.{State, with_serial, at_moment, line_timed, settled, disconnected, connected, after_request as after_next}
+use Rattle.gateway.specs.declared.walls.Wall.{Wall}
+use Rattle.gateway.specs.State.{State, with_wall, with_serial, at_moment, line_timed, settled, disconnected, connected, after_request as after_next}
 use Rattle.gateway.specs.Steps.{HearsEvent, Begins, MayClose}
 use Rattle.gateway.specs.Agrees.{Talks, Agrees, OffersWait, ArePlain, Tracks, Awaits, Leaves, Follows, HasCome, Rests, Carries, IsClear, IsUndue, IsSpent, pending}
 use Rattle.gateway.proofs.Working.{gap_in, settled_without_gap, settled_placed, put_placed}
 use Rattle.gateway.proofs.Offering.{offers_stay, offers_made, offers_asked, offers_unasked}
-use Rattle.gateway.proofs.Agreement.{stands_now, stands_overfull, has_places, same_room, now_idle}
+use Rattle.gateway.proofs.Closing.{stands_now, stands_overfull}
+use Rattle.gateway.proofs.Agreement.{has_places, same_room}
+use Rattle.gateway.proofs.Hearing.{now_idle}
 use Rattle.gateway.proofs.Put.{told_faithful}
 use Rattle.gateway.proofs.Stations.{octets_of, taken_grows, parts_grow, after_request}
-use Rattle.gateway.proofs.Come.{Heard, left_of, heard_event, Worked, Counts, come_other, come_course, come_open, come_replaced, come_cut, come_bytes, opened_faithful}
+use Rattle.gateway.proofs.Come.{Heard, heard_event, Worked}
+use Rattle.gateway.proofs.Connecting.{Counts, come_other, come_course, come_open, come_replaced, come_cut, come_bytes, opened_faithful}
+use Rattle.gateway.proofs.Learning.{left_of}
 
 -- The request is asked for, once commands were offered.
 
@@ -57,7 +63,9 @@ pub record IsReady (p : Setup) (s t : State) (told : Option Log) : Type 0 where
 abbrev pub asked_state : State → Option Sending → State
 asked_state s x = with_serial (serial.asked s.moment (has_room s.centre.queue) x (serial.offered s.serial)) s
 
-module _ (laws : LineLaws) (p : Setup) (s : State) (log : Log) (a : Agrees p s log [] Timed) (tells : Tells p.link p.addresses (serial.offered s.serial).line (exchanges_of p log)) (no_gap : s.serial.gap ≡ None) where
+module _ (laws : LineLaws) (p : Setup) (s : State) (log : Log) (a : Agrees p s log [] Timed)
+    (tells : Tells p.link p.addresses (serial.offered s.serial).line (exchanges_of p log)) (no_gap : s.serial.gap
+    ≡ None) where
   abbrev at : ℕ
   at = latest log
 
@@ -87,43 +95,55 @@ module _ (laws : LineLaws) (p : Setup) (s : State) (log : Log) (a : Agrees p s l
   room : room_in p log a.course ≡ has_room s.centre.queue
   room = same_room p s log [] Timed a
 
-  same_next : (x : Option Sending) → sending q (has_room s.centre.queue) ≡ x → sending ready.serial.line (room_in p log a.course) ≡ x
-  same_next x h = ap (sending ready.serial.line) room ∙ ap (λ (z : Serial). sending z.line (has_room s.centre.queue)) (sym same_ready) ∙ h
+  same_next : (x : Option Sending) → sending q (has_room s.centre.queue) ≡ x
+      → sending ready.serial.line (room_in p log a.course) ≡ x
+  same_next x h = ap (sending ready.serial.line) room ∙ ap (λ (z : Serial). sending z.line (has_room s.centre.queue))
+      (sym same_ready) ∙ h
 
   same_asked : (x : Option Sending) → (asked_state s x).serial ≡ serial.asked at (room_in p log a.course) x ready.serial
   same_asked x = ap (λ m. serial.asked m (has_room s.centre.queue) x (serial.offered s.serial)) a.clock
       ∙ ap (λ b. serial.asked at b x (serial.offered s.serial)) (sym room)
       ∙ ap (serial.asked at (room_in p log a.course) x) same_ready
 
-  command_waits : (x : Sending) → sending q (has_room s.centre.queue) ≡ Some x → (fcb : Bool) (asdu : List ℕ) → x.request ≡ Counted fcb (Command asdu) → is_first_command ready.serial.line x ≡ true → octets_waiting x.station ready.serial.commands ≡ Some asdu
+  command_waits : (x : Sending) → sending q (has_room s.centre.queue) ≡ Some x → (fcb : Bool) (asdu : List ℕ)
+      → x.request ≡ Counted fcb (Command asdu) → is_first_command ready.serial.line x ≡ true
+      → octets_waiting x.station ready.serial.commands ≡ Some asdu
   command_waits x next fcb asdu request first =
       let new : is_first_command q x ≡ true = ap (λ (z : Serial). is_first_command z.line x) same_ready ∙ first in
-      let fresh : is_held (station_at q.stations x.station).link ≡ false = not-true _ (and_parts (is_command x.request) _ new).1 in
-      ap (λ (z : Serial). octets_waiting x.station z.commands) (sym same_ready) ∙ offers x.station asdu (laws.begun q (has_room s.centre.queue) x fcb asdu next request fresh)
+      let fresh : is_held (station_at q.stations x.station).link ≡ false =
+      not-true _ (and_parts (is_command x.request) _ new).1 in
+      ap (λ (z : Serial). octets_waiting x.station z.commands) (sym same_ready)
+      ∙ offers x.station asdu (laws.begun q (has_room s.centre.queue) x fcb asdu next request fresh)
     where
       not-true : (b : Bool) → not b ≡ true → b ≡ false
       not-true true h = cc
       not-true false h = refl
 
-  is_out : (x : Sending) → sending q (has_room s.centre.queue) ≡ Some x → IsOut (asked q s.moment (has_room s.centre.queue)).outstanding
+  is_out : (x : Sending) → sending q (has_room s.centre.queue) ≡ Some x
+      → IsOut (asked q s.moment (has_room s.centre.queue)).outstanding
   is_out x next = by_outstanding q.outstanding next
     where
       by_choice : (c : Option Chosen) → sending_by c ≡ Some x → IsOut (after_choice q s.moment c).outstanding
       by_choice None h = cc
       by_choice (Some c) h = tt
 
-      by_outstanding : (o : Option Outstanding) → sending_from q o (has_room s.centre.queue) ≡ Some x → IsOut (asked_from q o s.moment (has_room s.centre.queue)).outstanding
+      by_outstanding : (o : Option Outstanding) → sending_from q o (has_room s.centre.queue) ≡ Some x
+          → IsOut (asked_from q o s.moment (has_room s.centre.queue)).outstanding
       by_outstanding None h = by_choice (choice q (has_room s.centre.queue)) h
       by_outstanding (Some o) h = cc
 
-  pub after_asked : (x : Sending) → sending q (has_room s.centre.queue) ≡ Some x → (is_poll_request x.request ≡ true → 3 ≤ free_places s.centre.queue) → Agrees p (asked_state s (Some x)) (Went s.moment (LineOut (octets_of p x)) ∷ log) [] Asked
+  pub after_asked : (x : Sending) → sending q (has_room s.centre.queue) ≡ Some x
+      → (is_poll_request x.request ≡ true → 3 ≤ free_places s.centre.queue)
+      → Agrees p (asked_state s (Some x)) (Went s.moment (LineOut (octets_of p x)) ∷ log) [] Asked
   after_asked x next poll =
       let may : Bool = has_room s.centre.queue in
       let new : Log = Went s.moment (LineOut (octets_of p x)) ∷ log in
       let goes = after_request laws p q log s.moment may x a.found tells next in
       let fits = laws.fit p.link p.addresses q (exchanges_of p log) may x tells next in
-      let same : taken_objects p new ≡ taken_objects p log = taken_grows p log new [] goes.reported ∙ append-nil (taken_objects p log) in
-      let parts : parts_of_all p.sizes (reports_in p new) ≡ parts_of_all p.sizes (reports_in p log) = omega (arith, parts_grow p log new [] goes.reported) in
+      let same : taken_objects p new ≡ taken_objects p log = taken_grows p log new [] goes.reported
+      ∙ append-nil (taken_objects p log) in
+      let parts : parts_of_all p.sizes (reports_in p new) ≡ parts_of_all p.sizes (reports_in p log) =
+      omega (arith, parts_grow p log new [] goes.reported) in
       let d : Course = with_works (asked_works at (room_in p log a.course) x ready) a.course in
       let course_runs : Runs p new d = (
         a.course,
@@ -140,12 +160,14 @@ module _ (laws : LineLaws) (p : Setup) (s : State) (log : Log) (a : Agrees p s l
           is = refl;
         },
       ) in
-      let talk : Talks p s.centre.session new d = talk_on p s.centre.session s.centre.session log new a.course d a.talk refl refl course_runs in
+      let talk : Talks p s.centre.session new d =
+      talk_on p s.centre.session s.centre.session log new a.course d a.talk refl refl course_runs in
       record {
         k = a.k;
         sizes = a.sizes;
         places = a.places;
         clock = a.clock;
+        wall = a.wall;
         settled = refl;
         found = a.found;
         line = goes.tells;
@@ -153,17 +175,28 @@ module _ (laws : LineLaws) (p : Setup) (s : State) (log : Log) (a : Agrees p s l
         talk = talk;
         stands = record {
           does = same_asked (Some x);
-          asks = (λ due. cc, λ none. subst (λ (z : Serial). IsOut z.line.outstanding) (same_asked (Some x)) (is_out x next), gap_in Timed at (room_in p log a.course) w ∙ none_left);
+          asks = (
+            λ due. cc,
+            λ none. subst (λ (z : Serial). IsOut z.line.outstanding) (same_asked (Some x))
+                (is_out x next),
+            gap_in Timed at (room_in p log a.course) w ∙ none_left,
+          );
           phase_is = tt;
-          placed = λ o. put_placed (is_first_command ready.serial.line x) x.station ready ∙ settled_placed at w ∙ a.stands.placed o;
+          placed = λ o. put_placed (is_first_command ready.serial.line x) x.station ready ∙ settled_placed at w
+              ∙ a.stands.placed o;
         };
-        gaps = λ i. a.gaps i ∙ sym (laws.next_gaps p.link.size p.addresses s.moment (sending_in p (octets_of p x)) (exchanges_of p log) i);
-        offers = offers_asked laws a.talk.command_laws q s.serial.commands s.moment may x next (omega (arith, fits.station, tells.count)) offers;
+        gaps = λ i. a.gaps i
+            ∙ sym (laws.next_gaps p.link.size p.addresses s.moment (sending_in p (octets_of p x))
+            (exchanges_of p log) i);
+        offers = offers_asked laws a.talk.command_laws q s.serial.commands s.moment may x next
+            (omega (arith, fits.station, tells.count)) offers;
         plain = subst ArePlain (sym (put_answers (is_first_command q x))) a.plain;
         here = a.here;
         left = refl;
-        carries = subst (λ objs. Carries objs (parts_of_all p.sizes (reports_in p new)) a.course.earlier a.course.sent s.centre.queue.unsent) (sym same)
-            (subst (λ n. Carries (taken_objects p log) n a.course.earlier a.course.sent s.centre.queue.unsent) (sym parts) a.carries);
+        carries = subst (λ objs. Carries objs (parts_of_all p.sizes (reports_in p new)) a.course.earlier a.course.sent
+            s.centre.queue.unsent) (sym same)
+            (subst (λ n. Carries (taken_objects p log) n a.course.earlier a.course.sent s.centre.queue.unsent)
+            (sym parts) a.carries);
         before = record {
           are = a.before.are;
           orders = subst (λ objs. AreInOrder objs a.course.earlier) (sym same) a.before.orders;
@@ -178,7 +211,8 @@ module _ (laws : LineLaws) (p : Setup) (s : State) (log : Log) (a : Agrees p s l
                 request = x.request;
                 spelled = refl;
                 told = all_told;
-                alone = λ z. laws.alone p.link p.addresses q (exchanges_of p log) may x z.exchange tells next z.latest_is z.waits;
+                alone = λ z. laws.alone p.link p.addresses q
+                    (exchanges_of p log) may x z.exchange tells next z.latest_is z.waits;
                 room = λ polls. record {
                   course = a.course;
                   runs = a.talk.course_runs;
@@ -204,13 +238,18 @@ module _ (laws : LineLaws) (p : Setup) (s : State) (log : Log) (a : Agrees p s l
     sizes = a.sizes;
     places = a.places;
     clock = a.clock;
+    wall = a.wall;
     settled = a.settled;
     found = a.found;
-    line = subst (λ o. Tells p.link p.addresses (asked q s.moment (has_room s.centre.queue)) (begun_by s.moment o (exchanges_of p log))) none (laws.next p.link p.addresses q (exchanges_of p log) s.moment (has_room s.centre.queue) tells);
+    line = subst (λ o. Tells p.link p.addresses (asked q s.moment (has_room s.centre.queue))
+        (begun_by s.moment o (exchanges_of p log))) none
+        (laws.next p.link p.addresses q (exchanges_of p log) s.moment (has_room s.centre.queue) tells);
     course = a.course;
     talk = a.talk;
     stands = record {
-      does = subst (λ b. (asked_state s None).serial ≡ (if b then unasked_works at (room_in p log a.course) ready else w).serial) (sym a.stands.asks) (same_asked None);
+      does = subst (λ b. (asked_state s None).serial ≡
+          (if b then unasked_works at (room_in p log a.course) ready else w).serial) (sym a.stands.asks)
+          (same_asked None);
       asks = (λ due. same_next None none, λ off. let no : false ≡ true = sym off ∙ a.stands.asks in cc, none_left);
       phase_is = tt;
       placed = a.stands.placed;
@@ -224,41 +263,65 @@ module _ (laws : LineLaws) (p : Setup) (s : State) (log : Log) (a : Agrees p s l
     before = a.before;
   }
 
-ready_state : (s r : State) (p : Setup) (told : Option Log) → IsReady p s r told → (x : Option Sending) → after_next r x ≡ asked_state s x
+ready_state : (s r : State) (p : Setup) (told : Option Log) → IsReady p s r told → (x : Option Sending)
+    → after_next r x ≡ asked_state s x
 ready_state s r p told ready x = ap (λ (z : State). after_next z x) ready.is
 
--- the same where a port may tell no log: s is the state before commands were offered, r the one after, t the one once asked
+-- the same where a port may tell no log: s is the state before commands were offered, r the one after, t the
+-- one once asked
 
-pub asked_none : (laws : LineLaws) (p : Setup) (told : Option Log) (s r t : State) → s.serial.gap ≡ None → IsReady p s r told → sending r.serial.line (has_room r.centre.queue) ≡ None → t ≡ after_next r None → Tracks p s told [] Timed → Tracks p t told [] Asked
+pub asked_none : (laws : LineLaws) (p : Setup) (told : Option Log) (s r t : State) → s.serial.gap ≡ None
+    → IsReady p s r told → sending r.serial.line (has_room r.centre.queue) ≡ None → t ≡ after_next r None
+    → Tracks p s told [] Timed → Tracks p t told [] Asked
 asked_none laws p None s r t no_gap made none is h = tt
 asked_none laws p (Some log) s r t no_gap made none is a =
     let same : t ≡ asked_state s None = is ∙ ready_state s r p (Some log) made None in
-    let tells = subst (λ (z : State). Tells p.link p.addresses z.serial.line (exchanges_of p log)) made.is (made.tells (exchanges_of p log) a.line) in
-    subst (λ x. Agrees p x log [] Asked) (sym same) (none_asked laws p s log a tells no_gap (ap (λ (x : State). sending x.serial.line (has_room x.centre.queue)) (sym made.is) ∙ none))
+    let tells = subst (λ (z : State). Tells p.link p.addresses z.serial.line (exchanges_of p log)) made.is
+    (made.tells (exchanges_of p log) a.line) in
+    subst (λ x. Agrees p x log [] Asked) (sym same) (none_asked laws p s log a tells no_gap
+    (ap (λ (x : State). sending x.serial.line (has_room x.centre.queue)) (sym made.is) ∙ none))
 
-told_asked : (laws : LineLaws) (p : Setup) (told after : Option Log) (s r t : State) (x : Sending) (octets : List ℕ) (now : ℕ) → s.serial.gap ≡ None → IsReady p s r told → sending r.serial.line (has_room r.centre.queue) ≡ Some x → (is_poll_request x.request ≡ true → 3 ≤ free_places r.centre.queue) → octets ≡ (request_of r.serial.line x).octets.items →
-    now ≡ r.moment → t ≡ after_next r (Some x) → after ≡ tell told (Went now (LineOut octets) ∷ []) → Tracks p s told [] Timed → Tracks p t after [] Asked
+told_asked : (laws : LineLaws) (p : Setup) (told after : Option Log) (s r t : State) (x : Sending) (octets : List ℕ)
+    (now : ℕ) → s.serial.gap ≡ None → IsReady p s r told → sending r.serial.line (has_room r.centre.queue) ≡ Some x
+    → (is_poll_request x.request ≡ true → 3 ≤ free_places r.centre.queue)
+    → octets ≡ (request_of r.serial.line x).octets.items →
+    now ≡ r.moment → t ≡ after_next r (Some x) → after ≡ tell told (Went now (LineOut octets) ∷ [])
+    → Tracks p s told [] Timed → Tracks p t after [] Asked
 told_asked laws p told after s r t x octets now no_gap made next poll spelled same is e h =
     let moment : now ≡ s.moment = same ∙ ap (λ (x : State). x.moment) made.is in
     let state : t ≡ asked_state s (Some x) = is ∙ ready_state s r p told made (Some x) in
     rw (e, moment, state) (by_log told made h)
   where
-    by_log : (told : Option Log) → IsReady p s r told → Tracks p s told [] Timed → Tracks p (asked_state s (Some x)) (tell told (Went s.moment (LineOut octets) ∷ [])) [] Asked
+    by_log : (told : Option Log) → IsReady p s r told → Tracks p s told [] Timed
+        → Tracks p (asked_state s (Some x)) (tell told (Went s.moment (LineOut octets) ∷ [])) [] Asked
     by_log None made h = tt
     by_log (Some log) made a =
-        let tells : Tells p.link p.addresses r.serial.line (exchanges_of p log) = made.tells (exchanges_of p log) a.line in
-        let written : octets ≡ octets_of p x = spelled ∙ laws.spelled p.link p.addresses r.serial.line (exchanges_of p log) x tells in
+        let tells : Tells p.link p.addresses r.serial.line (exchanges_of p log) =
+        made.tells (exchanges_of p log) a.line in
+        let written : octets ≡ octets_of p x = spelled
+        ∙ laws.spelled p.link p.addresses r.serial.line (exchanges_of p log) x tells in
         subst (λ o. Agrees p (asked_state s (Some x)) (Went s.moment (LineOut o) ∷ log) [] Asked) (sym written)
-        (after_asked laws p s log a (subst (λ (z : State). Tells p.link p.addresses z.serial.line (exchanges_of p log)) made.is tells) no_gap x
-        (ap (λ (z : State). sending z.serial.line (has_room z.centre.queue)) (sym made.is) ∙ next) (λ polls. subst (λ (z : State). 3 ≤ free_places z.centre.queue) made.is (poll polls)))
+        (after_asked laws p s log a (subst (λ (z : State). Tells p.link p.addresses z.serial.line (exchanges_of p log))
+        made.is tells) no_gap x
+        (ap (λ (z : State). sending z.serial.line (has_room z.centre.queue)) (sym made.is)
+        ∙ next) (λ polls. subst (λ (z : State). 3 ≤ free_places z.centre.queue) made.is (poll polls)))
 
-pub asked_leaves : (laws : LineLaws) (result : Bool) (p : Setup) (told after : Option Log) (s r t : State) (x : Sending) (octets : List ℕ) (now : ℕ) → s.serial.gap ≡ None → IsReady p s r told → sending r.serial.line (has_room r.centre.queue) ≡ Some x → (is_poll_request x.request ≡ true → 3 ≤ free_places r.centre.queue) → octets ≡ (request_of r.serial.line x).octets.items →
-    now ≡ r.moment → t ≡ after_next r (Some x) → after ≡ (if result then tell told (Went now (LineOut octets) ∷ []) else told) → Tracks p s told [] Timed → Leaves result p t after [] Asked
-asked_leaves laws true p told after s r t x octets now no_gap made next poll spelled same is e h = told_asked laws p told after s r t x octets now no_gap made next poll spelled same is e h
-asked_leaves laws false p told after s r t x octets now no_gap made next poll spelled same is e h = subst (λ l. IfSome l (IsFaithful p)) (sym e) (told_faithful p told s [] Timed h)
+pub asked_leaves : (laws : LineLaws) (result : Bool) (p : Setup) (told after : Option Log) (s r t : State)
+    (x : Sending) (octets : List ℕ) (now : ℕ) → s.serial.gap ≡ None → IsReady p s r told
+    → sending r.serial.line (has_room r.centre.queue) ≡ Some x
+    → (is_poll_request x.request ≡ true → 3 ≤ free_places r.centre.queue)
+    → octets ≡ (request_of r.serial.line x).octets.items →
+    now ≡ r.moment → t ≡ after_next r (Some x) → after
+    ≡ (if result then tell told (Went now (LineOut octets) ∷ []) else told) → Tracks p s told [] Timed
+    → Leaves result p t after [] Asked
+asked_leaves laws true p told after s r t x octets now no_gap made next poll spelled same is e h =
+    told_asked laws p told after s r t x octets now no_gap made next poll spelled same is e h
+asked_leaves laws false p told after s r t x octets now no_gap made next poll spelled same is e h =
+    subst (λ l. IfSome l (IsFaithful p)) (sym e) (told_faithful p told s [] Timed h)
 
 -- what a request says of what is next
-pub next_is : (q : Primary) (o : Option Sending) (r : Request) → Some r ≡ option_map (request_of q) o → (x : Sending) × (o ≡ Some x) × (r ≡ request_of q x)
+pub next_is : (q : Primary) (o : Option Sending) (r : Request) → Some r ≡ option_map (request_of q) o
+    → (x : Sending) × (o ≡ Some x) × (r ≡ request_of q x)
 next_is q None r e = cc
 next_is q (Some x) r e = (x, refl, (let same : r ≡ request_of q x = cc in same))
 
@@ -274,14 +337,22 @@ now_settled p s log a = record {
   sizes = a.sizes;
   places = a.places;
   clock = a.clock;
+  wall = a.wall;
   settled = a.settled;
   found = a.found;
   line = subst (λ q. Tells p.link p.addresses q (exchanges_of p log)) (sym (same_line s.serial.silent)) a.line;
   course = a.course;
   talk = a.talk;
-  stands = record { does = ap (λ m. serial.settled m s.serial) a.clock ∙ ap (serial.settled (latest log)) a.stands.does; asks = a.stands.asks; phase_is = tt; placed = a.stands.placed };
+  stands = record {
+    does = ap (λ m. serial.settled m s.serial) a.clock
+        ∙ ap (serial.settled (latest log)) a.stands.does;
+    asks = a.stands.asks;
+    phase_is = tt;
+    placed = a.stands.placed;
+  };
   gaps = λ i. ap (λ g. gaps_told i log ++ gap_for i g) (same_gap s.serial.silent) ∙ a.gaps i;
-  offers = offers_stay s.serial.line (settled s).serial.line s.serial.commands (settled s).serial.commands (λ k. ap (λ q. offered_at q k) (same_line s.serial.silent)) (same_waiting s.serial.silent) a.offers;
+  offers = offers_stay s.serial.line (settled s).serial.line s.serial.commands (settled s).serial.commands
+      (λ k. ap (λ q. offered_at q k) (same_line s.serial.silent)) (same_waiting s.serial.silent) a.offers;
   plain = subst ArePlain (sym (same_answers s.serial.silent)) a.plain;
   here = a.here;
   left = refl;
@@ -305,17 +376,20 @@ now_settled p s log a = record {
     same_answers None = refl
     same_answers (Some i) = refl
 
-pub told_settled : (p : Setup) (told : Option Log) (s t : State) → t ≡ settled s → Tracks p s told [] Idle → Tracks p t told [] Timed
+pub told_settled : (p : Setup) (told : Option Log) (s t : State) → t ≡ settled s → Tracks p s told [] Idle
+    → Tracks p t told [] Timed
 told_settled p None s t is h = tt
 told_settled p (Some log) s t is a = subst (λ x. Agrees p x log [] Timed) (sym is) (now_settled p s log a)
 
 -- A gap is told
 
-one_more : (b : Bool) (xs : List ℕ) (session : ℕ) → (if b then xs ++ session ∷ [] else xs) ≡ xs ++ (if b then session ∷ [] else [])
+one_more : (b : Bool) (xs : List ℕ) (session : ℕ) → (if b then xs ++ session ∷ [] else xs) ≡ xs
+    ++ (if b then session ∷ [] else [])
 one_more true xs session = refl
 one_more false xs session = sym (append-nil xs)
 
-module _ (p : Setup) (s : State) (log : Log) (a : Agrees p s log [] Timed) (gap : Gap) (some : s.serial.gap ≡ Some gap) where
+module _ (p : Setup) (s : State) (log : Log) (a : Agrees p s log [] Timed) (gap : Gap) (some : s.serial.gap
+    ≡ Some gap) where
   abbrev gap_log : Log
   gap_log = Went s.moment (GapOut gap.station gap.session) ∷ log
 
@@ -329,7 +403,8 @@ module _ (p : Setup) (s : State) (log : Log) (a : Agrees p s log [] Timed) (gap 
     record {
       all = all_taken log a.course a.here.so_far a.here.joined a.here.waits;
       due = a.stands.asks;
-      gap = sym (gap_in Timed (latest log) (room_in p log a.course) a.course.works) ∙ ap (λ (z : Serial). z.gap) (sym a.stands.does) ∙ some;
+      gap = sym (gap_in Timed (latest log) (room_in p log a.course) a.course.works)
+          ∙ ap (λ (z : Serial). z.gap) (sym a.stands.does) ∙ some;
       is = refl;
     },
   )
@@ -338,7 +413,8 @@ module _ (p : Setup) (s : State) (log : Log) (a : Agrees p s log [] Timed) (gap 
   gap_talk = talk_on p s.centre.session s.centre.session log gap_log a.course after_gap a.talk refl refl gap_runs
 
   tells_gap : TellsGaps p gap_log
-  tells_gap i = one_more (gap.station == i) (gaps_told i log) gap.session ∙ ap (λ g. gaps_told i log ++ gap_for i g) (sym some) ∙ a.gaps i
+  tells_gap i = one_more (gap.station == i) (gaps_told i log) gap.session
+      ∙ ap (λ g. gaps_told i log ++ gap_for i g) (sym some) ∙ a.gaps i
 
   pub gap_told : Agrees p (with_serial (serial.without_gap s.serial) s) gap_log [] Timed
   gap_told = record {
@@ -346,12 +422,20 @@ module _ (p : Setup) (s : State) (log : Log) (a : Agrees p s log [] Timed) (gap 
     sizes = a.sizes;
     places = a.places;
     clock = a.clock;
+    wall = a.wall;
     settled = refl;
     found = a.found;
     line = a.line;
     course = after_gap;
     talk = gap_talk;
-    stands = record { does = ap serial.without_gap a.stands.does ∙ sym (settled_without_gap (latest log) a.course.works.serial); asks = a.stands.asks; phase_is = tt; placed = a.stands.placed };
+    stands = record {
+      does = ap serial.without_gap a.stands.does
+          ∙ sym (settled_without_gap (latest log) a.course.works.serial);
+      asks = a.stands.asks;
+      phase_is = tt;
+      placed =
+          a.stands.placed;
+    };
     gaps = λ i. append-nil (gaps_told i gap_log) ∙ tells_gap i;
     offers = a.offers;
     plain = a.plain;
@@ -367,49 +451,75 @@ module _ (p : Setup) (s : State) (log : Log) (a : Agrees p s log [] Timed) (gap 
     };
   }
 
-pub told_gap : (result : Bool) (p : Setup) (told after : Option Log) (s t : State) (gap : Gap) (now : ℕ) → s.serial.gap ≡ Some gap → now ≡ s.moment → t ≡ with_serial (serial.without_gap s.serial) s → after ≡ (if result then tell told (Went now (GapOut gap.station gap.session) ∷ []) else told) → Tracks p s told [] Timed →
+pub told_gap : (result : Bool) (p : Setup) (told after : Option Log) (s t : State) (gap : Gap) (now : ℕ)
+    → s.serial.gap ≡ Some gap → now ≡ s.moment → t ≡ with_serial (serial.without_gap s.serial) s
+    → after ≡ (if result then tell told (Went now (GapOut gap.station gap.session) ∷ []) else told)
+    → Tracks p s told [] Timed →
     Leaves result p t after [] Timed
 told_gap true p told after s t gap now some same is e h = rw (e, same, is) (by_log told h)
   where
-    by_log : (told : Option Log) → Tracks p s told [] Timed → Tracks p (with_serial (serial.without_gap s.serial) s) (tell told (Went s.moment (GapOut gap.station gap.session) ∷ [])) [] Timed
+    by_log : (told : Option Log) → Tracks p s told [] Timed
+        → Tracks p (with_serial (serial.without_gap s.serial) s)
+        (tell told (Went s.moment (GapOut gap.station gap.session) ∷ [])) [] Timed
     by_log None h = tt
     by_log (Some log) a = gap_told p s log a gap some
-told_gap false p told after s t gap now some same is e h = subst (λ l. IfSome l (IsFaithful p)) (sym e) (told_faithful p told s [] Timed h)
+told_gap false p told after s t gap now some same is e h =
+    subst (λ l. IfSome l (IsFaithful p)) (sym e) (told_faithful p told s [] Timed h)
 
 -- where there is none nothing changes
 pub no_gap_told : (s t : State) → s.serial.gap ≡ None → t ≡ with_serial (serial.without_gap s.serial) s → t ≡ s
-no_gap_told s t none is = is ∙ ap (λ (g : Option Gap). let made : State = record s { serial = record s.serial { gap = g } } in made) (sym none)
+no_gap_told s t none is = is
+    ∙ ap (λ (g : Option Gap). let made : State = record s { serial = record s.serial { gap = g } } in made) (sym none)
 
 -- An event comes
 
-pub begins : (s a m t : State) (now : ℕ) (event : Input) (fits : Bool) → a ≡ at_moment s now → HearsEvent a event fits m → t ≡ line_timed m → Begins s now event fits t
-begins s a m t now event fits e hears times = record { middle = m; hears = subst (λ x. HearsEvent x event fits m) e hears; times = times }
+pub begins : (s a m t : State) (now : ℕ) (event : Input) (fits : Bool) → a ≡ at_moment s now
+    → HearsEvent a event fits m → t ≡ line_timed m → Begins s now event fits t
+begins s a m t now event fits e hears times = record {
+  middle = m;
+  hears =
+      subst (λ x. HearsEvent x event fits m) e hears;
+  times = times;
+}
 
-heard_in : (laws : LineLaws) (p : Setup) (s t : State) (now : ℕ) (event : Input) (fits : Bool) (log : Log) → Begins s now event fits t → (h : HasCome p s now event log) → Heard p s t h.before now event (left_of p h.before h.agrees.course) fits
+heard_in : (laws : LineLaws) (p : Setup) (s t : State) (now : ℕ) (event : Input) (fits : Bool) (log : Log)
+    → Begins s now event fits t → (h : HasCome p s now event log)
+    → Heard p s t h.before now event (left_of p h.before h.agrees.course) fits
 heard_in laws p s t now event fits log b h = heard_event laws p s t h.before now event fits h.agrees b
 
-as_log : (p : Setup) (t : State) (now : ℕ) (event : Input) (log before : Log) (unjudged : List ℕ) (phase : Phase) → log ≡ Came now event ∷ before → Agrees p t (Came now event ∷ before) unjudged phase → Agrees p t log unjudged phase
+as_log : (p : Setup) (t : State) (now : ℕ) (event : Input) (log before : Log) (unjudged : List ℕ) (phase : Phase)
+    → log ≡ Came now event ∷ before → Agrees p t (Came now event ∷ before) unjudged phase
+    → Agrees p t log unjudged phase
 as_log p t now event log before unjudged phase is a = subst (λ l. Agrees p t l unjudged phase) (sym is) a
 
 -- the line's octets are taken; their own answers found places, or there is no connection to count them
 
-on_line : (log : Log) (now : ℕ) (octets : List ℕ) (p : Setup) (c : Course) (z : Works) → Worked p log (latest (Came now (LineIn octets) ∷ log)) (LineIn octets) c z → Comes p log (latest (Came now (LineIn octets) ∷ log)) (LineIn octets) c (with_works z c)
+on_line : (log : Log) (now : ℕ) (octets : List ℕ) (p : Setup) (c : Course) (z : Works)
+    → Worked p log (latest (Came now (LineIn octets) ∷ log)) (LineIn octets) c z
+    → Comes p log (latest (Came now (LineIn octets) ∷ log)) (LineIn octets) c (with_works z c)
 on_line log now octets p c z w = (w.0, w.1, ap (λ x. with_works x c) w.2)
 
-pub told_line : (p : Setup) (told : Option Log) (s t : State) (now : ℕ) (octets : List ℕ) (fits : Bool) → LineLaws → (t.centre.session.connected ≡ true → fits ≡ true) → Begins s now (LineIn octets) fits t → IfSome told (HasCome p s now (LineIn octets)) → Tracks p t told [] Idle
+pub told_line : (p : Setup) (told : Option Log) (s t : State) (now : ℕ) (octets : List ℕ) (fits : Bool) → LineLaws
+    → (is_open t.centre.session ≡ true → fits ≡ true) → Begins s now (LineIn octets) fits t
+    → IfSome told (HasCome p s now (LineIn octets)) → Tracks p t told [] Idle
 told_line p None s t now octets fits laws fit b h = tt
 told_line p (Some log) s t now octets fits laws fit b h =
     let heard = heard_in laws p s t now (LineIn octets) fits log b h in
     as_log p t now (LineIn octets) log h.before [] Idle h.is
-    (come_other p s t h.before now (LineIn octets) fits true (λ yes on. fit (ap (λ (c : Centre). c.session.connected) heard.centre ∙ h.agrees.here.link ∙ on)) (refl, refl, refl) (on_line h.before now octets) h.rested h.agrees heard)
+    (come_other p s t h.before now (LineIn octets) fits true t.wall (heard.wall
+    ∙ h.agrees.wall) (λ yes on. fit (ap (λ (c : Centre). is_open c.session) heard.centre ∙ h.agrees.here.link
+    ∙ on)) (refl, refl, refl) (on_line h.before now octets) h.rested h.agrees heard)
 
 -- an own answer found no place
-pub told_overfull : (p : Setup) (told : Option Log) (s t : State) (now : ℕ) (octets : List ℕ) (fits : Bool) → LineLaws → fits ≡ false → t.centre.session.connected ≡ true → Begins s now (LineIn octets) fits t → IfSome told (HasCome p s now (LineIn octets)) → IfSome told (MayClose p t OwnAnswers Idle)
+pub told_overfull : (p : Setup) (told : Option Log) (s t : State) (now : ℕ) (octets : List ℕ) (fits : Bool) → LineLaws
+    → fits ≡ false → is_open t.centre.session ≡ true → Begins s now (LineIn octets) fits t
+    → IfSome told (HasCome p s now (LineIn octets)) → IfSome told (MayClose p t OwnAnswers Idle)
 told_overfull p None s t now octets fits laws off on b h = tt
 told_overfull p (Some log) s t now octets fits laws off on b h =
     let heard = heard_in laws p s t now (LineIn octets) fits log b h in
     let none : Counts false fits h.before = λ no on. let never : false ≡ true = no in cc in
-    let a = come_other p s t h.before now (LineIn octets) fits false none (refl, refl, refl) (on_line h.before now octets) h.rested h.agrees heard in
+    let a = come_other p s t h.before now (LineIn octets) fits false t.wall (heard.wall
+    ∙ h.agrees.wall) none (refl, refl, refl) (on_line h.before now octets) h.rested h.agrees heard in
     subst (MayClose p t OwnAnswers Idle) (sym h.is) (record {
       last = refl;
       state = t;
@@ -422,50 +532,113 @@ told_overfull p (Some log) s t now octets fits laws off on b h =
       agrees = a;
       fault = Some OwnAnswers;
       stands = stands_overfull p t (Came now (LineIn octets) ∷ h.before) [] Crowded a;
-      why = subst (λ (c : Course). is_overfull c.works.history ≡ true) (sym (come_course p s t h.before now (LineIn octets) fits false none (refl, refl, refl) (on_line h.before now octets) h.rested h.agrees heard)) (heard.full off);
+      why = subst (λ (c : Course). is_overfull c.works.history ≡ true)
+          (sym (come_course p s t h.before now (LineIn octets) fits false t.wall (heard.wall
+          ∙ h.agrees.wall) none (refl, refl, refl) (on_line h.before now octets) h.rested h.agrees heard))
+          (heard.full off);
     })
 
-pub told_tick : (p : Setup) (told : Option Log) (s t : State) (now : ℕ) (fits : Bool) → LineLaws → Begins s now Ticked fits t → IfSome told (HasCome p s now Ticked) → Tracks p t told [] Idle
+pub told_tick : (p : Setup) (told : Option Log) (s t : State) (now : ℕ) (fits : Bool) → LineLaws
+    → Begins s now Ticked fits t → IfSome told (HasCome p s now Ticked) → Tracks p t told [] Idle
 told_tick p None s t now fits laws b h = tt
-told_tick p (Some log) s t now fits laws b h = as_log p t now Ticked log h.before [] Idle h.is (come_other p s t h.before now Ticked fits true (λ yes on. b.hears.1) (refl, refl, refl) (λ p c z w. ap (λ x. with_works x c) w) h.rested h.agrees (heard_in laws p s t now Ticked fits log b h))
+told_tick p (Some log) s t now fits laws b h =
+    let heard = heard_in laws p s t now Ticked fits log b h in
+    as_log p t now Ticked log h.before [] Idle h.is
+    (come_other p s t h.before now Ticked fits true t.wall (heard.wall
+    ∙ h.agrees.wall) (λ yes on. b.hears.1) (refl, refl, refl)
+    (λ p c z w. ap (λ x. with_works x c) w) h.rested h.agrees heard)
 
-pub told_cut : (p : Setup) (told : Option Log) (s t u : State) (now : ℕ) (fits : Bool) → LineLaws → Begins s now CutOff fits t → u ≡ disconnected t → IfSome told (HasCome p s now CutOff) → Tracks p u told [] Idle
+-- what the wall clock shows
+pub told_wall : (p : Setup) (told : Option Log) (s t u : State) (now number : ℕ) (fits : Bool) → LineLaws
+    → Begins s now (WallIs number) fits t → u ≡ with_wall number t → IfSome told (HasCome p s now (WallIs number))
+    → Tracks p u told [] Idle
+told_wall p None s t u now number fits laws b is h = tt
+told_wall p (Some log) s t u now number fits laws b is h =
+    let heard = heard_in laws p s t now (WallIs number) fits log b h in
+    let shown : Option Wall = Some (record { moment = t.moment; number = number }) in
+    subst (λ x. Agrees p x log [] Idle) (sym is) (as_log p (with_wall number t) now (WallIs number) log h.before
+    [] Idle h.is
+    (come_other p s t h.before now (WallIs number) fits true shown
+    (ap (λ m. let w : Wall = record { moment = m; number = number } in Some w) heard.clock) (λ yes on. b.hears.1)
+    (refl, refl, refl) (λ p c z w. ap (λ x. with_works x c) w) h.rested h.agrees heard))
+
+pub told_cut : (p : Setup) (told : Option Log) (s t u : State) (now : ℕ) (fits : Bool) → LineLaws
+    → Begins s now CutOff fits t → u ≡ disconnected t → IfSome told (HasCome p s now CutOff) → Tracks p u told [] Idle
 told_cut p None s t u now fits laws b is h = tt
-told_cut p (Some log) s t u now fits laws b is h = subst (λ x. Agrees p x log [] Idle) (sym is) (as_log p (disconnected t) now CutOff log h.before [] Idle h.is (come_cut laws p s t h.before now fits h.rested h.agrees (heard_in laws p s t now CutOff fits log b h)))
+told_cut p (Some log) s t u now fits laws b is h = subst (λ x. Agrees p x log [] Idle) (sym is)
+    (as_log p (disconnected t) now CutOff log h.before [] Idle h.is
+    (come_cut laws p s t h.before now fits h.rested h.agrees (heard_in laws p s t now CutOff fits log b h)))
 
-pub told_open : (p : Setup) (told : Option Log) (s t u : State) (now : ℕ) (fits : Bool) → LineLaws → Begins s now Opened fits t → t.centre.session.connected ≡ false → u ≡ connected (disconnected t) → IfSome told (HasCome p s now Opened) → Tracks p u told [] Idle
+pub told_open : (p : Setup) (told : Option Log) (s t u : State) (now : ℕ) (fits : Bool) → LineLaws
+    → Begins s now Opened fits t → is_open t.centre.session ≡ false → u ≡ connected (disconnected t)
+    → IfSome told (HasCome p s now Opened) → Tracks p u told [] Idle
 told_open p None s t u now fits laws b off is h = tt
-told_open p (Some log) s t u now fits laws b off is h = subst (λ x. Agrees p x log [] Idle) (sym is) (as_log p (connected (disconnected t)) now Opened log h.before [] Idle h.is (come_open laws p s t h.before now fits h.rested h.agrees (heard_in laws p s t now Opened fits log b h) off))
+told_open p (Some log) s t u now fits laws b off is h =
+    subst (λ x. Agrees p x log [] Idle) (sym is) (as_log p (connected (disconnected t)) now Opened log h.before
+    [] Idle h.is (come_open laws p s t h.before now fits h.rested h.agrees
+    (heard_in laws p s t now Opened fits log b h) off))
 
-pub told_replaced : (p : Setup) (told after : Option Log) (s t u : State) (now moment : ℕ) (fits : Bool) → LineLaws → Begins s now Opened fits t → t.centre.session.connected ≡ true → u ≡ connected (disconnected t) → after ≡ tell told (Went moment (Closed Replaced) ∷ []) → moment ≡ t.moment → IfSome told (HasCome p s now Opened) → Tracks p u after [] Idle
+pub told_replaced : (p : Setup) (told after : Option Log) (s t u : State) (now moment : ℕ) (fits : Bool) → LineLaws
+    → Begins s now Opened fits t → is_open t.centre.session ≡ true → u ≡ connected (disconnected t)
+    → after ≡ tell told (Went moment (Closed Replaced) ∷ []) → moment ≡ t.moment → IfSome told (HasCome p s now Opened)
+    → Tracks p u after [] Idle
 told_replaced p told after s t u now moment fits laws b on is e same h = rw (e, same, is) (by_log told h)
   where
-    by_log : (told : Option Log) → IfSome told (HasCome p s now Opened) → Tracks p (connected (disconnected t)) (tell told (Went t.moment (Closed Replaced) ∷ [])) [] Idle
+    by_log : (told : Option Log) → IfSome told (HasCome p s now Opened)
+        → Tracks p (connected (disconnected t)) (tell told (Went t.moment (Closed Replaced) ∷ [])) [] Idle
     by_log None h = tt
-    by_log (Some log) h = subst (λ l. Agrees p (connected (disconnected t)) (Went t.moment (Closed Replaced) ∷ l) [] Idle) (sym h.is) (come_replaced laws p s t h.before now fits h.rested h.agrees (heard_in laws p s t now Opened fits log b h) on)
+    by_log (Some log) h =
+        subst (λ l. Agrees p (connected (disconnected t)) (Went t.moment (Closed Replaced) ∷ l) [] Idle) (sym h.is)
+        (come_replaced laws p s t h.before now fits h.rested h.agrees (heard_in laws p s t now Opened fits log b h) on)
 
 -- where the close couldn't be put out
-pub told_unreplaced : (p : Setup) (told : Option Log) (s t : State) (now : ℕ) (fits : Bool) → LineLaws → Begins s now Opened fits t → IfSome told (HasCome p s now Opened) → IfSome told (IsFaithful p)
+pub told_unreplaced : (p : Setup) (told : Option Log) (s t : State) (now : ℕ) (fits : Bool) → LineLaws
+    → Begins s now Opened fits t → IfSome told (HasCome p s now Opened) → IfSome told (IsFaithful p)
 told_unreplaced p None s t now fits laws b h = tt
-told_unreplaced p (Some log) s t now fits laws b h = subst (IsFaithful p) (sym h.is) (opened_faithful laws p s t h.before now fits h.rested h.agrees (heard_in laws p s t now Opened fits log b h))
+told_unreplaced p (Some log) s t now fits laws b h = subst (IsFaithful p) (sym h.is)
+    (opened_faithful laws p s t h.before now fits h.rested h.agrees (heard_in laws p s t now Opened fits log b h))
 
 -- how many octets have been received once more came
-received_by : (b : Bool) (c : Channel) (octets : List ℕ) → c.is_open ≡ b → length (receiving c octets).received ≡ length c.received + length (if b then octets else [])
-received_by true c octets e = ap (λ (x : Bool). length (if x then record { is_open = true; sent = c.sent; received = c.received ++ octets; overfull = c.overfull } else c).received) e ∙ length-append c.received octets
-received_by false c octets e = ap (λ (x : Bool). length (if x then record { is_open = true; sent = c.sent; received = c.received ++ octets; overfull = c.overfull } else c).received) e ∙ omega arith
+received_by : (b : Bool) (c : Channel) (octets : List ℕ) → c.is_open ≡ b
+    → length (receiving c octets).received ≡ length c.received + length (if b then octets else [])
+received_by true c octets e =
+    ap (λ (x : Bool). length (if x then record {
+      is_open = true;
+      sent = c.sent;
+      received =
+          c.received ++ octets;
+      overfull = c.overfull;
+    } else c).received) e ∙ length-append c.received octets
+received_by false c octets e =
+    ap (λ (x : Bool). length (if x then record {
+      is_open = true;
+      sent = c.sent;
+      received =
+          c.received ++ octets;
+      overfull = c.overfull;
+    } else c).received) e ∙ omega arith
 
-pub told_bytes : (b : Bool) (p : Setup) (told : Option Log) (s t : State) (now : ℕ) (octets : List ℕ) (fits : Bool) → LineLaws → Begins s now (TcpIn octets) fits t → t.centre.session.connected ≡ b → IfSome told (HasCome p s now (TcpIn octets)) → Awaits p t told (if b then octets else [])
+pub told_bytes : (b : Bool) (p : Setup) (told : Option Log) (s t : State) (now : ℕ) (octets : List ℕ) (fits : Bool)
+    → LineLaws → Begins s now (TcpIn octets) fits t → is_open t.centre.session ≡ b
+    → IfSome told (HasCome p s now (TcpIn octets)) → Awaits p t told (if b then octets else [])
 told_bytes b p None s t now octets fits laws begun is h = tt
 told_bytes b p (Some log) s t now octets fits laws begun is h =
-    let agrees = come_bytes p s t h.before now octets fits begun.hears.1 h.rested h.agrees (heard_in laws p s t now (TcpIn octets) fits log begun h) in
+    let agrees = come_bytes p s t h.before now octets fits begun.hears.1 h.rested h.agrees
+    (heard_in laws p s t now (TcpIn octets) fits log begun h) in
     let same : t ≡ line_timed (at_moment s now) = begun.times ∙ ap line_timed begun.hears.0 in
     let more : List ℕ = if b then octets else [] in
-    let open_is : (present h.before).is_open ≡ b = sym h.agrees.here.link ∙ sym (ap (λ (x : State). x.centre.session.connected) same) ∙ is in
-    let total : length (present (Came now (TcpIn octets) ∷ h.before)).received ≡ length (present h.before).received + length more = received_by b (present h.before) octets open_is in (
-      subst (λ b. Agrees p t log (if b then octets else []) Taking) is (as_log p t now (TcpIn octets) log h.before (if t.centre.session.connected then octets else []) Taking h.is agrees),
+    let open_is : (present h.before).is_open ≡ b = sym h.agrees.here.link
+    ∙ sym (ap (λ (x : State). is_open x.centre.session) same) ∙ is in
+    let total : length (present (Came now (TcpIn octets) ∷ h.before)).received
+    ≡ length (present h.before).received + length more = received_by b (present h.before) octets open_is in (
+      subst (λ b. Agrees p t log (if b then octets else []) Taking) is
+          (as_log p t now (TcpIn octets) log h.before (if is_open t.centre.session then octets else []) Taking h.is
+          agrees),
       subst IsClear (sym same) (record { confirmed = h.clear.confirmed; spent = h.clear.spent }),
-      subst (λ l. IsUndue t l more) (sym h.is) (inl (omega (arith, total, length-append (pending t.centre.so_far) more))),
-      subst (λ l. length (received_before l) + length more ≤ length (present l).received) (sym h.is) (omega (arith, total)),
+      subst (λ l. IsUndue t l more) (sym h.is)
+          (inl (omega (arith, total, length-append (pending t.centre.so_far) more))),
+      subst (λ l. length (received_before l) + length more ≤ length (present l).received) (sym h.is)
+          (omega (arith, total)),
     )
 
 pub told_idle : (p : Setup) (told : Option Log) (s : State) → Awaits p s told [] → Tracks p s told [] Idle
@@ -481,25 +654,37 @@ started p s a =
     let none : a.course.works.is_due ≡ false = ap (λ (c : Course). c.works.is_due) first in
     absurd (subst (λ (c : Course). IsOut c.works.serial.line.outstanding) first (a.stands.asks.1 none))
 
-pub follows : (laws : LineLaws) (p : Setup) (told : Option Log) (s : State) → IsClear s → Tracks p s told [] Asked → Follows p s told
+pub follows : (laws : LineLaws) (p : Setup) (told : Option Log) (s : State) → IsClear s → Tracks p s told [] Asked
+    → Follows p s told
 follows laws p None s last h = tt
 follows laws p (Some []) s last a = (started p s a, last)
 follows laws p (Some (entry ∷ log)) s last a = (a, last)
 
-pub step_follows : (laws : LineLaws) (p : Setup) (result : Bool) (told : Option Log) (s : State) → OnTrue result (IsConfirmed s.centre.session) → OnTrue result (IsSpent s) → Leaves result p s told [] Asked → OnTrue result (Follows p s told)
+pub step_follows : (laws : LineLaws) (p : Setup) (result : Bool) (told : Option Log) (s : State)
+    → OnTrue result (IsConfirmed s.centre.session) → OnTrue result (IsSpent s) → Leaves result p s told [] Asked
+    → OnTrue result (Follows p s told)
 step_follows laws p true told s last spent h = follows laws p told s (record { confirmed = last; spent = spent }) h
 step_follows laws p false told s last spent h = tt
 
 -- an event that a port told has come
-pub come : (p : Setup) (told after : Option Log) (s : State) (now : ℕ) (event : Input) (news : List LogEntry) → after ≡ tell told news → news ≡ Came now event ∷ [] → Follows p s told → Rests p told → IfSome after (HasCome p s now event)
+pub come : (p : Setup) (told after : Option Log) (s : State) (now : ℕ) (event : Input) (news : List LogEntry)
+    → after ≡ tell told news → news ≡ Came now event ∷ [] → Follows p s told → Rests p told
+    → IfSome after (HasCome p s now event)
 come p None after s now event news e is h rest = subst (λ l. IfSome l (HasCome p s now event)) (sym e) tt
-come p (Some log) after s now event news e is h rest = subst (λ l. IfSome l (HasCome p s now event)) (sym (e ∙ ap (λ n. tell (Some log) n) is)) (record { before = log; is = refl; agrees = h.0; clear = h.1; rested = rest })
+come p (Some log) after s now event news e is h rest =
+    subst (λ l. IfSome l (HasCome p s now event)) (sym (e ∙ ap (λ n. tell (Some log) n) is))
+    (record { before = log; is = refl; agrees = h.0; clear = h.1; rested = rest })
 
 -- and is one event more
-pub more_events : (n now : ℕ) (event : Input) (news : List LogEntry) (first told after last : Option Log) → MoreEvents n first told → after ≡ tell told news → news ≡ Came now event ∷ [] → events_told last ≡ events_told after → MoreEvents (n + 1) first last
-more_events n now event news first told after last h e is same = ap (option_map length) (same ∙ ap events_told (e ∙ ap (tell told) is)) ∙ by_logs first told h
+pub more_events : (n now : ℕ) (event : Input) (news : List LogEntry) (first told after last : Option Log)
+    → MoreEvents n first told → after ≡ tell told news → news ≡ Came now event ∷ []
+    → events_told last ≡ events_told after → MoreEvents (n + 1) first last
+more_events n now event news first told after last h e is same =
+    ap (option_map length) (same ∙ ap events_told (e ∙ ap (tell told) is)) ∙ by_logs first told h
   where
-    by_logs : (first told : Option Log) → MoreEvents n first told → option_map length (events_told (tell told (Came now event ∷ []))) ≡ option_map (λ (events : List LogEntry). length events + (n + 1)) (events_told first)
+    by_logs : (first told : Option Log) → MoreEvents n first told
+        → option_map length (events_told (tell told (Came now event ∷ [])))
+        ≡ option_map (λ (events : List LogEntry). length events + (n + 1)) (events_told first)
     by_logs None None h = refl
     by_logs None (Some log) h = cc
     by_logs (Some log) None h = cc

@@ -23,7 +23,8 @@ use Rattle.gateway.specs.Streams.{spelled, IsRefused}
 use Rattle.gateway.specs.Reports.{Setup}
 use Rattle.gateway.specs.Serial.{Serial, has_place}
 use Rattle.gateway.specs.Centre.{Centre}
-use Rattle.gateway.specs.State.{State, with_centre, with_octets, disconnected, received, framed}
+use Rattle.gateway.specs.Walls.{wall_of, wall_on}
+use Rattle.gateway.specs.State.{State, wall_now, with_centre, with_octets, disconnected, received, framed}
 use Rattle.gateway.specs.Works.{is_overfull}
 use Rattle.gateway.specs.Course.{Course, here_of, came_frames, with_frame, StandsNext, IsCause}
 use Rattle.gateway.specs.Phases as phases
@@ -36,53 +37,80 @@ use Rattle.gateway.proofs.Frames.{taken_stays, nothing_waits}
 use Rattle.gateway.proofs.Tied.{no_close, fault_closes, fault_cases}
 use Rattle.gateway.proofs.Working.{heard_overfull}
 use Rattle.gateway.proofs.Talking.{confirmed_by}
-use Rattle.gateway.proofs.Agreement.{flushed_by, after_heard, heard_course, after_more, with_so_far, now_idle, stands_garbled, stands_faulty, stands_overfull, fault_ends, fault_closes_so}
+use Rattle.gateway.proofs.Agreement.{flushed_by}
+use Rattle.gateway.proofs.Hearing.{after_heard, heard_course, after_more, with_so_far, now_idle}
+use Rattle.gateway.proofs.Closing.{stands_garbled, stands_faulty, stands_overfull, fault_ends, fault_closes_so}
 
-unfolded : (s : State) (so_far other : List ℕ) → s.centre.so_far ≡ Some so_far → s.centre.so_far ≡ Some other → so_far ≡ other
+unfolded : (s : State) (so_far other : List ℕ) → s.centre.so_far ≡ Some so_far → s.centre.so_far ≡ Some other
+    → so_far ≡ other
 unfolded s so_far other e f = ap val (sym e ∙ f)
   where
     val : Option (List ℕ) → List ℕ
     val None = []
     val (Some x) = x
 
-nothing_so_far : (p : Setup) (s : State) (log : Log) (unjudged : List ℕ) (a : Agrees p s log unjudged Taking) → s.centre.so_far ≡ Some [] → a.here.so_far ≡ []
+nothing_so_far : (p : Setup) (s : State) (log : Log) (unjudged : List ℕ) (a : Agrees p s log unjudged Taking)
+    → s.centre.so_far ≡ Some [] → a.here.so_far ≡ []
 nothing_so_far p s log unjudged a e = unfolded s a.here.so_far [] a.here.assembler e
 
 -- The frame is taken.
-module _ (p : Setup) (s : State) (log : Log) (rest : List ℕ) (f : Apdu) (a : Agrees p s log (spelling f ++ rest) Taking) (on : s.centre.session.connected ≡ true) (ready : IsClear s) (undue : IsUndue s log (spelling f ++ rest)) (past : IsPast log (length rest)) (fits : Fits f) (so : s.centre.so_far ≡ Some []) (goes : is_close (outcome_of s.centre.session f) ≡ false) (kept : Bool) (place : has_place f s.moment s.serial.commands ≡ kept) where
+module _ (p : Setup) (s : State) (log : Log) (rest : List ℕ) (f : Apdu)
+    (a : Agrees p s log (spelling f ++ rest) Taking) (on : session.is_open s.centre.session ≡ true) (ready : IsClear s)
+    (undue : IsUndue s log (spelling f ++ rest)) (past : IsPast log (length rest)) (fits : Fits f)
+    (so : s.centre.so_far ≡ Some []) (goes : is_close (outcome_of s.centre.session f) ≡ false) (kept : Bool)
+    (place : has_place f s.moment (wall_now s) s.serial.commands ≡ kept) where
   both : (refuses s.centre.session f ≡ false) × (fault_of (length a.course.sent) (came_frames a.course.talk) f ≡ None)
-  both = no_close f (here_of a.course) s.centre.session s.centre.queue.sent (outcome_of s.centre.session f) goes a.here.tied refl
+  both = no_close f (here_of a.course) s.centre.session s.centre.queue.sent
+      (outcome_of s.centre.session f) goes a.here.tied refl
 
   whole : a.here.so_far ++ (spelling f ++ rest) ≡ spelling f ++ rest
   whole = ap (λ x. x ++ (spelling f ++ rest)) (nothing_so_far p s log _ a so)
 
   abbrev frame_taken : Agrees p (framed f s) log rest (after_frame kept)
-  frame_taken = after_heard p s log (spelling f ++ rest) rest f a on ready undue past so fits whole both.0 both.1 kept place
+  frame_taken = after_heard p s log (spelling f ++ rest) rest f a on ready undue past so fits whole both.0 both.1 kept
+      place
 
-  taken_course : frame_taken.course ≡ with_frame p f s.moment a.course
-  taken_course = heard_course p s log (spelling f ++ rest) rest f a on ready undue past so fits whole both.0 both.1 kept place
+  taken_course : frame_taken.course ≡ with_frame p f s.moment (wall_on log s.moment) a.course
+  taken_course = heard_course p s log (spelling f ++ rest) rest f a on ready undue past so fits whole both.0 both.1
+      kept place
 
-pub judged_on : (p : Setup) (told : Option Log) (s t : State) (f : Apdu) (rest : List ℕ) → s.centre.session.connected ≡ true → Fits f → s.centre.so_far ≡ Some [] → Judged s f None t → Meets p s told (spelling f ++ rest) rest → Tracks p t told rest phases.Judged
+pub judged_on : (p : Setup) (told : Option Log) (s t : State) (f : Apdu) (rest : List ℕ)
+    → session.is_open s.centre.session ≡ true → Fits f → s.centre.so_far ≡ Some [] → Judged s f None t
+    → Meets p s told (spelling f ++ rest) rest → Tracks p t told rest phases.Judged
 judged_on p None s t f rest on fits so j a = tt
-judged_on p (Some log) s t f rest on fits so j a = subst (λ x. Agrees p x log rest phases.Judged) (sym j.after) (frame_taken p s log rest f a.0 on a.1 a.2 a.3 fits so j.passes true j.place)
+judged_on p (Some log) s t f rest on fits so j a = subst (λ x. Agrees p x log rest phases.Judged) (sym j.after)
+    (frame_taken p s log rest f a.0 on a.1 a.2 a.3 fits so j.passes true j.place)
 
-pub judged_open : (s t : State) (f : Apdu) → s.centre.session.connected ≡ true → Judged s f None t → t.centre.session.connected ≡ true
-judged_open s t f on j = ap (λ (x : State). x.centre.session.connected) j.after ∙ (taken_stays f s.moment s.centre.session).connected ∙ on
+pub judged_open : (s t : State) (f : Apdu) → session.is_open s.centre.session ≡ true → Judged s f None t
+    → session.is_open t.centre.session ≡ true
+judged_open s t f on j = ap (λ (x : State). session.is_open x.centre.session) j.after
+    ∙ (taken_stays f s.moment s.centre.session).connected ∙ on
 
 -- a frame with a fault leaves nothing but what the close drops
-fault_dropped : (s : State) (f : Apdu) (cause : Close) → Closes cause ≡ outcome_of s.centre.session f → disconnected (received f s) ≡ disconnected s
+fault_dropped : (s : State) (f : Apdu) (cause : Close) → Closes cause ≡ outcome_of s.centre.session f
+    → disconnected (received f s) ≡ disconnected s
 fault_dropped s f cause e =
     let refused : refuses s.centre.session f ≡ true = sym (ap is_close e) in
-    let is : session.taken f s.moment s.centre.session ≡ session.acknowledged 0 (record s.centre.session { last_frame = s.moment }) = cond-true (refuses s.centre.session f) _ _ refused in
-    ap (λ (x : Session). disconnected (with_centre (record s.centre { queue = queue.acknowledged x.acked_queue s.centre.queue; session = x }) s)) is
+    let is : session.taken f s.moment s.centre.session
+    ≡ session.acknowledged 0 (record s.centre.session { last_frame = s.moment }) =
+    cond-true (refuses s.centre.session f) _ _ refused in
+    ap (λ (x : Session). disconnected (with_centre (record s.centre {
+      queue =
+          queue.acknowledged x.acked_queue s.centre.queue;
+      session = x;
+    }) s)) is
 
 -- a frame's fault is the cause
-frame_cause : (p : Setup) (log : Log) (c : Course) (sent : ℕ) (older : List Apdu) (f : Apdu) (cause : Close) → fault_of sent older f ≡ Some cause → StandsNext p log cause c → IsCause p log cause c
+frame_cause : (p : Setup) (log : Log) (c : Course) (sent : ℕ) (older : List Apdu) (f : Apdu) (cause : Close)
+    → fault_of sent older f ≡ Some cause → StandsNext p log cause c → IsCause p log cause c
 frame_cause p log c sent older f cause fault stands =
-    fault_cases (λ cause. StandsNext p log cause c → IsCause p log cause c) (λ st. st) (λ st. st) (λ st. st) sent older f cause fault stands
+    fault_cases (λ cause. StandsNext p log cause c → IsCause p log cause c) (λ st. st) (λ st. st)
+    (λ st. st) sent older f cause fault stands
 
 -- what is next closes the connection
-next_closes : (p : Setup) (s : State) (log : Log) (unjudged : List ℕ) (cause : Close) → s.centre.session.connected ≡ true → IsClear s → (a : Agrees p s log unjudged Taking) → IsConnection (present log) (here_of a.course) (Some cause) → StandsNext p log cause a.course
+next_closes : (p : Setup) (s : State) (log : Log) (unjudged : List ℕ) (cause : Close)
+    → session.is_open s.centre.session ≡ true → IsClear s → (a : Agrees p s log unjudged Taking)
+    → IsConnection (present log) (here_of a.course) (Some cause) → StandsNext p log cause a.course
 next_closes p s log unjudged cause on ready a stands = record {
   next = stands;
   confirmed = sym (confirmed_by p s.centre.session log a.course a.talk) ∙ ready.confirmed;
@@ -90,11 +118,14 @@ next_closes p s log unjudged cause on ready a stands = record {
   placed = a.stands.placed (sym a.here.link ∙ on);
 }
 
-faulty_closes : (p : Setup) (log : Log) (s t : State) (f : Apdu) (cause : Close) (rest : List ℕ) → s.centre.session.connected ≡ true → Fits f → s.centre.so_far ≡ Some [] → IsFaulty s f cause t → IsClear s → Agrees p s log (spelling f ++ rest) Taking → MayClose p t cause Idle log
+faulty_closes : (p : Setup) (log : Log) (s t : State) (f : Apdu) (cause : Close) (rest : List ℕ)
+    → session.is_open s.centre.session ≡ true → Fits f → s.centre.so_far ≡ Some [] → IsFaulty s f cause t → IsClear s
+    → Agrees p s log (spelling f ++ rest) Taking → MayClose p t cause Idle log
 faulty_closes p log s t f cause rest on fits so j ready a =
     let fault = fault_closes f (here_of a.course) s.centre.session s.centre.queue.sent cause a.here.tied j.fault in
     let closes = fault_closes_so (length a.course.sent) (came_frames a.course.talk) f cause (present log) fault in
-    let stands = stands_faulty p s log (spelling f ++ rest) rest f cause Taking a fits (ap (λ x. x ++ (spelling f ++ rest)) (nothing_so_far p s log _ a so)) fault in
+    let stands = stands_faulty p s log (spelling f ++ rest) rest f cause Taking a fits
+    (ap (λ x. x ++ (spelling f ++ rest)) (nothing_so_far p s log _ a so)) fault in
     record {
       last = fault_ends (length a.course.sent) (came_frames a.course.talk) f cause fault;
       state = s;
@@ -107,14 +138,19 @@ faulty_closes p log s t f cause rest on fits so j ready a =
       agrees = a;
       fault = Some cause;
       stands = subst (λ o. IsConnection o (here_of a.course) (Some cause)) (sym closes.0) stands;
-      why = frame_cause p log a.course (length a.course.sent) (came_frames a.course.talk) f cause fault (next_closes p s log (spelling f ++ rest) cause on ready a stands);
+      why = frame_cause p log a.course (length a.course.sent) (came_frames a.course.talk) f cause fault
+          (next_closes p s log (spelling f ++ rest) cause on ready a stands);
     }
 
 -- its own answer found no place
-overfull_closes : (p : Setup) (log : Log) (s t : State) (f : Apdu) (rest : List ℕ) → s.centre.session.connected ≡ true → Fits f → s.centre.so_far ≡ Some [] → IsTaken s f false t → IsClear s → IsUndue s log (spelling f ++ rest) → IsPast log (length rest) → Agrees p s log (spelling f ++ rest) Taking → MayClose p t OwnAnswers Idle log
+overfull_closes : (p : Setup) (log : Log) (s t : State) (f : Apdu) (rest : List ℕ)
+    → session.is_open s.centre.session ≡ true → Fits f → s.centre.so_far ≡ Some [] → IsTaken s f false t → IsClear s
+    → IsUndue s log (spelling f ++ rest) → IsPast log (length rest) → Agrees p s log (spelling f ++ rest) Taking
+    → MayClose p t OwnAnswers Idle log
 overfull_closes p log s t f rest on fits so j ready undue past a =
     let b = frame_taken p s log rest f a on ready undue past fits so j.passes false j.place in
-    let still : (framed f s).centre.session.connected ≡ true = (taken_stays f s.moment s.centre.session).connected ∙ on in
+    let still : session.is_open (framed f s).centre.session ≡ true =
+    (taken_stays f s.moment s.centre.session).connected ∙ on in
     record {
       last = refl;
       state = framed f s;
@@ -127,40 +163,63 @@ overfull_closes p log s t f rest on fits so j ready undue past a =
       agrees = b;
       fault = Some OwnAnswers;
       stands = stands_overfull p (framed f s) log rest Crowded b;
-      why = subst (λ (c : Course). is_overfull c.works.history ≡ true) (sym (taken_course p s log rest f a on ready undue past fits so j.passes false j.place))
-          (heard_overfull f s.moment a.course.works (ap (λ (z : Serial). has_place f s.moment z.commands) (sym a.stands.does) ∙ j.place));
+      why = subst (λ (c : Course). is_overfull c.works.history ≡ true)
+          (sym (taken_course p s log rest f a on ready undue past fits so j.passes false j.place))
+          (heard_overfull f s.moment (wall_on log s.moment) a.course.works
+          (ap (λ w. has_place f s.moment (wall_of w s.moment) a.course.works.serial.commands) (sym a.wall)
+          ∙ ap (λ (z : Serial). has_place f s.moment (wall_now s) z.commands) (sym a.stands.does) ∙ j.place));
     }
 
-pub judged_closes : (p : Setup) (told : Option Log) (s t : State) (f : Apdu) (cause : Close) (rest : List ℕ) → s.centre.session.connected ≡ true → Fits f → s.centre.so_far ≡ Some [] → Judged s f (Some cause) t → Meets p s told (spelling f ++ rest) rest → IfSome told (MayClose p t cause Idle)
+pub judged_closes : (p : Setup) (told : Option Log) (s t : State) (f : Apdu) (cause : Close) (rest : List ℕ)
+    → session.is_open s.centre.session ≡ true → Fits f → s.centre.so_far ≡ Some [] → Judged s f (Some cause) t
+    → Meets p s told (spelling f ++ rest) rest → IfSome told (MayClose p t cause Idle)
 judged_closes p None s t f cause rest on fits so j a = tt
-judged_closes p (Some log) s t f cause rest on fits so (inl j) a = faulty_closes p log s t f cause rest on fits so j a.1 a.0
-judged_closes p (Some log) s t f cause rest on fits so (inr j) a = subst (λ x. MayClose p t x Idle log) (sym j.0) (overfull_closes p log s t f rest on fits so j.1 a.1 a.2 a.3 a.0)
+judged_closes p (Some log) s t f cause rest on fits so (inl j) a =
+    faulty_closes p log s t f cause rest on fits so j a.1 a.0
+judged_closes p (Some log) s t f cause rest on fits so (inr j) a =
+    subst (λ x. MayClose p t x Idle log) (sym j.0) (overfull_closes p log s t f rest on fits so j.1 a.1 a.2 a.3 a.0)
 
 -- the octets of the frame so far count as not judged
-fed : (p : Setup) (s : State) (log : Log) (piece unjudged so_far : List ℕ) → s.centre.so_far ≡ Some so_far → so_far ++ piece ≡ unjudged → Agrees p s log piece Taking → Agrees p (with_octets (Some []) s) log unjudged Taking
+fed : (p : Setup) (s : State) (log : Log) (piece unjudged so_far : List ℕ) → s.centre.so_far ≡ Some so_far
+    → so_far ++ piece ≡ unjudged → Agrees p s log piece Taking → Agrees p (with_octets (Some []) s) log unjudged Taking
 fed p s log piece unjudged so_far so e a =
     with_so_far p s log piece unjudged [] Taking a nothing_waits
-    (a.here.joined ∙ ap (λ x. spelled (came_frames a.course.talk) ++ x) (ap (λ x. x ++ piece) (unfolded s a.here.so_far so_far a.here.assembler so) ∙ e)) tt
+    (a.here.joined ∙ ap (λ x. spelled (came_frames a.course.talk) ++ x)
+    (ap (λ x. x ++ piece) (unfolded s a.here.so_far so_far a.here.assembler so) ∙ e)) tt
 
 -- where it is fed, what was due stays so
-fed_undue : (s : State) (log : Log) (piece unjudged so_far : List ℕ) → s.centre.so_far ≡ Some so_far → so_far ++ piece ≡ unjudged → IsUndue s log piece → IsUndue (with_octets (Some []) s) log unjudged
-fed_undue s log piece unjudged so_far so e (inl h) = inl (omega (arith, h, ap (λ x. length (pending x ++ piece)) so, ap length e))
+fed_undue : (s : State) (log : Log) (piece unjudged so_far : List ℕ) → s.centre.so_far ≡ Some so_far
+    → so_far ++ piece ≡ unjudged → IsUndue s log piece → IsUndue (with_octets (Some []) s) log unjudged
+fed_undue s log piece unjudged so_far so e (inl h) = inl
+    (omega (arith, h, ap (λ x. length (pending x ++ piece)) so, ap length e))
 fed_undue s log piece unjudged so_far so e (inr h) = inr h
 
-pub told_fed : (p : Setup) (told : Option Log) (s t : State) (piece unjudged so_far : List ℕ) (n : ℕ) → s.centre.so_far ≡ Some so_far → so_far ++ piece ≡ unjudged → 0 < n → n ≤ length piece → t ≡ with_octets (Some []) s → Awaits p s told piece → Meets p t told unjudged (drop n piece)
+pub told_fed : (p : Setup) (told : Option Log) (s t : State) (piece unjudged so_far : List ℕ) (n : ℕ)
+    → s.centre.so_far ≡ Some so_far → so_far ++ piece ≡ unjudged → 0 < n → n ≤ length piece
+    → t ≡ with_octets (Some []) s → Awaits p s told piece → Meets p t told unjudged (drop n piece)
 told_fed p None s t piece unjudged so_far n so e some within is h = tt
 told_fed p (Some log) s t piece unjudged so_far n so e some within is a =
-    subst (λ x. Agrees p x log unjudged Taking × IsClear x × IsUndue x log unjudged × IsPast log (length (drop n piece))) (sym is)
-    (fed p s log piece unjudged so_far so e a.0, record { confirmed = a.1.confirmed; spent = a.1.spent }, fed_undue s log piece unjudged so_far so e a.2, omega (arith, a.3, some, within, length-drop n piece))
+    subst (λ x. Agrees p x log unjudged Taking × IsClear x × IsUndue x log unjudged
+    × IsPast log (length (drop n piece))) (sym is) (
+      fed p s log piece unjudged so_far so e a.0,
+      record { confirmed = a.1.confirmed; spent = a.1.spent },
+      fed_undue s log piece unjudged so_far so e a.2,
+      omega (arith, a.3, some, within, length-drop n piece),
+    )
 
-pub told_more : (p : Setup) (told : Option Log) (s t : State) (piece so_far : List ℕ) → s.centre.so_far ≡ Some so_far → IsMore (so_far ++ piece) → t ≡ with_octets (Some (so_far ++ piece)) s → Awaits p s told piece → Tracks p t told [] Idle
+pub told_more : (p : Setup) (told : Option Log) (s t : State) (piece so_far : List ℕ) → s.centre.so_far ≡ Some so_far
+    → IsMore (so_far ++ piece) → t ≡ with_octets (Some (so_far ++ piece)) s → Awaits p s told piece
+    → Tracks p t told [] Idle
 told_more p None s t piece so_far so more is h = tt
 told_more p (Some log) s t piece so_far so more is both =
     let a = both.0 in
     let same : a.here.so_far ≡ so_far = unfolded s a.here.so_far so_far a.here.assembler so in
-    now_idle p t log (after_more p s t log piece a (subst (λ x. IsMore (x ++ piece)) (sym same) more) (is ∙ ap (λ x. with_octets (Some (x ++ piece)) s) (sym same)))
+    now_idle p t log (after_more p s t log piece a (subst (λ x. IsMore (x ++ piece)) (sym same) more) (is
+    ∙ ap (λ x. with_octets (Some (x ++ piece)) s) (sym same)))
 
-pub garbled_closes : (p : Setup) (told : Option Log) (s t : State) (piece so_far : List ℕ) → s.centre.session.connected ≡ true → s.centre.so_far ≡ Some so_far → IsRefused (so_far ++ piece) → t ≡ with_octets (Some []) s → Awaits p s told piece → IfSome told (MayClose p t Grammar Idle)
+pub garbled_closes : (p : Setup) (told : Option Log) (s t : State) (piece so_far : List ℕ)
+    → session.is_open s.centre.session ≡ true → s.centre.so_far ≡ Some so_far → IsRefused (so_far ++ piece)
+    → t ≡ with_octets (Some []) s → Awaits p s told piece → IfSome told (MayClose p t Grammar Idle)
 garbled_closes p None s t piece so_far on so refused is h = tt
 garbled_closes p (Some log) s t piece so_far on so refused is both =
     let a = both.0 in
@@ -181,20 +240,44 @@ garbled_closes p (Some log) s t piece so_far on so refused is both =
       why = next_closes p s log piece Grammar on both.1 a stands;
     }
 
-pub found_apdu : (o : Option (List ℕ)) (piece : List ℕ) (n : ℕ) (f : Apdu) (after : Option (List ℕ)) → is_some o ≡ true → IfSome o (λ x. Hears x piece n (hears.Apdu f) after) →
+pub found_apdu : (o : Option (List ℕ)) (piece : List ℕ) (n : ℕ) (f : Apdu) (after : Option (List ℕ)) → is_some o ≡ true
+    → IfSome o (λ x. Hears x piece n (hears.Apdu f) after) →
     (x : List ℕ) × (o ≡ Some x) × (Fits f × (x ++ piece ≡ spelling f ++ drop n piece) × (after ≡ Some []))
 found_apdu None piece n f after is h = cc
 found_apdu (Some x) piece n f after is h =
-    let behind : drop (length x + n) (x ++ piece) ≡ drop n piece = sym (drop-drop n (length x) (x ++ piece)) ∙ ap (drop n) (drop_at x piece (length x) refl) in
-    (x, refl, (h.0.0.fits, sym (take-append-drop (length x + n) (x ++ piece)) ∙ ap (λ y. y ++ drop (length x + n) (x ++ piece)) h.0.0.spelled ∙ ap (λ y. spelling f ++ y) behind, h.1))
+    let behind : drop (length x + n) (x ++ piece) ≡ drop n piece = sym (drop-drop n (length x) (x ++ piece))
+    ∙ ap (drop n) (drop_at x piece (length x) refl) in (
+      x,
+      refl,
+      (
+        h.0.0.fits,
+        sym (take-append-drop (length x + n) (x ++ piece))
+            ∙ ap (λ y. y ++ drop (length x + n) (x ++ piece)) h.0.0.spelled ∙ ap (λ y. spelling f ++ y) behind,
+        h.1,
+      ),
+    )
 
-pub found_never : (o : Option (List ℕ)) (piece : List ℕ) (n place : ℕ) (why : Why) (after : Option (List ℕ)) → is_some o ≡ true → IfSome o (λ x. Hears x piece n (hears.Never place why) after) → (x : List ℕ) × (o ≡ Some x) × IsRefused (x ++ piece)
+pub found_never : (o : Option (List ℕ)) (piece : List ℕ) (n place : ℕ) (why : Why) (after : Option (List ℕ))
+    → is_some o ≡ true → IfSome o (λ x. Hears x piece n (hears.Never place why) after)
+    → (x : List ℕ) × (o ≡ Some x) × IsRefused (x ++ piece)
 found_never None piece n place why after is h = cc
 found_never (Some x) piece n place why after is h = (x, refl, (place, why, h.0))
 
 -- a whole frame at the front of a piece, where none had begun before it
-pub found_whole : (s : Centre) (piece : List ℕ) (n : ℕ) (f : Apdu) → s.so_far ≡ Some [] → IsFront piece (front.Whole f n) → Finds s piece (found.Apdu n f) s
-found_whole s piece n f empty h = ([], empty, (h.0.fits, sym (take-append-drop n piece) ∙ ap (λ y. y ++ drop n piece) h.0.spelled, some n (ap length h.0.spelled), h.1, ap (λ o. let made : Centre = record s { so_far = o } in made) empty))
+pub found_whole : (s : Centre) (piece : List ℕ) (n : ℕ) (f : Apdu) → s.so_far ≡ Some []
+    → IsFront piece (front.Whole f n) → Finds s piece (found.Apdu n f) s
+found_whole s piece n f empty h = (
+  [],
+  empty,
+  (
+    h.0.fits,
+    sym (take-append-drop n piece)
+        ∙ ap (λ y. y ++ drop n piece) h.0.spelled,
+    some n (ap length h.0.spelled),
+    h.1,
+    ap (λ o. let made : Centre = record s { so_far = o } in made) empty,
+  ),
+)
   where
     some : (n : ℕ) → length (take n piece) ≡ length (spelling f) → 0 < n
     some zero e = absurd (omega (arith, e))

@@ -13,6 +13,9 @@ use Rattle.gateway.specs.Objects.{objects, has_objects, monitor_objects, parts_o
 use Rattle.asdu.specs.Asdu.{AsduValue, Info, IsAsdu}
 use Rattle.gateway.specs.declared.counts.Tally.{Tally}
 use Rattle.gateway.specs.Counting.{is_answer_type, counted, counted_by, one_skipped}
+use Rattle.command.specs.Mirrors.{tag_for}
+use Rattle.gateway.specs.Tags.{AreTagged}
+use Rattle.gateway.proofs.Tagged.{MonitorLaw, tagged_unmonitored}
 use Rattle.gateway.specs.Serial.{Serial, mirrored, mirror_fits, reported}
 use Rattle.gateway.specs.Centre.{pushed}
 use Rattle.gateway.specs.State.{State, with_serial, with_centre}
@@ -20,101 +23,151 @@ use Rattle.session.specs.Session.{is_running}
 use Rattle.gateway.specs.Steps.{Keeps, Mirrors, LearnsReport}
 use Rattle.gateway.specs.Works.{is_command_by, is_command_report, IsPassedOn}
 
-objects_map : (ps : List (ArrayVec ℕ)) → flat_map objects (octets_of ps) ≡ flat_map (λ p. monitor_objects_of tcp p.items) ps
+objects_map : (ps : List (ArrayVec ℕ)) → flat_map objects (octets_of ps)
+    ≡ flat_map (λ p. monitor_objects_of tcp p.items) ps
 objects_map [] = refl
 objects_map (p ∷ ps) = ap (λ xs. monitor_objects_of tcp p.items ++ xs) (objects_map ps)
 
 some : (n : ℕ) → 1 ≤ n → not (n == 0) ≡ true
 some n h = grind (arith, Rattle.std.proofs.lemmas.Bool.Decides.nat_tests)
 
-pub whole_map : (ps : List (ArrayVec ℕ)) → AllByRecursion (λ p. 1 ≤ length (monitor_objects_of tcp p.items)) ps → list_all has_objects (octets_of ps) ≡ true
+pub whole_map : (ps : List (ArrayVec ℕ)) → AllByRecursion (λ p. 1 ≤ length (monitor_objects_of tcp p.items)) ps
+    → list_all has_objects (octets_of ps) ≡ true
 whole_map [] h = refl
-whole_map (p ∷ ps) h = ap (λ b. b && list_all has_objects (octets_of ps)) (some (length (objects p.items)) h.0) ∙ whole_map ps h.1
+whole_map (p ∷ ps) h = ap (λ b. b && list_all has_objects (octets_of ps)) (some (length (objects p.items)) h.0)
+    ∙ whole_map ps h.1
 
 length_map : (ps : List (ArrayVec ℕ)) → length (octets_of ps) ≡ length ps
 length_map [] = refl
 length_map (p ∷ ps) = omega (arith, length_map ps)
 
-parts_some : (sizes : Sizes) (report : List ℕ) → 1 ≤ length (monitor_objects sizes report) → parts_of sizes report ≡ parts sizes report
-parts_some sizes report h = ap (λ b. if b then 0 else parts sizes report) (none (length (monitor_objects sizes report)) h)
+parts_some : (sizes : Sizes) (report : List ℕ) → 1 ≤ length (monitor_objects sizes report)
+    → parts_of sizes report ≡ parts sizes report
+parts_some sizes report h = ap (λ b. if b then 0 else parts sizes report)
+    (none (length (monitor_objects sizes report)) h)
   where
     none : (n : ℕ) → 1 ≤ n → (n == 0) ≡ false
     none n h = grind (arith, Rattle.std.proofs.lemmas.Bool.Decides.nat_tests)
 
 -- a report that is passed on
-pub keeps_report : (s t : State) (report octets : List ℕ) (sizes : Sizes) (ps : List (ArrayVec ℕ)) → sizes ≡ s.sizes → octets ≡ report → flat_map (λ p. monitor_objects_of tcp p.items) ps ≡ monitor_objects_of sizes octets → AllByRecursion (λ p. 1 ≤ length (monitor_objects_of tcp p.items)) ps →
-    length ps ≡ parts sizes octets → 1 ≤ length (monitor_objects_of sizes octets) → counted s.sizes report s.serial.counts ≡ s.serial.counts → t ≡ with_centre (pushed (octets_of ps) s.centre) s → Keeps s report t
+pub keeps_report : (s t : State) (report octets : List ℕ) (sizes : Sizes) (ps : List (ArrayVec ℕ)) → sizes ≡ s.sizes
+    → octets ≡ report → flat_map (λ p. monitor_objects_of tcp p.items) ps ≡ monitor_objects_of sizes octets
+    → AllByRecursion (λ p. 1 ≤ length (monitor_objects_of tcp p.items)) ps →
+    length ps ≡ parts sizes octets → 1 ≤ length (monitor_objects_of sizes octets)
+    → counted s.sizes report s.serial.counts ≡ s.serial.counts → t ≡ with_centre (pushed (octets_of ps) s.centre) s
+    → Keeps s report t
 keeps_report s t report octets sizes ps same is joined each number passed counts after = record {
   pieces = octets_of ps;
-  objects_are = objects_map ps ∙ joined ∙ ap (λ z. monitor_objects z octets) same ∙ ap (λ x. monitor_objects s.sizes x) is;
+  objects_are = objects_map ps ∙ joined ∙ ap (λ z. monitor_objects z octets) same
+      ∙ ap (λ x. monitor_objects s.sizes x) is;
   whole = whole_map ps each;
-  number = length_map ps ∙ number ∙ sym (parts_some sizes octets passed) ∙ ap (λ z. parts_of z octets) same ∙ ap (λ x. parts_of s.sizes x) is;
-  after = after ∙ ap (λ (c : Tally). let made : State = record s { serial = record s.serial { counts = c }; centre = pushed (octets_of ps) s.centre } in made) (sym counts);
+  number = length_map ps ∙ number ∙ sym (parts_some sizes octets passed) ∙ ap (λ z. parts_of z octets) same
+      ∙ ap (λ x. parts_of s.sizes x) is;
+  after = after ∙ ap
+      (λ (c : Tally).
+      let made : State = record s {
+        serial = record s.serial { counts = c };
+        centre =
+            pushed (octets_of ps) s.centre;
+      } in made) (sym counts);
 }
 
 -- one that isn't
-pub keeps_none : (s t : State) (report octets : List ℕ) (sizes : Sizes) → sizes ≡ s.sizes → octets ≡ report → monitor_objects_of sizes octets ≡ [] → t ≡ with_serial (reported s.sizes report s.serial) s → Keeps s report t
+pub keeps_none : (s t : State) (report octets : List ℕ) (sizes : Sizes) → sizes ≡ s.sizes → octets ≡ report
+    → monitor_objects_of sizes octets ≡ [] → t ≡ with_serial (reported s.sizes report s.serial) s → Keeps s report t
 keeps_none s t report octets sizes same is none after =
-    let nothing : monitor_objects s.sizes report ≡ [] = sym (ap (λ z. monitor_objects z octets) same ∙ ap (λ x. monitor_objects s.sizes x) is) ∙ none in
+    let nothing : monitor_objects s.sizes report ≡ [] =
+    sym (ap (λ z. monitor_objects z octets) same ∙ ap (λ x. monitor_objects s.sizes x) is) ∙ none in
     record {
       pieces = [];
       objects_are = sym nothing;
       whole = refl;
       number = sym (ap (λ (os : List InformationObject). if length os == 0 then 0 else parts s.sizes report) nothing);
-      after = after ∙ ap (λ (u : List (List ℕ)). let made : State = record s { serial = reported s.sizes report s.serial; centre = record s.centre { queue = record { sent = s.centre.queue.sent; unsent = u; places = s.centre.queue.places } } } in made) (sym (append-nil s.centre.queue.unsent));
+      after = after ∙ ap
+          (λ (u : List (List ℕ)).
+          let made : State = record s {
+            serial = reported s.sizes report s.serial;
+            centre =
+                record s.centre {
+                  queue = record {
+                    sent = s.centre.queue.sent;
+                    unsent = u;
+                    places =
+                        s.centre.queue.places;
+                  };
+                };
+          } in made) (sym (append-nil s.centre.queue.unsent));
     }
 
 -- How a report is counted: by its type and cause, where it is read.
 
-read_counts : (infos : List Info) (u : AsduValue) (c : Tally) → u.infos ≡ infos → 1 ≤ length infos → counted_by (value_objects u) c ≡ (if is_answer_type u.kind then c else (if is_passed_on u.kind u.cause then c else one_skipped c))
+read_counts : (infos : List Info) (u : AsduValue) (c : Tally) → u.infos ≡ infos → 1 ≤ length infos
+    → counted_by (value_objects u) c
+    ≡ (if is_answer_type u.kind then c else (if is_passed_on u.kind u.cause then c else one_skipped c))
 read_counts [] u c is some = absurd (omega (arith, some))
 read_counts (i ∷ infos) u c is some = ap (λ is. counted_by (map (object_in u) is) c) is
 
 -- in the sizes and octets as the gateway has them
-pub counted_as : (s : State) (report octets : List ℕ) (sizes : Sizes) (u : AsduValue) → sizes ≡ s.sizes → octets ≡ report → objects_of s.sizes report ≡ value_objects u → 1 ≤ length u.infos →
-    counted s.sizes report s.serial.counts ≡ (if is_answer_type u.kind then s.serial.counts else (if is_passed_on u.kind u.cause then s.serial.counts else one_skipped s.serial.counts))
-counted_as s report octets sizes u same is objects some = ap (λ os. counted_by os s.serial.counts) objects ∙ read_counts u.infos u s.serial.counts refl some
+pub counted_as : (s : State) (report octets : List ℕ) (sizes : Sizes) (u : AsduValue) → sizes ≡ s.sizes
+    → octets ≡ report → objects_of s.sizes report ≡ value_objects u → 1 ≤ length u.infos →
+    counted s.sizes report s.serial.counts
+    ≡ (if is_answer_type u.kind then s.serial.counts else
+    (if is_passed_on u.kind u.cause then s.serial.counts else one_skipped s.serial.counts))
+counted_as s report octets sizes u same is objects some = ap (λ os. counted_by os s.serial.counts) objects
+    ∙ read_counts u.infos u s.serial.counts refl some
 
-pub passed_counts : (answer passed : Bool) (c : Tally) → passed ≡ true → (if answer then c else (if passed then c else one_skipped c)) ≡ c
+pub passed_counts : (answer passed : Bool) (c : Tally) → passed ≡ true
+    → (if answer then c else (if passed then c else one_skipped c)) ≡ c
 passed_counts true passed c on = refl
 passed_counts false passed c on = ap (λ b. if b then c else one_skipped c) on
 
-pub skipped_counts : (answer passed : Bool) (c : Tally) → answer ≡ false → passed ≡ false → (if answer then c else (if passed then c else one_skipped c)) ≡ one_skipped c
-skipped_counts answer passed c on off = ap (λ b. if b then c else (if passed then c else one_skipped c)) on ∙ ap (λ b. if b then c else one_skipped c) off
+pub skipped_counts : (answer passed : Bool) (c : Tally) → answer ≡ false → passed ≡ false
+    → (if answer then c else (if passed then c else one_skipped c)) ≡ one_skipped c
+skipped_counts answer passed c on off = ap (λ b. if b then c else (if passed then c else one_skipped c)) on
+    ∙ ap (λ b. if b then c else one_skipped c) off
 
 -- Whether a report is an answer to a command
 
-read_command : (infos : List Info) (u : AsduValue) → u.infos ≡ infos → 1 ≤ length infos → is_command_by (value_objects u) ≡ is_answer_type u.kind
+read_command : (infos : List Info) (u : AsduValue) → u.infos ≡ infos → 1 ≤ length infos
+    → is_command_by (value_objects u) ≡ is_answer_type u.kind
 read_command [] u is some = absurd (omega (arith, some))
 read_command (i ∷ infos) u is some = ap (λ is. is_command_by (map (object_in u) is)) is
 
-pub command_as : (sizes : Sizes) (report : List ℕ) (u : AsduValue) → objects_of sizes report ≡ value_objects u → 1 ≤ length u.infos → is_command_report sizes report ≡ is_answer_type u.kind
+pub command_as : (sizes : Sizes) (report : List ℕ) (u : AsduValue) → objects_of sizes report ≡ value_objects u
+    → 1 ≤ length u.infos → is_command_report sizes report ≡ is_answer_type u.kind
 command_as sizes report u objects some = ap is_command_by objects ∙ read_command u.infos u refl some
 
-pub passed_monitor : (monitor tagged passed a b : Bool) → (monitor && a && b) ≡ passed → passed ≡ true → (not monitor && not tagged) ≡ false
+pub passed_monitor : (monitor tagged passed a b : Bool) → (monitor && a && b) ≡ passed → passed ≡ true
+    → (not monitor && not tagged) ≡ false
 passed_monitor true tagged passed a b is on = refl
 passed_monitor false tagged passed a b is on = let no : false ≡ true = is ∙ on in cc
 
-pub learns_kept : (of_command : Bool) (s t : State) (report : List ℕ) (fits : Bool) → of_command ≡ false → Keeps s report t → fits ≡ true → LearnsReport of_command s report fits t
+pub learns_kept : (of_command : Bool) (s t : State) (report : List ℕ) (fits : Bool) → of_command ≡ false
+    → Keeps s report t → fits ≡ true → LearnsReport of_command s report fits t
 learns_kept false s t report fits is kept all = (kept, all)
 learns_kept true s t report fits is kept all = cc
 
 -- The pieces of a report of a command type
 
-pieces_map : (v : AsduValue) (ps : List (ArrayVec ℕ)) → AllByRecursion (λ p. IsPiece v p.items) ps → AllByRecursion (λ piece. IsPiece v piece) (octets_of ps)
+pieces_map : (v : AsduValue) (ps : List (ArrayVec ℕ)) → AllByRecursion (λ p. IsPiece v p.items) ps
+    → AllByRecursion (λ piece. IsPiece v piece) (octets_of ps)
 pieces_map v [] h = h
 pieces_map v (p ∷ ps) h = (h.0, pieces_map v ps h.1)
 
-joined_map : (ps : List (ArrayVec ℕ)) → flat_map (λ piece. objects_of tcp piece) (octets_of ps) ≡ flat_map (λ p. objects_of tcp p.items) ps
+joined_map : (ps : List (ArrayVec ℕ)) → flat_map (λ piece. objects_of tcp piece) (octets_of ps)
+    ≡ flat_map (λ p. objects_of tcp p.items) ps
 joined_map [] = refl
 joined_map (p ∷ ps) = ap (λ xs. objects_of tcp p.items ++ xs) (joined_map ps)
 
-full_map : (v : AsduValue) (ps : List (ArrayVec ℕ)) → AllButLast (λ p. IsFull v p.items) ps → AllButLast (λ piece. IsFull v piece) (octets_of ps)
+full_map : (v : AsduValue) (ps : List (ArrayVec ℕ)) → AllButLast (λ p. IsFull v p.items) ps
+    → AllButLast (λ piece. IsFull v piece) (octets_of ps)
 full_map v [] h = tt
 full_map v (p ∷ []) h = tt
 full_map v (p ∷ q ∷ ps) h = (h.0, full_map v (q ∷ ps) h.1)
 
-pub passed_on : (sizes : Sizes) (v : AsduValue) (report : List ℕ) (ps : List (ArrayVec ℕ)) → IsAsdu sizes v report → flat_map (λ p. objects_of tcp p.items) ps ≡ objects_of sizes report → AllByRecursion (λ p. IsPiece v p.items) ps → AllButLast (λ p. IsFull v p.items) ps →
+pub passed_on : (sizes : Sizes) (v : AsduValue) (report : List ℕ) (ps : List (ArrayVec ℕ)) → IsAsdu sizes v report
+    → flat_map (λ p. objects_of tcp p.items) ps ≡ objects_of sizes report → AllByRecursion (λ p. IsPiece v p.items) ps
+    → AllButLast (λ p. IsFull v p.items) ps →
     length ps ≡ parts sizes report → IsPassedOn sizes v report (octets_of ps)
 passed_on sizes v report ps found joined each full number = record {
   value = found;
@@ -134,26 +187,39 @@ rest_none : (xs ys : List InformationObject) → xs ++ ys ≡ [] → ys ≡ []
 rest_none [] ys none = none
 rest_none (x ∷ xs) ys none = cc
 
-plain_map : (ps : List (ArrayVec ℕ)) → flat_map (λ p. monitor_objects_of tcp p.items) ps ≡ [] → AllByRecursion (λ piece. has_objects piece ≡ false) (octets_of ps)
+plain_map : (ps : List (ArrayVec ℕ)) → flat_map (λ p. monitor_objects_of tcp p.items) ps ≡ []
+    → AllByRecursion (λ piece. has_objects piece ≡ false) (octets_of ps)
 plain_map [] none = tt
 plain_map (p ∷ ps) none =
-    let others : List InformationObject = flat_map (λ p. monitor_objects_of tcp p.items) ps in
-    (ap (λ (os : List InformationObject). not (length os == 0)) (first_none (objects p.items) others none), plain_map ps (rest_none (objects p.items) others none))
+    let others : List InformationObject = flat_map (λ p. monitor_objects_of tcp p.items) ps in (
+      ap (λ (os : List InformationObject). not (length os == 0)) (first_none (objects p.items) others none),
+      plain_map ps (rest_none (objects p.items) others none),
+    )
 
-pub mirrors : (s t : Serial) (at : ℕ) (runs : Bool) (sizes : Sizes) (v : AsduValue) (report : List ℕ) (ps : List (ArrayVec ℕ)) (fits : Bool) → IsPassedOn sizes v report (octets_of ps) → flat_map (λ p. monitor_objects_of tcp p.items) ps ≡ monitor_objects_of sizes report → monitor_objects_of sizes report ≡ [] →
-    t ≡ mirrored at runs v (octets_of ps) s → fits ≡ mirror_fits at runs v (octets_of ps) s → Mirrors sizes at runs s report fits t
-mirrors s t at runs sizes v report ps fits passed monitored none after all = record {
+pub mirrors : (s t : Serial) (at : ℕ) (runs : Bool) (sizes : Sizes) (v : AsduValue) (report : List ℕ)
+    (ps : List (ArrayVec ℕ)) (pieces : List (List ℕ)) (fits : Bool) → MonitorLaw
+    → IsPassedOn sizes v report (octets_of ps) → AreTagged (tag_for v v.infos s.commands) (octets_of ps) pieces →
+    flat_map (λ p. monitor_objects_of tcp p.items) ps ≡ monitor_objects_of sizes report
+    → monitor_objects_of sizes report ≡ [] → t ≡ mirrored at runs v pieces s
+    → fits ≡ mirror_fits at runs v pieces s → Mirrors sizes at runs s report fits t
+mirrors s t at runs sizes v report ps pieces fits law passed tagged monitored none after all = record {
   v = v;
-  pieces = octets_of ps;
+  plain = octets_of ps;
+  pieces = pieces;
   passed = passed;
+  tagged = tagged;
   none = none;
-  plain = plain_map ps (monitored ∙ none);
+  unmonitored = tagged_unmonitored law (tag_for v v.infos s.commands) (octets_of ps) pieces tagged
+      (plain_map ps (monitored ∙ none));
   after = after;
   all = all;
 }
 
 -- the same of the whole gateway, in its own sizes
-pub learns_mirrored : (s t : State) (runs : Bool) (sizes : Sizes) (report octets : List ℕ) (fits : Bool) → is_command_report s.sizes report ≡ true → sizes ≡ s.sizes → octets ≡ report → runs ≡ is_running s.centre.session → Mirrors sizes s.moment runs s.serial octets fits t.serial → t ≡ with_serial t.serial s → LearnsReport (is_command_report s.sizes report) s report fits t
+pub learns_mirrored : (s t : State) (runs : Bool) (sizes : Sizes) (report octets : List ℕ) (fits : Bool)
+    → is_command_report s.sizes report ≡ true → sizes ≡ s.sizes → octets ≡ report → runs ≡ is_running s.centre.session
+    → Mirrors sizes s.moment runs s.serial octets fits t.serial → t ≡ with_serial t.serial s
+    → LearnsReport (is_command_report s.sizes report) s report fits t
 learns_mirrored s t runs sizes report octets fits of same is running m only =
     subst (λ b. LearnsReport b s report fits t) (sym of) (
       subst (λ z. Mirrors z s.moment (is_running s.centre.session) s.serial report fits t.serial) same

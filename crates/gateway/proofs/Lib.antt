@@ -11,12 +11,18 @@ pub mod Offering
 pub mod Serving
 pub mod Talking
 pub mod Agreement
+pub mod Hearing
+pub mod Closing
 pub mod Stations
+pub mod Learning
 pub mod Come
+pub mod Connecting
 pub mod Put
 pub mod Judgements
 pub mod Events
 pub mod Sound
+pub mod Tagged
+pub mod Taken
 pub mod Kept
 pub mod Stored
 pub mod Unique
@@ -25,4 +31,6 @@ pub mod OneCourse
 pub mod OneCause
 pub mod Checks
 pub mod Accounting
+pub mod Tallies
 pub mod Order
+pub mod Moments

@@ -14,17 +14,31 @@ use Rattle.gateway.specs.Agrees.{Carries, Tied, pieces_of}
 use Rattle.gateway.proofs.Pieces.{objects-pieces_of, all-pieces_of}
 
 -- a run stays one as more is taken
-run_grows : (run objs more : List InformationObject) (start : ℕ) → run ≡ take (length run) (drop start objs) → run ≡ take (length run) (drop start (objs ++ more))
+run_grows : (run objs more : List InformationObject) (start : ℕ) → run ≡ take (length run) (drop start objs)
+    → run ≡ take (length run) (drop start (objs ++ more))
 run_grows run objs more start h =
-    let within : length run ≤ length objs - start = omega (arith, ap length h, length-take (length run) (drop start objs), length-drop start objs) in
+    let within : length run ≤ length objs - start = omega (
+      arith,
+      ap length h,
+      length-take (length run) (drop start objs),
+      length-drop start objs,
+    ) in
     elim (cases_lt (length objs) start) [
       | inl past ↦ (let none : run ≡ [] = nil_from_length run (omega arith) in rw none refl)
-      | inr le ↦ h ∙ sym (ap (take (length run)) (drop-append-le start objs more le) ∙ take-append-le (length run) (drop start objs) more (omega (arith, length-drop start objs)))
+      | inr le ↦ h ∙ sym (ap (take (length run)) (drop-append-le start objs more le)
+          ∙ take-append-le (length run) (drop start objs) more (omega (arith, length-drop start objs)))
     ]
 
-pub orders_grow : (objs more : List InformationObject) (cs : List Connection) → AreInOrder objs cs → AreInOrder (objs ++ more) cs
+pub orders_grow : (objs more : List InformationObject) (cs : List Connection) → AreInOrder objs cs
+    → AreInOrder (objs ++ more) cs
 orders_grow objs more [] h = tt
-orders_grow objs more (c ∷ before) h = (record { run = run_grows (objects_of_frames c.sent_frames) objs more (first_unacknowledged before) h.0.run; numbered = h.0.numbered }, orders_grow objs more before h.1)
+orders_grow objs more (c ∷ before) h = (
+  record {
+    run = run_grows (objects_of_frames c.sent_frames) objs more (first_unacknowledged before) h.0.run;
+    numbered = h.0.numbered;
+  },
+  orders_grow objs more before h.1,
+)
 
 -- How many frames have objects
 
@@ -34,9 +48,11 @@ reports_by f n m false = refl
 
 reports_among-append : (xs ys : List Sent) → reports_among (xs ++ ys) ≡ reports_among xs + reports_among ys
 reports_among-append [] ys = omega arith
-reports_among-append (x ∷ xs) ys = ap (λ n. cond (has_objects x.asdu) (suc n) n) (reports_among-append xs ys) ∙ reports_by x (reports_among xs) (reports_among ys) (has_objects x.asdu)
+reports_among-append (x ∷ xs) ys = ap (λ n. cond (has_objects x.asdu) (suc n) n) (reports_among-append xs ys)
+    ∙ reports_by x (reports_among xs) (reports_among ys) (has_objects x.asdu)
 
-length_by : (f : Sent) (rest : List (List ℕ)) (n : ℕ) (b : Bool) → length rest ≡ n → length (cond b (f.asdu ∷ rest) rest) ≡ cond b (suc n) n
+length_by : (f : Sent) (rest : List (List ℕ)) (n : ℕ) (b : Bool) → length rest ≡ n
+    → length (cond b (f.asdu ∷ rest) rest) ≡ cond b (suc n) n
 length_by f rest n true h = omega (arith, h)
 length_by f rest n false h = h
 
@@ -49,26 +65,34 @@ one_report f has = ap (λ b. cond b 1 0) has
 
 -- What is carried
 
-pub carries_more : (objs new : List InformationObject) (parts : ℕ) (earlier : List Connection) (sent : List Sent) (unsent more : List (List ℕ)) → flat_map objects more ≡ new → list_all has_objects more ≡ true → Carries objs parts earlier sent unsent →
+pub carries_more : (objs new : List InformationObject) (parts : ℕ) (earlier : List Connection) (sent : List Sent)
+    (unsent more : List (List ℕ)) → flat_map objects more ≡ new → list_all has_objects more ≡ true
+    → Carries objs parts earlier sent unsent →
     Carries (objs ++ new) (parts + length more) earlier sent (unsent ++ more)
-carries_more objs new parts earlier sent unsent more e whole h = subst (λ xs. Carries (objs ++ xs) (parts + length more) earlier sent (unsent ++ more)) e (record {
-  whole = list_all-append has_objects unsent more ∙ and_from _ _ h.whole whole;
-  gone = h.gone;
-  front = h.front;
-  joined =
-      let said : List InformationObject = objects_of_frames sent in
-      let left : List InformationObject = flat_map objects unsent in
-      let added : List InformationObject = flat_map objects more in
-      ap (λ xs. xs ++ added) h.joined ∙ append_assoc h.gone (said ++ left) added
-      ∙ ap (λ xs. h.gone ++ xs) (append_assoc said left added ∙ ap (λ xs. said ++ xs) (sym (flat_map-append objects unsent more)));
-  count = omega (arith, h.count, length-append unsent more);
-})
+carries_more objs new parts earlier sent unsent more e whole h =
+    subst (λ xs. Carries (objs ++ xs) (parts + length more) earlier sent (unsent ++ more)) e (record {
+      whole = list_all-append has_objects unsent more ∙ and_from _ _ h.whole whole;
+      gone = h.gone;
+      front = h.front;
+      joined =
+          let said : List InformationObject = objects_of_frames sent in
+          let left : List InformationObject = flat_map objects unsent in
+          let added : List InformationObject = flat_map objects more in
+          ap (λ xs. xs ++ added) h.joined ∙ append_assoc h.gone (said ++ left) added
+          ∙ ap (λ xs. h.gone ++ xs) (append_assoc said left added
+          ∙ ap (λ xs. said ++ xs) (sym (flat_map-append objects unsent more)));
+      count = omega (arith, h.count, length-append unsent more);
+    })
 
 -- the frame that carries the oldest unsent piece
-pub carries_piece : (objs : List InformationObject) (parts : ℕ) (earlier : List Connection) (sent : List Sent) (unsent rest : List (List ℕ)) (f : Sent) → unsent ≡ f.asdu ∷ rest → has_objects f.asdu ≡ true → Carries objs parts earlier sent unsent →
+pub carries_piece : (objs : List InformationObject) (parts : ℕ) (earlier : List Connection) (sent : List Sent)
+    (unsent rest : List (List ℕ)) (f : Sent) → unsent ≡ f.asdu ∷ rest → has_objects f.asdu ≡ true
+    → Carries objs parts earlier sent unsent →
     Carries objs parts earlier (sent ++ f ∷ []) (drop 1 unsent)
 carries_piece objs parts earlier sent unsent rest f e has h = record {
-  whole = subst (λ u. list_all has_objects (drop 1 u) ≡ true) (sym e) (and_parts (has_objects f.asdu) (list_all has_objects rest) (subst (λ u. list_all has_objects u ≡ true) e h.whole)).1;
+  whole = subst (λ u. list_all has_objects (drop 1 u) ≡ true) (sym e)
+      (and_parts (has_objects f.asdu) (list_all has_objects rest)
+      (subst (λ u. list_all has_objects u ≡ true) e h.whole)).1;
   gone = h.gone;
   front = h.front;
   joined = h.joined ∙ ap (λ xs. h.gone ++ xs)
@@ -84,14 +108,19 @@ carries_piece objs parts earlier sent unsent rest f e has h = record {
 }
 
 -- its objects are the next of those taken
-pub next_objects : (objs : List InformationObject) (parts : ℕ) (earlier : List Connection) (sent : List Sent) (unsent rest : List (List ℕ)) (asdu : List ℕ) → unsent ≡ asdu ∷ rest → Carries objs parts earlier sent unsent →
-    objects asdu ≡ take (length (objects asdu)) (drop (first_unacknowledged earlier + length (objects_of_frames sent)) objs)
+pub next_objects : (objs : List InformationObject) (parts : ℕ) (earlier : List Connection) (sent : List Sent)
+    (unsent rest : List (List ℕ)) (asdu : List ℕ) → unsent ≡ asdu ∷ rest → Carries objs parts earlier sent unsent →
+    objects asdu ≡ take (length (objects asdu)) (drop (first_unacknowledged earlier + length (objects_of_frames sent))
+    objs)
 next_objects objs parts earlier sent unsent rest asdu e h =
     let said : List InformationObject = objects_of_frames sent in
     let n : ℕ = first_unacknowledged earlier + length said in
-    let is : objs ≡ (h.gone ++ said) ++ (objects asdu ++ flat_map objects rest) = h.joined ∙ ap (λ u. h.gone ++ (said ++ flat_map objects u)) e ∙ sym (append_assoc h.gone said (objects asdu ++ flat_map objects rest)) in
+    let is : objs ≡ (h.gone ++ said) ++ (objects asdu ++ flat_map objects rest) = h.joined
+    ∙ ap (λ u. h.gone ++ (said ++ flat_map objects u)) e
+    ∙ sym (append_assoc h.gone said (objects asdu ++ flat_map objects rest)) in
     sym (ap (λ xs. take (length (objects asdu)) (drop n xs)) is
-    ∙ ap (take (length (objects asdu))) (drop_at (h.gone ++ said) (objects asdu ++ flat_map objects rest) n (omega (arith, length-append h.gone said, h.front)))
+    ∙ ap (take (length (objects asdu))) (drop_at (h.gone ++ said) (objects asdu ++ flat_map objects rest) n
+    (omega (arith, length-append h.gone said, h.front)))
     ∙ take_at (objects asdu) (flat_map objects rest) (length (objects asdu)) refl)
 
 -- the frame of an own answer
@@ -101,38 +130,53 @@ no_objects asdu h = nil_from_length (objects asdu) (zero_length (length (objects
     zero_length : (n : ℕ) → not (n == 0) ≡ false → n ≡ 0
     zero_length n h = grind (arith, nat_tests)
 
-pub carries_own : (objs : List InformationObject) (parts : ℕ) (earlier : List Connection) (sent : List Sent) (unsent : List (List ℕ)) (f : Sent) → has_objects f.asdu ≡ false → Carries objs parts earlier sent unsent → Carries objs parts earlier (sent ++ f ∷ []) unsent
+pub carries_own : (objs : List InformationObject) (parts : ℕ) (earlier : List Connection) (sent : List Sent)
+    (unsent : List (List ℕ)) (f : Sent) → has_objects f.asdu ≡ false → Carries objs parts earlier sent unsent
+    → Carries objs parts earlier (sent ++ f ∷ []) unsent
 carries_own objs parts earlier sent unsent f none h = record {
   whole = h.whole;
   gone = h.gone;
   front = h.front;
   joined = h.joined ∙ ap (λ xs. h.gone ++ (xs ++ flat_map objects unsent))
-      (sym (flat_map-append (λ (f : Sent). objects f.asdu) sent (f ∷ []) ∙ ap (λ os. objects_of_frames sent ++ (os ++ [])) (no_objects f.asdu none) ∙ append-nil (objects_of_frames sent)));
+      (sym (flat_map-append (λ (f : Sent). objects f.asdu) sent (f ∷ [])
+      ∙ ap (λ os. objects_of_frames sent ++ (os ++ [])) (no_objects f.asdu none)
+      ∙ append-nil (objects_of_frames sent)));
   count = omega (arith, h.count, reports_among-append sent (f ∷ []), none_reported);
 }
   where
     none_reported : reports_among (f ∷ []) ≡ 0
     none_reported = ap {B = ℕ} (λ b. cond b 1 0) none
 
-pub first_whole : (objs : List InformationObject) (parts : ℕ) (earlier : List Connection) (sent : List Sent) (unsent rest : List (List ℕ)) (asdu : List ℕ) → unsent ≡ asdu ∷ rest → Carries objs parts earlier sent unsent → has_objects asdu ≡ true
-first_whole objs parts earlier sent unsent rest asdu e h = (and_parts (has_objects asdu) (list_all has_objects rest) (subst (λ u. list_all has_objects u ≡ true) e h.whole)).0
+pub first_whole : (objs : List InformationObject) (parts : ℕ) (earlier : List Connection) (sent : List Sent)
+    (unsent rest : List (List ℕ)) (asdu : List ℕ) → unsent ≡ asdu ∷ rest → Carries objs parts earlier sent unsent
+    → has_objects asdu ≡ true
+first_whole objs parts earlier sent unsent rest asdu e h =
+    (and_parts (has_objects asdu) (list_all has_objects rest) (subst (λ u. list_all has_objects u ≡ true) e h.whole)).0
 
 -- the sent objects: those of the acknowledged frames, and those that the queue keeps as sent
-split_objects : (c : Connection) (s : Session) (pieces : List (List ℕ)) → Tied c s pieces → objects_of_frames c.sent_frames ≡ objects_of_frames (acknowledged_frames c) ++ flat_map objects pieces
+split_objects : (c : Connection) (s : Session) (pieces : List (List ℕ)) → Tied c s pieces
+    → objects_of_frames c.sent_frames ≡ objects_of_frames (acknowledged_frames c) ++ flat_map objects pieces
 split_objects c s pieces h =
     let n : ℕ = acknowledged_count c.received_frames in
-    ap objects_of_frames (sym (take-append-drop n c.sent_frames)) ∙ flat_map-append (λ (f : Sent). objects f.asdu) (take n c.sent_frames) (drop n c.sent_frames)
-    ∙ ap (λ xs. objects_of_frames (take n c.sent_frames) ++ xs) (sym (objects-pieces_of (drop n c.sent_frames)) ∙ ap (flat_map objects) (sym h.unconfirmed.pieces_are))
+    ap objects_of_frames (sym (take-append-drop n c.sent_frames))
+    ∙ flat_map-append (λ (f : Sent). objects f.asdu) (take n c.sent_frames) (drop n c.sent_frames)
+    ∙ ap (λ xs. objects_of_frames (take n c.sent_frames) ++ xs) (sym (objects-pieces_of (drop n c.sent_frames))
+    ∙ ap (flat_map objects) (sym h.unconfirmed.pieces_are))
 
 -- and so with the frames
-pub split_reports : (c : Connection) (s : Session) (pieces : List (List ℕ)) → Tied c s pieces → reports_among c.sent_frames ≡ reports_among (acknowledged_frames c) + length pieces
+pub split_reports : (c : Connection) (s : Session) (pieces : List (List ℕ)) → Tied c s pieces
+    → reports_among c.sent_frames ≡ reports_among (acknowledged_frames c) + length pieces
 split_reports c s pieces h =
     let n : ℕ = acknowledged_count c.received_frames in
-    ap reports_among (sym (take-append-drop n c.sent_frames)) ∙ reports_among-append (take n c.sent_frames) (drop n c.sent_frames)
-    ∙ ap (λ k. reports_among (take n c.sent_frames) + k) (sym (length-pieces_of (drop n c.sent_frames)) ∙ ap length (sym h.unconfirmed.pieces_are))
+    ap reports_among (sym (take-append-drop n c.sent_frames))
+    ∙ reports_among-append (take n c.sent_frames) (drop n c.sent_frames)
+    ∙ ap (λ k. reports_among (take n c.sent_frames) + k) (sym (length-pieces_of (drop n c.sent_frames))
+    ∙ ap length (sym h.unconfirmed.pieces_are))
 
 -- what the open connection sent is a run
-pub run_now : (objs : List InformationObject) (parts : ℕ) (earlier : List Connection) (sent : List Sent) (unsent : List (List ℕ)) → Carries objs parts earlier sent unsent → objects_of_frames sent ≡ take (length (objects_of_frames sent)) (drop (first_unacknowledged earlier) objs)
+pub run_now : (objs : List InformationObject) (parts : ℕ) (earlier : List Connection) (sent : List Sent)
+    (unsent : List (List ℕ)) → Carries objs parts earlier sent unsent
+    → objects_of_frames sent ≡ take (length (objects_of_frames sent)) (drop (first_unacknowledged earlier) objs)
 run_now objs parts earlier sent unsent h =
     let said : List InformationObject = objects_of_frames sent in
     sym (ap (λ xs. take (length said) (drop (first_unacknowledged earlier) xs)) h.joined
@@ -140,12 +184,16 @@ run_now objs parts earlier sent unsent h =
     ∙ take_at said (flat_map objects unsent) (length said) refl)
 
 -- the connection ends
-pub carries_end : (objs : List InformationObject) (parts : ℕ) (earlier : List Connection) (c : Connection) (s : Session) (pieces unsent : List (List ℕ)) → Tied c s pieces → Carries objs parts earlier c.sent_frames unsent → Carries objs parts (c ∷ earlier) [] (pieces ++ unsent)
+pub carries_end : (objs : List InformationObject) (parts : ℕ) (earlier : List Connection) (c : Connection)
+    (s : Session) (pieces unsent : List (List ℕ)) → Tied c s pieces → Carries objs parts earlier c.sent_frames unsent
+    → Carries objs parts (c ∷ earlier) [] (pieces ++ unsent)
 carries_end objs parts earlier c s pieces unsent tied h =
     let n : ℕ = acknowledged_count c.received_frames in
     let gone : List InformationObject = objects_of_frames (take n c.sent_frames) in
     record {
-      whole = list_all-append has_objects pieces unsent ∙ and_from _ _ (ap (list_all has_objects) tied.unconfirmed.pieces_are ∙ all-pieces_of (drop n c.sent_frames)) h.whole;
+      whole = list_all-append has_objects pieces unsent
+          ∙ and_from _ _ (ap (list_all has_objects) tied.unconfirmed.pieces_are
+          ∙ all-pieces_of (drop n c.sent_frames)) h.whole;
       gone = h.gone ++ gone;
       front = omega (arith, length-append h.gone gone, h.front);
       joined = h.joined ∙ ap (λ xs. h.gone ++ (xs ++ flat_map objects unsent)) (split_objects c s pieces tied)

@@ -1,5 +1,6 @@
--- The order of actions within a step. After a request none is due in the step. After a close for the causes 1 to 6 no connection is
--- open. After the close of a connection that was replaced the new one has only just been opened, so that nothing is due on it.
+-- The order of actions within a step. After a request none is due in the step. After a close for the causes 1
+-- to 6 no connection is open. After the close of a connection that was replaced the new one has only just
+-- been opened, so that nothing is due on it.
 use Rattle.std.proofs.Common.{◌≡◌, ℕ, ◌<◌, ◌-◌, ◌||◌, nat_le, Bool, true, false, List, [], ◌∷◌, ◌++◌, Option, Some, None, refl, sym, ap, subst, ◌∙◌, arith, inl, inr}
 use Rattle.std.specs.Prelude.{◌⊎◌, if◌then◌else◌}
 use Rattle.std.specs.List.{list_any}
@@ -15,7 +16,7 @@ use Rattle.session.specs.Runs as session
 use Rattle.session.specs.declared.kinds.Close.{Close}
 use Rattle.session.specs.declared.kinds.Close.TheVariants.{Grammar, SendNumber, ReceiveNumber, Stopped, Timeout, OwnAnswers, Replaced}
 use Rattle.gateway.specs.Objects.{has_objects}
-use Rattle.gateway.specs.Log.{Log, LineIn, Opened, TcpIn, CutOff, Ticked, Output, LineOut, TcpOut, Closed, GapOut, Came, Went, latest}
+use Rattle.gateway.specs.Log.{Log, LineIn, Opened, TcpIn, CutOff, Ticked, WallIs, Output, LineOut, TcpOut, Closed, GapOut, Came, Went, latest}
 use Rattle.gateway.specs.Streams.{spelled, IsRefused}
 use Rattle.gateway.specs.Frames.{Connection}
 use Rattle.gateway.specs.Connections.{is_replaced, Channel, new_channel, present, BeginsWithFault, IsConnection}
@@ -30,9 +31,10 @@ use Rattle.gateway.proofs.Working.{settled_placed, put_placed}
 
 -- One request
 
-frames_due : (p : Setup) (frames : List Apdu) (at : ℕ) (c : Course) → (with_frames p frames at c).works.is_due ≡ c.works.is_due
-frames_due p [] at c = refl
-frames_due p (f ∷ fs) at c = frames_due p fs at c
+frames_due : (p : Setup) (frames : List Apdu) (at : ℕ) (wall : Option ℕ) (c : Course)
+    → (with_frames p frames at wall c).works.is_due ≡ c.works.is_due
+frames_due p [] at wall c = refl
+frames_due p (f ∷ fs) at wall c = frames_due p fs at wall c
 
 sent_due : (f : Apdu) (w : Works) → (sent_works f w).is_due ≡ w.is_due
 sent_due (I ns nr asdu) w = by_objects (has_objects asdu.items)
@@ -43,7 +45,8 @@ sent_due (I ns nr asdu) w = by_objects (has_objects asdu.items)
 sent_due (S nr) w = refl
 sent_due (U u) w = refl
 
-closed_due : (p : Setup) (cause : Close) (is_open : Bool) (at : ℕ) (c : Course) → (closed_course p cause is_open at c).works.is_due ≡ c.works.is_due
+closed_due : (p : Setup) (cause : Close) (is_open : Bool) (at : ℕ) (c : Course)
+    → (closed_course p cause is_open at c).works.is_due ≡ c.works.is_due
 closed_due p Grammar is_open at c = refl
 closed_due p SendNumber is_open at c = refl
 closed_due p ReceiveNumber is_open at c = refl
@@ -53,15 +56,19 @@ closed_due p OwnAnswers is_open at c = refl
 closed_due p Replaced is_open at c = refl
 
 -- once a request is out, the step has none that is due
-none_due : (p : Setup) (log : Log) (c : Course) → Runs p log c → list_any is_request (step_actions log) ≡ true → c.works.is_due ≡ false
+none_due : (p : Setup) (log : Log) (c : Course) → Runs p log c → list_any is_request (step_actions log) ≡ true
+    → c.works.is_due ≡ false
 none_due p [] c r h = cc
 none_due p (Came now event ∷ log) c r h = cc
 none_due p (Went now (LineOut octets) ∷ log) c r h = ap (λ (d : Course). d.works.is_due) r.2.is
-none_due p (Went now (GapOut station session) ∷ log) c r h = ap (λ (d : Course). d.works.is_due) r.2.is ∙ none_due p log r.0 r.1 h
+none_due p (Went now (GapOut station session) ∷ log) c r h = ap (λ (d : Course). d.works.is_due) r.2.is
+    ∙ none_due p log r.0 r.1 h
 none_due p (Went now (TcpOut octets) ∷ log) c r h =
-    ap (λ (d : Course). d.works.is_due) r.4.taken ∙ frames_due p r.4.frames (latest log) r.1 ∙ ap (λ (d : Course). d.works.is_due) r.3.put ∙ sent_due r.3.frame r.0.works ∙ none_due p log r.0 r.2 h
+    ap (λ (d : Course). d.works.is_due) r.4.taken ∙ frames_due p r.4.frames (latest log) _ r.1
+    ∙ ap (λ (d : Course). d.works.is_due) r.3.put ∙ sent_due r.3.frame r.0.works ∙ none_due p log r.0 r.2 h
 none_due p (Went now (Closed cause) ∷ log) c r h =
-    ap (λ (d : Course). d.works.is_due) r.2 ∙ closed_due p cause (present log).is_open (latest log) r.0 ∙ none_due p log r.0 r.1 h
+    ap (λ (d : Course). d.works.is_due) r.2 ∙ closed_due p cause (present log).is_open (latest log) r.0
+    ∙ none_due p log r.0 r.1 h
 
 -- A connection that has just been opened
 
@@ -72,13 +79,15 @@ record OnlyOpened (p : Setup) (log : Log) : Type 0 where
   said : (c : Course) → Runs p log c → c.talk ≡ talk.Opened (latest log) ∷ []
   placed : (c : Course) → Runs p log c → is_overfull c.works.history ≡ false
 
-replaced_one : (p : Setup) (log : Log) (now : ℕ) → is_replaced log ≡ true → OnlyOpened p (Went now (Closed Replaced) ∷ log)
+replaced_one : (p : Setup) (log : Log) (now : ℕ) → is_replaced log ≡ true
+    → OnlyOpened p (Went now (Closed Replaced) ∷ log)
 replaced_one p [] now h = absurd (cc)
 replaced_one p (Went moment action ∷ log) now h = absurd (cc)
 replaced_one p (Came moment (LineIn octets) ∷ log) now h = absurd (cc)
 replaced_one p (Came moment (TcpIn octets) ∷ log) now h = absurd (cc)
 replaced_one p (Came moment CutOff ∷ log) now h = absurd (cc)
 replaced_one p (Came moment Ticked ∷ log) now h = absurd (cc)
+replaced_one p (Came moment (WallIs number) ∷ log) now h = absurd (cc)
 replaced_one p (Came moment Opened ∷ log) now h = record {
   channel = refl;
   settled = refl;
@@ -86,18 +95,21 @@ replaced_one p (Came moment Opened ∷ log) now h = record {
   placed = λ c r. ap (λ (d : Course). is_overfull d.works.history) (r.2 ∙ r.1.5);
 }
 
-request_after : (p : Setup) (log : Log) (now : ℕ) (octets : List ℕ) → OnlyOpened p log → OnlyOpened p (Went now (LineOut octets) ∷ log)
+request_after : (p : Setup) (log : Log) (now : ℕ) (octets : List ℕ) → OnlyOpened p log
+    → OnlyOpened p (Went now (LineOut octets) ∷ log)
 request_after p log now octets h = record {
   channel = h.channel;
   settled = refl;
   said = λ c r. ap (λ (d : Course). d.talk) r.2.is ∙ h.said r.0 r.1;
   placed = λ c r. ap (λ (d : Course). is_overfull d.works.history) r.2.is
-      ∙ put_placed (is_first_command (ready_works (latest log) r.0.works).serial.line r.2.request) r.2.request.station (ready_works (latest log) r.0.works)
+      ∙ put_placed (is_first_command (ready_works (latest log) r.0.works).serial.line r.2.request) r.2.request.station
+      (ready_works (latest log) r.0.works)
       ∙ settled_placed (latest log) r.0.works
       ∙ h.placed r.0 r.1;
 }
 
-gap_after : (p : Setup) (log : Log) (now station session : ℕ) → OnlyOpened p log → OnlyOpened p (Went now (GapOut station session) ∷ log)
+gap_after : (p : Setup) (log : Log) (now station session : ℕ) → OnlyOpened p log
+    → OnlyOpened p (Went now (GapOut station session) ∷ log)
 gap_after p log now station session h = record {
   channel = h.channel;
   settled = refl;
@@ -122,10 +134,12 @@ no_frames (f ∷ fs) rest e =
     let last : spelling f ≡ [] = no_rest (spelled fs) (spelling f) (sym none) in
     cc
 
-none_taken : (p : Setup) (frames : List Apdu) (at : ℕ) (before after : Course) → after ≡ with_frames p frames at before → came_frames after.talk ≡ [] → after ≡ before
-none_taken p [] at b a e none = e
-none_taken p (f ∷ fs) at b a e none =
-    let some : f ∷ came_frames (with_frames p fs at b).talk ≡ [] = ap (λ (d : Course). came_frames d.talk) (sym e) ∙ none in
+none_taken : (p : Setup) (frames : List Apdu) (at : ℕ) (wall : Option ℕ) (before after : Course)
+    → after ≡ with_frames p frames at wall before → came_frames after.talk ≡ [] → after ≡ before
+none_taken p [] at wall b a e none = e
+none_taken p (f ∷ fs) at wall b a e none =
+    let some : f ∷ came_frames (with_frames p fs at wall b).talk ≡ [] = ap (λ (d : Course). came_frames d.talk) (sym e)
+    ∙ none in
     cc
 
 -- and nothing is due
@@ -134,24 +148,30 @@ idle : (w t2 t3 at : ℕ) → 0 < w → 0 < t3 → frame_due w t2 t3 at (talk.Op
 idle w t2 t3 at some long =
     let h : History = talk.Opened at ∷ [] in
     let untested : nat_le t3 (at - at) ≡ false = lt-leb t3 (at - at) (omega arith) in
-    ap (λ b. if b || false then Some (acknowledgement_of h) else (if nat_le t3 (at - at) then Some (U TestAct) else None)) (lt-leb w 0 some)
+    ap (λ b. if b || false then Some (acknowledgement_of h) else
+    (if nat_le t3 (at - at) then Some (U TestAct) else None)) (lt-leb w 0 some)
     ∙ ap (λ b. if b then Some (U TestAct) else None) untested
 
-undue : (p : session.Settings) (at : ℕ) (f : Apdu) → 0 < p.w → 0 < p.t3 → (confirmation_of (talk.Opened at ∷ []) ≡ Some f) ⊎ (frame_due p.w p.t2 p.t3 at (talk.Opened at ∷ []) ≡ Some f) → ⊥
+undue : (p : session.Settings) (at : ℕ) (f : Apdu) → 0 < p.w → 0 < p.t3
+    → (confirmation_of (talk.Opened at ∷ []) ≡ Some f) ⊎ (frame_due p.w p.t2 p.t3 at (talk.Opened at ∷ []) ≡ Some f) → ⊥
 undue p at f some long (inl e) = cc
-undue p at f some long (inr e) = let no : ◌≡◌ {A = Option Apdu} None (Some f) = sym (idle p.w p.t2 p.t3 at some long) ∙ e in cc
+undue p at f some long (inr e) =
+    let no : ◌≡◌ {A = Option Apdu} None (Some f) = sym (idle p.w p.t2 p.t3 at some long) ∙ e in cc
 
-unruly : (p : session.Settings) (at : ℕ) (f : Apdu) → 0 < p.w → 0 < p.t3 → KeepsRules p (told_sent f at (talk.Opened at ∷ [])) → ⊥
+unruly : (p : session.Settings) (at : ℕ) (f : Apdu) → 0 < p.w → 0 < p.t3
+    → KeepsRules p (told_sent f at (talk.Opened at ∷ [])) → ⊥
 unruly p at (I ns nr asdu) some long r = let no : false ≡ true = r.0.started in cc
 unruly p at (S nr) some long r = undue p at (S nr) some long r.0
 unruly p at (U u) some long r = undue p at (U u) some long r.0
 
 -- so nothing goes to TCP
-unsaid : (p : Setup) (log : Log) (now : ℕ) (octets : List ℕ) → 0 < p.session.w → 0 < p.session.t3 → OnlyOpened p log → KeepsRulesSoFar p (Went now (TcpOut octets) ∷ log) → ⊥
+unsaid : (p : Setup) (log : Log) (now : ℕ) (octets : List ℕ) → 0 < p.session.w → 0 < p.session.t3 → OnlyOpened p log
+    → KeepsRulesSoFar p (Went now (TcpOut octets) ∷ log) → ⊥
 unsaid p log now octets some long h k =
     let r = k.runs in
-    let none : came_frames k.course.talk ≡ [] = no_frames (came_frames k.course.talk) r.4.rest (ap (λ (c : Channel). c.received) (sym h.channel) ∙ r.4.joined) in
-    let is : k.course ≡ r.1 = none_taken p r.4.frames (latest log) r.1 k.course r.4.taken none in
+    let none : came_frames k.course.talk ≡ [] = no_frames (came_frames k.course.talk) r.4.rest
+    (ap (λ (c : Channel). c.received) (sym h.channel) ∙ r.4.joined) in
+    let is : k.course ≡ r.1 = none_taken p r.4.frames (latest log) _ r.1 k.course r.4.taken none in
     let said : k.course.talk ≡ told_sent r.3.frame (latest log) (talk.Opened (latest log) ∷ []) =
     ap (λ (d : Course). d.talk) (is ∙ r.3.put) ∙ ap (told_sent r.3.frame (latest log)) (h.said r.0 r.2) in
     unruly p.session (latest log) r.3.frame some long (subst (KeepsRules p.session) said k.rules)
@@ -162,16 +182,20 @@ unrefused : (rest : List ℕ) → rest ≡ [] → IsRefused rest → ⊥
 unrefused [] e r = omega (arith, r.2.1.within)
 unrefused (x ∷ xs) e r = cc
 
-faultless : (sent : ℕ) (received : List Apdu) (cause : Close) (rest : List ℕ) → rest ≡ [] → BeginsWithFault sent received cause rest → ⊥
+faultless : (sent : ℕ) (received : List Apdu) (cause : Close) (rest : List ℕ) → rest ≡ []
+    → BeginsWithFault sent received cause rest → ⊥
 faultless sent received cause rest e b =
     let no : spelling b.frame ++ b.more ≡ [] = sym b.joined ∙ e in
     cc
 
 -- no octets of it are left
-nothing_behind : (p : Setup) (log : Log) (c : Connection) (fault : Option Close) → OnlyOpened p log → (k : IsConnection (present log) c fault) → k.rest ≡ []
-nothing_behind p log c fault h k = no_rest (spelled c.received_frames) k.rest (ap (λ (d : Channel). d.received) (sym h.channel) ∙ k.joined)
+nothing_behind : (p : Setup) (log : Log) (c : Connection) (fault : Option Close) → OnlyOpened p log
+    → (k : IsConnection (present log) c fault) → k.rest ≡ []
+nothing_behind p log c fault h k = no_rest (spelled c.received_frames) k.rest
+    (ap (λ (d : Channel). d.received) (sym h.channel) ∙ k.joined)
 
-unclosed : (p : Setup) (log : Log) (cause : Close) → OnlyOpened p log → replaces (Closed cause) ≡ is_replaced log → HasCause p cause log → ⊥
+unclosed : (p : Setup) (log : Log) (cause : Close) → OnlyOpened p log → replaces (Closed cause) ≡ is_replaced log
+    → HasCause p cause log → ⊥
 unclosed p log Grammar h replaced why =
     let k = (why refl).1.2.next in
     unrefused k.rest (nothing_behind p log _ (Some Grammar) h k) k.behind
@@ -202,7 +226,8 @@ unclosed p log Replaced h replaced why =
 abbrev IsUnsaid : Setup → Log → Type 0
 IsUnsaid p log = ((present log).is_open ≡ false) ⊎ OnlyOpened p log
 
-closed_now : (p : Setup) (log : Log) (now : ℕ) (cause : Close) → replaces (Closed cause) ≡ is_replaced log → IsUnsaid p (Went now (Closed cause) ∷ log)
+closed_now : (p : Setup) (log : Log) (now : ℕ) (cause : Close) → replaces (Closed cause) ≡ is_replaced log
+    → IsUnsaid p (Went now (Closed cause) ∷ log)
 closed_now p log now Grammar e = inl refl
 closed_now p log now SendNumber e = inl refl
 closed_now p log now ReceiveNumber e = inl refl
@@ -211,19 +236,24 @@ closed_now p log now Timeout e = inl refl
 closed_now p log now OwnAnswers e = inl refl
 closed_now p log now Replaced e = inr (replaced_one p log now (sym e))
 
-still_unsaid : (p : Setup) (log : Log) (now : ℕ) (octets : List ℕ) → IsUnsaid p log → IsUnsaid p (Went now (LineOut octets) ∷ log)
+still_unsaid : (p : Setup) (log : Log) (now : ℕ) (octets : List ℕ) → IsUnsaid p log
+    → IsUnsaid p (Went now (LineOut octets) ∷ log)
 still_unsaid p log now octets (inl off) = inl off
 still_unsaid p log now octets (inr h) = inr (request_after p log now octets h)
 
-still_after_gap : (p : Setup) (log : Log) (now station session : ℕ) → IsUnsaid p log → IsUnsaid p (Went now (GapOut station session) ∷ log)
+still_after_gap : (p : Setup) (log : Log) (now station session : ℕ) → IsUnsaid p log
+    → IsUnsaid p (Went now (GapOut station session) ∷ log)
 still_after_gap p log now station session (inl off) = inl off
 still_after_gap p log now station session (inr h) = inr (gap_after p log now station session h)
 
-after_close : (p : Setup) (log : Log) → ActsRightly p log → KeepsOrder log → list_any is_close (step_actions log) ≡ true → IsUnsaid p log
+after_close : (p : Setup) (log : Log) → ActsRightly p log → KeepsOrder log
+    → list_any is_close (step_actions log) ≡ true → IsUnsaid p log
 after_close p [] acts order h = absurd (cc)
 after_close p (Came now event ∷ log) acts order h = absurd (cc)
-after_close p (Went now (LineOut octets) ∷ log) acts order h = still_unsaid p log now octets (after_close p log acts.1 order.1 h)
-after_close p (Went now (GapOut station session) ∷ log) acts order h = still_after_gap p log now station session (after_close p log acts.1 order.1 h)
+after_close p (Went now (LineOut octets) ∷ log) acts order h =
+    still_unsaid p log now octets (after_close p log acts.1 order.1 h)
+after_close p (Went now (GapOut station session) ∷ log) acts order h =
+    still_after_gap p log now station session (after_close p log acts.1 order.1 h)
 after_close p (Went now (TcpOut octets) ∷ log) acts order h = let no : false ≡ true = sym order.0 ∙ h in absurd (cc)
 after_close p (Went now (Closed cause) ∷ log) acts order h = closed_now p log now cause acts.0.replaced
 
@@ -233,11 +263,13 @@ settled_after [] h = refl
 settled_after (Came now event ∷ log) h = absurd (cc)
 settled_after (Went now action ∷ log) h = refl
 
-no_octets : (p : Setup) (log : Log) (now : ℕ) (octets : List ℕ) → 0 < p.session.w → 0 < p.session.t3 → IsUnsaid p log → KeepsRulesSoFar p (Went now (TcpOut octets) ∷ log) → GoesOut p log now (TcpOut octets) → ⊥
+no_octets : (p : Setup) (log : Log) (now : ℕ) (octets : List ℕ) → 0 < p.session.w → 0 < p.session.t3 → IsUnsaid p log
+    → KeepsRulesSoFar p (Went now (TcpOut octets) ∷ log) → GoesOut p log now (TcpOut octets) → ⊥
 no_octets p log now octets some long (inl off) k g = let no : false ≡ true = sym off ∙ g.may.0 in cc
 no_octets p log now octets some long (inr h) k g = unsaid p log now octets some long h k
 
-shut : (p : Setup) (log : Log) (cause : Close) → (present log).is_open ≡ false → is_replaced log ≡ false → replaces (Closed cause) ≡ is_replaced log → HasCause p cause log → ⊥
+shut : (p : Setup) (log : Log) (cause : Close) → (present log).is_open ≡ false → is_replaced log ≡ false
+    → replaces (Closed cause) ≡ is_replaced log → HasCause p cause log → ⊥
 shut p log Grammar off settled replaced why = let no : false ≡ true = sym off ∙ (why refl).0 in cc
 shut p log SendNumber off settled replaced why = let no : false ≡ true = sym off ∙ (why refl).0 in cc
 shut p log ReceiveNumber off settled replaced why = let no : false ≡ true = sym off ∙ (why refl).0 in cc
@@ -246,7 +278,8 @@ shut p log Timeout off settled replaced why = let no : false ≡ true = sym off 
 shut p log OwnAnswers off settled replaced why = let no : false ≡ true = sym off ∙ (why refl).0 in cc
 shut p log Replaced off settled replaced why = let no : true ≡ false = replaced ∙ settled in cc
 
-no_close : (p : Setup) (log : Log) (now : ℕ) (cause : Close) → is_replaced log ≡ false → IsUnsaid p log → GoesOut p log now (Closed cause) → ⊥
+no_close : (p : Setup) (log : Log) (now : ℕ) (cause : Close) → is_replaced log ≡ false → IsUnsaid p log
+    → GoesOut p log now (Closed cause) → ⊥
 no_close p log now cause settled (inl off) g = shut p log cause off settled g.replaced g.may
 no_close p log now cause settled (inr h) g = unclosed p log cause h g.replaced g.may
 
@@ -256,17 +289,24 @@ not_true : (b : Bool) → (b ≡ true → ⊥) → b ≡ false
 not_true true h = absurd (h refl)
 not_true false h = refl
 
-may_follow : (p : Setup) (log : Log) (now : ℕ) (action : Output) → 0 < p.session.w → 0 < p.session.t3 → KeepsRulesSoFar p (Went now action ∷ log) → GoesOut p log now action → ActsRightly p log → KeepsOrder log → MayFollow (step_actions log) action
+may_follow : (p : Setup) (log : Log) (now : ℕ) (action : Output) → 0 < p.session.w → 0 < p.session.t3
+    → KeepsRulesSoFar p (Went now action ∷ log) → GoesOut p log now action → ActsRightly p log → KeepsOrder log
+    → MayFollow (step_actions log) action
 may_follow p log now (LineOut octets) some long k g acts order =
-    not_true (list_any is_request (step_actions log)) (λ h. let no : false ≡ true = sym (none_due p log k.runs.0 k.runs.1 h) ∙ k.runs.2.due in absurd (cc))
+    not_true (list_any is_request (step_actions log)) (λ h.
+    let no : false ≡ true = sym (none_due p log k.runs.0 k.runs.1 h) ∙ k.runs.2.due in absurd (cc))
 may_follow p log now (GapOut station session) some long k g acts order =
-    not_true (list_any is_request (step_actions log)) (λ h. let no : false ≡ true = sym (none_due p log k.runs.0 k.runs.1 h) ∙ k.runs.2.due in absurd (cc))
+    not_true (list_any is_request (step_actions log)) (λ h.
+    let no : false ≡ true = sym (none_due p log k.runs.0 k.runs.1 h) ∙ k.runs.2.due in absurd (cc))
 may_follow p log now (TcpOut octets) some long k g acts order =
-    not_true (list_any is_close (step_actions log)) (λ h. no_octets p log now octets some long (after_close p log acts order h) k g)
+    not_true (list_any is_close (step_actions log)) (λ h. no_octets p log now octets some long
+    (after_close p log acts order h) k g)
 may_follow p log now (Closed cause) some long k g acts order =
-    not_true (list_any is_close (step_actions log)) (λ h. no_close p log now cause (settled_after log h) (after_close p log acts order h) g)
+    not_true (list_any is_close (step_actions log)) (λ h. no_close p log now cause (settled_after log h)
+    (after_close p log acts order h) g)
 
-pub keeps_order : (p : Setup) → 0 < p.session.w → 0 < p.session.t3 → (log : Log) → KeepsRulesThroughout p log → ActsRightly p log → KeepsOrder log
+pub keeps_order : (p : Setup) → 0 < p.session.w → 0 < p.session.t3 → (log : Log) → KeepsRulesThroughout p log
+    → ActsRightly p log → KeepsOrder log
 keeps_order p some long [] times acts = tt
 keeps_order p some long (Came now event ∷ log) times acts = keeps_order p some long log times.1 acts
 keeps_order p some long (Went now action ∷ log) times acts =

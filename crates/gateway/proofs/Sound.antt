@@ -12,13 +12,30 @@ use Rattle.gateway.specs.State.{HasPlaces}
 
 -- without some of the pieces there are as many free places at least
 pub less_kept : (n : ℕ) (q r : Queue) → r ≡ queue.acknowledged n q → free_places q ≤ free_places r
-less_kept n q r e = omega (arith, ap (λ (x : Queue). x.places) e, ap (λ (x : Queue). length (x.sent ++ x.unsent)) e, length-append q.sent q.unsent, length-append (drop n q.sent) q.unsent, length-drop n q.sent)
+less_kept n q r e = omega (
+  arith,
+  ap (λ (x : Queue). x.places) e,
+  ap (λ (x : Queue). length (x.sent ++ x.unsent)) e,
+  length-append q.sent q.unsent,
+  length-append (drop n q.sent) q.unsent,
+  length-drop n q.sent,
+)
 
 pub room_means : (q : Queue) → has_room q ≡ true → 3 ≤ free_places q
-room_means q h = elim (cases_lt (free_places q) 3) [ inl lt ↦ absurd (false≢true (sym (ap not (lt-ltb (free_places q) 3 lt)) ∙ h)) | inr le ↦ le ]
+room_means q h =
+    elim (cases_lt (free_places q) 3) [
+      | inl lt ↦ absurd
+          (false≢true (sym (ap not (lt-ltb (free_places q) 3 lt)) ∙ h))
+      | inr le ↦ le
+    ]
 
 pub no_room_means : (q : Queue) → has_room q ≡ false → free_places q < 3
-no_room_means q h = elim (cases_lt (free_places q) 3) [ inl lt ↦ lt | inr le ↦ absurd (false≢true (sym h ∙ ap not (le-ltb (free_places q) 3 le))) ]
+no_room_means q h =
+    elim (cases_lt (free_places q) 3) [
+      | inl lt ↦ lt
+      | inr le ↦ absurd
+          (false≢true (sym h ∙ ap not (le-ltb (free_places q) 3 le)))
+    ]
 
 -- what the queue answers
 pub room_of : (full : Bool) (q : Queue) → (IsTrue full ↔ (free_places q < 3)) → not full ≡ has_room q
@@ -27,7 +44,8 @@ room_of full q is = go full is (cases_lt (free_places q) 3)
     never : IsTrue false → ⊥
     never h = cc
 
-    go : (full : Bool) → (IsTrue full ↔ (free_places q < 3)) → (free_places q < 3) ⊎ (3 ≤ free_places q) → not full ≡ has_room q
+    go : (full : Bool) → (IsTrue full ↔ (free_places q < 3)) → (free_places q < 3) ⊎ (3 ≤ free_places q)
+        → not full ≡ has_room q
     go true is (inl lt) = sym (ap not (lt-ltb (free_places q) 3 lt))
     go true is (inr le) = absurd (omega (arith, is.0 (at refl), le))
       where
@@ -36,11 +54,15 @@ room_of full q is = go full is (cases_lt (free_places q) 3)
     go false is (inl lt) = absurd (never (is.1 lt))
     go false is (inr le) = sym (ap not (le-ltb (free_places q) 3 le))
 
-pub asked_sound : (l m : Primary) (q : Queue) (may : Bool) → may ≡ has_room q → (is_polling m ≡ true → (is_polling l ≡ true) ⊎ (may ≡ true)) → HasPlaces l q → HasPlaces m q
-asked_sound l m q may is polls h = λ out. elim (polls out) [ inl was ↦ h was | inr leave ↦ room_means q (sym is ∙ leave) ]
+pub asked_sound : (l m : Primary) (q : Queue) (may : Bool) → may ≡ has_room q
+    → (is_polling m ≡ true → (is_polling l ≡ true) ⊎ (may ≡ true)) → HasPlaces l q → HasPlaces m q
+asked_sound l m q may is polls h = λ out. elim (polls out)
+    [ inl was ↦ h was | inr leave ↦ room_means q (sym is ∙ leave) ]
 
 -- a poll goes out only where there is room
-pub poll_room : ((p : Primary) (s : Sending) → sending p false ≡ Some s → is_poll_request s.request ≡ true → is_polling p ≡ true) → (l : Primary) (q : Queue) (x : Sending) → HasPlaces l q → sending l (has_room q) ≡ Some x → is_poll_request x.request ≡ true → 3 ≤ free_places q
+pub poll_room : ((p : Primary) (s : Sending) → sending p false ≡ Some s → is_poll_request s.request ≡ true
+    → is_polling p ≡ true) → (l : Primary) (q : Queue) (x : Sending) → HasPlaces l q → sending l (has_room q) ≡ Some x
+    → is_poll_request x.request ≡ true → 3 ≤ free_places q
 poll_room repeats l q x h is poll = go (has_room q) refl
   where
     go : (b : Bool) → has_room q ≡ b → 3 ≤ free_places q

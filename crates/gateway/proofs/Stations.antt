@@ -27,18 +27,25 @@ use Rattle.gateway.specs.Line.{IsWaiting, IsServed, done_in, LacksOnlyRoom, IsLi
 use Rattle.link.specs.LineLaws.{LineLaws}
 
 -- the exchanges keep the procedure
-pub keeps_links : (p : Setup) (q : Primary) (log : Log) → Tells p.link p.addresses q (exchanges_of p log) → KeepsLinks p log
+pub keeps_links : (p : Setup) (q : Primary) (log : Log) → Tells p.link p.addresses q (exchanges_of p log)
+    → KeepsLinks p log
 keeps_links p q log h = λ i within. h.keeps i
 
-pub taken_grows : (p : Setup) (old new : Log) (reports : List (ℕ × List ℕ)) → reports_in p new ≡ reports_in p old ++ reports → taken_objects p new ≡ taken_objects p old ++ flat_map (λ (r : ℕ × List ℕ). monitor_objects p.sizes r.1) reports
+pub taken_grows : (p : Setup) (old new : Log) (reports : List (ℕ × List ℕ))
+    → reports_in p new ≡ reports_in p old ++ reports → taken_objects p new ≡ taken_objects p old
+    ++ flat_map (λ (r : ℕ × List ℕ). monitor_objects p.sizes r.1) reports
 taken_grows p old new reports e =
-    ap (flat_map (λ r. monitor_objects p.sizes r.1)) e ∙ flat_map-append (λ (r : ℕ × List ℕ). monitor_objects p.sizes r.1) (reports_in p old) reports
+    ap (flat_map (λ r. monitor_objects p.sizes r.1)) e
+    ∙ flat_map-append (λ (r : ℕ × List ℕ). monitor_objects p.sizes r.1) (reports_in p old) reports
 
-parts-append : (sizes : Sizes) (xs ys : List (ℕ × List ℕ)) → parts_of_all sizes (xs ++ ys) ≡ parts_of_all sizes xs + parts_of_all sizes ys
+parts-append : (sizes : Sizes) (xs ys : List (ℕ × List ℕ))
+    → parts_of_all sizes (xs ++ ys) ≡ parts_of_all sizes xs + parts_of_all sizes ys
 parts-append sizes [] ys = omega arith
 parts-append sizes (x ∷ xs) ys = omega (arith, parts-append sizes xs ys)
 
-pub parts_grow : (p : Setup) (old new : Log) (reports : List (ℕ × List ℕ)) → reports_in p new ≡ reports_in p old ++ reports → parts_of_all p.sizes (reports_in p new) ≡ parts_of_all p.sizes (reports_in p old) + parts_of_all p.sizes reports
+pub parts_grow : (p : Setup) (old new : Log) (reports : List (ℕ × List ℕ))
+    → reports_in p new ≡ reports_in p old ++ reports → parts_of_all p.sizes (reports_in p new)
+    ≡ parts_of_all p.sizes (reports_in p old) + parts_of_all p.sizes reports
 parts_grow p old new reports e = ap (parts_of_all p.sizes) e ∙ parts-append p.sizes (reports_in p old) reports
 
 -- The line's part of an event: its octets, if it has any, then its moment
@@ -47,25 +54,36 @@ pub record LineGoesOn (p : Setup) (q : Primary) (old new : Log) (reports : List 
   pub tells : Tells p.link p.addresses q (exchanges_of p new)
   pub reported : reports_in p new ≡ reports_in p old ++ reports
 
-pub after_octets : (laws : LineLaws) (p : Setup) (q : Primary) (log : Log) (now : ℕ) (octets : List ℕ) → Tells p.link p.addresses q (exchanges_of p log) →
-    LineGoesOn p (timed_out (received (front_of q.settings.size) q octets) (latest (Came now (LineIn octets) ∷ log))) log (Came now (LineIn octets) ∷ log) (report_in (received_outcome (front_of q.settings.size) q octets))
+pub after_octets : (laws : LineLaws) (p : Setup) (q : Primary) (log : Log) (now : ℕ) (octets : List ℕ)
+    → Tells p.link p.addresses q (exchanges_of p log) →
+    LineGoesOn p (timed_out (received (front_of q.settings.size) q octets) (latest (Came now (LineIn octets) ∷ log)))
+    log (Came now (LineIn octets) ∷ log) (report_in (received_outcome (front_of q.settings.size) q octets))
 after_octets laws p q log now octets h =
     let e : Exchanges = exchanges_of p log in
     let heard : Exchanges = record { ended = e.ended; current = heard_current octets e.current } in
     let at : ℕ = latest (Came now (LineIn octets) ∷ log) in
     record {
-      tells = laws.due p.link p.addresses (received (front_of q.settings.size) q octets) heard at (laws.octets p.link p.addresses q e octets h);
-      reported = laws.due_reports p.link.size (address_at p.addresses) p.link.answer_ms at heard ∙ laws.octets_report p.link p.addresses q e octets h;
+      tells = laws.due p.link p.addresses (received (front_of q.settings.size) q octets) heard at
+          (laws.octets p.link p.addresses q e octets h);
+      reported = laws.due_reports p.link.size (address_at p.addresses) p.link.answer_ms at heard
+          ∙ laws.octets_report p.link p.addresses q e octets h;
     }
 
 -- a moment alone
-pub after_moment : (laws : LineLaws) (p : Setup) (q : Primary) (log new : Log) (at : ℕ) → exchanges_of p new ≡ record { ended = (exchanges_of p log).ended; current = timed_current p.link.answer_ms at (exchanges_of p log).current } → Tells p.link p.addresses q (exchanges_of p log) →
+pub after_moment : (laws : LineLaws) (p : Setup) (q : Primary) (log new : Log) (at : ℕ)
+    → exchanges_of p new ≡ record {
+      ended = (exchanges_of p log).ended;
+      current =
+          timed_current p.link.answer_ms at (exchanges_of p log).current;
+    } → Tells p.link p.addresses q (exchanges_of p log) →
     LineGoesOn p (timed_out q at) log new []
 after_moment laws p q log new at is h =
     let e : Exchanges = exchanges_of p log in
     record {
       tells = subst (Tells p.link p.addresses (timed_out q at)) (sym is) (laws.due p.link p.addresses q e at h);
-      reported = ap (reports_of_exchanges (front_of p.link.size) (address_at p.addresses)) is ∙ laws.due_reports p.link.size (address_at p.addresses) p.link.answer_ms at e ∙ sym (append-nil (reports_in p log));
+      reported = ap (reports_of_exchanges (front_of p.link.size) (address_at p.addresses)) is
+          ∙ laws.due_reports p.link.size (address_at p.addresses) p.link.answer_ms at e
+          ∙ sym (append-nil (reports_in p log));
     }
 
 -- A request goes out
@@ -75,28 +93,44 @@ abbrev pub octets_of : Setup → Sending → List ℕ
 octets_of p s = line.spelling p.link.size (request_frame (address_at p.addresses s.station) s.request)
 
 -- a request that went out is read back from its octets
-pub request_back : (laws : LineLaws) (p : Setup) (q : Primary) (log : Log) (may : Bool) (s : Sending) → AreFound p.addresses → Tells p.link p.addresses q (exchanges_of p log) → sending q may ≡ Some s → sending_in p (octets_of p s) ≡ Some s
+pub request_back : (laws : LineLaws) (p : Setup) (q : Primary) (log : Log) (may : Bool) (s : Sending)
+    → AreFound p.addresses → Tells p.link p.addresses q (exchanges_of p log) → sending q may ≡ Some s
+    → sending_in p (octets_of p s) ≡ Some s
 request_back laws p q log may s found h is =
     let fits = laws.fit p.link p.addresses q (exchanges_of p log) may s h is in
-    let reads : request_in p.link.size (octets_of p s) ≡ Some (address_at p.addresses s.station, s.request) = laws.back p.link.size (address_at p.addresses s.station) s.request fits.address fits.request in
-    ap (option_and_then (sent_to p.addresses)) reads ∙ ap (option_map (λ (i : ℕ). let made : Sending = record { station = i; request = s.request } in made)) (found s.station fits.station)
+    let reads : request_in p.link.size (octets_of p s) ≡ Some (address_at p.addresses s.station, s.request) =
+    laws.back p.link.size (address_at p.addresses s.station) s.request fits.address fits.request in
+    ap (option_and_then (sent_to p.addresses)) reads ∙ ap
+    (option_map (λ (i : ℕ). let made : Sending = record { station = i; request = s.request } in made))
+    (found s.station fits.station)
 
-pub after_request : (laws : LineLaws) (p : Setup) (q : Primary) (log : Log) (now : ℕ) (may : Bool) (s : Sending) → AreFound p.addresses → Tells p.link p.addresses q (exchanges_of p log) → sending q may ≡ Some s →
+pub after_request : (laws : LineLaws) (p : Setup) (q : Primary) (log : Log) (now : ℕ) (may : Bool) (s : Sending)
+    → AreFound p.addresses → Tells p.link p.addresses q (exchanges_of p log) → sending q may ≡ Some s →
     LineGoesOn p (asked q now may) log (Went now (LineOut (octets_of p s)) ∷ log) []
 after_request laws p q log now may s found h is =
     let new : Log = Went now (LineOut (octets_of p s)) ∷ log in
-    let same : exchanges_of p new ≡ begun_by now (sending q may) (exchanges_of p log) = ap (λ o. begun_by now o (exchanges_of p log)) (request_back laws p q log may s found h is ∙ sym is) in
+    let same : exchanges_of p new ≡ begun_by now (sending q may) (exchanges_of p log) =
+    ap (λ o. begun_by now o (exchanges_of p log)) (request_back laws p q log may s found h is ∙ sym is) in
     record {
-      tells = subst (Tells p.link p.addresses (asked q now may)) (sym same) (laws.next p.link p.addresses q (exchanges_of p log) now may h);
-      reported = ap (reports_of_exchanges (front_of p.link.size) (address_at p.addresses)) same ∙ laws.next_reports p.link.size (address_at p.addresses) now (sending q may) (exchanges_of p log) ∙ sym (append-nil (reports_in p log));
+      tells = subst (Tells p.link p.addresses (asked q now may)) (sym same)
+          (laws.next p.link p.addresses q (exchanges_of p log) now may h);
+      reported = ap (reports_of_exchanges (front_of p.link.size) (address_at p.addresses)) same
+          ∙ laws.next_reports p.link.size (address_at p.addresses) now (sending q may) (exchanges_of p log)
+          ∙ sym (append-nil (reports_in p log));
     }
 
 -- Nothing is left to be asked
 
-asks_alone : (laws : LineLaws) (p : Setup) (q : Primary) (log : Log) (course : Course) (may : Bool) → Tells p.link p.addresses q (exchanges_of p log) → q.outstanding ≡ None → sending q may ≡ None → (connections : List Connection) → (may ≡ false → IsFull p log connections) → ((i : ℕ) → i < length p.addresses → IsServed p log (done_in p log course) i) → LacksOnlyRoom p log course connections
+asks_alone : (laws : LineLaws) (p : Setup) (q : Primary) (log : Log) (course : Course) (may : Bool)
+    → Tells p.link p.addresses q (exchanges_of p log) → q.outstanding ≡ None → sending q may ≡ None
+    → (connections : List Connection) → (may ≡ false → IsFull p log connections)
+    → ((i : ℕ) → i < length p.addresses → IsServed p log (done_in p log course) i)
+    → LacksOnlyRoom p log course connections
 asks_alone laws p q log course may h out none connections full served =
-    let link : (i : ℕ) → link_after p.link (address_at p.addresses i) Down (exchanges_with p i log) ≡ (station_at q.stations i).link = λ i.
-    subst (λ (o : Option Outstanding). telling.AreLinks (front_of p.link.size) p.link p.addresses q.stations (telling.past o (exchanges_of p log))) out h.links i in
+    let link : (i : ℕ) → link_after p.link (address_at p.addresses i) Down (exchanges_with p i log)
+    ≡ (station_at q.stations i).link = λ i.
+    subst (λ (o : Option Outstanding). telling.AreLinks (front_of p.link.size) p.link p.addresses q.stations
+    (telling.past o (exchanges_of p log))) out h.links i in
     record {
       full = full (laws.leave q may h.fits out none);
       up = λ i within. ap is_up (link i) ∙ laws.up q may h.fits out none i (omega (arith, within, h.count));
@@ -104,26 +138,39 @@ asks_alone laws p q log course may h out none connections full served =
       served = served;
     }
 
-nothing_said : (front : List ℕ → Front) (address : ℕ) (x : OpenExchange) (o : Option (List ℕ)) → IsHeard front address x o → option_and_then (answer_of address x.request) (whole_of (front x.octets)) ≡ None
+nothing_said : (front : List ℕ → Front) (address : ℕ) (x : OpenExchange) (o : Option (List ℕ))
+    → IsHeard front address x o → option_and_then (answer_of address x.request) (whole_of (front x.octets)) ≡ None
 nothing_said front address x (Some octets) h = ap (λ f. option_and_then (answer_of address x.request) (whole_of f)) h.1
-nothing_said front address x None h = ap (λ xs. option_and_then (answer_of address x.request) (whole_of (front xs))) (sym (append-nil x.octets)) ∙ h []
+nothing_said front address x None h = ap (λ xs. option_and_then (answer_of address x.request) (whole_of (front xs)))
+    (sym (append-nil x.octets)) ∙ h []
 
-waits_for : (p : Setup) (q : Primary) (log : Log) (o : Outstanding) → Tells p.link p.addresses q (exchanges_of p log) → q.outstanding ≡ Some o → IsWaiting p log
+waits_for : (p : Setup) (q : Primary) (log : Log) (o : Outstanding) → Tells p.link p.addresses q (exchanges_of p log)
+    → q.outstanding ≡ Some o → IsWaiting p log
 waits_for p q log o h out = go (exchanges_of p log).current refl
   where
     current : telling.IsCurrent (front_of p.link.size) p.addresses q.turn (Some o) (exchanges_of p log).current
-    current = subst (λ (x : Option Outstanding). telling.IsCurrent (front_of p.link.size) p.addresses q.turn x (exchanges_of p log).current) out h.current
+    current = subst (λ (x : Option Outstanding). telling.IsCurrent (front_of p.link.size) p.addresses q.turn x
+        (exchanges_of p log).current) out h.current
 
-    at_station : (x : OpenExchange) → IsAwaited (front_of p.link.size) (address_at p.addresses q.turn) q.turn o x → option_and_then (answer_of (address_at p.addresses x.station) x.request) (whole_of (front_of p.link.size x.octets)) ≡ None
-    at_station x w = ap (λ i. option_and_then (answer_of (address_at p.addresses i) x.request) (whole_of (front_of p.link.size x.octets))) w.station ∙ nothing_said (front_of p.link.size) (address_at p.addresses q.turn) x o.heard w.heard
+    at_station : (x : OpenExchange) → IsAwaited (front_of p.link.size) (address_at p.addresses q.turn) q.turn o x
+        → option_and_then (answer_of (address_at p.addresses x.station) x.request)
+        (whole_of (front_of p.link.size x.octets)) ≡ None
+    at_station x w =
+        ap (λ i. option_and_then (answer_of (address_at p.addresses i) x.request)
+        (whole_of (front_of p.link.size x.octets))) w.station
+        ∙ nothing_said (front_of p.link.size) (address_at p.addresses q.turn) x o.heard w.heard
 
     go : (x : Option OpenExchange) → (exchanges_of p log).current ≡ x → IsWaiting p log
     go None is = absurd (subst (telling.IsCurrent (front_of p.link.size) p.addresses q.turn (Some o)) is current)
     go (Some x) is =
-        let w : IsAwaited (front_of p.link.size) (address_at p.addresses q.turn) q.turn o x = subst (telling.IsCurrent (front_of p.link.size) p.addresses q.turn (Some o)) is current in
+        let w : IsAwaited (front_of p.link.size) (address_at p.addresses q.turn) q.turn o x =
+        subst (telling.IsCurrent (front_of p.link.size) p.addresses q.turn (Some o)) is current in
         record { exchange = x; latest_is = is; waits = (at_station x w, w.waits) }
 
-pub line_rests : (laws : LineLaws) (p : Setup) (q : Primary) (log : Log) (course : Course) (may : Bool) → Tells p.link p.addresses q (exchanges_of p log) → sending q may ≡ None → (connections : List Connection) → (may ≡ false → IsFull p log connections) → (q.outstanding ≡ None → (i : ℕ) → i < length p.addresses → IsServed p log (done_in p log course) i) → IsLineAtRest p log course connections
+pub line_rests : (laws : LineLaws) (p : Setup) (q : Primary) (log : Log) (course : Course) (may : Bool)
+    → Tells p.link p.addresses q (exchanges_of p log) → sending q may ≡ None → (connections : List Connection)
+    → (may ≡ false → IsFull p log connections) → (q.outstanding ≡ None → (i : ℕ) → i < length p.addresses
+    → IsServed p log (done_in p log course) i) → IsLineAtRest p log course connections
 line_rests laws p q log course may h none connections full served = go q.outstanding refl
   where
     go : (o : Option Outstanding) → q.outstanding ≡ o → IsLineAtRest p log course connections

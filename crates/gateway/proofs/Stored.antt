@@ -15,7 +15,7 @@ use Rattle.link.specs.Telling.{Tells}
 use Rattle.gateway.specs.declared.settings.Station.{Station}
 use Rattle.gateway.specs.declared.settings.TcpSettings.{TcpSettings}
 use Rattle.gateway.specs.declared.entries.Entry.{Entry}
-use Rattle.gateway.specs.declared.entries.Entry.TheVariants.{Line, Open, Bytes, Cut, Tick}
+use Rattle.gateway.specs.declared.entries.Entry.TheVariants.{Line, Open, Bytes, Cut, Tick, Wall}
 use Rattle.gateway.specs.declared.entries.Told.TheVariants as told
 use Rattle.gateway.specs.declared.entries.Told.{Told}
 use Rattle.gateway.specs.Config.{Settings, IsStation, AreApart, AreDistinct, AreStations}
@@ -36,59 +36,74 @@ use Rattle.gateway.specs.Setups.{link_of, session_of, setup_of}
 use Rattle.gateway.specs.State.{State, first_state}
 use Rattle.gateway.specs.Agrees.{IsTimely, Agrees, IsClear, Follows, Rests}
 use Rattle.gateway.proofs.Talking.{talk_first}
-use Rattle.gateway.proofs.Agreement.{fresh}
+use Rattle.gateway.proofs.Closing.{fresh}
 
-pub stored_push : (xs : List Told) (x : Told) (log : Log) → stored_log (xs ++ x ∷ []) log ≡ told_of x ∷ stored_log xs log
+pub stored_push : (xs : List Told) (x : Told) (log : Log)
+    → stored_log (xs ++ x ∷ []) log ≡ told_of x ∷ stored_log xs log
 stored_push [] x log = refl
 stored_push (y ∷ xs) x log = stored_push xs x (told_of y ∷ log)
 
 -- The start of a run
 
 -- a station's address is none of the others'
-not_before : (a : ℕ) (stations : List Station) (i : ℕ) → AllByRecursion (λ (t : Station). a ≢ t.address) stations → i < length stations → a ≢ address_at (map (λ (s : Station). s.address) stations) i
+not_before : (a : ℕ) (stations : List Station) (i : ℕ) → AllByRecursion (λ (t : Station). a ≢ t.address) stations
+    → i < length stations → a ≢ address_at (map (λ (s : Station). s.address) stations) i
 not_before a [] i h less = absurd (omega (arith, less))
 not_before a (t ∷ stations) zero h less = h.0
 not_before a (t ∷ stations) (suc i) h less = not_before a stations i h.1 (omega (arith, less))
 
-addresses_differ : (s : Station) (stations : List Station) → AllByRecursion (AreApart s) stations → AllByRecursion (λ (t : Station). s.address ≢ t.address) stations
+addresses_differ : (s : Station) (stations : List Station) → AllByRecursion (AreApart s) stations
+    → AllByRecursion (λ (t : Station). s.address ≢ t.address) stations
 addresses_differ s [] h = tt
 addresses_differ s (t ∷ stations) h = (h.0.0, addresses_differ s stations h.1)
 
 first_found : (stations : List Station) → AreDistinct stations → AreFound (map (λ (s : Station). s.address) stations)
 first_found [] h i less = absurd (omega (arith, less))
-first_found (s ∷ stations) h zero less = ap (λ b. if b then Some 0 else option_map suc (index_of s.address (map (λ (t : Station). t.address) stations))) (eq-eqb s.address s.address refl)
+first_found (s ∷ stations) h zero less =
+    ap (λ b. if b then Some 0 else option_map suc (index_of s.address (map (λ (t : Station). t.address) stations)))
+    (eq-eqb s.address s.address refl)
 first_found (s ∷ stations) h (suc i) less =
     let a : ℕ = address_at (map (λ (t : Station). t.address) stations) i in
     let within : i < length stations = omega (arith, less, length-map stations (λ (t : Station). t.address)) in
-    ap (λ b. if b then Some 0 else option_map suc (index_of a (map (λ (t : Station). t.address) stations))) (ne_eqb s.address a (not_before s.address stations i (addresses_differ s stations h.0) within))
+    ap (λ b. if b then Some 0 else option_map suc (index_of a (map (λ (t : Station). t.address) stations)))
+    (ne_eqb s.address a (not_before s.address stations i (addresses_differ s stations h.0) within))
     ∙ ap (option_map suc) (first_found stations h.1 i (omega (arith, less)))
 
 -- the addresses fit the line
-pub first_fits : (link : LinkSize) (ca : CaSize) (stations : List Station) → AllByRecursion (IsStation link ca) stations → All (FitsAddress link) (map (λ (s : Station). s.address) stations)
+pub first_fits : (link : LinkSize) (ca : CaSize) (stations : List Station)
+    → AllByRecursion (IsStation link ca) stations → All (FitsAddress link) (map (λ (s : Station). s.address) stations)
 first_fits link ca [] h = All-nil (FitsAddress link)
-first_fits link ca (s ∷ stations) h = All-cons (FitsAddress link) s.address (map (λ (t : Station). t.address) stations) (omega (arith, h.0.address.1)) (first_fits link ca stations h.1)
+first_fits link ca (s ∷ stations) h = All-cons (FitsAddress link) s.address (map (λ (t : Station). t.address) stations)
+    (omega (arith, h.0.address.1)) (first_fits link ca stations h.1)
 
 -- what `link` says of the start
 abbrev pub StartTells : Type 0
-StartTells = (settings : LinkSettings) (addresses : List ℕ) → 0 < length addresses → All (FitsAddress settings.size) addresses → Tells settings addresses (start settings addresses) no_exchanges
+StartTells = (settings : LinkSettings) (addresses : List ℕ) → 0 < length addresses
+    → All (FitsAddress settings.size) addresses → Tells settings addresses (start settings addresses) no_exchanges
 
 -- nothing has been told yet
-pub at_first : (c : Settings) → StartTells → SessionLaws → CommandLaws → LineLaws → AreStations c.line.link c.line.sizes.ca c.stations → IsTimely (session_of c.tcp) → Agrees (setup_of c) (first_state c) [] [] Fresh
+pub at_first : (c : Settings) → StartTells → SessionLaws → CommandLaws → LineLaws
+    → AreStations c.line.link c.line.sizes.ca c.stations → IsTimely (session_of c.tcp)
+    → Agrees (setup_of c) (first_state c) [] [] Fresh
 at_first c starts laws commands line_laws rules timely = record {
   k = refl;
   sizes = refl;
   places = refl;
   clock = refl;
+  wall = refl;
   settled = refl;
   found = first_found c.stations rules.distinct;
-  line = starts (link_of c.line) (map (λ (s : Station). s.address) c.stations) (omega (arith, rules.some, length-map c.stations (λ (s : Station). s.address))) (first_fits c.line.link c.line.sizes.ca c.stations rules.each);
+  line = starts (link_of c.line) (map (λ (s : Station). s.address) c.stations)
+      (omega (arith, rules.some, length-map c.stations (λ (s : Station). s.address)))
+      (first_fits c.line.link c.line.sizes.ca c.stations rules.each);
   course = first_course (setup_of c);
   talk = talk_first (setup_of c) timely laws commands line_laws;
   stands = record { does = refl; asks = (refl, refl); phase_is = refl; placed = λ o. refl };
   gaps = λ i. refl;
   offers = λ k octets e. absurd (no_offer k octets e);
   plain = tt;
-  here = fresh (first_state c).centre no_channel timely.range.k_small refl (λ h. refl) refl refl refl refl refl refl refl refl;
+  here = fresh (first_state c).centre no_channel timely.range.k_small refl
+      (λ h. refl) refl refl refl refl refl refl refl refl;
   left = refl;
   carries = record { whole = refl; gone = []; front = refl; joined = refl; count = refl };
   before = record { are = tt; orders = tt; times = tt; acts = tt; rests = tt };
@@ -99,8 +114,10 @@ at_first c starts laws commands line_laws rules timely = record {
     none_offered (a ∷ stations) zero = refl
     none_offered (a ∷ stations) (suc k) = none_offered stations k
 
-    no_offer : (k : ℕ) (octets : List ℕ) → offered_at (start (link_of c.line) (map (λ (s : Station). s.address) c.stations)) k ≡ Some octets → ⊥
-    no_offer k octets e = let no : None ≡ Some octets = sym (none_offered (map (λ (s : Station). s.address) c.stations) k) ∙ e in cc
+    no_offer : (k : ℕ) (octets : List ℕ)
+        → offered_at (start (link_of c.line) (map (λ (s : Station). s.address) c.stations)) k ≡ Some octets → ⊥
+    no_offer k octets e =
+        let no : None ≡ Some octets = sym (none_offered (map (λ (s : Station). s.address) c.stations) k) ∙ e in cc
 
 -- An event is stored: the rest of the script is still to come.
 
@@ -110,28 +127,39 @@ one_event (Open now) log = refl
 one_event (Bytes now octets) log = refl
 one_event (Cut now) log = refl
 one_event (Tick now) log = refl
+one_event (Wall now number) log = refl
 
-pub stored_start : (xs ys : List Told) (left : List Entry) (script : List LogEntry) → events_of (log_of xs) ++ coming false left ≡ script → ys ≡ xs ++ told.Came (Tick 0) ∷ [] → events_of (log_of ys) ++ coming true left ≡ script
+pub stored_start : (xs ys : List Told) (left : List Entry) (script : List LogEntry)
+    → events_of (log_of xs) ++ coming false left ≡ script → ys ≡ xs ++ told.Came (Tick 0) ∷ []
+    → events_of (log_of ys) ++ coming true left ≡ script
 stored_start xs ys left script h e =
-    ap (λ zs. events_of (log_of zs) ++ coming true left) e ∙ ap (λ l. events_of l ++ coming true left) (stored_push xs (told.Came (Tick 0)) [])
+    ap (λ zs. events_of (log_of zs) ++ coming true left) e
+    ∙ ap (λ l. events_of l ++ coming true left) (stored_push xs (told.Came (Tick 0)) [])
     ∙ append_assoc (events_of (log_of xs)) (event_of (Tick 0) ∷ []) (coming true left) ∙ h
 
-pub stored_entry : (xs ys : List Told) (entry copy : Entry) (before left : List Entry) (script : List LogEntry) (started : Bool) → started ≡ true → before ≡ entry ∷ left → events_of (log_of xs) ++ coming started before ≡ script → ys ≡ xs ++ told.Came copy ∷ [] → event_of copy ≡ event_of entry →
+pub stored_entry : (xs ys : List Told) (entry copy : Entry) (before left : List Entry) (script : List LogEntry)
+    (started : Bool) → started ≡ true → before ≡ entry ∷ left → events_of (log_of xs) ++ coming started before ≡ script
+    → ys ≡ xs ++ told.Came copy ∷ [] → event_of copy ≡ event_of entry →
     events_of (log_of ys) ++ coming started left ≡ script
 stored_entry xs ys entry copy before left script started on is h e same =
     ap (λ b. events_of (log_of ys) ++ coming b left) on
-    ∙ ap (λ zs. events_of (log_of zs) ++ coming true left) e ∙ ap (λ l. events_of l ++ coming true left) (stored_push xs (told.Came copy) [])
+    ∙ ap (λ zs. events_of (log_of zs) ++ coming true left) e
+    ∙ ap (λ l. events_of l ++ coming true left) (stored_push xs (told.Came copy) [])
     ∙ ap (λ l. l ++ coming true left) (one_event copy (log_of xs))
     ∙ ap (λ v. (events_of (log_of xs) ++ v ∷ []) ++ coming true left) same
     ∙ append_assoc (events_of (log_of xs)) (event_of entry ∷ []) (coming true left)
-    ∙ ap (λ zs. events_of (log_of xs) ++ coming true zs) (sym is) ∙ ap (λ b. events_of (log_of xs) ++ coming b before) (sym on) ∙ h
+    ∙ ap (λ zs. events_of (log_of xs) ++ coming true zs) (sym is)
+    ∙ ap (λ b. events_of (log_of xs) ++ coming b before) (sym on) ∙ h
 
 -- an action adds no event
-pub stored_action : (xs ys : List Told) (x : Told) (now : ℕ) (action : Output) → told_of x ≡ Went now action → ys ≡ xs ++ x ∷ [] → events_of (log_of ys) ≡ events_of (log_of xs)
-stored_action xs ys x now action is e = ap (λ zs. events_of (log_of zs)) e ∙ ap events_of (stored_push xs x []) ∙ ap (λ t. events_of (t ∷ log_of xs)) is
+pub stored_action : (xs ys : List Told) (x : Told) (now : ℕ) (action : Output) → told_of x ≡ Went now action
+    → ys ≡ xs ++ x ∷ [] → events_of (log_of ys) ≡ events_of (log_of xs)
+stored_action xs ys x now action is e = ap (λ zs. events_of (log_of zs)) e ∙ ap events_of (stored_push xs x [])
+    ∙ ap (λ t. events_of (t ∷ log_of xs)) is
 
 -- where no more is to come, the events are the whole script
-pub all_came : (events : List LogEntry) (started : Bool) (left : List Entry) (script : List LogEntry) → events ++ coming started left ≡ script → (started && is_none_left left) ≡ true → events ≡ script
+pub all_came : (events : List LogEntry) (started : Bool) (left : List Entry) (script : List LogEntry)
+    → events ++ coming started left ≡ script → (started && is_none_left left) ≡ true → events ≡ script
 all_came events true [] script h e = sym (append-nil events) ∙ h
 all_came events true (entry ∷ left) script h e = cc
 all_came events false left script h e = cc
@@ -140,26 +168,45 @@ all_came events false left script h e = cc
 abbrev Sound : List Told → Bool → List Entry → List LogEntry → Type 0
 Sound xs started left script = (events_of (log_of xs) ++ coming started left ≡ script) × AllByRecursion FitsPort left
 
-pub start_sound : (xs ys : List Told) (left : List Entry) (started : Bool) (script : List LogEntry) → started ≡ false → Sound xs started left script → ys ≡ xs ++ told.Came (Tick 0) ∷ [] → Sound ys true left script
-start_sound xs ys left started script off h e = (stored_start xs ys left script (subst (λ b. events_of (log_of xs) ++ coming b left ≡ script) off h.0) e, h.1)
+pub start_sound : (xs ys : List Told) (left : List Entry) (started : Bool) (script : List LogEntry) → started ≡ false
+    → Sound xs started left script → ys ≡ xs ++ told.Came (Tick 0) ∷ [] → Sound ys true left script
+start_sound xs ys left started script off h e =
+    (stored_start xs ys left script (subst (λ b. events_of (log_of xs) ++ coming b left ≡ script) off h.0) e, h.1)
 
-pub take_sound : (xs ys : List Told) (entry copy : Entry) (before left : List Entry) (script : List LogEntry) (started : Bool) → started ≡ true → before ≡ entry ∷ left → Sound xs started before script → ys ≡ xs ++ told.Came copy ∷ [] → event_of copy ≡ event_of entry →
+pub take_sound : (xs ys : List Told) (entry copy : Entry) (before left : List Entry) (script : List LogEntry)
+    (started : Bool) → started ≡ true → before ≡ entry ∷ left → Sound xs started before script
+    → ys ≡ xs ++ told.Came copy ∷ [] → event_of copy ≡ event_of entry →
     Sound ys started left script
-take_sound xs ys entry copy before left script started on is h e same =
-    (stored_entry xs ys entry copy before left script started on is h.0 e same, (subst (AllByRecursion FitsPort) is h.1).1)
+take_sound xs ys entry copy before left script started on is h e same = (
+  stored_entry xs ys entry copy before left script started on is h.0 e same,
+  (subst (AllByRecursion FitsPort) is h.1).1,
+)
 
 -- the settings' ranges
 pub timely : (t : TcpSettings) → IsTimely (session_of t)
-timely t = record { range = record { k_small = omega (arith, t.k_in_range.1); w_positive = omega (arith, t.w_in_range.0) }; patient = omega (arith, t.t1_in_range.0) }
+timely t = record {
+  range = record {
+    k_small = omega (arith, t.k_in_range.1);
+    w_positive =
+        omega (arith, t.w_in_range.0);
+  };
+  patient = omega (arith, t.t1_in_range.0);
+}
 
 -- at the start, of a port that tells an empty log
 
-pub first_follows : (c : Settings) (s : State) (told : Option Log) → StartTells → SessionLaws → CommandLaws → LineLaws → AreStations c.line.link c.line.sizes.ca c.stations → IsTimely (session_of c.tcp) → s ≡ first_state c → told ≡ Some [] → Follows (setup_of c) s told
+pub first_follows : (c : Settings) (s : State) (told : Option Log) → StartTells → SessionLaws → CommandLaws → LineLaws
+    → AreStations c.line.link c.line.sizes.ca c.stations → IsTimely (session_of c.tcp) → s ≡ first_state c
+    → told ≡ Some [] → Follows (setup_of c) s told
 first_follows c s told starts laws commands line_laws rules timely is e =
     subst (λ o. Follows (setup_of c) s o) (sym e)
-    (subst (λ x. Agrees (setup_of c) x [] [] Fresh × IsClear x) (sym is) (at_first c starts laws commands line_laws rules timely, record { confirmed = refl; spent = λ may. (refl, refl) }))
+    (subst (λ x. Agrees (setup_of c) x [] [] Fresh × IsClear x) (sym is) (
+      at_first c starts laws commands line_laws rules timely,
+      record { confirmed = refl; spent = λ may. (refl, refl) },
+    ))
 
-pub told_follows : (p : Setup) (s : State) (told : Option Log) → Follows p s (Some []) → told ≡ Some [] → Follows p s told
+pub told_follows : (p : Setup) (s : State) (told : Option Log) → Follows p s (Some []) → told ≡ Some []
+    → Follows p s told
 told_follows p s told h e = subst (λ o. Follows p s o) (sym e) h
 
 pub nothing_rests : (p : Setup) (told : Option Log) → told ≡ Some [] → Rests p told

@@ -20,7 +20,8 @@ use Rattle.session.specs.History.{History, confirmation_of, frame_due, has_timed
 use Rattle.session.specs.Runs.{Settings, Call, Take, Send, Confirm, Pull, Open, Cut, Run, run, told, gone, may_take, after_call}
 use Rattle.session.specs.Rules.{KeepsRules}
 use Rattle.session.specs.Ends.{IsConfirmed, after_confirm, after_pull}
-use Rattle.gateway.specs.Log.{Log, LineIn, Opened, TcpIn, CutOff, Ticked, Came, Went, LineOut, TcpOut, Closed, GapOut, latest}
+use Rattle.gateway.specs.Log.{Log, LineIn, Opened, TcpIn, CutOff, Ticked, WallIs, Came, Went, LineOut, TcpOut, Closed, GapOut, latest}
+use Rattle.gateway.specs.Walls.{wall_on}
 use Rattle.gateway.specs.Streams.{spelled}
 use Rattle.gateway.specs.Frames.{data_frames}
 use Rattle.gateway.specs.Connections.{Channel, present}
@@ -38,16 +39,28 @@ use Rattle.gateway.specs.Agrees.{Talks, IsTimely}
 
 -- A frame more is taken
 
-taken_more : (p : Setup) (log : Log) (now : ℕ) (before c : Course) (f : Apdu) → MayTake p log now f c → TakesFrames p log now before c → TakesFrames p log now before (with_frame p f now c)
-taken_more p log now before c f may k = record { frames = f ∷ k.frames; taken = ap (with_frame p f now) k.taken; each = (subst (MayTake p log now f) k.taken may, k.each); rest = may.rest; joined = may.joined }
+taken_more : (p : Setup) (log : Log) (now : ℕ) (before c : Course) (f : Apdu) → MayTake p log now f c
+    → TakesFrames p log now before c → TakesFrames p log now before (with_frame p f now (wall_on log now) c)
+taken_more p log now before c f may k = record {
+  frames = f ∷ k.frames;
+  taken =
+      ap (with_frame p f now (wall_on log now)) k.taken;
+  each = (subst (MayTake p log now f) k.taken may, k.each);
+  rest =
+      may.rest;
+  joined = may.joined;
+}
 
 -- when octets of the connection come nothing is taken of the line, whatever the moment
-bytes_taken : LineLaws → (p : Setup) (log : Log) (now : ℕ) (octets : List ℕ) → taken_objects p (Came now (TcpIn octets) ∷ log) ≡ taken_objects p log
+bytes_taken : LineLaws → (p : Setup) (log : Log) (now : ℕ) (octets : List ℕ)
+    → taken_objects p (Came now (TcpIn octets) ∷ log) ≡ taken_objects p log
 bytes_taken laws p log now octets =
     ap (λ (reports : List (ℕ × List ℕ)). flat_map (λ report. monitor_objects p.sizes report.1) reports)
-    (laws.due_reports p.link.size (address_at p.addresses) p.link.answer_ms (latest (Came now (TcpIn octets) ∷ log)) (exchanges_of p log))
+    (laws.due_reports p.link.size (address_at p.addresses) p.link.answer_ms (latest (Came now (TcpIn octets) ∷ log))
+    (exchanges_of p log))
 
-pub may_at : LineLaws → (p : Setup) (log : Log) (now other moment : ℕ) (octets : List ℕ) (f : Apdu) (c : Course) → MayTake p (Came now (TcpIn octets) ∷ log) moment f c → MayTake p (Came other (TcpIn octets) ∷ log) moment f c
+pub may_at : LineLaws → (p : Setup) (log : Log) (now other moment : ℕ) (octets : List ℕ) (f : Apdu) (c : Course)
+    → MayTake p (Came now (TcpIn octets) ∷ log) moment f c → MayTake p (Came other (TcpIn octets) ∷ log) moment f c
 may_at laws p log now other moment octets f c may = record {
   fits = may.fits;
   rest = may.rest;
@@ -56,21 +69,35 @@ may_at laws p log now other moment octets f c may = record {
   placed = may.placed;
   flushed = λ running room.
       let all = may.flushed running room in
-      record { objects = all.objects ∙ ap length (bytes_taken laws p log now octets ∙ sym (bytes_taken laws p log other octets)); answers = all.answers };
+      record {
+        objects = all.objects ∙ ap length (bytes_taken laws p log now octets
+            ∙ sym (bytes_taken laws p log other octets));
+        answers = all.answers;
+      };
   undue = may.undue;
 }
 
 -- frames are taken only of octets
-runs_more : LineLaws → (p : Setup) (log : Log) (c : Course) (f : Apdu) → IsTaking log → MayTake p log (latest log) f c → Runs p log c → Runs p log (with_frame p f (latest log) c)
+runs_more : LineLaws → (p : Setup) (log : Log) (c : Course) (f : Apdu) → IsTaking log → MayTake p log (latest log) f c
+    → Runs p log c → Runs p log (with_frame p f (latest log) (wall_on log (latest log)) c)
 runs_more laws p [] c f takes may k = absurd takes
 runs_more laws p (Came now (LineIn octets) ∷ log) c f takes may k = absurd takes
 runs_more laws p (Came now Opened ∷ log) c f takes may k = absurd takes
-runs_more laws p (Came now (TcpIn octets) ∷ log) c f takes may k =
-    (k.0, k.1, k.2, k.3, k.4, taken_more p _ _ _ c f (may_at laws p log now (latest (Came now (TcpIn octets) ∷ log)) (latest (Came now (TcpIn octets) ∷ log)) octets f c may) k.5)
+runs_more laws p (Came now (TcpIn octets) ∷ log) c f takes may k = (
+  k.0,
+  k.1,
+  k.2,
+  k.3,
+  k.4,
+  taken_more p _ _ _ c f (may_at laws p log now (latest (Came now (TcpIn octets) ∷ log))
+      (latest (Came now (TcpIn octets) ∷ log)) octets f c may) k.5,
+)
 runs_more laws p (Came now CutOff ∷ log) c f takes may k = absurd takes
 runs_more laws p (Came now Ticked ∷ log) c f takes may k = absurd takes
+runs_more laws p (Came now (WallIs number) ∷ log) c f takes may k = absurd takes
 runs_more laws p (Went now (LineOut octets) ∷ log) c f takes may k = absurd takes
-runs_more laws p (Went now (TcpOut octets) ∷ log) c f takes may k = (k.0, k.1, k.2, k.3, taken_more p (Went now (TcpOut octets) ∷ log) _ k.1 c f may k.4)
+runs_more laws p (Went now (TcpOut octets) ∷ log) c f takes may k =
+    (k.0, k.1, k.2, k.3, taken_more p (Went now (TcpOut octets) ∷ log) _ k.1 c f may k.4)
 runs_more laws p (Went now (Closed cause) ∷ log) c f takes may k = absurd takes
 runs_more laws p (Went now (GapOut station session) ∷ log) c f takes may k = absurd takes
 
@@ -85,14 +112,20 @@ told_came Nothing f now goes = refl
 told_came Asdu f now goes = refl
 told_came (Closes cause) f now goes = cc
 
-takes : (s : Session) (h : History) (f : Apdu) (now : ℕ) → s.connected ≡ true → IsConfirmed s → is_close (outcome_of s f) ≡ false → after_call (Take f now) (at s h) ≡ at (session.taken f now s) (talk.Came f now ∷ h)
+takes : (s : Session) (h : History) (f : Apdu) (now : ℕ) → session.is_open s ≡ true → IsConfirmed s
+    → is_close (outcome_of s f) ≡ false → after_call (Take f now) (at s h)
+    ≡ at (session.taken f now s) (talk.Came f now ∷ h)
 takes s h f now on ready goes =
-    cond-true (may_take s) (at (session.taken f now s) (told (outcome_of s f) f now ∷ h)) (at s h) (and_from s.connected (is_none (confirmed s).0) on (ap is_none ready))
+    cond-true (may_take s) (at (session.taken f now s) (told (outcome_of s f) f now ∷ h)) (at s h)
+    (and_from (session.is_open s) (is_none (confirmed s).0) on (ap is_none ready))
     ∙ ap (λ x. at (session.taken f now s) (x ∷ h)) (told_came (outcome_of s f) f now goes)
 
-pub sends : (s : Session) (h : History) (asdu : List ℕ) (kind : Kind) (now : ℕ) → may_send s ≡ true → kind_of asdu ≡ kind → after_call (Send kind now) (at s h) ≡ at (session.sent kind now s) (told_sent (I s.next_sent s.next_received (record { items = asdu })) now h)
+pub sends : (s : Session) (h : History) (asdu : List ℕ) (kind : Kind) (now : ℕ) → may_send s ≡ true
+    → kind_of asdu ≡ kind → after_call (Send kind now) (at s h)
+    ≡ at (session.sent kind now s) (told_sent (I s.next_sent s.next_received (record { items = asdu })) now h)
 sends s h asdu kind now may is =
-    cond-true (may_send s) (at (session.sent kind now s) (talk.Sent s.next_sent s.next_received kind now ∷ h)) (at s h) may
+    cond-true (may_send s) (at (session.sent kind now s) (talk.Sent s.next_sent s.next_received kind now ∷ h))
+    (at s h) may
     ∙ ap (λ k. at (session.sent kind now s) (talk.Sent s.next_sent s.next_received k now ∷ h)) (sym is)
 
 -- a frame that bears no ASDU
@@ -105,15 +138,19 @@ plain (S nr) now h none = refl
 plain (U u) now h none = refl
 
 -- and it is next where it is a confirmation, or all has gone out
-pub next_plain : (p : Setup) (log : Log) (c : Course) (f : Apdu) → HasNoData f → (confirmation_of c.talk ≡ Some f) ⊎ ((confirmation_of c.talk ≡ None) × IsFlushed p log c × HasBegun log c) → IsNext p log f c
+pub next_plain : (p : Setup) (log : Log) (c : Course) (f : Apdu) → HasNoData f
+    → (confirmation_of c.talk ≡ Some f) ⊎ ((confirmation_of c.talk ≡ None) × IsFlushed p log c × HasBegun log c)
+    → IsNext p log f c
 next_plain p log c (I ns nr asdu) none h = let no : data_frames (I ns nr asdu ∷ []) ≡ [] = none [] in cc
 next_plain p log c (S nr) none h = h
 next_plain p log c (U u) none h = h
 
-pub confirms : (s t : Session) (h : History) (f : Apdu) (now : ℕ) → HasNoData f → ◌≡◌ {A = Due} (Some f, t) (confirmed s) → after_call (Confirm now) (at s h) ≡ at t (told_sent f now h)
+pub confirms : (s t : Session) (h : History) (f : Apdu) (now : ℕ) → HasNoData f
+    → ◌≡◌ {A = Due} (Some f, t) (confirmed s) → after_call (Confirm now) (at s h) ≡ at t (told_sent f now h)
 confirms s t h f now none e = ap (λ (d : Due). gone d now (at s h)) (sym e) ∙ ap (at t) (sym (plain f now h none))
 
-pub pulls : (s t : Session) (h : History) (f : Apdu) (now : ℕ) → HasNoData f → ◌≡◌ {A = Due} (Some f, t) (pulled now s) → after_call (Pull now) (at s h) ≡ at t (told_sent f now h)
+pub pulls : (s t : Session) (h : History) (f : Apdu) (now : ℕ) → HasNoData f → ◌≡◌ {A = Due} (Some f, t) (pulled now s)
+    → after_call (Pull now) (at s h) ≡ at t (told_sent f now h)
 pulls s t h f now none e = ap (λ (d : Due). gone d now (at s h)) (sym e) ∙ ap (at t) (sym (plain f now h none))
 
 -- The session and the log
@@ -136,13 +173,18 @@ abbrev pub Begins : Channel → Course → Type 0
 Begins octets c = (rest : List ℕ) × (octets.received ≡ spelled (came_frames c.talk) ++ rest)
 
 -- what is said once one call more is made keeps the rules
-ruled : (p : Setup) (s t : Session) (log : Log) (c : Course) (call : Call) (now moment : ℕ) (said : ℕ → History) (k : Talks p s log c) → moment ≡ now → after_call call (at s c.talk) ≡ at t (said moment) → KeepsRules p.session (said now)
+ruled : (p : Setup) (s t : Session) (log : Log) (c : Course) (call : Call) (now moment : ℕ) (said : ℕ
+    → History) (k : Talks p s log c) → moment ≡ now → after_call call (at s c.talk) ≡ at t (said moment)
+    → KeepsRules p.session (said now)
 ruled p s t log c call now moment said k clock made =
     subst (λ m. KeepsRules p.session (said m)) clock
-    (subst (λ (r : Run). KeepsRules p.session r.history) (ap (after_call call) k.called ∙ made) (k.laws.rules p.session (call ∷ k.calls) k.timely.range))
+    (subst (λ (r : Run). KeepsRules p.session r.history) (ap (after_call call) k.called
+    ∙ made) (k.laws.rules p.session (call ∷ k.calls) k.timely.range))
 
 -- a frame goes out
-pub talk_out : (p : Setup) (s t : Session) (log : Log) (c : Course) (now moment : ℕ) (f : Apdu) (call : Call) (k : Talks p s log c) → Fits f → moment ≡ latest log → IsNext p log f c → is_overfull c.works.history ≡ false → after_call call (at s c.talk) ≡ at t (told_sent f moment c.talk) → Begins (present log) c →
+pub talk_out : (p : Setup) (s t : Session) (log : Log) (c : Course) (now moment : ℕ) (f : Apdu) (call : Call)
+    (k : Talks p s log c) → Fits f → moment ≡ latest log → IsNext p log f c → is_overfull c.works.history ≡ false
+    → after_call call (at s c.talk) ≡ at t (told_sent f moment c.talk) → Begins (present log) c →
     Talks p t (Went now (TcpOut (spelling f)) ∷ log) (with_sent f moment c)
 talk_out p s t log c now moment f call k fits clock next placed made b = record {
   timely = k.timely;
@@ -155,14 +197,35 @@ talk_out p s t log c now moment f call k fits clock next placed made b = record 
     c,
     with_sent f moment c,
     k.course_runs,
-    record { frame = f; fits = fits; spelled_so = refl; rules = ruled p s t log c call (latest log) moment (λ m. told_sent f m c.talk) k clock made; next = next; placed = placed; put = ap (λ m. with_sent f m c) clock },
-    record { frames = []; taken = refl; each = tt; rest = b.0; joined = b.1 ∙ ap (λ xs. spelled xs ++ b.0) (sym (same_came f moment c.talk)) },
+    record {
+      frame = f;
+      fits = fits;
+      spelled_so = refl;
+      rules =
+          ruled p s t log c call (latest log) moment (λ m. told_sent f m c.talk) k clock made;
+      next = next;
+      placed =
+          placed;
+      put = ap (λ m. with_sent f m c) clock;
+    },
+    record {
+      frames = [];
+      taken = refl;
+      each = tt;
+      rest = b.0;
+      joined = b.1
+          ∙ ap (λ xs. spelled xs ++ b.0) (sym (same_came f moment c.talk));
+    },
   );
 }
 
 -- a frame is taken
-pub talk_heard : (p : Setup) (s : Session) (log : Log) (c : Course) (moment : ℕ) (f : Apdu) (rest : List ℕ) (k : Talks p s log c) → IsTaking log → moment ≡ latest log → s.connected ≡ true → IsConfirmed s → Fits f → refuses s f ≡ false → is_overfull c.works.history ≡ false → IsFlushed p log c → IsUntouched log c ⊎ (frame_due p.session.w p.session.t2 p.session.t3 (latest log) c.talk ≡ None) → (present log).received ≡ spelled (f ∷ came_frames c.talk) ++ rest →
-    Talks p (session.taken f moment s) log (with_frame p f moment c)
+pub talk_heard : (p : Setup) (s : Session) (log : Log) (c : Course) (moment : ℕ) (f : Apdu) (rest : List ℕ)
+    (k : Talks p s log c) → IsTaking log → moment ≡ latest log → session.is_open s ≡ true → IsConfirmed s → Fits f
+    → refuses s f ≡ false → is_overfull c.works.history ≡ false → IsFlushed p log c
+    → IsUntouched log c ⊎ (frame_due p.session.w p.session.t2 p.session.t3 (latest log) c.talk ≡ None)
+    → (present log).received ≡ spelled (f ∷ came_frames c.talk) ++ rest →
+    Talks p (session.taken f moment s) log (with_frame p f moment (wall_on log moment) c)
 talk_heard p s log c moment f rest k taking clock on ready fits goes placed flushed undue joined = record {
   timely = k.timely;
   laws = k.laws;
@@ -170,19 +233,22 @@ talk_heard p s log c moment f rest k taking clock on ready fits goes placed flus
   line_laws = k.line_laws;
   calls = Take f moment ∷ k.calls;
   called = ap (after_call (Take f moment)) k.called ∙ takes s c.talk f moment on ready goes;
-  course_runs = subst (λ m. Runs p log (with_frame p f m c)) (sym clock) (runs_more k.line_laws p log c f taking (record {
-    fits = fits;
-    rest = rest;
-    joined = joined;
-    rules = ruled p s (session.taken f moment s) log c (Take f moment) (latest log) moment (λ m. talk.Came f m ∷ c.talk) k clock (takes s c.talk f moment on ready goes);
-    placed = placed;
-    flushed = flushed;
-    undue = undue;
-  }) k.course_runs);
+  course_runs = subst (λ m. Runs p log (with_frame p f m (wall_on log m) c)) (sym clock)
+      (runs_more k.line_laws p log c f taking (record {
+        fits = fits;
+        rest = rest;
+        joined = joined;
+        rules = ruled p s (session.taken f moment s) log c (Take f moment) (latest log) moment (λ m. talk.Came f m
+            ∷ c.talk) k clock (takes s c.talk f moment on ready goes);
+        placed = placed;
+        flushed = flushed;
+        undue = undue;
+      }) k.course_runs);
 }
 
 -- the same of another log, where nothing was said
-pub talk_on : (p : Setup) (s t : Session) (old new : Log) (c d : Course) (k : Talks p s old c) → t ≡ s → d.talk ≡ c.talk → Runs p new d → Talks p t new d
+pub talk_on : (p : Setup) (s t : Session) (old new : Log) (c d : Course) (k : Talks p s old c) → t ≡ s
+    → d.talk ≡ c.talk → Runs p new d → Talks p t new d
 talk_on p s t old new c d k same said is = record {
   timely = k.timely;
   laws = k.laws;
@@ -194,51 +260,82 @@ talk_on p s t old new c d k same said is = record {
 }
 
 -- all that came is taken
-pub all_taken : (log : Log) (c : Course) (so_far : List ℕ) → (present log).received ≡ spelled (came_frames c.talk) ++ (so_far ++ []) → IsMore so_far → HasTakenAll (present log) c.talk
-all_taken log c so_far joined waits = record { rest = so_far; joined = joined ∙ ap (λ x. spelled (came_frames c.talk) ++ x) (append-nil so_far); more = waits }
+pub all_taken : (log : Log) (c : Course) (so_far : List ℕ)
+    → (present log).received ≡ spelled (came_frames c.talk) ++ (so_far ++ []) → IsMore so_far
+    → HasTakenAll (present log) c.talk
+all_taken log c so_far joined waits = record {
+  rest = so_far;
+  joined = joined
+      ∙ ap (λ x. spelled (came_frames c.talk) ++ x) (append-nil so_far);
+  more = waits;
+}
 
 -- the connection ends
-pub talk_cut : (p : Setup) (s t : Session) (old new : Log) (c d : Course) → Talks p s old c → t ≡ s → d.talk ≡ [] → Runs p new d → Talks p (session.closed t) new d
+pub talk_cut : (p : Setup) (s t : Session) (old new : Log) (c d : Course) → Talks p s old c → t ≡ s → d.talk ≡ []
+    → Runs p new d → Talks p (session.closed t) new d
 talk_cut p s t old new c d k same said is = record {
   timely = k.timely;
   laws = k.laws;
   command_laws = k.command_laws;
   line_laws = k.line_laws;
   calls = Cut ∷ k.calls;
-  called = ap (after_call Cut) k.called ∙ ap (λ x. at (session.closed x) []) (sym same) ∙ ap (λ h. at (session.closed t) h) (sym said);
+  called = ap (after_call Cut) k.called ∙ ap (λ x. at (session.closed x) []) (sym same)
+      ∙ ap (λ h. at (session.closed t) h) (sym said);
   course_runs = is;
 }
 
 -- a connection begins
-pub talk_open : (p : Setup) (s t : Session) (old new : Log) (c d : Course) (moment : ℕ) → Talks p s old c → t ≡ s → d.talk ≡ talk.Opened moment ∷ [] → Runs p new d → Talks p (session.opened moment (session.closed t)) new d
+pub talk_open : (p : Setup) (s t : Session) (old new : Log) (c d : Course) (moment : ℕ) → Talks p s old c → t ≡ s
+    → d.talk ≡ talk.Opened moment ∷ [] → Runs p new d → Talks p (session.opened moment (session.closed t)) new d
 talk_open p s t old new c d moment k same said is = record {
   timely = k.timely;
   laws = k.laws;
   command_laws = k.command_laws;
   line_laws = k.line_laws;
   calls = Open moment ∷ Cut ∷ k.calls;
-  called = ap (λ r. after_call (Open moment) (after_call Cut r)) k.called ∙ ap (λ x. at (session.opened moment (session.closed x)) (talk.Opened moment ∷ [])) (sym same)
+  called = ap (λ r. after_call (Open moment) (after_call Cut r)) k.called
+      ∙ ap (λ x. at (session.opened moment (session.closed x)) (talk.Opened moment ∷ [])) (sym same)
       ∙ ap (λ h. at (session.opened moment (session.closed t)) h) (sym said);
   course_runs = is;
 }
 
 -- at the start
-pub talk_first : (p : Setup) → IsTimely p.session → SessionLaws → CommandLaws → LineLaws → Talks p (session.new_session p.session.k p.session.w p.session.t1 p.session.t2 p.session.t3) [] (first_course p)
-talk_first p timely laws command_laws line_laws = record { timely = timely; laws = laws; command_laws = command_laws; line_laws = line_laws; calls = []; called = refl; course_runs = refl }
+pub talk_first : (p : Setup) → IsTimely p.session → SessionLaws → CommandLaws → LineLaws
+    → Talks p (session.new_session p.session.k p.session.w p.session.t1 p.session.t2 p.session.t3) [] (first_course p)
+talk_first p timely laws command_laws line_laws = record {
+  timely = timely;
+  laws = laws;
+  command_laws =
+      command_laws;
+  line_laws = line_laws;
+  calls = [];
+  called = refl;
+  course_runs = refl;
+}
 
 -- What the session answers is what the history makes due.
 
-pub confirmed_by : (p : Setup) (s : Session) (log : Log) (c : Course) (k : Talks p s log c) → (confirmed s).0 ≡ confirmation_of c.talk
-confirmed_by p s log c k = subst (λ (r : Run). (confirmed r.session).0 ≡ confirmation_of r.history) k.called (k.laws.confirm p.session k.calls k.timely.range)
+pub confirmed_by : (p : Setup) (s : Session) (log : Log) (c : Course) (k : Talks p s log c)
+    → (confirmed s).0 ≡ confirmation_of c.talk
+confirmed_by p s log c k = subst (λ (r : Run). (confirmed r.session).0 ≡ confirmation_of r.history) k.called
+    (k.laws.confirm p.session k.calls k.timely.range)
 
-pub due_by : (p : Setup) (s : Session) (log : Log) (c : Course) (k : Talks p s log c) (now : ℕ) → (pulled now s).0 ≡ frame_due p.session.w p.session.t2 p.session.t3 now c.talk
-due_by p s log c k now = subst (λ (r : Run). (pulled now r.session).0 ≡ frame_due p.session.w p.session.t2 p.session.t3 now r.history) k.called (k.laws.dues p.session k.calls k.timely.range now)
+pub due_by : (p : Setup) (s : Session) (log : Log) (c : Course) (k : Talks p s log c) (now : ℕ)
+    → (pulled now s).0 ≡ frame_due p.session.w p.session.t2 p.session.t3 now c.talk
+due_by p s log c k now = subst (λ (r : Run). (pulled now r.session).0
+    ≡ frame_due p.session.w p.session.t2 p.session.t3 now r.history) k.called
+    (k.laws.dues p.session k.calls k.timely.range now)
 
-pub may_by : (p : Setup) (s : Session) (log : Log) (c : Course) (k : Talks p s log c) → may_send s ≡ (talk.is_started c.talk && nat_lt (length (talk.still_unacknowledged c.talk)) p.session.k)
-may_by p s log c k = subst (λ (r : Run). may_send r.session ≡ (talk.is_started r.history && nat_lt (length (talk.still_unacknowledged r.history)) p.session.k)) k.called (k.laws.may_send p.session k.calls k.timely.range)
+pub may_by : (p : Setup) (s : Session) (log : Log) (c : Course) (k : Talks p s log c)
+    → may_send s ≡ (talk.is_started c.talk && nat_lt (length (talk.still_unacknowledged c.talk)) p.session.k)
+may_by p s log c k = subst (λ (r : Run). may_send r.session
+    ≡ (talk.is_started r.history && nat_lt (length (talk.still_unacknowledged r.history)) p.session.k)) k.called
+    (k.laws.may_send p.session k.calls k.timely.range)
 
-pub late_by : (p : Setup) (s : Session) (log : Log) (c : Course) (k : Talks p s log c) (now : ℕ) → timed_out now s ≡ has_timed_out p.session.t1 now c.talk
-late_by p s log c k now = subst (λ (r : Run). timed_out now r.session ≡ has_timed_out p.session.t1 now r.history) k.called (k.laws.t1 p.session k.calls k.timely.range now)
+pub late_by : (p : Setup) (s : Session) (log : Log) (c : Course) (k : Talks p s log c) (now : ℕ)
+    → timed_out now s ≡ has_timed_out p.session.t1 now c.talk
+late_by p s log c k now = subst (λ (r : Run). timed_out now r.session
+    ≡ has_timed_out p.session.t1 now r.history) k.called (k.laws.t1 p.session k.calls k.timely.range now)
 
 -- t1 stays
 
@@ -251,14 +348,18 @@ either_session true x y n h k = h
 either_session false x y n h k = k
 
 replied_t1 : (r : Option Uf) (s : Session) → (session.replied r s).1.t1 ≡ s.t1
-replied_t1 None s = either_way (s.stopping && length s.unacknowledged == 0) _ _ (λ d. d.1.t1 ≡ s.t1) refl refl
+replied_t1 None s = either_way (session.is_stopping s && length s.unacknowledged == 0) _ _ (λ d. d.1.t1
+    ≡ s.t1) refl refl
 replied_t1 (Some u) s = refl
 
 pub confirm_t1 : (s : Session) → (after_confirm s).t1 ≡ s.t1
-confirm_t1 s = either_way (not s.connected) _ _ (λ d. d.1.t1 ≡ s.t1) refl (either_way (s.stopping && nat_lt 0 s.unconfirmed) _ _ (λ d. d.1.t1 ≡ s.t1) refl (replied_t1 s.reply s))
+confirm_t1 s = either_way (not (session.is_open s)) _ _ (λ d. d.1.t1 ≡ s.t1) refl
+    (either_way (session.is_stopping s && nat_lt 0 s.unconfirmed) _ _ (λ d. d.1.t1 ≡ s.t1) refl (replied_t1 s.reply s))
 
 pub pull_t1 : (now : ℕ) (s : Session) → (after_pull now s).t1 ≡ s.t1
-pull_t1 now s = either_way (not s.connected) _ _ (λ d. d.1.t1 ≡ s.t1) refl (either_way (session.is_s_due now s) _ _ (λ d. d.1.t1 ≡ s.t1) refl (either_way (session.is_test_due now s) _ _ (λ d. d.1.t1 ≡ s.t1) refl refl))
+pull_t1 now s = either_way (not (session.is_open s)) _ _ (λ d. d.1.t1 ≡ s.t1) refl
+    (either_way (session.is_s_due now s) _ _ (λ d. d.1.t1 ≡ s.t1) refl
+    (either_way (session.is_test_due now s) _ _ (λ d. d.1.t1 ≡ s.t1) refl refl))
 
 after_frame_t1 : (f : Apdu) (now : ℕ) (s : Session) → (session.after_frame f now s).t1 ≡ s.t1
 after_frame_t1 (I ns nr asdu) now s = refl
@@ -278,9 +379,12 @@ call_t1 : (call : Call) (r : Run) → (after_call call r).session.t1 ≡ r.sessi
 call_t1 (Open now) r = refl
 call_t1 Cut r = refl
 call_t1 (Take f now) r =
-    either_run (may_take r.session) (at (session.taken f now r.session) (told (outcome_of r.session f) f now ∷ r.history)) r r.session.t1
+    either_run (may_take r.session) (at (session.taken f now r.session) (told (outcome_of r.session f) f now
+    ∷ r.history)) r r.session.t1
     (either_session (refuses r.session f) _ _ r.session.t1 refl (after_frame_t1 f now _)) refl
-call_t1 (Send kind now) r = either_run (may_send r.session) (at (session.sent kind now r.session) (talk.Sent r.session.next_sent r.session.next_received kind now ∷ r.history)) r r.session.t1 refl refl
+call_t1 (Send kind now) r = either_run (may_send r.session)
+    (at (session.sent kind now r.session) (talk.Sent r.session.next_sent r.session.next_received kind now ∷ r.history))
+    r r.session.t1 refl refl
 call_t1 (Confirm now) r = confirm_t1 r.session
 call_t1 (Pull now) r = pull_t1 now r.session
 
@@ -289,4 +393,5 @@ run_t1 p [] = refl
 run_t1 p (call ∷ calls) = call_t1 call (run p calls) ∙ run_t1 p calls
 
 pub patient : (p : Setup) (s : Session) (log : Log) (c : Course) → Talks p s log c → 0 < s.t1
-patient p s log c k = subst (λ n. 0 < n) (sym (ap (λ (r : Run). r.session.t1) (sym k.called) ∙ run_t1 p.session k.calls)) k.timely.patient
+patient p s log c k =
+    subst (λ n. 0 < n) (sym (ap (λ (r : Run). r.session.t1) (sym k.called) ∙ run_t1 p.session k.calls)) k.timely.patient

@@ -1,5 +1,5 @@
 -- An open connection of the log, and the session and the queue.
-use Rattle.std.proofs.Common.{◌≡◌, ℕ, ◌+◌, ◌-◌, ◌%◌, ◌<◌, ◌≤◌, ◌==◌, ◌||◌, ◌&&◌, Bool, true, false, not, cond, nat_le, nat_lt, List, [], ◌∷◌, ◌++◌, length, take, drop, refl, ap, sym, subst, ◌∙◌, arith, inl, inr, Option, Some, None}
+use Rattle.std.proofs.Common.{◌≡◌, ℕ, ◌+◌, ◌-◌, ◌%◌, ◌<◌, ◌≤◌, ◌==◌, ◌||◌, Bool, true, false, not, cond, nat_le, nat_lt, List, [], ◌∷◌, ◌++◌, length, take, drop, refl, ap, sym, subst, ◌∙◌, arith, inl, inr, Option, Some, None}
 use Rattle.std.proofs.lemmas.List.{length-drop, length-append}
 use Rattle.std.proofs.lemmas.Bool.{cases_lt, lt-leb, le-leb, lt-ltb, le-ltb, cond-false, leb-true, or_parts, and_parts, not-false, ltb-true}
 use Rattle.apci.specs.declared.apdu.Apdu.{Apdu}
@@ -20,19 +20,26 @@ use Rattle.gateway.specs.Agrees.{Unconfirmed, Tied}
 use Rattle.gateway.proofs.Counters.{reached-valid, reached-invalid}
 use Rattle.gateway.proofs.Unconfirmed.{unconfirmed_more, unconfirmed_piece, unconfirmed_own}
 
-valid_agrees : (a u nr next sent : ℕ) → u < 32768 → a + u ≡ sent → next ≡ sent % 32768 → not (nat_le ((next + (32768 - nr % 32768)) % 32768) u) ≡ nat_lt sent (reached a nr)
+valid_agrees : (a u nr next sent : ℕ) → u < 32768 → a + u ≡ sent → next ≡ sent % 32768
+    → not (nat_le ((next + (32768 - nr % 32768)) % 32768) u) ≡ nat_lt sent (reached a nr)
 valid_agrees a u nr next sent small count counter =
     let left : ℕ = (next + (32768 - nr % 32768)) % 32768 in
     elim (cases_lt u left) [
-      | inl lt ↦ ap not (lt-leb left u lt) ∙ sym (lt-ltb sent (reached a nr) (omega (arith, reached-invalid a u nr small)))
-      | inr le ↦ ap not (le-leb left u le) ∙ sym (le-ltb sent (reached a nr) (omega (arith, reached-valid a u nr small)))
+      | inl lt ↦ ap not (lt-leb left u lt)
+          ∙ sym (lt-ltb sent (reached a nr) (omega (arith, reached-invalid a u nr small)))
+      | inr le ↦ ap not (le-leb left u le)
+          ∙ sym (le-ltb sent (reached a nr) (omega (arith, reached-valid a u nr small)))
     ]
 
-reached_newly : (a u nr next sent : ℕ) → u < 32768 → a + u ≡ sent → next ≡ sent % 32768 → nat_le ((next + (32768 - nr % 32768)) % 32768) u ≡ true → reached a nr ≡ a + (u - (next + (32768 - nr % 32768)) % 32768)
+reached_newly : (a u nr next sent : ℕ) → u < 32768 → a + u ≡ sent → next ≡ sent % 32768
+    → nat_le ((next + (32768 - nr % 32768)) % 32768) u ≡ true
+    → reached a nr ≡ a + (u - (next + (32768 - nr % 32768)) % 32768)
 reached_newly a u nr next sent small count counter valid =
     omega (arith, reached-valid a u nr small, leb-true _ _ valid)
 
-three_tests : (a b c : Bool) → is_close (cond a (Closes Stopped) (cond b (Closes SendNumber) (cond c (Closes ReceiveNumber) Asdu))) ≡ ((a || b) || c)
+three_tests : (a b c : Bool)
+    → is_close (cond a (Closes Stopped) (cond b (Closes SendNumber) (cond c (Closes ReceiveNumber) Asdu)))
+    ≡ ((a || b) || c)
 three_tests true b c = refl
 three_tests false true c = refl
 three_tests false false true = refl
@@ -42,15 +49,19 @@ one_test : (a : Bool) → is_close (cond a (Closes ReceiveNumber) Nothing) ≡ a
 one_test true = refl
 one_test false = refl
 
-valid_in : (nr : ℕ) (c : Connection) (s : Session) (ps : List (List ℕ)) → Tied c s ps → not (is_valid nr s) ≡ nat_lt (length c.sent_frames) (reached (acknowledged_count c.received_frames) nr)
-valid_in nr c s ps h = valid_agrees (acknowledged_count c.received_frames) (length s.unacknowledged) nr s.next_sent (length c.sent_frames) (omega (arith, h.small, h.bound)) h.unconfirmed.count h.next
+valid_in : (nr : ℕ) (c : Connection) (s : Session) (ps : List (List ℕ)) → Tied c s ps
+    → not (is_valid nr s) ≡ nat_lt (length c.sent_frames) (reached (acknowledged_count c.received_frames) nr)
+valid_in nr c s ps h = valid_agrees (acknowledged_count c.received_frames) (length s.unacknowledged) nr s.next_sent
+    (length c.sent_frames) (omega (arith, h.small, h.bound)) h.unconfirmed.count h.next
 
 abbrev pub fault_in : Taken → Option Close
 fault_in (Closes cause) = Some cause
 fault_in Asdu = None
 fault_in Nothing = None
 
-pub three_faults : (a b c : Bool) → fault_in (cond a (Closes Stopped) (cond b (Closes SendNumber) (cond c (Closes ReceiveNumber) Asdu))) ≡ cond a (Some Stopped) (cond b (Some SendNumber) (cond c (Some ReceiveNumber) None))
+pub three_faults : (a b c : Bool)
+    → fault_in (cond a (Closes Stopped) (cond b (Closes SendNumber) (cond c (Closes ReceiveNumber) Asdu)))
+    ≡ cond a (Some Stopped) (cond b (Some SendNumber) (cond c (Some ReceiveNumber) None))
 three_faults true b c = refl
 three_faults false true c = refl
 three_faults false false true = refl
@@ -61,22 +72,36 @@ one_fault true = refl
 one_fault false = refl
 
 -- The session finds the fault that the frames have.
-fault_agrees : (f : Apdu) (c : Connection) (s : Session) (ps : List (List ℕ)) → Tied c s ps → fault_in (outcome_of s f) ≡ fault_of (length c.sent_frames) c.received_frames f
+fault_agrees : (f : Apdu) (c : Connection) (s : Session) (ps : List (List ℕ)) → Tied c s ps
+    → fault_in (outcome_of s f) ≡ fault_of (length c.sent_frames) c.received_frames f
 fault_agrees (I ns nr asdu) c s ps h =
     three_faults (not (is_running s)) (not (ns == s.next_received)) (not (is_valid nr s)) ∙ (
-    let valid : not (is_valid nr s) ≡ nat_lt (length c.sent_frames) (reached (acknowledged_count c.received_frames) nr) = valid_in nr c s ps h in
-    ap (λ r. cond (not r) (Some Stopped) (cond (not (ns == s.next_received)) (Some SendNumber) (cond (not (is_valid nr s)) (Some ReceiveNumber) None))) h.running
-    ∙ ap (λ n. cond (not (runs c.received_frames)) (Some Stopped) (cond (not (ns == n)) (Some SendNumber) (cond (not (is_valid nr s)) (Some ReceiveNumber) None))) h.received
-    ∙ ap (λ v. cond (not (runs c.received_frames)) (Some Stopped) (cond (not (ns == i_frames c.received_frames % 32768)) (Some SendNumber) (cond v (Some ReceiveNumber) None))) valid)
-fault_agrees (S nr) c s ps h = one_fault (not (is_valid nr s)) ∙ ap (λ v. cond v (Some ReceiveNumber) None) (valid_in nr c s ps h)
+    let valid : not (is_valid nr s) ≡ nat_lt (length c.sent_frames)
+    (reached (acknowledged_count c.received_frames) nr) = valid_in nr c s ps h in
+    ap (λ r. cond (not r) (Some Stopped) (cond (not (ns == s.next_received)) (Some SendNumber)
+    (cond (not (is_valid nr s)) (Some ReceiveNumber) None))) h.running
+    ∙ ap (λ n. cond (not (runs c.received_frames)) (Some Stopped)
+    (cond (not (ns == n)) (Some SendNumber) (cond (not (is_valid nr s)) (Some ReceiveNumber) None))) h.received
+    ∙ ap (λ v. cond (not (runs c.received_frames)) (Some Stopped)
+    (cond (not (ns == i_frames c.received_frames % 32768)) (Some SendNumber) (cond v (Some ReceiveNumber) None)))
+    valid)
+fault_agrees (S nr) c s ps h = one_fault (not (is_valid nr s))
+    ∙ ap (λ v. cond v (Some ReceiveNumber) None) (valid_in nr c s ps h)
 fault_agrees (U u) c s ps h = refl
 
-pub fault_closes : (f : Apdu) (c : Connection) (s : Session) (ps : List (List ℕ)) (cause : Close) → Tied c s ps → Closes cause ≡ outcome_of s f → fault_of (length c.sent_frames) c.received_frames f ≡ Some cause
+pub fault_closes : (f : Apdu) (c : Connection) (s : Session) (ps : List (List ℕ)) (cause : Close) → Tied c s ps
+    → Closes cause ≡ outcome_of s f → fault_of (length c.sent_frames) c.received_frames f ≡ Some cause
 fault_closes f c s ps cause h e = sym (fault_agrees f c s ps h) ∙ sym (ap fault_in e)
 
 -- what an outcome other than a close says
-pub no_close : (f : Apdu) (c : Connection) (s : Session) (ps : List (List ℕ)) (outcome : Taken) → is_close outcome ≡ false → Tied c s ps → outcome ≡ outcome_of s f → (refuses s f ≡ false) × (fault_of (length c.sent_frames) c.received_frames f ≡ None)
-no_close f c s ps outcome goes h e = (sym (ap is_close e) ∙ goes, sym (fault_agrees f c s ps h) ∙ sym (ap fault_in e) ∙ none outcome goes)
+pub no_close : (f : Apdu) (c : Connection) (s : Session) (ps : List (List ℕ)) (outcome : Taken)
+    → is_close outcome ≡ false → Tied c s ps → outcome ≡ outcome_of s f
+    → (refuses s f ≡ false) × (fault_of (length c.sent_frames) c.received_frames f ≡ None)
+no_close f c s ps outcome goes h e = (
+  sym (ap is_close e) ∙ goes,
+  sym (fault_agrees f c s ps h) ∙ sym (ap fault_in e)
+      ∙ none outcome goes,
+)
   where
     none : (outcome : Taken) → is_close outcome ≡ false → fault_in outcome ≡ None
     none (Closes cause) goes = cc
@@ -84,10 +109,14 @@ no_close f c s ps outcome goes h e = (sym (ap is_close e) ∙ goes, sym (fault_a
     none Nothing goes = refl
 
 -- which faults frames have
-pub fault_cases : (P : Close → Type 0) → P Stopped → P SendNumber → P ReceiveNumber → (sent : ℕ) (older : List Apdu) (f : Apdu) (cause : Close) → fault_of sent older f ≡ Some cause → P cause
-fault_cases P p2 p3 p4 sent older (I ns nr asdu) cause e = three (not (runs older)) (not (ns == i_frames older % 32768)) (nat_lt sent (reached (acknowledged_count older) nr)) e
+pub fault_cases : (P : Close → Type 0) → P Stopped → P SendNumber → P ReceiveNumber
+    → (sent : ℕ) (older : List Apdu) (f : Apdu) (cause : Close) → fault_of sent older f ≡ Some cause → P cause
+fault_cases P p2 p3 p4 sent older (I ns nr asdu) cause e =
+    three (not (runs older)) (not (ns == i_frames older % 32768))
+    (nat_lt sent (reached (acknowledged_count older) nr)) e
   where
-    three : (a b c : Bool) → cond a (Some Stopped) (cond b (Some SendNumber) (cond c (Some ReceiveNumber) None)) ≡ Some cause → P cause
+    three : (a b c : Bool) → cond a (Some Stopped) (cond b (Some SendNumber) (cond c (Some ReceiveNumber) None))
+        ≡ Some cause → P cause
     three true b c e = let same : Stopped ≡ cause = cc in subst P same p2
     three false true c e = let same : SendNumber ≡ cause = cc in subst P same p3
     three false false true e = let same : ReceiveNumber ≡ cause = cc in subst P same p4
@@ -111,11 +140,14 @@ newly_within nr s = omega arith
 
 -- what a valid N(R) makes of the window
 window_of : (nr : ℕ) (c : Connection) (s : Session) (ps : List (List ℕ)) → Tied c s ps → not (is_valid nr s) ≡ false →
-    Unconfirmed (reached (acknowledged_count c.received_frames) nr) c.sent_frames (drop (newly nr s) s.unacknowledged) (drop (from_queue (take (newly nr s) s.unacknowledged)) ps)
+    Unconfirmed (reached (acknowledged_count c.received_frames) nr) c.sent_frames (drop (newly nr s) s.unacknowledged)
+    (drop (from_queue (take (newly nr s) s.unacknowledged)) ps)
 window_of nr c s ps h valid =
     let a : ℕ = acknowledged_count c.received_frames in
-    let there : reached a nr ≡ a + newly nr s = reached_newly a (length s.unacknowledged) nr s.next_sent (length c.sent_frames) (omega (arith, h.small, h.bound)) h.unconfirmed.count h.next (not-false _ valid) in
-    subst (λ n. Unconfirmed n c.sent_frames (drop (newly nr s) s.unacknowledged) (drop (from_queue (take (newly nr s) s.unacknowledged)) ps)) (sym there)
+    let there : reached a nr ≡ a + newly nr s = reached_newly a (length s.unacknowledged) nr s.next_sent
+    (length c.sent_frames) (omega (arith, h.small, h.bound)) h.unconfirmed.count h.next (not-false _ valid) in
+    subst (λ n. Unconfirmed n c.sent_frames (drop (newly nr s) s.unacknowledged)
+    (drop (from_queue (take (newly nr s) s.unacknowledged)) ps)) (sym there)
     (unconfirmed_more a (newly nr s) c.sent_frames s.unacknowledged ps (newly_within nr s) h.unconfirmed)
 
 bound_of : (nr : ℕ) (s : Session) → length s.unacknowledged ≤ s.k → length (drop (newly nr s) s.unacknowledged) ≤ s.k
@@ -124,7 +156,8 @@ bound_of nr s h = omega (arith, length-drop (newly nr s) s.unacknowledged)
 abbrev after : Apdu → ℕ → Session → Session
 after f now s = after_frame f now (session.acknowledged (newly_by f s) (record s { last_frame = now }))
 
-tied_after : (f : Apdu) (now : ℕ) (c : Connection) (s : Session) (ps : List (List ℕ)) → s.connected ≡ true → Tied c s ps → refuses s f ≡ false → Tied (heard_more f c) (after f now s) (less f s ps)
+tied_after : (f : Apdu) (now : ℕ) (c : Connection) (s : Session) (ps : List (List ℕ)) → session.is_open s ≡ true
+    → Tied c s ps → refuses s f ≡ false → Tied (heard_more f c) (after f now s) (less f s ps)
 tied_after (I ns nr asdu) now c s ps on h passes =
     let tests = or_parts (not (is_running s) || not (ns == s.next_received)) (not (is_valid nr s))
     (sym (three_tests (not (is_running s)) (not (ns == s.next_received)) (not (is_valid nr s))) ∙ passes) in
@@ -146,20 +179,64 @@ tied_after (S nr) now c s ps on h passes =
       unconfirmed = window_of nr c s ps h (sym (one_test (not (is_valid nr s))) ∙ passes);
     }
 tied_after (U StartAct) now c s ps on h passes =
-    record { running = rw on; received = h.received; next = h.next; small = h.small; bound = h.bound; unconfirmed = h.unconfirmed }
+    record {
+      running = rw on;
+      received = h.received;
+      next = h.next;
+      small = h.small;
+      bound = h.bound;
+      unconfirmed =
+          h.unconfirmed;
+    }
 tied_after (U StopAct) now c s ps on h passes =
-    record { running = stops s.connected s.started; received = h.received; next = h.next; small = h.small; bound = h.bound; unconfirmed = h.unconfirmed }
-  where
-    stops : (a b : Bool) → ((a && b) && false) ≡ false
-    stops true true = refl
-    stops true false = refl
-    stops false b = refl
-tied_after (U StartCon) now c s ps on h passes = record { running = h.running; received = h.received; next = h.next; small = h.small; bound = h.bound; unconfirmed = h.unconfirmed }
-tied_after (U StopCon) now c s ps on h passes = record { running = h.running; received = h.received; next = h.next; small = h.small; bound = h.bound; unconfirmed = h.unconfirmed }
-tied_after (U TestAct) now c s ps on h passes = record { running = h.running; received = h.received; next = h.next; small = h.small; bound = h.bound; unconfirmed = h.unconfirmed }
-tied_after (U TestCon) now c s ps on h passes = record { running = h.running; received = h.received; next = h.next; small = h.small; bound = h.bound; unconfirmed = h.unconfirmed }
+    record {
+      running = rw on;
+      received = h.received;
+      next = h.next;
+      small = h.small;
+      bound = h.bound;
+      unconfirmed =
+          h.unconfirmed;
+    }
+tied_after (U StartCon) now c s ps on h passes = record {
+  running = h.running;
+  received = h.received;
+  next =
+      h.next;
+  small = h.small;
+  bound = h.bound;
+  unconfirmed = h.unconfirmed;
+}
+tied_after (U StopCon) now c s ps on h passes = record {
+  running = h.running;
+  received = h.received;
+  next =
+      h.next;
+  small = h.small;
+  bound = h.bound;
+  unconfirmed = h.unconfirmed;
+}
+tied_after (U TestAct) now c s ps on h passes = record {
+  running = h.running;
+  received = h.received;
+  next =
+      h.next;
+  small = h.small;
+  bound = h.bound;
+  unconfirmed = h.unconfirmed;
+}
+tied_after (U TestCon) now c s ps on h passes = record {
+  running = h.running;
+  received = h.received;
+  next =
+      h.next;
+  small = h.small;
+  bound = h.bound;
+  unconfirmed = h.unconfirmed;
+}
 
-acked_after : (f : Apdu) (now : ℕ) (s : Session) → (after f now s).acked_queue ≡ from_queue (take (newly_by f s) s.unacknowledged)
+acked_after : (f : Apdu) (now : ℕ) (s : Session) → (after f now s).acked_queue
+    ≡ from_queue (take (newly_by f s) s.unacknowledged)
 acked_after (I ns nr asdu) now s = refl
 acked_after (S nr) now s = refl
 acked_after (U StartAct) now s = refl
@@ -170,15 +247,17 @@ acked_after (U TestAct) now s = refl
 acked_after (U TestCon) now s = refl
 
 -- a frame that passes
-pub tied_taken : (f : Apdu) (now : ℕ) (c : Connection) (s : Session) (ps : List (List ℕ)) → s.connected ≡ true → Tied c s ps → refuses s f ≡ false → Tied (heard_more f c) (taken f now s) (drop (taken f now s).acked_queue ps)
+pub tied_taken : (f : Apdu) (now : ℕ) (c : Connection) (s : Session) (ps : List (List ℕ)) → session.is_open s ≡ true
+    → Tied c s ps → refuses s f ≡ false → Tied (heard_more f c) (taken f now s) (drop (taken f now s).acked_queue ps)
 tied_taken f now c s ps on h passes =
     let is : taken f now s ≡ after f now s = cond-false (refuses s f) _ (after f now s) passes in
     subst (λ (x : Session). Tied (heard_more f c) x (drop x.acked_queue ps)) (sym is)
-    (subst (λ n. Tied (heard_more f c) (after f now s) (drop n ps)) (sym (acked_after f now s)) (tied_after f now c s ps on h passes))
+    (subst (λ n. Tied (heard_more f c) (after f now s) (drop n ps)) (sym (acked_after f now s))
+    (tied_after f now c s ps on h passes))
 
 -- a session whose window is the same
 pub record SameWindow (s t : Session) : Type 0 where
-  pub same_connected : t.connected ≡ s.connected
+  pub same_connected : session.is_open t ≡ session.is_open s
   pub same_running : is_running t ≡ is_running s
   pub same_received : t.next_received ≡ s.next_received
   pub same_next : t.next_sent ≡ s.next_sent
@@ -192,14 +271,16 @@ tied_same c s t ps e h = record {
   next = e.same_next ∙ h.next;
   small = omega (arith, e.same_k, h.small);
   bound = omega (arith, e.same_k, h.bound, ap length e.same_frames);
-  unconfirmed = subst (λ us. Unconfirmed (acknowledged_count c.received_frames) c.sent_frames us ps) (sym e.same_frames) h.unconfirmed;
+  unconfirmed = subst (λ us. Unconfirmed (acknowledged_count c.received_frames) c.sent_frames us ps)
+      (sym e.same_frames) h.unconfirmed;
 }
 
 -- the connection once a frame was handed to TCP
 abbrev pub sent_more : Sent → Connection → Connection
 sent_more f c = record { sent_frames = c.sent_frames ++ f ∷ []; received_frames = c.received_frames }
 
-counted : (xs : List Sent) (f : Sent) (next : ℕ) → next ≡ length xs % 32768 → (next + 1) % 32768 ≡ length (xs ++ f ∷ []) % 32768
+counted : (xs : List Sent) (f : Sent) (next : ℕ) → next ≡ length xs % 32768
+    → (next + 1) % 32768 ≡ length (xs ++ f ∷ []) % 32768
 counted xs f next h = omega (arith, length-append xs (f ∷ []))
 
 room_for : (s : Session) (u : Unacknowledged) → may_send s ≡ true → length (s.unacknowledged ++ u ∷ []) ≤ s.k
@@ -207,23 +288,28 @@ room_for s u h =
     let tests = and_parts (is_running s) (nat_lt (length s.unacknowledged) s.k) h in
     omega (arith, ltb-true _ _ tests.1, length-append s.unacknowledged (u ∷ []))
 
-pub tied_piece : (f : Sent) (now : ℕ) (c : Connection) (s : Session) (ps : List (List ℕ)) → Tied c s ps → may_send s ≡ true → has_objects f.asdu ≡ true → Tied (sent_more f c) (session.sent FromQueue now s) (ps ++ f.asdu ∷ [])
+pub tied_piece : (f : Sent) (now : ℕ) (c : Connection) (s : Session) (ps : List (List ℕ)) → Tied c s ps
+    → may_send s ≡ true → has_objects f.asdu ≡ true → Tied (sent_more f c) (session.sent FromQueue now s) (ps ++ f.asdu
+    ∷ [])
 tied_piece f now c s ps h may has = record {
   running = h.running;
   received = h.received;
   next = counted c.sent_frames f s.next_sent h.next;
   small = h.small;
   bound = room_for s _ may;
-  unconfirmed = unconfirmed_piece (acknowledged_count c.received_frames) c.sent_frames s.unacknowledged ps f _ refl has h.unconfirmed;
+  unconfirmed = unconfirmed_piece (acknowledged_count c.received_frames) c.sent_frames s.unacknowledged ps f _ refl has
+      h.unconfirmed;
 }
 
 -- an own answer
-pub tied_own : (f : Sent) (now : ℕ) (c : Connection) (s : Session) (ps : List (List ℕ)) → Tied c s ps → may_send s ≡ true → has_objects f.asdu ≡ false → Tied (sent_more f c) (session.sent Own now s) ps
+pub tied_own : (f : Sent) (now : ℕ) (c : Connection) (s : Session) (ps : List (List ℕ)) → Tied c s ps
+    → may_send s ≡ true → has_objects f.asdu ≡ false → Tied (sent_more f c) (session.sent Own now s) ps
 tied_own f now c s ps h may none = record {
   running = h.running;
   received = h.received;
   next = counted c.sent_frames f s.next_sent h.next;
   small = h.small;
   bound = room_for s _ may;
-  unconfirmed = unconfirmed_own (acknowledged_count c.received_frames) c.sent_frames s.unacknowledged ps f _ refl none h.unconfirmed;
+  unconfirmed = unconfirmed_own (acknowledged_count c.received_frames) c.sent_frames s.unacknowledged ps f _ refl none
+      h.unconfirmed;
 }

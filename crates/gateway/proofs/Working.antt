@@ -20,62 +20,80 @@ use Rattle.gateway.specs.Agrees.{ArePlain}
 -- Own answers are kept
 
 -- where one finds no place, that shows
-pub kept_overfull : (xs : List (List ℕ)) (s : tasks.State) (h : History) → all_kept xs s ≡ false → is_overfull (told_kept xs s h) ≡ true
+pub kept_overfull : (xs : List (List ℕ)) (s : tasks.State) (h : History) → all_kept xs s ≡ false
+    → is_overfull (told_kept xs s h) ≡ true
 kept_overfull [] s h none = cc
-kept_overfull (x ∷ xs) s h none = by_room (has_room s) refl (kept_overfull xs (tasks.offered x s) (Offered x (has_room s) ∷ h))
+kept_overfull (x ∷ xs) s h none = by_room (has_room s) refl
+    (kept_overfull xs (tasks.offered x s) (Offered x (has_room s) ∷ h))
   where
     at_room : Bool → Type 0
-    at_room b = is_overfull (if b then told_kept xs (tasks.offered x s) (Offered x (has_room s) ∷ h) else Offered x (has_room s) ∷ h) ≡ true
+    at_room b = is_overfull (if b then told_kept xs (tasks.offered x s) (Offered x (has_room s) ∷ h) else Offered x
+        (has_room s) ∷ h) ≡ true
 
-    by_room : (b : Bool) → has_room s ≡ b → (all_kept xs (tasks.offered x s) ≡ false → is_overfull (told_kept xs (tasks.offered x s) (Offered x (has_room s) ∷ h)) ≡ true) → at_room (has_room s)
-    by_room true e others = subst at_room (sym e) (others (sym (ap (λ b. b && all_kept xs (tasks.offered x s)) e) ∙ none))
+    by_room : (b : Bool) → has_room s ≡ b → (all_kept xs (tasks.offered x s) ≡ false
+        → is_overfull (told_kept xs (tasks.offered x s) (Offered x (has_room s) ∷ h)) ≡ true) → at_room (has_room s)
+    by_room true e others =
+        subst at_room (sym e) (others (sym (ap (λ b. b && all_kept xs (tasks.offered x s)) e) ∙ none))
     by_room false e others = subst at_room (sym e) (ap (λ b. is_overfull (Offered x b ∷ h)) e)
 
 -- and where each finds one
-pub kept_placed : (xs : List (List ℕ)) (s : tasks.State) (h : History) → all_kept xs s ≡ true → is_overfull (told_kept xs s h) ≡ is_overfull h
+pub kept_placed : (xs : List (List ℕ)) (s : tasks.State) (h : History) → all_kept xs s ≡ true
+    → is_overfull (told_kept xs s h) ≡ is_overfull h
 kept_placed [] s h all = refl
 kept_placed (x ∷ xs) s h all =
     let both = and_parts (has_room s) (all_kept xs (tasks.offered x s)) all in
-    ap (λ b. is_overfull (if b then told_kept xs (tasks.offered x s) (Offered x (has_room s) ∷ h) else Offered x (has_room s) ∷ h)) both.0
+    ap (λ b. is_overfull (if b then told_kept xs (tasks.offered x s) (Offered x (has_room s) ∷ h) else Offered x
+    (has_room s) ∷ h)) both.0
     ∙ kept_placed xs (tasks.offered x s) (Offered x (has_room s) ∷ h) both.1
     ∙ ap (λ b. is_overfull (Offered x b ∷ h)) both.0
 
 -- nothing else of what is kept changes
-either_same : {A : Type 0} (b : Bool) (s t : tasks.State) (f : tasks.State → A) (x : A) → f s ≡ x → f t ≡ x → f (if b then s else t) ≡ x
+either_same : {A : Type 0} (b : Bool) (s t : tasks.State) (f : tasks.State → A) (x : A) → f s ≡ x → f t ≡ x
+    → f (if b then s else t) ≡ x
 either_same true s t f x h k = h
 either_same false s t f x h k = k
 
 pub kept_waiting : (xs : List (List ℕ)) (s : tasks.State) → (kept_until xs s).waiting ≡ s.waiting
 kept_waiting [] s = refl
 kept_waiting (x ∷ xs) s =
-    let one : (tasks.offered x s).waiting ≡ s.waiting = either_same (has_room s) (tasks.kept x s) s (λ t. t.waiting) s.waiting refl refl in
-    either_same (has_room s) (kept_until xs (tasks.offered x s)) (tasks.offered x s) (λ t. t.waiting) s.waiting (kept_waiting xs (tasks.offered x s) ∙ one) one
+    let one : (tasks.offered x s).waiting ≡ s.waiting =
+    either_same (has_room s) (tasks.kept x s) s (λ t. t.waiting) s.waiting refl refl in
+    either_same (has_room s) (kept_until xs (tasks.offered x s)) (tasks.offered x s) (λ t. t.waiting) s.waiting
+    (kept_waiting xs (tasks.offered x s) ∙ one) one
 
 pub more_plain : (xs ys : List (List ℕ)) → ArePlain xs → ArePlain ys → ArePlain (xs ++ ys)
 more_plain [] ys h k = k
 more_plain (x ∷ xs) ys h k = (h.0, more_plain xs ys h.1 k)
 
-either_plain : (b : Bool) (s t : tasks.State) → ArePlain s.answers → ArePlain t.answers → ArePlain (if b then s else t).answers
+either_plain : (b : Bool) (s t : tasks.State) → ArePlain s.answers → ArePlain t.answers
+    → ArePlain (if b then s else t).answers
 either_plain true s t h k = h
 either_plain false s t h k = k
 
-pub kept_plain : (xs : List (List ℕ)) (s : tasks.State) → ArePlain xs → ArePlain s.answers → ArePlain (kept_until xs s).answers
+pub kept_plain : (xs : List (List ℕ)) (s : tasks.State) → ArePlain xs → ArePlain s.answers
+    → ArePlain (kept_until xs s).answers
 kept_plain [] s h k = k
 kept_plain (x ∷ xs) s h k =
-    let one : ArePlain (tasks.offered x s).answers = either_plain (has_room s) (tasks.kept x s) s (more_plain s.answers (x ∷ []) k (h.0, tt)) k in
-    either_plain (has_room s) (kept_until xs (tasks.offered x s)) (tasks.offered x s) (kept_plain xs (tasks.offered x s) h.1 one) one
+    let one : ArePlain (tasks.offered x s).answers = either_plain (has_room s) (tasks.kept x s) s
+    (more_plain s.answers (x ∷ []) k (h.0, tt)) k in
+    either_plain (has_room s) (kept_until xs (tasks.offered x s)) (tasks.offered x s)
+    (kept_plain xs (tasks.offered x s) h.1 one) one
 
 -- A frame is heard
 
-pub heard_overfull : (f : Apdu) (now : ℕ) (w : Works) → has_place f now w.serial.commands ≡ false → is_overfull (heard_works f now w).history ≡ true
-heard_overfull (I ns nr asdu) now w h = kept_overfull (listed (judged asdu.items now w.serial.commands).0) (judged asdu.items now w.serial.commands).1 (told (Judge asdu.items now) w) h
-heard_overfull (S nr) now w h = cc
-heard_overfull (U u) now w h = cc
+pub heard_overfull : (f : Apdu) (now : ℕ) (wall : Option ℕ) (w : Works)
+    → has_place f now wall w.serial.commands ≡ false → is_overfull (heard_works f now wall w).history ≡ true
+heard_overfull (I ns nr asdu) now wall w h = kept_overfull (listed (judged asdu.items now wall w.serial.commands).0)
+    (judged asdu.items now wall w.serial.commands).1 (told (Judge asdu.items now wall) w) h
+heard_overfull (S nr) now wall w h = cc
+heard_overfull (U u) now wall w h = cc
 
-pub heard_placed : (f : Apdu) (now : ℕ) (w : Works) → has_place f now w.serial.commands ≡ true → is_overfull (heard_works f now w).history ≡ is_overfull w.history
-heard_placed (I ns nr asdu) now w h = kept_placed (listed (judged asdu.items now w.serial.commands).0) (judged asdu.items now w.serial.commands).1 (told (Judge asdu.items now) w) h
-heard_placed (S nr) now w h = refl
-heard_placed (U u) now w h = refl
+pub heard_placed : (f : Apdu) (now : ℕ) (wall : Option ℕ) (w : Works) → has_place f now wall w.serial.commands ≡ true
+    → is_overfull (heard_works f now wall w).history ≡ is_overfull w.history
+heard_placed (I ns nr asdu) now wall w h = kept_placed (listed (judged asdu.items now wall w.serial.commands).0)
+    (judged asdu.items now wall w.serial.commands).1 (told (Judge asdu.items now wall) w) h
+heard_placed (S nr) now wall w h = refl
+heard_placed (U u) now wall w h = refl
 
 -- The timers
 
@@ -86,10 +104,12 @@ settled_placed at w = by_silent w.serial.silent
     by_silent None = refl
     by_silent (Some i) = refl
 
-pub done_placed : (at : ℕ) (room : Bool) (w : Works) → is_overfull (done_works at room w).history ≡ is_overfull w.history
+pub done_placed : (at : ℕ) (room : Bool) (w : Works) → is_overfull (done_works at room w).history
+    ≡ is_overfull w.history
 done_placed at room w = by_due w.is_due
   where
-    by_due : (b : Bool) → is_overfull (if b then unasked_works at room (ready_works at w) else w).history ≡ is_overfull w.history
+    by_due : (b : Bool) → is_overfull (if b then unasked_works at room (ready_works at w) else w).history
+        ≡ is_overfull w.history
     by_due true = settled_placed at w
     by_due false = refl
 
@@ -109,7 +129,8 @@ module _ (w : Works) (x : List ℕ) (first : first_answer w.serial.commands.answ
   pub own_placed : is_overfull (answered_works w).history ≡ is_overfull w.history
   own_placed = ap (λ (o : Option (List ℕ)). is_overfull (after_answer o (tasks_of w)).history) first
 
-  pub own_serial : (phase : Phase) (at : ℕ) (room : Bool) → (works_in phase at room (answered_works w)).serial ≡ answered (works_in phase at room w).serial
+  pub own_serial : (phase : Phase) (at : ℕ) (room : Bool)
+      → (works_in phase at room (answered_works w)).serial ≡ answered (works_in phase at room w).serial
   own_serial Fresh at room = refl
   own_serial Taking at room = refl
   own_serial Idle at room = refl
@@ -118,21 +139,26 @@ module _ (w : Works) (x : List ℕ) (first : first_answer w.serial.commands.answ
   own_serial Timed at room = settled_own at w.serial
   own_serial Asked at room = by_due w.is_due
     where
-      by_due : (b : Bool) → (if b then unasked_works at room (ready_works at (answered_works w)) else answered_works w).serial ≡ answered (if b then unasked_works at room (ready_works at w) else w).serial
+      by_due : (b : Bool)
+          → (if b then unasked_works at room (ready_works at (answered_works w)) else answered_works w).serial
+          ≡ answered (if b then unasked_works at room (ready_works at w) else w).serial
       by_due true = ap (λ (s : Serial). serial.asked at room None (serial.offered s)) (settled_own at w.serial)
       by_due false = refl
 
-  pub asked_own : (phase : Phase) (at : ℕ) (room : Bool) → IsAsked phase at room w → IsAsked phase at room (answered_works w)
+  pub asked_own : (phase : Phase) (at : ℕ) (room : Bool) → IsAsked phase at room w
+      → IsAsked phase at room (answered_works w)
   asked_own Fresh at room h = h
   asked_own Taking at room h = h
   asked_own Idle at room h = h
   asked_own Judged at room h = h
   asked_own Crowded at room h = h
   asked_own Timed at room h = h
-  asked_own Asked at room h = (λ due. ap (λ (s : Serial). sending (serial.offered s).line room) (settled_own at w.serial) ∙ h.0 due, h.1, h.2)
+  asked_own Asked at room h =
+      (λ due. ap (λ (s : Serial). sending (serial.offered s).line room) (settled_own at w.serial) ∙ h.0 due, h.1, h.2)
 
 -- commands in a phase have the answers of the log's
-pub answers_in : (phase : Phase) (at : ℕ) (room : Bool) (w : Works) → (works_in phase at room w).serial.commands.answers ≡ w.serial.commands.answers
+pub answers_in : (phase : Phase) (at : ℕ) (room : Bool) (w : Works)
+    → (works_in phase at room w).serial.commands.answers ≡ w.serial.commands.answers
 answers_in Fresh at room w = refl
 answers_in Taking at room w = refl
 answers_in Idle at room w = refl
@@ -149,7 +175,8 @@ answers_in Asked at room w = by_due w.is_due
     by_silent None = refl
     by_silent (Some i) = refl
 
-    by_due : (b : Bool) → (if b then unasked_works at room (ready_works at w) else w).serial.commands.answers ≡ w.serial.commands.answers
+    by_due : (b : Bool) → (if b then unasked_works at room (ready_works at w) else w).serial.commands.answers
+        ≡ w.serial.commands.answers
     by_due true = by_silent w.serial.silent
     by_due false = refl
 

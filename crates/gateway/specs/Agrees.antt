@@ -9,7 +9,7 @@ use Rattle.link.specs.Offers.{offered_at}
 use Rattle.command.specs.State as tasks
 use Rattle.command.specs.State.{octets_waiting}
 use Rattle.link.specs.Telling.{Tells}
-use Rattle.session.specs.Session.{Session, is_running, is_from_queue, may_send, pulled}
+use Rattle.session.specs.Session.{Session, is_open, is_running, is_from_queue, may_send, pulled}
 use Rattle.session.specs.Runs.{Settings, IsInRange, Call, run}
 use Rattle.session.specs.Ends.{IsConfirmed, IsInTime}
 use Rattle.session.specs.declared.kinds.Unacknowledged.{Unacknowledged}
@@ -17,6 +17,7 @@ use Rattle.gateway.specs.declared.gaps.Gap.{Gap}
 use Rattle.gateway.specs.Gaps.{gaps_of, gaps_told, gap_for}
 use Rattle.gateway.specs.Objects.{objects, has_objects}
 use Rattle.gateway.specs.Log.{Log, Input, Came, latest}
+use Rattle.gateway.specs.Walls.{wall_told}
 use Rattle.gateway.specs.Streams.{spelled, AllFit, AreFrames}
 use Rattle.gateway.specs.Frames.{Sent, Connection, new_connection, data_frames, runs, i_frames, acknowledged_count, objects_of_frames, first_unacknowledged, reports_among, acknowledged_reports, IsNumberedFrom, AreInOrder}
 use Rattle.gateway.specs.Connections.{Channel, no_channel, present, past, received_before, is_replaced, Passes, AreConnections}
@@ -84,7 +85,7 @@ pub record Tied (c : Connection) (s : Session) (pieces : List (List ℕ)) : Type
 -- nothing received.
 pub record Presently (s : Centre) (octets : Channel) (unjudged : List ℕ)
     (c : Connection) : Type 0 where
-  pub link : s.session.connected ≡ octets.is_open
+  pub link : is_open s.session ≡ octets.is_open
   pub none : octets.is_open ≡ false → (octets ≡ no_channel) × (c ≡ new_connection)
   pub put : List Apdu
   pub handed : AreFrames octets.sent put
@@ -150,6 +151,7 @@ pub record Agrees (p : Setup) (s : State) (log : Log) (unjudged : List ℕ)
   pub sizes : s.sizes ≡ p.sizes
   pub places : s.centre.queue.places ≡ p.places
   pub clock : s.moment ≡ latest log
+  pub wall : s.wall ≡ wall_told log
   pub settled : is_replaced log ≡ false
   pub found : AreFound p.addresses
   pub line : Tells p.link p.addresses s.serial.line (exchanges_of p log)

@@ -1,9 +1,11 @@
 -- What holds at each point of a run's course (IEC 60870-5-104, 5; IEC 60870-5-101, 7.2.3 and
 -- 7.2.6).
-use Rattle.std.specs.Prelude.{◌≡◌, false, [], ◌∷◌, ◌++◌, None}
+use Rattle.std.specs.Prelude.{◌≡◌, false, [], ◌∷◌, ◌++◌, None, option_map}
+use Rattle.asdu.specs.Asdu.{AsduValue}
 use Rattle.session.specs.History.{confirmation_of, frame_due, has_timed_out}
 use Rattle.session.specs.Rules.{KeepsRules}
-use Rattle.command.specs.History.{ForwardsCommands, ExecutesAreSelected, GivesOwnAnswers, KeepsOwnAnswers, own_kept, own_sent}
+use Rattle.command.specs.History.{ForwardsCommands, ExecutesAreSelected, SendsFreshCommands, mirror_tag, GivesOwnAnswers, KeepsOwnAnswers, own_kept, own_sent}
+use Rattle.command.specs.Mirrors.{tag_for}
 use Rattle.command.specs.Calls.{Run}
 use Rattle.gateway.specs.Log.{Log, latest}
 use Rattle.gateway.specs.Connections.{present}
@@ -13,12 +15,17 @@ use Rattle.gateway.specs.Course.{Course, HasTakenAll, Runs}
 
 -- What was done with commands so far: each first sending is the oldest command forwarded to its
 -- station on the open connection that wasn't sent yet; before each execute to a guarded station
--- stands its select, confirmed in time; each answer is that of the first rule that applies; own
--- answers go out first in, first out, and at most 16 wait.
+-- stands its select, confirmed in time; each answer is that of the first rule that applies; an
+-- activation that came with a time tag had a good one, near the wall clock; the tag that a
+-- station's answer gets is that of the newest first sending of its type and addresses; own answers
+-- go out first in, first out, and at most 16 wait.
 pub record KeepsCommands (p : Setup) (r : Run) : Type 0 where
-  pub forwarded : ForwardsCommands p.sizes p.stations p.select_ms r.history
-  pub selected : ExecutesAreSelected p.sizes p.stations p.select_ms r.history
-  pub answered : GivesOwnAnswers p.sizes p.stations p.select_ms r.history
+  pub forwarded : ForwardsCommands p.sizes p.stations p.select_ms p.max_age_ms r.history
+  pub selected : ExecutesAreSelected p.sizes p.stations p.select_ms p.max_age_ms r.history
+  pub answered : GivesOwnAnswers p.sizes p.stations p.select_ms p.max_age_ms r.history
+  pub fresh : SendsFreshCommands p.sizes p.stations p.select_ms p.max_age_ms r.history
+  pub tags : (v : AsduValue) → option_map (λ tag. tag.0) (tag_for v v.infos r.state)
+      ≡ mirror_tag p.sizes p.stations p.select_ms p.max_age_ms v v.infos r.history
   pub in_turn : own_kept r.history ≡ own_sent r.history ++ r.state.answers
   pub kept : KeepsOwnAnswers r.history
 

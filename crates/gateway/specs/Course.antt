@@ -2,7 +2,7 @@
 -- connections before it were, the line's primary station and what became of commands (IEC
 -- 60870-5-104, 5; IEC 60870-5-2, unbalanced transmission procedures; when a step takes a frame and
 -- whose turn it is, is this gateway's own profile).
-use Rattle.std.specs.Prelude.{◌≡◌, ℕ, ◌+◌, ◌<◌, ◌≤◌, ◌⊎◌, Bool, true, false, not, nat_lt, if◌then◌else◌, List, [], ◌∷◌, ◌++◌, length, take, drop, Some, None}
+use Rattle.std.specs.Prelude.{◌≡◌, ℕ, ◌+◌, ◌<◌, ◌≤◌, ◌⊎◌, Bool, true, false, not, nat_lt, if◌then◌else◌, List, [], ◌∷◌, ◌++◌, length, take, drop, Some, None, Option}
 use Rattle.ft12.specs.Spelling as line
 use Rattle.apci.specs.declared.apdu.Apdu.{Apdu}
 use Rattle.apci.specs.declared.apdu.Apdu.TheVariants.{I}
@@ -22,7 +22,8 @@ use Rattle.session.specs.History.{History, is_started, still_unacknowledged, con
 use Rattle.session.specs.Rules.{KeepsRules}
 use Rattle.command.specs.State.{octets_waiting, first_answer}
 use Rattle.gateway.specs.Objects.{objects, has_objects}
-use Rattle.gateway.specs.Log.{Log, Input, LineIn, Opened, TcpIn, CutOff, Ticked, Came, Went, LineOut, TcpOut, Closed, GapOut, latest}
+use Rattle.gateway.specs.Log.{Log, Input, LineIn, Opened, TcpIn, CutOff, Ticked, WallIs, Came, Went, LineOut, TcpOut, Closed, GapOut, latest}
+use Rattle.gateway.specs.Walls.{wall_on}
 use Rattle.gateway.specs.Streams.{spelled}
 use Rattle.gateway.specs.Frames.{Sent, Connection, runs, first_unacknowledged, monitor_objects_sent, acknowledged_reports}
 use Rattle.gateway.specs.Connections.{Channel, present, received_before, is_replaced, IsConnection}
@@ -97,19 +98,20 @@ abbrev pub HasBegun : Log → Course → Type 0
 HasBegun log c = (length (received_before log) < length (spelled (came_frames c.talk)))
     ⊎ HasTakenAll (present log) c.talk
 
-abbrev pub with_frame : Setup → Apdu → (now : ℕ) → Course → Course
-with_frame p frame now c =
+abbrev pub with_frame : Setup → Apdu → (now : ℕ) → (wall : Option ℕ) → Course → Course
+with_frame p frame now wall c =
     record {
       talk = talk.Came frame now ∷ c.talk;
       sent = c.sent;
       earlier = c.earlier;
-      works = heard_works frame now c.works;
+      works = heard_works frame now wall c.works;
     }
 
 -- frames come at a moment, the latest first
-abbrev pub with_frames : Setup → List Apdu → (now : ℕ) → Course → Course
-with_frames p [] now c = c
-with_frames p (frame ∷ frames) now c = with_frame p frame now (with_frames p frames now c)
+abbrev pub with_frames : Setup → List Apdu → (now : ℕ) → (wall : Option ℕ) → Course → Course
+with_frames p [] now wall c = c
+with_frames p (frame ∷ frames) now wall c =
+    with_frame p frame now wall (with_frames p frames now wall c)
 
 -- A frame is taken where it is the next of the octets received, and comes without fault once all
 -- confirmations are out (5.1, 5.3); and only where each own answer found a place, and all that may
@@ -128,13 +130,14 @@ pub record MayTake (p : Setup) (log : Log) (now : ℕ) (frame : Apdu) (c : Cours
 -- each of these frames, the latest first
 abbrev pub AreTaken : Setup → Log → (now : ℕ) → List Apdu → Course → Type 0
 AreTaken p log now [] c = Unit {0}
-AreTaken p log now (frame ∷ older) c = MayTake p log now frame (with_frames p older now c)
+AreTaken p log now (frame ∷ older) c =
+    MayTake p log now frame (with_frames p older now (wall_on log now) c)
     × AreTaken p log now older c
 
 -- Frames are taken, one after another, of the octets received.
 pub record TakesFrames (p : Setup) (log : Log) (now : ℕ) (before after : Course) : Type 0 where
   pub frames : List Apdu
-  pub taken : after ≡ with_frames p frames now before
+  pub taken : after ≡ with_frames p frames now (wall_on log now) before
   pub each : AreTaken p log now frames before
   pub rest : List ℕ
   pub joined : (present log).received ≡ spelled (came_frames after.talk) ++ rest
@@ -268,6 +271,7 @@ Comes p log at (LineIn octets) c d =
 Comes p log at (TcpIn octets) c d =
     TakesFrames p (Came at (TcpIn octets) ∷ log) at (with_works (begun_works at c.works) c) d
 Comes p log at Ticked c d = d ≡ with_works (begun_works at c.works) c
+Comes p log at (WallIs number) c d = d ≡ with_works (begun_works at c.works) c
 Comes p log at Opened c d = d
     ≡ opened_course at (ended_course (present log).is_open (begun_works at c.works) c)
 Comes p log at CutOff c d = d ≡ ended_course (present log).is_open (begun_works at c.works) c

@@ -2,7 +2,7 @@
 use Rattle.std.specs.Prelude.{ℕ, ◌≤◌, ◌==◌, List, [], ◌∷◌, length, map, if◌then◌else◌}
 use Rattle.session.specs.declared.kinds.Close.{Close}
 use Rattle.session.specs.declared.kinds.Close.TheVariants.{Grammar, SendNumber, ReceiveNumber, Stopped, Timeout, OwnAnswers, Replaced}
-use Rattle.gateway.specs.Log.{Log, LogEntry, Came, Went, LineIn, Opened, TcpIn, CutOff, Ticked, LineOut, TcpOut, Closed, GapOut}
+use Rattle.gateway.specs.Log.{Log, LogEntry, Came, Went, LineIn, Opened, TcpIn, CutOff, Ticked, WallIs, LineOut, TcpOut, Closed, GapOut}
 use Rattle.gateway.specs.declared.entries.Entry.{Entry}
 use Rattle.gateway.specs.declared.entries.Entry.TheVariants as entries
 use Rattle.gateway.specs.declared.entries.Told.{Told}
@@ -20,6 +20,7 @@ event_of (entries.Open now) = Came now Opened
 event_of (entries.Bytes now octets) = Came now (TcpIn octets.items)
 event_of (entries.Cut now) = Came now CutOff
 event_of (entries.Tick now) = Came now Ticked
+event_of (entries.Wall now number) = Came now (WallIs number)
 
 -- the events of a run over these entries, the oldest first: a tick at moment 0, and then these
 abbrev pub script_of : List Entry → List LogEntry

@@ -3,6 +3,7 @@ pub mod Config
 pub mod Entries
 pub mod Recorded
 pub mod Log
+pub mod Walls
 pub mod Ports
 pub mod Objects
 pub mod Reports
@@ -13,6 +14,7 @@ pub mod Counting
 pub mod Streams
 pub mod Frames
 pub mod Connections
+pub mod Tags
 pub mod Serial
 pub mod Centre
 pub mod Works
@@ -23,10 +25,12 @@ pub mod Room
 pub mod Line
 pub mod Traffic
 pub mod Order
+pub mod Moments
 pub mod State
 pub mod Finding
 pub mod Phases
 pub mod Accounts
+pub mod Tallies
 pub mod Agrees
 pub mod Steps
 pub mod Judging

@@ -10,6 +10,8 @@ pub data Input : Type 0 where
   TcpIn : (octets : List ℕ) → Input
   CutOff : Input
   Ticked : Input
+  -- the wall clock shows so many milliseconds since 1970-01-01 UTC
+  WallIs : (number : ℕ) → Input
 
 -- what goes out
 pub data Output : Type 0 where

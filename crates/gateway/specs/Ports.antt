@@ -1,6 +1,6 @@
 -- What a port's answers and an action's octets mean in a log.
 use Rattle.std.specs.Prelude.{ℕ, List, [], ◌∷◌, take, ◌≤◌}
-use Rattle.gateway.specs.Log.{Input, LineIn, Opened, TcpIn, CutOff, Ticked, Output, LineOut, TcpOut, Closed, GapOut, LogEntry, Came}
+use Rattle.gateway.specs.Log.{Input, LineIn, Opened, TcpIn, CutOff, Ticked, WallIs, Output, LineOut, TcpOut, Closed, GapOut, LogEntry, Came}
 use Rattle.gateway.specs.declared.ports.Event.{Event}
 use Rattle.gateway.specs.declared.ports.Event.TheVariants as events
 use Rattle.gateway.specs.declared.ports.Action.{Action}
@@ -14,6 +14,7 @@ input_of events.Open = Opened
 input_of (events.Bytes octets) = TcpIn octets.now
 input_of events.Cut = CutOff
 input_of events.Tick = Ticked
+input_of (events.Wall number) = WallIs number
 
 abbrev pub output_of : Action → Output
 output_of (actions.Line octets) = LineOut octets.now
@@ -28,6 +29,7 @@ told_by (answers.Open now) buf = Came now Opened ∷ []
 told_by (answers.Bytes now len) buf = Came now (TcpIn (take len buf)) ∷ []
 told_by (answers.Cut now) buf = Came now CutOff ∷ []
 told_by (answers.Tick now) buf = Came now Ticked ∷ []
+told_by (answers.Wall now number) buf = Came now (WallIs number) ∷ []
 told_by answers.Done buf = []
 told_by answers.Fault buf = []
 

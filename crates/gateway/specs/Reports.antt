@@ -26,6 +26,7 @@ pub record Setup : Type 0 where
   pub session : Settings
   pub stations : List StationInfo
   pub select_ms : ℕ
+  pub max_age_ms : ℕ
 
 abbrev pub address_at : List ℕ → ℕ → ℕ
 address_at addresses i = slice_index addresses i

@@ -40,7 +40,7 @@ pub record Serial : Type 0 where
 abbrev pub first_serial : Setup → Serial
 first_serial p = record {
   line = primary.start p.link p.addresses;
-  commands = tasks.new_state p.stations p.sizes p.select_ms;
+  commands = tasks.new_state p.stations p.sizes p.select_ms p.max_age_ms;
   counts = nothing_counted;
   silent = None;
   gap = None;
@@ -117,20 +117,23 @@ reported sizes report s = record s { counts = counted sizes report s.counts }
 
 -- A frame that came, and one that goes out
 
--- the ASDU of a frame is judged, and its answer, if it has one, is kept
-abbrev pub heard_commands : Apdu → (at : ℕ) → tasks.State → tasks.State
-heard_commands (I ns nr asdu) at s =
-    kept_until (listed (judging.judged asdu.items at s).0) (judging.judged asdu.items at s).1
-heard_commands frame at s = s
+-- The ASDU of a frame is judged, at a moment at which the wall clock shows this, where that is
+-- known; and its answer, if it has one, is kept.
+abbrev pub heard_commands : Apdu → (at : ℕ) → (wall : Option ℕ) → tasks.State → tasks.State
+heard_commands (I ns nr asdu) at wall s =
+    let judgement = judging.judged asdu.items at wall s in
+    kept_until (listed judgement.0) judgement.1
+heard_commands frame at wall s = s
 
 -- the answer finds a place
-abbrev pub has_place : Apdu → (at : ℕ) → tasks.State → Bool
-has_place (I ns nr asdu) at s =
-    all_kept (listed (judging.judged asdu.items at s).0) (judging.judged asdu.items at s).1
-has_place frame at s = true
+abbrev pub has_place : Apdu → (at : ℕ) → (wall : Option ℕ) → tasks.State → Bool
+has_place (I ns nr asdu) at wall s =
+    let judgement = judging.judged asdu.items at wall s in
+    all_kept (listed judgement.0) judgement.1
+has_place frame at wall s = true
 
-abbrev pub judged : Apdu → (at : ℕ) → Serial → Serial
-judged frame at s = record s { commands = heard_commands frame at s.commands }
+abbrev pub judged : Apdu → (at : ℕ) → (wall : Option ℕ) → Serial → Serial
+judged frame at wall s = record s { commands = heard_commands frame at wall s.commands }
 
 -- the oldest own answer has gone out
 abbrev pub answered : Serial → Serial

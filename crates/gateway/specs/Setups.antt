@@ -39,4 +39,5 @@ setup_of c = record {
   session = session_of c.tcp;
   stations = map info_of c.stations;
   select_ms = c.tcp.select_ms;
+  max_age_ms = c.tcp.max_age_ms;
 }

@@ -1,5 +1,5 @@
 -- What a gateway is to its callers, and what each part of a step makes of it.
-use Rattle.std.specs.Prelude.{ℕ, ◌≤◌, ◌≡◌, min, max, true, List, Option}
+use Rattle.std.specs.Prelude.{ℕ, ◌≤◌, ◌≡◌, min, max, true, List, Option, Some, None}
 use Rattle.link.specs.Exchanges.{Sending}
 use Rattle.link.specs.Primary.{Primary}
 use Rattle.link.specs.Leave.{is_polling}
@@ -14,6 +14,8 @@ use Rattle.gateway.specs.Serial as serial
 use Rattle.gateway.specs.Serial.{Serial}
 use Rattle.gateway.specs.Centre as centre
 use Rattle.gateway.specs.Centre.{Centre}
+use Rattle.gateway.specs.declared.walls.Wall.{Wall}
+use Rattle.gateway.specs.Walls.{wall_of}
 use Rattle.gateway.specs.Polls.{has_room}
 use Rattle.gateway.specs.declared.counts.Counts.{Counts}
 
@@ -24,6 +26,8 @@ pub record State : Type 0 where
   pub sizes : Sizes
   -- the greatest moment so far
   pub moment : ℕ
+  -- what the wall clock showed last
+  pub wall : Option Wall
 
 -- while a poll is out, or is sent again at once, there are places for the pieces of any report
 abbrev pub HasPlaces : Primary → Queue → Type 0
@@ -44,10 +48,18 @@ first_state c = record {
   centre = centre.first_centre (setup_of c).session c.line.queue;
   sizes = c.line.sizes;
   moment = 0;
+  wall = None;
 }
 
 abbrev pub at_moment : State → ℕ → State
 at_moment s now = record s { moment = max s.moment (min now last_moment) }
+
+-- the wall clock shows this now
+abbrev pub with_wall : (number : ℕ) → State → State
+with_wall number s = record s { wall = Some (record { moment = s.moment; number = number }) }
+
+abbrev pub wall_now : State → Option ℕ
+wall_now s = wall_of s.wall s.moment
 
 -- this side becomes that, and nothing else changes
 abbrev pub with_serial : Serial → State → State
@@ -81,7 +93,7 @@ received f s = record s { centre = centre.taken f s.moment s.centre }
 abbrev pub framed : Apdu → State → State
 framed f s =
     record s {
-      serial = serial.judged f s.moment s.serial;
+      serial = serial.judged f s.moment (wall_now s) s.serial;
       centre = centre.taken f s.moment s.centre;
     }
 

@@ -10,8 +10,10 @@ use Rattle.apci.specs.Spelling.{Fits}
 use Rattle.session.specs.declared.kinds.Close.{Close}
 use Rattle.session.specs.declared.kinds.Close.TheVariants.{Timeout, OwnAnswers}
 use Rattle.session.specs.declared.kinds.Taken.TheVariants as taken
-use Rattle.session.specs.Session.{may_send, is_running, outcome_of, is_close}
+use Rattle.session.specs.Session.{may_send, is_open, is_running, outcome_of, is_close}
 use Rattle.command.specs.State.{first_answer}
+use Rattle.command.specs.Mirrors.{tag_for}
+use Rattle.gateway.specs.Tags.{AreTagged}
 use Rattle.gateway.specs.Objects.{objects, has_objects, monitor_objects, parts_of}
 use Rattle.gateway.specs.Log.{Log, Input, LineIn}
 use Rattle.gateway.specs.Connections.{ends, present, closed_by, IsConnection}
@@ -20,7 +22,7 @@ use Rattle.gateway.specs.Reports.{Setup}
 use Rattle.gateway.specs.Serial.{Serial, accepted, given_up, refused, refusal_fits, mirrored, mirror_fits, with_gap, reported, answered, has_place, heard, heard_outcome}
 use Rattle.gateway.specs.Centre.{Centre, pushed, next_frame, piece_sent, own_sent}
 use Rattle.gateway.specs.Works.{is_command_report, IsPassedOn}
-use Rattle.gateway.specs.State.{State, with_serial, with_centre, with_sides, at_moment, line_timed, received as frame_received, framed, disconnected}
+use Rattle.gateway.specs.State.{State, with_serial, with_centre, with_sides, wall_now, at_moment, line_timed, received as frame_received, framed, disconnected}
 use Rattle.gateway.specs.Agrees.{Agrees}
 use Rattle.gateway.specs.Phases.{Phase, Taking, Idle, Crowded, Timed}
 
@@ -37,11 +39,14 @@ pub record Keeps (s : State) (report : List ℕ) (t : State) : Type 0 where
 pub record Mirrors (sizes : Sizes) (at : ℕ) (runs : Bool) (s : Serial) (report : List ℕ)
     (fits : Bool) (t : Serial) : Type 0 where
   pub v : AsduValue
+  pub plain : List (List ℕ)
   pub pieces : List (List ℕ)
-  pub passed : IsPassedOn sizes v report pieces
+  pub passed : IsPassedOn sizes v report plain
+  -- with the tag, if it came with one, of the command that it answers
+  pub tagged : AreTagged (tag_for v v.infos s.commands) plain pieces
   -- neither it nor any of them has an object of the queue's
   pub none : monitor_objects sizes report ≡ []
-  pub plain : AllByRecursion (λ piece. has_objects piece ≡ false) pieces
+  pub unmonitored : AllByRecursion (λ piece. has_objects piece ≡ false) pieces
   pub after : t ≡ mirrored at runs v pieces s
   pub all : fits ≡ mirror_fits at runs v pieces s
 
@@ -89,7 +94,7 @@ pub record IsFaulty (s : State) (f : Apdu) (cause : Close) (t : State) : Type 0 
 -- a frame is taken, and its own answer, if it has one, finds a place or not
 pub record IsTaken (s : State) (f : Apdu) (fits : Bool) (t : State) : Type 0 where
   pub passes : is_close (outcome_of s.centre.session f) ≡ false
-  pub place : has_place f s.moment s.serial.commands ≡ fits
+  pub place : has_place f s.moment (wall_now s) s.serial.commands ≡ fits
   pub after : t ≡ framed f s
 
 -- A frame is taken, or the connection is to be closed.
@@ -148,7 +153,7 @@ pub record MayClose (p : Setup) (s : State) (cause : Close) (later : Phase)
   pub last : ends cause ≡ true
   pub state : State
   pub same : disconnected s ≡ disconnected state
-  pub open_is : state.centre.session.connected ≡ true
+  pub open_is : is_open state.centre.session ≡ true
   pub unjudged : List ℕ
   pub phase : Phase
   pub leads : after_closing phase ≡ later

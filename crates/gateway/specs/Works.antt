@@ -22,6 +22,7 @@ use Rattle.command.specs.Calls.{Call, Judge, PutOnLine, Accept, Busy, Lose, Mirr
 use Rattle.gateway.specs.Objects.{has_objects}
 use Rattle.gateway.specs.Counting.{is_answer_type}
 use Rattle.gateway.specs.Reports.{Setup}
+use Rattle.gateway.specs.Tags.{AreTagged}
 use Rattle.gateway.specs.Serial as serial
 use Rattle.gateway.specs.Serial.{Serial, first_serial, refusals, is_first_command, listed}
 
@@ -97,7 +98,9 @@ mirrored_works at is_running v pieces w =
 abbrev pub LearnsReport : Setup → (at : ℕ) → (is_running is_of_command : Bool) → List ℕ →
     (before after : Works) → Type 0
 LearnsReport p at is_running true report w z =
-    (v : AsduValue) × (pieces : List (List ℕ)) × IsPassedOn p.sizes v report pieces
+    (v : AsduValue) × (plain : List (List ℕ)) × (pieces : List (List ℕ))
+    × IsPassedOn p.sizes v report plain
+    × AreTagged (mirrors.tag_for v v.infos w.serial.commands) plain pieces
     × (z ≡ mirrored_works at is_running v pieces w)
 LearnsReport p at is_running false report w z = z
     ≡ record w { serial = serial.reported p.sizes report w.serial }
@@ -132,18 +135,21 @@ LearnsOf p at is_running other w z = z ≡ w
 -- A frame that came, and one that goes out
 
 -- an ASDU of the connection is judged, and its answer, if it has one, is kept
-abbrev pub told_judged : List ℕ → (now : ℕ) → Works → History
-told_judged asdu now w =
-    told_kept (listed (judged asdu now w.serial.commands).0) (judged asdu now w.serial.commands).1
-    (told (Judge asdu now) w)
+abbrev pub told_judged : List ℕ → (now : ℕ) → (wall : Option ℕ) → Works → History
+told_judged asdu now wall w =
+    let judgement = judged asdu now wall w.serial.commands in
+    told_kept (listed judgement.0) judgement.1 (told (Judge asdu now wall) w)
 
-abbrev pub told_frame : Apdu → (now : ℕ) → Works → History
-told_frame (I ns nr asdu) now w = told_judged asdu.items now w
-told_frame frame now w = w.history
+abbrev pub told_frame : Apdu → (now : ℕ) → (wall : Option ℕ) → Works → History
+told_frame (I ns nr asdu) now wall w = told_judged asdu.items now wall w
+told_frame frame now wall w = w.history
 
-abbrev pub heard_works : Apdu → (now : ℕ) → Works → Works
-heard_works frame now w =
-    record w { serial = serial.judged frame now w.serial; history = told_frame frame now w }
+abbrev pub heard_works : Apdu → (now : ℕ) → (wall : Option ℕ) → Works → Works
+heard_works frame now wall w =
+    record w {
+      serial = serial.judged frame now wall w.serial;
+      history = told_frame frame now wall w;
+    }
 
 -- an own answer has gone out
 abbrev pub answered_works : Works → Works

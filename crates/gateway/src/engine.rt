@@ -9,16 +9,18 @@ ghost use Rattle.gateway.specs.Serial.{first_serial};
 ghost use Rattle.gateway.specs.Centre.{first_centre};
 ghost use Rattle.gateway.specs.Setups.{link_of, info_of, session_of, setup_of};
 ghost use Rattle.gateway.specs.declared.settings.Station.{Station};
-ghost use Rattle.gateway.specs.State.{counts_of, first_state, at_moment};
+ghost use Rattle.gateway.specs.State.{counts_of, first_state, at_moment, with_wall, wall_now};
 
 mod centre;
 mod serial;
+mod tagging;
 
 use self::centre::CentreSide;
 use self::serial::SerialSide;
 use crate::config::Config;
 use crate::counts::{Counts, Tally};
 use crate::settings::{LineSettings, Silence};
+use crate::walls::Wall;
 use apci::{Apdu, Assembler};
 use asdu::Sizes;
 use command::{Commands, StationInfo, commands_keep_the_rules};
@@ -34,7 +36,7 @@ use thiserror::Error;
 #[error("no memory")]
 pub struct NoMemory;
 
-/// The greatest moment, in milliseconds.
+/// The greatest moment, in milliseconds. One past it counts as this one.
 pub const LAST_MOMENT: u64 = 999_999_999_999_999;
 
 /// What octets of a connection bring.
@@ -56,6 +58,8 @@ pub struct Gateway {
     centre: CentreSide,
     sizes: Sizes,
     moment: u64,
+    /// What the wall clock showed last.
+    wall: Option<Wall>,
 }
 
 impl Model for Gateway {
@@ -68,6 +72,7 @@ impl Model for Gateway {
       centre = a.centre;
       sizes = a.sizes;
       moment = a.moment;
+      wall = a.wall;
     } };
 
     // While a poll is out, or is sent again at once, three places are free.
@@ -120,7 +125,8 @@ fn station_infos(alloc: Global, config: &Config) -> Result<Vec<StationInfo>, NoM
 /// The commands to the stations.
 fn commands(alloc: Global, config: &Config) -> Result<Commands, NoMemory>
     ensures { IfOk result (λ c. c ≡ tasks.new_state (map info_of config.now.stations)
-        config.now.line.sizes config.now.tcp.select_ms) }
+        config.now.line.sizes config.now.tcp.select_ms
+        config.now.tcp.max_age_ms) }
 {
     let stations = station_infos(alloc, config)?;
     Commands::new(
@@ -128,6 +134,7 @@ fn commands(alloc: Global, config: &Config) -> Result<Commands, NoMemory>
         &stations,
         config.line().sizes,
         config.tcp().select_ms,
+        config.tcp().max_age_ms,
     )
     .map_err(|_| { NoMemory })
 }
@@ -202,6 +209,7 @@ impl Gateway {
             centre: centre_side(alloc, config)?,
             sizes: config.line().sizes,
             moment: 0,
+            wall: None,
         })
     }
 
@@ -235,6 +243,24 @@ impl Gateway {
         ensures { self.new ≡ at_moment self.old now }
     {
         self.moment = self.moment.max(now.min(LAST_MOMENT));
+    }
+
+    /// The wall clock shows this now.
+    pub(crate) fn set_wall(&mut self, number: u64)
+        ensures { self.new ≡ with_wall number self.old }
+    {
+        let moment = self.moment;
+        self.wall = Some(Wall { moment, number });
+    }
+
+    /// What the wall clock shows at the moment of the step, if that is known.
+    fn wall(&self) -> Option<u64>
+        ensures { result ≡ wall_now self.now }
+    {
+        match self.wall {
+            None => None,
+            Some(wall) => Some(wall.at(self.moment)),
+        }
     }
 
     /// The moment of the step.

@@ -14,6 +14,8 @@ pub enum Entry {
     Cut(u64),
     /// Only time passed.
     Tick(u64),
+    /// The wall clock shows so many milliseconds since 1970-01-01 UTC (the second number).
+    Wall(u64, u64),
 }
 
 /// An event that came in, or an action that went out, with its moment.

@@ -8,6 +8,9 @@ ghost use Rattle.gateway.specs.Connections.{Channel, present, ends, IsConnection
 ghost use Rattle.gateway.specs.Course.{Course, HasTakenAll, Runs};
 ghost use Rattle.gateway.specs.Conversation.{KeepsCommands};
 ghost use Rattle.gateway.specs.One.{AreOne};
+ghost use Rattle.link.specs.Counts.{saturated};
+ghost use Rattle.gateway.specs.Line.{done_in};
+ghost use Rattle.gateway.specs.Tallies.{given_up_in, unpassed_in};
 ghost use Rattle.gateway.specs.Works.{tasks_of};
 ghost use Rattle.gateway.specs.Traffic.{HasCause};
 
@@ -66,3 +69,14 @@ pub fn courses_keep_commands()
 {
     commands_keep_the_rules();
 }
+
+/// What is counted of commands (`IsAccounted` speaks of the same numbers) is what became of them in
+/// the course: `lost` are those that stood on a line and were given up, `mirrors` the answers of
+/// stations to commands that weren't passed on. Both stay at the greatest number of 64 bits.
+pub fn counts_tell_commands()
+    ensures lost { (p : Setup) (log : Log) (c : Course) → Runs p log c →
+        (done_in p log c).serial.counts.lost ≡ saturated (given_up_in (done_in p log c).history) }
+    ensures mirrors { (p : Setup) (log : Log) (c : Course) → Runs p log c →
+        (done_in p log c).serial.counts.mirrors
+        ≡ saturated (unpassed_in false (done_in p log c).history) }
+{}

@@ -34,18 +34,17 @@ mod ports;
 mod runs;
 mod settings;
 mod step;
+mod walls;
 
 pub use config::Config;
 pub use counts::Counts;
-pub use engine::{Gateway, NoMemory};
+pub use engine::{Gateway, LAST_MOMENT, NoMemory};
 pub use entries::{Entry, Told};
-pub use laws::{courses_keep_commands, one_cause, one_course, one_reading};
-pub use ordering::steps_keep_their_order;
+pub use laws::{counts_tell_commands, courses_keep_commands, one_cause, one_course, one_reading};
+pub use ordering::{moments_never_fall, steps_keep_their_order};
 pub use ports::{Action, Event, Next, Port};
 pub use runs::{End, drive, drive_on};
-pub use settings::{
-    LineSettings, Silence, Station, TcpSettings, is_common_address, is_link_address,
-};
+pub use settings::{LineSettings, Silence, Station, TcpSettings};
 
 #[cfg(test)]
 mod recording;

@@ -1,10 +1,11 @@
-//! In which order the actions of a step go out.
+//! In which order the actions of a step go out, and at which moments.
 ghost use Rattle.std.specs.Prelude.{◌<◌};
 ghost use Rattle.gateway.specs.Config.{Settings};
-ghost use Rattle.gateway.specs.Log.{Log};
+ghost use Rattle.gateway.specs.Log.{Log, latest};
 ghost use Rattle.gateway.specs.Reports.{Setup};
 ghost use Rattle.gateway.specs.Traffic.{IsFaithful};
 ghost use Rattle.gateway.specs.Order.{KeepsOrder};
+ghost use Rattle.gateway.specs.Moments.{IsGreatest, BearGreatest};
 ghost use Rattle.gateway.specs.Setups.{setup_of};
 
 /// A step puts out at most one request to the line and at most one close, and nothing goes to TCP
@@ -14,4 +15,12 @@ pub fn steps_keep_their_order()
     ensures setups { (p : Setup) (log : Log) → 0 < p.session.w → 0 < p.session.t3 →
         IsFaithful p log → KeepsOrder log }
     ensures settings { (c : Settings) (log : Log) → IsFaithful (setup_of c) log → KeepsOrder log }
+{}
+
+/// Moments never fall: a step acts at the greatest moment, in milliseconds, that its events have
+/// told so far, so an event whose moment goes back is taken at the greatest before it, and one
+/// whose moment is past 999999999999999 at that. Each action bears this moment.
+pub fn moments_never_fall()
+    ensures step { (p : Setup) (log : Log) → IsFaithful p log → IsGreatest log (latest log) }
+    ensures actions { (p : Setup) (log : Log) → IsFaithful p log → BearGreatest log }
 {}

@@ -17,6 +17,8 @@ pub enum Event<'a> {
     Cut,
     /// Only time passed.
     Tick,
+    /// The wall clock shows so many milliseconds since 1970-01-01 UTC.
+    Wall(u64),
 }
 
 /// One action.
@@ -47,6 +49,8 @@ pub enum Next {
     Cut(u64),
     /// Only time passed.
     Tick(u64),
+    /// The wall clock shows so many milliseconds since 1970-01-01 UTC (the second number).
+    Wall(u64, u64),
     /// No event comes any more.
     Done,
     /// The device failed.

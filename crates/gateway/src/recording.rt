@@ -78,6 +78,7 @@ impl Entry {
             }
             Entry::Cut(now) => Next::Cut(*now),
             Entry::Tick(now) => Next::Tick(*now),
+            Entry::Wall(now, number) => Next::Wall(*now, *number),
         }
     }
 
@@ -91,6 +92,7 @@ impl Entry {
             Entry::Bytes(now, octets) => Ok(Entry::Bytes(*now, Vec::from_slice(alloc, octets)?)),
             Entry::Cut(now) => Ok(Entry::Cut(*now)),
             Entry::Tick(now) => Ok(Entry::Tick(*now)),
+            Entry::Wall(now, number) => Ok(Entry::Wall(*now, *number)),
         }
     }
 }

@@ -106,6 +106,7 @@ fn event_of(next: Next, buf: &[u8; 1024]) -> Result<(u64, Event<'_>), End>
         Next::Bytes(now, len) => Ok((now, Event::Bytes(&buf[..len]))),
         Next::Cut(now) => Ok((now, Event::Cut)),
         Next::Tick(now) => Ok((now, Event::Tick)),
+        Next::Wall(now, number) => Ok((now, Event::Wall(number))),
         Next::Done => Err(End::Finished),
         Next::Fault => Err(End::Device),
     }

@@ -1,8 +1,8 @@
 //! The settings of a gateway.
-ghost use Rattle.std.specs.Prelude.{◌≡◌, ◌+◌, ◌<◌, ◌≤◌, ◌↔◌, IsTrue};
-ghost use Rattle.gateway.specs.Settings.{IsLinkAddress, IsCommonAddress, IsWithin};
+ghost use Rattle.std.specs.Prelude.{◌≡◌, ◌+◌, ◌<◌, ◌≤◌};
+ghost use Rattle.gateway.specs.Settings.{IsWithin};
 
-use asdu::{CaSize, Sizes};
+use asdu::Sizes;
 use ft12::LinkSize;
 
 /// What silence of a station does after its repeats.
@@ -63,30 +63,14 @@ pub struct TcpSettings {
     pub t3_ms: u64,
     /// How long a selection is live: 1 to 600000.
     pub select_ms: u64,
+    /// How far the time tag of a command may be from the wall clock, before or behind it: 1 to
+    /// 3600000.
+    pub max_age_ms: u64,
     pub ghost k_in_range: { IsWithin 1 32767 k },
     pub ghost w_in_range: { IsWithin 1 32767 w },
     pub ghost t1_in_range: { IsWithin 2 255000 t1_ms },
     pub ghost t2_in_range: { (1 ≤ t2_ms) × (t2_ms < t1_ms) },
     pub ghost t3_in_range: { IsWithin 1 86400000 t3_ms },
     pub ghost select_in_range: { IsWithin 1 600000 select_ms },
-}
-
-/// Whether a station can have this link address: 1 to 254, or 1 to 65534 where it has two octets.
-pub fn is_link_address(size: LinkSize, address: u16) -> bool
-    ensures { IsTrue result ↔ IsLinkAddress size address }
-{
-    match size {
-        LinkSize::One => address >= 1 && address <= 254,
-        LinkSize::Two => address >= 1 && address <= 65534,
-    }
-}
-
-/// Whether a station can have this common address: 1 to 254, or 1 to 65534 where it has two octets.
-pub fn is_common_address(size: CaSize, ca: u16) -> bool
-    ensures { IsTrue result ↔ IsCommonAddress size ca }
-{
-    match size {
-        CaSize::One => ca >= 1 && ca <= 254,
-        CaSize::Two => ca >= 1 && ca <= 65534,
-    }
+    pub ghost age_in_range: { IsWithin 1 3600000 max_age_ms },
 }

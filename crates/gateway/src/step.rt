@@ -3,7 +3,7 @@ ghost use Rattle.std.specs.Prelude.{◌≡◌, ℕ, ◌+◌, ◌<◌, ◌≤◌,
 ghost use Rattle.std.specs.Bool.{OnTrue};
 ghost use Rattle.apci.specs.Spelling.{Fits, spelling};
 ghost use Rattle.apci.specs.Borrowed.{owned};
-ghost use Rattle.session.specs.Session.{pulled};
+ghost use Rattle.session.specs.Session.{is_open, pulled};
 ghost use Rattle.session.specs.Ends.{after_confirm, after_pull, IsConfirmed, IsInTime};
 ghost use Rattle.gateway.specs.Log.{LogEntry, Went, LineIn, TcpOut, Opened, tell};
 ghost use Rattle.gateway.specs.Ports.{input_of};
@@ -52,7 +52,7 @@ impl Gateway {
         ensures kept { (p : Setup) (unjudged : List ℕ) (phase : Phase) → IsFlushing phase →
             Tracks p self.old (P.log port.old) unjudged phase →
             Leaves result p self.new (P.log port.new) unjudged phase }
-        ensures open { self.new.centre.session.connected ≡ self.old.centre.session.connected }
+        ensures open { is_open self.new.centre.session ≡ is_open self.old.centre.session }
         ensures next { OnTrue result (self.new
             ≡ with_session (after_confirm self.old.centre.session) self.old) }
         ensures puts { Puts P.log P.script P.failed port.old port.new (faults_unless result) }
@@ -69,7 +69,7 @@ impl Gateway {
         ensures kept { (p : Setup) (unjudged : List ℕ) (phase : Phase) → IsFlushing phase →
             Tracks p self.old (P.log port.old) unjudged phase →
             Leaves result p self.new (P.log port.new) unjudged phase }
-        ensures open { self.new.centre.session.connected ≡ self.old.centre.session.connected }
+        ensures open { is_open self.new.centre.session ≡ is_open self.old.centre.session }
         ensures confirmed { OnTrue result (IsConfirmed self.new.centre.session) }
         ensures in_time { OnTrue result (StaysInTime self.old self.new) }
         ensures puts { Puts P.log P.script P.failed port.old port.new (faults_unless result) }
@@ -91,7 +91,7 @@ impl Gateway {
             IsConfirmed self.old.centre.session →
             Tracks p self.old (P.log port.old) unjudged phase →
             Leaves result p self.new (P.log port.new) unjudged phase }
-        ensures open { self.new.centre.session.connected ≡ self.old.centre.session.connected }
+        ensures open { is_open self.new.centre.session ≡ is_open self.old.centre.session }
         ensures spent { OnTrue result (IsSpent self.new) }
         ensures confirmed { OnTrue result (IsConfirmed self.old.centre.session →
             IsConfirmed self.new.centre.session) }
@@ -113,7 +113,7 @@ impl Gateway {
         ensures kept { (p : Setup) (unjudged : List ℕ) (phase : Phase) → IsFlushing phase →
             IsClear self.old → Tracks p self.old (P.log port.old) unjudged phase →
             Leaves result p self.new (P.log port.new) unjudged phase }
-        ensures open { self.new.centre.session.connected ≡ self.old.centre.session.connected }
+        ensures open { is_open self.new.centre.session ≡ is_open self.old.centre.session }
         ensures next { OnTrue result (self.new
             ≡ with_session (after_pull self.old.moment self.old.centre.session) self.old) }
         ensures puts { Puts P.log P.script P.failed port.old port.new (faults_unless result) }
@@ -130,7 +130,7 @@ impl Gateway {
         ensures kept { (p : Setup) (unjudged : List ℕ) (phase : Phase) → IsFlushing phase →
             IsClear self.old → Tracks p self.old (P.log port.old) unjudged phase →
             Leaves result p self.new (P.log port.new) unjudged phase }
-        ensures open { self.new.centre.session.connected ≡ self.old.centre.session.connected }
+        ensures open { is_open self.new.centre.session ≡ is_open self.old.centre.session }
         ensures spent { OnTrue result (IsSpent self.old → IsSpent self.new) }
         ensures confirmed { OnTrue result (IsConfirmed self.old.centre.session →
             IsConfirmed self.new.centre.session) }
@@ -151,7 +151,7 @@ impl Gateway {
         ensures kept { (p : Setup) (unjudged : List ℕ) (phase : Phase) → IsFlushing phase →
             Tracks p self.old (P.log port.old) unjudged phase →
             Leaves result p self.new (P.log port.new) unjudged phase }
-        ensures open { self.new.centre.session.connected ≡ self.old.centre.session.connected }
+        ensures open { is_open self.new.centre.session ≡ is_open self.old.centre.session }
         ensures spent { OnTrue result (IsSpent self.new) }
         ensures confirmed { OnTrue result (IsConfirmed self.new.centre.session) }
         ensures pulled { OnTrue result ((pulled self.new.moment self.new.centre.session).0 ≡ None) }
@@ -188,12 +188,12 @@ impl Gateway {
     fn take_apdu<P: Port>(&mut self, apdu: ApduRef<'_>, port: &mut P) -> Outcome
         requires ready { P.failed port.old < u64.MAX }
         requires fits { Fits (owned apdu) }
-        requires open { self.old.centre.session.connected ≡ true }
+        requires open { is_open self.old.centre.session ≡ true }
         requires whole { self.old.centre.so_far ≡ Some [] }
         ensures kept { (p : Setup) (rest : List ℕ) →
             Meets p self.old (P.log port.old) (spelling (owned apdu.entry) ++ rest) rest →
             Goes result p self.new (P.log port.new) rest }
-        ensures open { IsOnward result (self.new.centre.session.connected ≡ true) }
+        ensures open { IsOnward result (is_open self.new.centre.session ≡ true) }
         ensures puts { Puts P.log P.script P.failed port.old port.new (faults_in result) }
     {
         match self.judge(apdu) {
@@ -211,10 +211,10 @@ impl Gateway {
     fn take_front<P: Port>(&mut self, octets: &[u8], port: &mut P) -> (usize, Outcome)
         requires ready { P.failed port.old < u64.MAX }
         requires some { 0 < length octets.now }
-        requires open { self.old.centre.session.connected ≡ true }
+        requires open { is_open self.old.centre.session ≡ true }
         ensures kept { (p : Setup) → Awaits p self.old (P.log port.old) octets.now →
             Goes result.1 p self.new (P.log port.new) (drop result.0 octets.now) }
-        ensures open { IsOnward result.1 (self.new.centre.session.connected ≡ true) }
+        ensures open { IsOnward result.1 (is_open self.new.centre.session ≡ true) }
         ensures progress { IsOnward result.1 ((0 < result.0) × (result.0 ≤ length octets.now)) }
         ensures puts { Puts P.log P.script P.failed port.old port.new (faults_in result.1) }
     {
@@ -245,7 +245,7 @@ impl Gateway {
     /// Takes the octets of a piece.
     fn receive<P: Port>(&mut self, octets: &[u8], port: &mut P) -> bool
         requires ready { P.failed port.old < u64.MAX }
-        requires open { self.old.centre.session.connected ≡ true }
+        requires open { is_open self.old.centre.session ≡ true }
         ensures kept { (p : Setup) → Awaits p self.old (P.log port.old) octets.now →
             Leaves result p self.new (P.log port.new) [] Idle }
         ensures puts { Puts P.log P.script P.failed port.old port.new (faults_unless result) }
@@ -281,7 +281,7 @@ impl Gateway {
     /// Begins a connection, and closes the one before it.
     fn replace<P: Port>(&mut self, port: &mut P) -> bool
         requires ready { P.failed port.old < u64.MAX }
-        requires open { self.old.centre.session.connected ≡ true }
+        requires open { is_open self.old.centre.session ≡ true }
         ensures kept { (p : Setup) (s : State) (now : ℕ) (fits : Bool) →
             Begins s now Opened fits self.old → IfSome (P.log port.old) (HasCome p s now Opened) →
             Leaves result p self.new (P.log port.new) [] Idle }
@@ -312,6 +312,7 @@ impl Gateway {
             Event::Bytes(_) => true,
             Event::Cut => true,
             Event::Tick => true,
+            Event::Wall(_) => true,
         }
     }
 
@@ -335,6 +336,10 @@ impl Gateway {
                 true
             }
             Event::Tick => true,
+            Event::Wall(number) => {
+                self.set_wall(number);
+                true
+            }
         }
     }
 
@@ -361,7 +366,7 @@ impl Gateway {
     fn take_bytes<P: Port>(&mut self, octets: &[u8], port: &mut P) -> bool
         requires { P.failed port.old < u64.MAX }
         ensures kept { (p : Setup) →
-            Awaits p self.old (P.log port.old) (if self.old.centre.session.connected then octets.now
+            Awaits p self.old (P.log port.old) (if is_open self.old.centre.session then octets.now
             else []) → Leaves result p self.new (P.log port.new) [] Idle }
         ensures puts { Puts P.log P.script P.failed port.old port.new (faults_unless result) }
     {

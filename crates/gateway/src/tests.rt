@@ -64,6 +64,7 @@ fn config_of(
         t2_ms: 10000,
         t3_ms: 20000,
         select_ms: 30000,
+        max_age_ms: 10000,
     };
     Ok(Config::new(line, tcp, Vec::from_slice(alloc, stations)?))
 }

@@ -1,6 +1,9 @@
 pub mod Assembling
+pub mod Beginning
 pub mod Choice
 pub mod Choosing
+pub mod Controls
+pub mod Hearing
 pub mod Fitting
 pub mod Links
 pub mod Known
@@ -8,6 +11,7 @@ pub mod FirstSendings
 pub mod Offering
 pub mod ReadingBack
 pub mod Reports
+pub mod Resets
 pub mod Waiting
 pub mod Spoilt
 pub mod Telling

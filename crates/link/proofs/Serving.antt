@@ -1,12 +1,13 @@
 -- A secondary station's turn is one of the machine's.
 use Rattle.std.specs.Prelude.{◌==◌}
-use Rattle.std.proofs.Common.{◌≡◌, ◌≢◌, ℕ, ◌/◌, ◌%◌, ◌&&◌, Bool, true, false, List, [], ◌∷◌, Option, Some, None, refl, ap, ◌∙◌, inl, inr, if◌then◌else◌}
+use Rattle.std.proofs.Common.{◌≡◌, ◌≢◌, ℕ, ◌%◌, ◌&&◌, Bool, true, false, List, [], ◌∷◌, Option, Some, None, refl, ap, ◌∙◌, inl, inr, if◌then◌else◌}
 use Rattle.std.proofs.lemmas.Bool.{eq-eqb}
 use Rattle.link.specs.Answers.{Frame, Fixed, Service, Class1, Class2, Command, Asked, Status, Reset, Counted, Answer, Ready, Confirmed, Busy, Report, NoData, Unable, Says, code_answer, data_answer}
+use Rattle.link.specs.Control.{is_secondary}
 use Rattle.link.specs.Outstation.{effects_of, Serves, OutstationStep, heard}
 use Rattle.link.specs.Secondary.{Secondary, outstation_of, control_of, short_of, data_frame, Served, unchanged, served_class1, served_class2, served_command, served_new, is_same, served_counted, served}
 
-fixed_says : (station control : ℕ) (request : Asked) (answer : Answer) → (control / 64 % 2 == 0) ≡ true → code_answer request (control % 16) ≡ Some answer →
+fixed_says : (station control : ℕ) (request : Asked) (answer : Answer) → is_secondary control ≡ true → code_answer request (control % 16) ≡ Some answer →
     Says station request answer (Fixed control station)
 fixed_says station control request answer secondary code =
     ap (λ (b : Bool). if (b && (station == station)) then code_answer request (control % 16) else None) secondary

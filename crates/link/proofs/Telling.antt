@@ -250,6 +250,7 @@ due_tells front settings addresses p ended cur at t = go p.outstanding cur refl 
 
 -- the machine reads the flags as the control octet has them
 flags_are : (frame : Frame) → flags_in frame ≡ record { acd = acd_of frame; dfc = dfc_of frame }
+unfolding acd_of dfc_of
 flags_are Single = refl
 flags_are (Fixed control address) = refl
 flags_are (Data control address body) = refl

@@ -1,6 +1,6 @@
 -- Call by call, the exchanges of the line are visits, and the present turn is the latest of them.
 use Rattle.std.specs.Prelude.{◌==◌}
-use Rattle.std.proofs.Common.{◌≡◌, ℕ, zero, suc, ◌<◌, ◌≤◌, ◌&&◌, ◌||◌, ◌%◌, nat_lt, Bool, true, false, List, [], ◌∷◌, ◌++◌, length, slice_index, slice_set, map, Option, Some, None, refl, sym, ap, subst, ◌∙◌, arith, if◌then◌else◌, append_assoc}
+use Rattle.std.proofs.Common.{◌≡◌, ℕ, suc, ◌<◌, ◌≤◌, ◌&&◌, ◌||◌, ◌%◌, nat_lt, Bool, true, false, List, [], ◌∷◌, ◌++◌, length, slice_index, slice_set, map, Option, Some, None, refl, sym, ap, subst, ◌∙◌, arith, if◌then◌else◌, append_assoc}
 use Rattle.std.proofs.lemmas.Bool.{leb-true, eqb-false}
 use Rattle.std.proofs.lemmas.List.{get_or-set_same}
 use Rattle.ft12.specs.declared.frame.Front.{Front}
@@ -12,6 +12,7 @@ use Rattle.link.specs.Turns.{StationState, no_station, station_at, Phase, Starti
 use Rattle.link.specs.Primary.{Outstanding, Primary, start, station_down, after_choice, asked_from, asked, sending_by, sending_from, sending, phase_after, station_asked, station_answered, station_unanswered, unanswered, answer_at, awaits, said_by, open_octets, took, with_octets, received_after, received_from, received, is_late, due_from, timed_out, may_offer, with_offer, offered_to, without_offer, withdrawn}
 use Rattle.link.specs.Telling.{TellsBy}
 use Rattle.link.specs.Visits.{Left, whole_visit, MayFollow, Visit, at_station, line_of, AreVisits, AreInVisits, most_of_visit}
+use Rattle.link.proofs.Beginning.{IsBegun, none_known, begun_choice, begun_none, begun_awaits, begun_answered, begun_unanswered, begun_linked, withdrawn_link, begun_start}
 use Rattle.link.proofs.Choice.{MayWant, MayChooseIt, at_may, first_may}
 use Rattle.link.proofs.Links.{set_view, with_station-append, views-append}
 use Rattle.link.proofs.Telling.{links_at}
@@ -80,6 +81,7 @@ pub record InVisit (front : List ℕ → Front) (addresses : List ℕ) (p : Prim
   pub ended : views front e.ended ≡ line_of earlier ++ at_station p.turn before
   pub latest : IsLatest p.settings (link_after p.settings (slice_index addresses p.turn) (link_left p.settings addresses earlier p.turn) before) p.turn mid now e.current
   pub fits : FitsPhase p.settings p.outstanding p.again p.phase (station_at p.stations p.turn).link now
+  pub begun : IsBegun p
   pub many_are : length (before ++ shown front e.current) ≡ many
 
 pub whole_leads : (front : List ℕ → Front) (settings : LinkSettings) (a turn : ℕ) (link : Link) (left mid now : Left) (before : List Exchange) (cur : Option OpenExchange) →
@@ -187,14 +189,17 @@ on_visit front addresses p e many now may_poll w some t free is v =
         subst (λ (l : Link). Awaits p.settings w.request w.following l f.later)
             (sym (set_view (λ (r : StationState). r.link) p.stations p.turn s refl p.turn)) f.awaits,
       );
+      begun = begun_choice p now may_poll p.again p.phase (record { station = p.turn; wanted = w }) is
+          (may_want p e front addresses may_poll p.again p.turn p.phase w t t.fits.turn is) v.begun.away;
       many_are = one_longer (v.before ++ shown front e.current) _ many v.many_are;
     }
 
 new_visit : (front : List ℕ → Front) (addresses : List ℕ) (p : Primary) (e : Exchanges) (many now : ℕ) (may_poll : Bool) (c : Chosen) → 0 < p.settings.burst →
-    TellsBy front p.settings addresses p e → p.outstanding ≡ None → c.station < length p.stations →
+    TellsBy front p.settings addresses p e → p.outstanding ≡ None → present p may_poll ≡ None → c.station < length p.stations →
     wanted p.settings.burst may_poll false (station_at p.stations c.station) Starting ≡ Some c.wanted → InVisit front addresses p e many →
     InVisit front addresses (after_choice p now (Some c)) (begun_by now (Some (record { station = c.station; request = c.wanted.request })) e) 1
-new_visit front addresses p e many now may_poll c some t free within is v =
+new_visit front addresses p e many now may_poll c some t free gone within is v =
+    let fresh = none_known p may_poll free gone v.begun in
     let latest : Visit = record { station = p.turn; exchanges = v.before ++ shown front e.current } in
     let s : StationState = station_asked (station_at p.stations c.station) c.wanted.request in
     let here : link_left p.settings addresses (latest ∷ v.earlier) c.station ≡ (station_at p.stations c.station).link =
@@ -202,7 +207,7 @@ new_visit front addresses p e many now may_poll c some t free within is v =
     ∙ links_at front p.settings addresses p e None free t c.station in
     let f : Follows p.settings (station_at p.stations c.station).link (whole_visit p.settings (station_at p.stations c.station).link) c.wanted =
     subst (λ (x : Option Wanted). FollowsIt p.settings (station_at p.stations c.station).link (whole_visit p.settings (station_at p.stations c.station).link) x) is
-    (begin_follows p.settings may_poll (station_at p.stations c.station) (station_at p.stations c.station).link some) in
+    (begin_follows p.settings may_poll (station_at p.stations c.station) (station_at p.stations c.station).link some (fresh c.station)) in
     record {
       earlier = latest ∷ v.earlier;
       are = (leads_visit p.settings (slice_index addresses p.turn) _ _ _ v.now (leads_all front addresses p e many v), v.are);
@@ -221,12 +226,14 @@ new_visit front addresses p e many now may_poll c some t free within is v =
         subst (λ (l : Link). Awaits p.settings c.wanted.request c.wanted.following l f.later)
             (sym (set_view (λ (r : StationState). r.link) p.stations c.station s refl c.station)) f.awaits,
       );
+      begun = begun_choice p now may_poll false Starting c is (may_want p e front addresses may_poll false c.station Starting c.wanted t within is)
+          (λ i known. absurd (fresh i known));
       many_are = refl;
     }
 
-no_visit : (front : List ℕ → Front) (addresses : List ℕ) (p : Primary) (e : Exchanges) (many now : ℕ) → p.outstanding ≡ None → InVisit front addresses p e many →
-    InVisit front addresses (after_choice p now None) e many
-no_visit front addresses p e many now free v = record {
+no_visit : (front : List ℕ → Front) (addresses : List ℕ) (p : Primary) (e : Exchanges) (many now : ℕ) (may_poll : Bool) → p.outstanding ≡ None → present p may_poll ≡ None →
+    InVisit front addresses p e many → InVisit front addresses (after_choice p now None) e many
+no_visit front addresses p e many now may_poll free gone v = record {
   earlier = v.earlier;
   are = v.are;
   before = v.before;
@@ -236,6 +243,7 @@ no_visit front addresses p e many now free v = record {
   ended = v.ended;
   latest = v.latest;
   fits = subst (λ (o : Option Outstanding). FitsPhase p.settings o false Over (station_at p.stations p.turn).link v.now) (sym free) (over refl refl);
+  begun = begun_none p now free (none_known p may_poll free gone v.begun);
   many_are = v.many_are;
 }
 
@@ -261,17 +269,17 @@ asked_visits front addresses p e many now may_poll some t v = go p.outstanding r
     rest : Option Chosen
     rest = first_after p.settings.burst may_poll p.stations (length p.stations) p.turn
 
-    by_rest : p.outstanding ≡ None → (r : Option Chosen) → rest ≡ r → MayBeThere p r →
+    by_rest : p.outstanding ≡ None → present p may_poll ≡ None → (r : Option Chosen) → rest ≡ r → MayBeThere p r →
         IsAsked front addresses p may_poll many (after_choice p now r) (begun_by now (sending_by r) e) (sending_by r)
-    by_rest free None is there = nothing refl refl (no_visit front addresses p e many now free v)
-    by_rest free (Some c) is there =
+    by_rest free gone None is there = nothing refl refl (no_visit front addresses p e many now may_poll free gone v)
+    by_rest free gone (Some c) is there =
         let f = found p.settings.burst may_poll p.stations (length p.stations) p.turn c is in
-        begins c refl free f there refl (new_visit front addresses p e many now may_poll c some t free there f.first v)
+        begins c refl free f there refl (new_visit front addresses p e many now may_poll c some t free gone there f.first v)
 
     by_present : p.outstanding ≡ None → (w : Option Wanted) → present p may_poll ≡ w →
         IsAsked front addresses p may_poll many (after_choice p now (chosen_or w p.turn rest)) (begun_by now (sending_by (chosen_or w p.turn rest)) e)
         (sending_by (chosen_or w p.turn rest))
-    by_present free None is = by_rest free rest refl (rest_there front addresses p e may_poll t)
+    by_present free None is = by_rest free is rest refl (rest_there front addresses p e may_poll t)
     by_present free (Some w) is =
         goes_on (record { station = p.turn; request = w.request }) refl refl refl (on_visit front addresses p e many now may_poll w some t free is v)
 
@@ -292,9 +300,10 @@ kept : (front : List ℕ → Front) (addresses : List ℕ) (p : Primary) (ended 
     ((link : Link) → IsLatest p.settings link p.turn v.mid v.now cur → IsLatest p.settings link p.turn v.mid v.now cur') →
     length (v.before ++ shown front cur') ≡ length (v.before ++ shown front cur) →
     FitsPhase p.settings outstanding again phase (station_at stations p.turn).link v.now →
+    IsBegun (record p { stations = stations; phase = phase; again = again; outstanding = outstanding; spoilt = spoilt }) →
     Stays front addresses p.turn (record p { stations = stations; phase = phase; again = again; outstanding = outstanding; spoilt = spoilt })
     (record { ended = ended; current = cur' }) many
-kept front addresses p ended cur cur' many stations phase again outstanding spoilt v same long fits = (
+kept front addresses p ended cur cur' many stations phase again outstanding spoilt v same long fits begun = (
   record {
     earlier = v.earlier;
     are = v.are;
@@ -305,6 +314,7 @@ kept front addresses p ended cur cur' many stations phase again outstanding spoi
     ended = v.ended;
     latest = same _ v.latest;
     fits = fits;
+    begun = begun;
     many_are = long ∙ v.many_are;
   },
   refl,
@@ -424,22 +434,23 @@ heard_visits front addresses p ended cur octets many within v = go p.outstanding
   where
     moved : (stations : List StationState) (phase : Phase) (again : Bool) (outstanding : Option Outstanding) →
         FitsPhase p.settings outstanding again phase (station_at stations p.turn).link v.now →
+        IsBegun (record p { stations = stations; phase = phase; again = again; outstanding = outstanding }) →
         Stays front addresses p.turn (record p { stations = stations; phase = phase; again = again; outstanding = outstanding; spoilt = p.spoilt })
         (record { ended = ended; current = heard_current octets cur }) many
-    moved stations phase again outstanding fits =
+    moved stations phase again outstanding fits begun =
         kept front addresses p ended cur (heard_current octets cur) many stations phase again outstanding p.spoilt v
-        (λ link latest. heard_latest p.settings link p.turn v.mid v.now octets cur latest) (heard_long front v.before octets cur) fits
+        (λ link latest. heard_latest p.settings link p.turn v.mid v.now octets cur latest) (heard_long front v.before octets cur) fits begun
 
     go : (o : Option Outstanding) → p.outstanding ≡ o →
         Stays front addresses p.turn (received_from front p o octets) (record { ended = ended; current = heard_current octets cur }) many
-    go None is = moved p.stations p.phase p.again p.outstanding v.fits
+    go None is = moved p.stations p.phase p.again p.outstanding v.fits v.begun
     go (Some q) is = by_heard q.heard
       where
         aw : (p.again ≡ false) × Awaits p.settings q.request p.phase (station_at p.stations p.turn).link v.now
         aw = subst (λ (o : Option Outstanding). FitsPhase p.settings o p.again p.phase (station_at p.stations p.turn).link v.now) is v.fits
 
         waits : (heard : Option (List ℕ)) → Stays front addresses p.turn (awaits p (with_octets octets q) heard) (record { ended = ended; current = heard_current octets cur }) many
-        waits heard = moved p.stations p.phase p.again _ aw
+        waits heard = moved p.stations p.phase p.again _ aw (begun_awaits p q octets heard is v.begun)
 
         say : (frame : Frame) (m : Option Answer) → answer_at p q frame ≡ m →
             Stays front addresses p.turn (said_by p (with_octets octets q) frame m) (record { ended = ended; current = heard_current octets cur }) many
@@ -451,6 +462,7 @@ heard_visits front addresses p ended cur octets many within v = go p.outstanding
             (subst (λ (l : Link). IsReady p.settings false (phase_after answer p.phase) l v.now)
             (sym (ap (λ (r : StationState). r.link) (get_or-set_same p.stations p.turn s no_station within)))
             (answered_ready p.settings (station_at p.stations p.turn).address q.request frame answer p.phase (station_at p.stations p.turn).link v.now e aw.1)))
+            (begun_answered p q (station_at p.stations p.turn).address frame answer within is e v.begun)
 
         by_front : (before : List ℕ) (f : Front) →
             Stays front addresses p.turn (took p (with_octets octets q) (open_octets before f) (whole_of f)) (record { ended = ended; current = heard_current octets cur }) many
@@ -470,36 +482,38 @@ due_visits front addresses p ended cur ms at many within v = go p.outstanding re
   where
     moved : (stations : List StationState) (phase : Phase) (again : Bool) (outstanding : Option Outstanding) (spoilt : ℕ) →
         FitsPhase p.settings outstanding again phase (station_at stations p.turn).link v.now →
+        IsBegun (record p { stations = stations; phase = phase; again = again; outstanding = outstanding; spoilt = spoilt }) →
         Stays front addresses p.turn (record p { stations = stations; phase = phase; again = again; outstanding = outstanding; spoilt = spoilt })
         (record { ended = ended; current = timed_current ms at cur }) many
-    moved stations phase again outstanding spoilt fits =
+    moved stations phase again outstanding spoilt fits begun =
         kept front addresses p ended cur (timed_current ms at cur) many stations phase again outstanding spoilt v
-        (λ link latest. timed_latest p.settings link p.turn v.mid v.now ms at cur latest) (timed_long front v.before ms at cur) fits
+        (λ link latest. timed_latest p.settings link p.turn v.mid v.now ms at cur latest) (timed_long front v.before ms at cur) fits begun
 
     go : (o : Option Outstanding) → p.outstanding ≡ o →
         Stays front addresses p.turn (due_from p o at) (record { ended = ended; current = timed_current ms at cur }) many
-    go None is = moved p.stations p.phase p.again p.outstanding p.spoilt v.fits
+    go None is = moved p.stations p.phase p.again p.outstanding p.spoilt v.fits v.begun
     go (Some q) is = late (is_late p q at)
       where
         aw : (p.again ≡ false) × Awaits p.settings q.request p.phase (station_at p.stations p.turn).link v.now
         aw = subst (λ (o : Option Outstanding). FitsPhase p.settings o p.again p.phase (station_at p.stations p.turn).link v.now) is v.fits
 
         late : (b : Bool) → Stays front addresses p.turn (if b then unanswered p q else p) (record { ended = ended; current = timed_current ms at cur }) many
-        late false = moved p.stations p.phase p.again p.outstanding p.spoilt v.fits
+        late false = moved p.stations p.phase p.again p.outstanding p.spoilt v.fits v.begun
         late true =
             let s : StationState = station_unanswered p.settings (station_at p.stations p.turn) q.request in
             moved (slice_set p.stations p.turn s) _ _ None _
             (subst (λ (l : Link). IsReady p.settings (has_repeats p.settings s.link) (if has_repeats p.settings s.link then p.phase else Over) l v.now)
             (sym (ap (λ (r : StationState). r.link) (get_or-set_same p.stations p.turn s no_station within)))
             (missed_ready p.settings q.request p.phase (station_at p.stations p.turn).link v.now aw.1))
+            (begun_unanswered p q within v.begun)
 
 -- the links are as they were
 linked_visits : (front : List ℕ → Front) (addresses : List ℕ) (p : Primary) (e : Exchanges) (many : ℕ) (stations : List StationState) →
-    (station_at stations p.turn).link ≡ (station_at p.stations p.turn).link → InVisit front addresses p e many →
+    ((i : ℕ) → (station_at stations i).link ≡ (station_at p.stations i).link) → InVisit front addresses p e many →
     Stays front addresses p.turn (record p { stations = stations }) e many
 linked_visits front addresses p e many stations same v =
     kept front addresses p e.ended e.current e.current many stations p.phase p.again p.outstanding p.spoilt v (λ link latest. latest) refl
-    (subst (λ (l : Link). FitsPhase p.settings p.outstanding p.again p.phase l v.now) (sym same) v.fits)
+    (subst (λ (l : Link). FitsPhase p.settings p.outstanding p.again p.phase l v.now) (sym (same p.turn)) v.fits) (begun_linked p stations same v.begun)
 
 pub offer_visits : (front : List ℕ → Front) (addresses : List ℕ) (p : Primary) (e : Exchanges) (many station : ℕ) (asdu : List ℕ) →
     InVisit front addresses p e many → Stays front addresses p.turn (offered_to p station asdu) e many
@@ -510,16 +524,11 @@ offer_visits front addresses p e many station asdu v = go (may_offer p station)
     go false = (v, refl)
     go true =
         linked_visits front addresses p e many (slice_set p.stations station (with_offer (station_at p.stations station) (Some asdu)))
-        (set_view (λ (r : StationState). r.link) p.stations station _ refl p.turn) v
+        (set_view (λ (r : StationState). r.link) p.stations station _ refl) v
 
 pub withdraw_visits : (front : List ℕ → Front) (addresses : List ℕ) (p : Primary) (e : Exchanges) (many : ℕ) →
     InVisit front addresses p e many → Stays front addresses p.turn (withdrawn p) e many
-withdraw_visits front addresses p e many v = linked_visits front addresses p e many (map without_offer p.stations) (link p.stations p.turn) v
-  where
-    link : (ss : List StationState) (i : ℕ) → (station_at (map without_offer ss) i).link ≡ (station_at ss i).link
-    link [] i = refl
-    link (s ∷ ss) zero = refl
-    link (s ∷ ss) (suc i) = link ss i
+withdraw_visits front addresses p e many v = linked_visits front addresses p e many (map without_offer p.stations) (withdrawn_link p.stations) v
 
 pub start_visits : (front : List ℕ → Front) (settings : LinkSettings) (addresses : List ℕ) → InVisit front addresses (start settings addresses) no_exchanges 0
 start_visits front settings addresses = record {
@@ -532,6 +541,7 @@ start_visits front settings addresses = record {
   ended = refl;
   latest = refl;
   fits = starting refl (down addresses);
+  begun = begun_start settings addresses;
   many_are = refl;
 }
   where

@@ -75,8 +75,8 @@ whole_room settings Down =
     let less : suc settings.retries * 2 ≤ suc settings.retries * (3 + settings.burst) =
     mul-le (suc settings.retries) 2 (suc settings.retries) (3 + settings.burst) (omega arith) (omega arith) in omega (arith, less)
 whole_room settings Available =
-    let less : suc settings.retries * 1 ≤ suc settings.retries * (3 + settings.burst) =
-    mul-le (suc settings.retries) 1 (suc settings.retries) (3 + settings.burst) (omega arith) (omega arith) in omega (arith, less)
+    let less : suc settings.retries * 0 ≤ suc settings.retries * (3 + settings.burst) =
+    mul-le (suc settings.retries) 0 (suc settings.retries) (3 + settings.burst) (omega arith) (omega arith) in omega (arith, less)
 whole_room settings (Next fcb) =
     let less : suc settings.retries * length (services settings.burst) ≤ suc settings.retries * (3 + settings.burst) =
     mul-le (suc settings.retries) (length (services settings.burst)) (suc settings.retries) (3 + settings.burst) (omega arith) (omega (arith, polls_length settings.burst)) in
@@ -266,13 +266,13 @@ ready_follows settings may_poll again s link phase left some (starting o plan) =
     (start_follows settings may_poll again s link left plan)
 ready_follows settings may_poll again s link phase left some (serving plan more) = serve_follows settings may_poll again s link phase left some plan more
 
--- a turn begins
-pub begin_follows : (settings : LinkSettings) (may_poll : Bool) (s : StationState) (link : Link) → 0 < settings.burst →
+-- a turn begins, with a link whose status isn't known
+pub begin_follows : (settings : LinkSettings) (may_poll : Bool) (s : StationState) (link : Link) → 0 < settings.burst → (link ≡ Available → ⊥) →
     FollowsIt settings link (whole_visit settings link) (wanted_by settings.burst may_poll false s link Starting)
-begin_follows settings may_poll s Down some = start_follows settings may_poll false s Down (whole_visit settings Down) refl
-begin_follows settings may_poll s Available some = start_follows settings may_poll false s Available (whole_visit settings Available) refl
-begin_follows settings may_poll s (Next fcb) some = commands_follow settings may_poll fcb s s.offered (whole_visit settings (Next fcb)) some refl
-begin_follows settings may_poll s (Held fcb service missed) some = go (may_poll || not (is_poll service))
+begin_follows settings may_poll s Down some fresh = start_follows settings may_poll false s Down (whole_visit settings Down) refl
+begin_follows settings may_poll s Available some fresh = absurd (fresh refl)
+begin_follows settings may_poll s (Next fcb) some fresh = commands_follow settings may_poll fcb s s.offered (whole_visit settings (Next fcb)) some refl
+begin_follows settings may_poll s (Held fcb service missed) some fresh = go (may_poll || not (is_poll service))
   where
     go : (b : Bool) → FollowsIt settings (Held fcb service missed) (whole_visit settings (Held fcb service missed))
         (if b then wants (Counted fcb service) Commanding else None)

@@ -1,7 +1,9 @@
 -- Which frames answer which request (IEC 60870-5-2, 5.1: the control field of a secondary station,
 -- and its procedures of unbalanced transmission). What the single character E5 stands for is this
 -- gateway's own profile.
-use Rattle.std.specs.Prelude.{◌≡◌, ℕ, ◌/◌, ◌%◌, ◌==◌, ◌&&◌, ◌||◌, Bool, List, Option, Some, None, if◌then◌else◌}
+use Rattle.std.specs.Prelude.{◌≡◌, ℕ, ◌==◌, ◌&&◌, ◌||◌, Bool, List, Option, Some, None, if◌then◌else◌}
+use Rattle.link.specs.Control.{is_secondary, function_code, secondary_code as number}
+use Rattle.link.specs.declared.control.SecondaryFunction.TheVariants as function
 pub use Rattle.ft12.specs.declared.frame.Frame.{Frame}
 pub use Rattle.ft12.specs.declared.frame.Frame.TheVariants.{Single, Fixed, Data}
 pub use Rattle.link.specs.declared.service.Service.{Service}
@@ -11,21 +13,30 @@ pub use Rattle.link.specs.declared.service.Asked.TheVariants.{Status, Reset, Cou
 pub use Rattle.link.specs.declared.answer.Answer.{Answer}
 pub use Rattle.link.specs.declared.answer.Answer.TheVariants.{Ready, Confirmed, Busy, Report, NoData, Unable}
 
--- functions 14 and 15: the service isn't functioning, or isn't implemented
-abbrev pub unable_answer : ℕ → Option Answer
-unable_answer code = if (code == 14) || (code == 15) then Some Unable else None
+-- the function is that the service isn't functioning, or that it isn't implemented
+abbrev pub is_unable : (code : ℕ) → Bool
+is_unable code =
+    (code == number function.NotFunctioning)
+    || (code == number function.NotImplemented)
+
+abbrev pub unable_answer : (code : ℕ) → Option Answer
+unable_answer code = if is_unable code then Some Unable else None
 
 -- what a function of a fixed frame says to a service
-abbrev pub service_answer : Service → ℕ → Option Answer
-service_answer Class1 code = if code == 9 then Some NoData else unable_answer code
-service_answer Class2 code = if code == 9 then Some NoData else unable_answer code
+abbrev pub service_answer : Service → (code : ℕ) → Option Answer
+service_answer Class1 code =
+    if code == number function.NoData then Some NoData else unable_answer code
+service_answer Class2 code =
+    if code == number function.NoData then Some NoData else unable_answer code
 service_answer (Command asdu) code =
-    if code == 0 then Some Confirmed else if code == 1 then Some Busy else unable_answer code
+    if code == number function.Confirm then Some Confirmed
+    else if code == number function.Busy then Some Busy else unable_answer code
 
 -- and to each request
-abbrev pub code_answer : Asked → ℕ → Option Answer
-code_answer Status code = if code == 11 then Some Ready else unable_answer code
-code_answer Reset code = if code == 0 then Some Confirmed else None
+abbrev pub code_answer : Asked → (code : ℕ) → Option Answer
+code_answer Status code =
+    if code == number function.LinkStatus then Some Ready else unable_answer code
+code_answer Reset code = if code == number function.Confirm then Some Confirmed else None
 code_answer (Counted fcb service) code = service_answer service code
 
 -- what the single character stands for
@@ -46,15 +57,17 @@ data_answer (Counted fcb (Command _)) asdu = None
 
 -- the control octet is a secondary station's (PRM 0), and the address is this one
 abbrev pub comes_from : (station control address : ℕ) → Bool
-comes_from station control address = (control / 64 % 2 == 0) && (address == station)
+comes_from station control address = is_secondary control && (address == station)
 
 -- what a frame says in answer to a request to this station, or nothing where it doesn't fit
 abbrev pub answer_of : (station : ℕ) → Asked → Frame → Option Answer
 answer_of station request Single = single_answer request
 answer_of station request (Fixed control address) =
-    if comes_from station control address then code_answer request (control % 16) else None
+    if comes_from station control address
+    then code_answer request (function_code control) else None
 answer_of station request (Data control address body) =
-    if comes_from station control address && (control % 16 == 8)
+    if comes_from station control address
+    && (function_code control == number function.UserData)
     then data_answer request body.items else None
 
 -- the frame says this in answer to the request

@@ -1,7 +1,8 @@
--- What the worked examples of the tables speak of: user data of one octet, and a station in each
--- state.
+-- What the worked examples of the tables speak of: user data of one octet, a station in each state,
+-- and a line with two repeats.
 use Rattle.std.specs.Prelude.{ℕ, Bool, List, [], ◌∷◌, Option}
-use Rattle.link.specs.Procedure.{Link}
+use Rattle.ft12.specs.declared.frame.LinkSize.TheVariants.{One}
+use Rattle.link.specs.Procedure.{Link, LinkSettings}
 use Rattle.link.specs.Turns.{StationState, no_session}
 
 abbrev pub octet : List ℕ
@@ -16,4 +17,14 @@ in_state link acd dfc offered =
       dfc = dfc;
       offered = offered;
       session = no_session;
+    }
+
+abbrev pub two_repeats : (hold : Bool) → LinkSettings
+two_repeats hold =
+    record {
+      size = One;
+      answer_ms = 300;
+      retries = 2;
+      hold = hold;
+      burst = 2;
     }

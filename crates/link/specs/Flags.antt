@@ -1,7 +1,8 @@
 -- ACD and DFC: what a station says of itself in its answers (IEC 60870-5-2, 5.1: the control field
 -- of a secondary station). That the single character clears both is this gateway's own profile.
-use Rattle.std.specs.Prelude.{◌≡◌, ℕ, ◌/◌, ◌%◌, ◌^◌, ◌==◌, Bool, true, false, List, [], ◌∷◌, Option, Some, slice_index}
+use Rattle.std.specs.Prelude.{◌≡◌, ℕ, Bool, true, false, List, [], ◌∷◌, Option, Some, slice_index}
 use Rattle.ft12.specs.declared.frame.Front.{Front}
+use Rattle.link.specs.Control.{shows_acd, shows_dfc}
 use Rattle.link.specs.Answers.{Frame, Single, Fixed, Data, Class1, Class2, Command, Asked, Status, Reset, Counted, Answer}
 use Rattle.link.specs.Exchanges.{Exchange, Exchanges, answer_to, all_of, views, with_station}
 use Rattle.link.specs.Procedure.{LinkSettings, Link, Down, link_after}
@@ -14,14 +15,11 @@ pub record Flags : Type 0 where
 abbrev pub clear : Flags
 clear = record { acd = false; dfc = false }
 
-abbrev pub has_bit : (n control : ℕ) → Bool
-has_bit n control = control / 2 ^ n % 2 == 1
-
--- ACD is bit 5 of the control octet, DFC bit 4.
+-- the flags that a station's frame shows
 abbrev pub flags_in : Frame → Flags
 flags_in Single = clear
-flags_in (Fixed control address) = record { acd = has_bit 5 control; dfc = has_bit 4 control }
-flags_in (Data control address body) = record { acd = has_bit 5 control; dfc = has_bit 4 control }
+flags_in (Fixed control address) = record { acd = shows_acd control; dfc = shows_dfc control }
+flags_in (Data control address body) = record { acd = shows_acd control; dfc = shows_dfc control }
 
 -- the flags after an exchange: an answer brings new ones
 abbrev pub flags_by : Option Answer → Option Frame → Flags → Flags

@@ -1,3 +1,4 @@
+pub mod Control
 pub mod Answers
 pub mod Counts
 pub mod Exchanges

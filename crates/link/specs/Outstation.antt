@@ -1,8 +1,9 @@
 -- An outstation of unbalanced transmission, as a primary station may count on it (IEC 60870-5-2,
 -- the procedures of a secondary station): a machine with free choices. What it reports, and whether
 -- it can serve, is its own.
-use Rattle.std.specs.Prelude.{◌≡◌, ◌≢◌, ℕ, ◌%◌, ◌==◌, ◌&&◌, ◌||◌, ◌⊎◌, Bool, true, false, List, [], ◌∷◌, ◌++◌, Option, Some, None}
-use Rattle.link.specs.Answers.{Frame, Single, Fixed, Data, Service, Class1, Class2, Command, Asked, Status, Reset, Counted, Answer, Ready, Confirmed, Report, Unable, Says, comes_from}
+use Rattle.std.specs.Prelude.{◌≡◌, ◌≢◌, ℕ, ◌&&◌, ◌⊎◌, Bool, true, false, List, [], ◌∷◌, ◌++◌, Option, Some, None}
+use Rattle.link.specs.Answers.{Frame, Single, Fixed, Data, Service, Class1, Class2, Command, Asked, Status, Reset, Counted, Answer, Ready, Confirmed, Report, Unable, Says, comes_from, is_unable}
+use Rattle.link.specs.Control.{function_code}
 
 -- what a service does at the outstation: a report is given, a command is accepted
 pub data Effect : Type 0 where
@@ -40,11 +41,11 @@ silent = record { answer = None; done = [] }
 abbrev pub with_answer : Frame → Turn
 with_answer frame = record { answer = Some frame; done = [] }
 
--- functions 14 and 15 of this station: the service isn't functioning, or isn't implemented
+-- this station's frame that the service isn't functioning, or isn't implemented
 abbrev pub is_refusal : (station : ℕ) → Frame → Bool
 is_refusal station Single = false
 is_refusal station (Fixed control address) =
-    comes_from station control address && ((control % 16 == 14) || (control % 16 == 15))
+    comes_from station control address && is_unable (function_code control)
 is_refusal station (Data control address body) = false
 
 -- A counted request is heard by an outstation with this bit.

@@ -1,10 +1,11 @@
 -- The primary station of unbalanced transmission as a machine: whose turn it is, the request whose
 -- answer is awaited, and what a call of it does.
-use Rattle.std.specs.Prelude.{ℕ, ◌+◌, ◌/◌, ◌%◌, ◌==◌, ◌&&◌, ◌||◌, nat_le, Bool, true, false, not, List, [], ◌++◌, map, length, slice_set, Option, Some, None, is_none, if◌then◌else◌}
+use Rattle.std.specs.Prelude.{ℕ, ◌+◌, ◌==◌, ◌&&◌, ◌||◌, nat_le, Bool, true, false, not, List, [], ◌++◌, map, length, slice_set, Option, Some, None, is_none, if◌then◌else◌}
 use Rattle.ft12.specs.declared.frame.Front.{Front}
 use Rattle.ft12.specs.declared.frame.Front.TheVariants.{Whole, More, Never}
 use Rattle.ft12.specs.Spelling.{spelling}
 use Rattle.link.specs.Answers.{Frame, Single, Fixed, Data, Command, Asked, Reset, Counted, Answer, Confirmed, Busy, Report, NoData, Unable, answer_of}
+use Rattle.link.specs.Control.{shows_acd, shows_dfc}
 use Rattle.link.specs.Counts.{saturated}
 use Rattle.link.specs.Exchanges.{Sending, whole_of}
 use Rattle.link.specs.Procedure.{LinkSettings, Down, after_answer, after_silence, is_held, holds_command, has_repeats, goes_down}
@@ -139,16 +140,16 @@ request_of p s = record {
 -- `octets`
 
 -- ACD: class 1 data wait
-abbrev pub acd_of : Frame → Bool
+unfoldable pub acd_of : Frame → Bool
 acd_of Single = false
-acd_of (Fixed control address) = control / 32 % 2 == 1
-acd_of (Data control address body) = control / 32 % 2 == 1
+acd_of (Fixed control address) = shows_acd control
+acd_of (Data control address body) = shows_acd control
 
 -- DFC: no more user data are taken
-abbrev pub dfc_of : Frame → Bool
+unfoldable pub dfc_of : Frame → Bool
 dfc_of Single = false
-dfc_of (Fixed control address) = control / 16 % 2 == 1
-dfc_of (Data control address body) = control / 16 % 2 == 1
+dfc_of (Fixed control address) = shows_dfc control
+dfc_of (Data control address body) = shows_dfc control
 
 -- The turn is over where the station couldn't serve the request.
 abbrev pub phase_after : Answer → Phase → Phase

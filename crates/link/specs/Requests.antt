@@ -1,30 +1,34 @@
 -- Requests as frames, and what a frame asks for (IEC 60870-5-2, 5.1: the control field of a primary
 -- station).
-use Rattle.std.specs.Prelude.{ℕ, ◌+◌, ◌/◌, ◌%◌, ◌^◌, ◌<◌, ◌≤◌, ◌==◌, ◌&&◌, Bool, List, [], ◌∷◌, length, All, Option, Some, None, if◌then◌else◌}
+use Rattle.std.specs.Prelude.{ℕ, ◌+◌, ◌^◌, ◌<◌, ◌≤◌, ◌==◌, ◌&&◌, Bool, true, false, List, [], ◌∷◌, length, All, Option, Some, None, if◌then◌else◌}
 use Rattle.ft12.specs.declared.frame.LinkSize.{LinkSize}
 use Rattle.ft12.specs.declared.frame.Front.{Front}
 use Rattle.ft12.specs.declared.frame.Front.TheVariants.{Whole, More, Never}
 use Rattle.ft12.specs.Spelling.{address_len, IsOctet}
 use Rattle.ft12.specs.Fronts.{front_of}
+use Rattle.link.specs.declared.control.PrimaryFunction.TheVariants as function
+use Rattle.link.specs.Control.{PrimaryFunction, primary_code as number, primary_octet, is_primary, fcb_bit, fcv_bit, function_code}
 use Rattle.link.specs.Answers.{Frame, Single, Fixed, Data, Service, Class1, Class2, Command, Asked, Status, Reset, Counted}
 pub use Rattle.link.specs.declared.request.Reading.{Reading}
 pub use Rattle.link.specs.declared.request.Reading.TheVariants.{Foreign, Unknown, Asks}
 pub use Rattle.link.specs.declared.request.RequestKind.{RequestKind}
 pub use Rattle.link.specs.declared.request.RequestKind.TheVariants as kind
 
--- PRM 1, FCV 1, and the frame count bit
-abbrev pub counted_control : (fcb : Bool) → (function : ℕ) → ℕ
-counted_control fcb function = if fcb then 0x70 + function else 0x50 + function
+-- a function with a valid frame count bit, and one with none
+abbrev pub counted_control : (fcb : Bool) → PrimaryFunction → ℕ
+counted_control fcb by = primary_octet fcb true (number by)
+
+abbrev pub plain_control : PrimaryFunction → ℕ
+plain_control by = primary_octet false false (number by)
 
 -- the frame of a request to the station with this address
 abbrev pub request_frame : (address : ℕ) → Asked → Frame
-request_frame address Status = Fixed 0x49 address
-request_frame address Reset = Fixed 0x40 address
-request_frame address (Counted fcb Class1) = Fixed (counted_control fcb 10) address
-request_frame address (Counted fcb Class2) = Fixed (counted_control fcb 11) address
-request_frame address (Counted fcb (Command asdu)) = Data (counted_control fcb 3) address (record {
-  items = asdu;
-})
+request_frame address Status = Fixed (plain_control function.LinkStatus) address
+request_frame address Reset = Fixed (plain_control function.ResetLink) address
+request_frame address (Counted fcb Class1) = Fixed (counted_control fcb function.Class1) address
+request_frame address (Counted fcb Class2) = Fixed (counted_control fcb function.Class2) address
+request_frame address (Counted fcb (Command asdu)) =
+    Data (counted_control fcb function.UserData) address (record { items = asdu })
 
 abbrev pub FitsAddress : LinkSize → (address : ℕ) → Type 0
 FitsAddress size address = address < 256 ^ address_len size
@@ -61,28 +65,36 @@ kind_of (Counted fcb service) = service_kind service
 
 -- the control octet is a primary station's (PRM 1), and the address is this one
 abbrev pub comes_to : (station control address : ℕ) → Bool
-comes_to station control address = (control / 64 % 2 == 1) && (address == station)
+comes_to station control address = is_primary control && (address == station)
 
 -- by the function of a request with a valid frame count bit
-abbrev pub counted_reading : (fcb : Bool) → (function : ℕ) → Reading
-counted_reading fcb function =
-    if function == 10 then Asks (Counted fcb Class1)
-    else if function == 11 then Asks (Counted fcb Class2) else Unknown
+abbrev pub counted_reading : (fcb : Bool) → (code : ℕ) → Reading
+counted_reading fcb code =
+    if code == number function.Class1 then Asks (Counted fcb Class1)
+    else if code == number function.Class2 then Asks (Counted fcb Class2) else Unknown
 
-abbrev pub plain_reading : (function : ℕ) → Reading
-plain_reading function =
-    if function == 9 then Asks Status else if function == 0 then Asks Reset else Unknown
+-- and of one without
+abbrev pub plain_reading : (code : ℕ) → Reading
+plain_reading code =
+    if code == number function.LinkStatus then Asks Status
+    else if code == number function.ResetLink then Asks Reset else Unknown
+
+abbrev pub short_by : (fcb fcv : Bool) → (code : ℕ) → Reading
+short_by fcb fcv code = if fcv then counted_reading fcb code else plain_reading code
 
 abbrev pub short_reading : (control : ℕ) → Reading
-short_reading control =
-    if control / 16 % 2 == 1 then counted_reading (control / 32 % 2 == 1) (control % 16)
-    else plain_reading (control % 16)
+short_reading control = short_by (fcb_bit control) (fcv_bit control) (function_code control)
+
+-- user data ask for a service only where they have an octet
+abbrev pub data_by : (fcb fcv : Bool) → (code : ℕ) → List ℕ → Reading
+data_by fcb fcv code [] = Unknown
+data_by fcb fcv code (octet ∷ octets) =
+    if fcv && (code == number function.UserData)
+    then Asks (Counted fcb (Command (octet ∷ octets))) else Unknown
 
 abbrev pub data_reading : (control : ℕ) → List ℕ → Reading
-data_reading control [] = Unknown
-data_reading control (octet ∷ octets) =
-    if (control / 16 % 2 == 1) && (control % 16 == 3)
-    then Asks (Counted (control / 32 % 2 == 1) (Command (octet ∷ octets))) else Unknown
+data_reading control octets =
+    data_by (fcb_bit control) (fcv_bit control) (function_code control) octets
 
 -- what a frame asks of the station with this address
 abbrev pub reading_of : (station : ℕ) → Frame → Reading

@@ -2,6 +2,8 @@
 -- procedures of a secondary station). Where it answers with the single character, and that DFC is
 -- never set, is its own choice.
 use Rattle.std.specs.Prelude.{◌≡◌, ◌⊎◌, ℕ, ◌+◌, min, ◌-◌, ◌^◌, Bool, true, false, List, [], ◌∷◌, ◌++◌, Option, Some, None, if◌then◌else◌}
+use Rattle.link.specs.Control.{secondary_octet, secondary_code as number}
+use Rattle.link.specs.declared.control.SecondaryFunction.TheVariants as function
 use Rattle.link.specs.Answers.{Frame, Single, Fixed, Data, Service, Class1, Class2, Command, Asked, Status, Reset, Counted}
 use Rattle.link.specs.Outstation.{Given, Accepted, Outstation, Turn}
 use Rattle.link.specs.Requests.{Reading, Foreign, Unknown, Asks, reading_of}
@@ -39,8 +41,8 @@ outstation_of s = record { bit = s.bit; last = s.last }
 
 -- the control octet of an answer: it says whether class 1 reports wait after it
 abbrev pub control_of : (code : ℕ) → (class1 : List (List ℕ)) → ℕ
-control_of code [] = code
-control_of code (report ∷ reports) = code + 32
+control_of code [] = secondary_octet false false code
+control_of code (report ∷ reports) = secondary_octet true false code
 
 abbrev pub data_frame : (control address : ℕ) → List ℕ → Frame
 data_frame control address report = Data control address (record { items = report })
@@ -48,7 +50,7 @@ data_frame control address report = Data control address (record { items = repor
 -- a confirmation, or that no data wait: the single character where no class 1 reports wait
 abbrev pub short_of : (code address : ℕ) → (class1 : List (List ℕ)) → Frame
 short_of code address [] = Single
-short_of code address (report ∷ reports) = Fixed (code + 32) address
+short_of code address (report ∷ reports) = Fixed (secondary_octet true false code) address
 
 -- what one request makes of the station
 pub record Served : Type 0 where
@@ -68,8 +70,8 @@ with_frame s fcb frame = record s { bit = Some fcb; last = Some frame }
 
 abbrev pub no_data : Secondary → (fcb : Bool) → Served
 no_data s fcb = record {
-  turn = record { answer = Some (short_of 9 s.address s.class1); done = [] };
-  state = with_frame s fcb (short_of 9 s.address s.class1);
+  turn = record { answer = Some (short_of (number function.NoData) s.address s.class1); done = [] };
+  state = with_frame s fcb (short_of (number function.NoData) s.address s.class1);
 }
 
 -- the oldest report of class 1
@@ -77,11 +79,12 @@ abbrev pub served_class1 : Secondary → (fcb : Bool) → List (List ℕ) → Se
 served_class1 s fcb [] = no_data s fcb
 served_class1 s fcb (report ∷ reports) = record {
   turn = record {
-    answer = Some (data_frame (control_of 8 reports) s.address report);
+    answer = Some (data_frame (control_of (number function.UserData) reports) s.address report);
     done = Given report ∷ [];
   };
   state =
-      record (with_frame s fcb (data_frame (control_of 8 reports) s.address report)) {
+      record (with_frame s fcb
+      (data_frame (control_of (number function.UserData) reports) s.address report)) {
         class1 = reports;
         given = one_more_given s.given;
       };
@@ -92,11 +95,12 @@ abbrev pub served_class2 : Secondary → (fcb : Bool) → List (List ℕ) → Se
 served_class2 s fcb [] = no_data s fcb
 served_class2 s fcb (report ∷ reports) = record {
   turn = record {
-    answer = Some (data_frame (control_of 8 s.class1) s.address report);
+    answer = Some (data_frame (control_of (number function.UserData) s.class1) s.address report);
     done = Given report ∷ [];
   };
   state =
-      record (with_frame s fcb (data_frame (control_of 8 s.class1) s.address report)) {
+      record (with_frame s fcb
+      (data_frame (control_of (number function.UserData) s.class1) s.address report)) {
         class2 = reports;
         given = one_more_given s.given;
       };
@@ -105,15 +109,21 @@ served_class2 s fcb (report ∷ reports) = record {
 -- A command is accepted where there was memory for it, and else answered that the station is busy.
 abbrev pub served_command : (granted : Bool) → Secondary → (fcb : Bool) → List ℕ → Served
 served_command true s fcb asdu = record {
-  turn = record { answer = Some (short_of 0 s.address s.class1); done = Accepted asdu ∷ [] };
+  turn = record {
+    answer = Some (short_of (number function.Confirm) s.address s.class1);
+    done = Accepted asdu ∷ [];
+  };
   state =
-      record (with_frame s fcb (short_of 0 s.address s.class1)) {
+      record (with_frame s fcb (short_of (number function.Confirm) s.address s.class1)) {
         accepted = s.accepted ++ asdu ∷ [];
       };
 }
 served_command false s fcb asdu = record {
-  turn = record { answer = Some (Fixed (control_of 1 s.class1) s.address); done = [] };
-  state = with_frame s fcb (Fixed (control_of 1 s.class1) s.address);
+  turn = record {
+    answer = Some (Fixed (control_of (number function.Busy) s.class1) s.address);
+    done = [];
+  };
+  state = with_frame s fcb (Fixed (control_of (number function.Busy) s.class1) s.address);
 }
 
 abbrev pub served_new : (granted : Bool) → Secondary → (fcb : Bool) → Service → Served
@@ -134,9 +144,13 @@ served_counted granted s (Some bit) fcb service =
 
 -- what one request makes of the station
 abbrev pub served : (granted : Bool) → Secondary → Asked → Served
-served granted s Status = unchanged s (Some (Fixed (control_of 11 s.class1) s.address))
+served granted s Status =
+    unchanged s (Some (Fixed (control_of (number function.LinkStatus) s.class1) s.address))
 served granted s Reset = record {
-  turn = record { answer = Some (short_of 0 s.address s.class1); done = [] };
+  turn = record {
+    answer = Some (short_of (number function.Confirm) s.address s.class1);
+    done = [];
+  };
   state = record s { bit = Some false; last = None };
 }
 served granted s (Counted fcb service) = served_counted granted s s.bit fcb service
@@ -155,7 +169,8 @@ IsServed old request answer new =
 -- what one frame makes of the station
 abbrev pub heard_reading : (granted : Bool) → Secondary → Reading → Served
 heard_reading granted s Foreign = unchanged s None
-heard_reading granted s Unknown = unchanged s (Some (Fixed (control_of 15 s.class1) s.address))
+heard_reading granted s Unknown =
+    unchanged s (Some (Fixed (control_of (number function.NotImplemented) s.class1) s.address))
 heard_reading granted s (Asks request) = served granted s request
 
 abbrev pub IsReadingHeard : Secondary → Reading → Option Frame → Secondary → Type 0

@@ -1,8 +1,8 @@
 -- Turns, as the exchanges of the line show them (this gateway's own profile, over the procedures of
 -- IEC 60870-5-2): a visit is what goes out to one station in one turn.
-use Rattle.std.specs.Prelude.{◌≡◌, ℕ, zero, suc, ◌+◌, ◌*◌, List, [], ◌∷◌, ◌++◌, slice_index}
-use Rattle.link.specs.Answers.{Asked}
-use Rattle.link.specs.Exchanges.{Exchange, LineExchange, with_station}
+use Rattle.std.specs.Prelude.{◌≡◌, ℕ, zero, suc, ◌+◌, ◌*◌, List, [], ◌∷◌, ◌++◌, Some, slice_index}
+use Rattle.link.specs.Answers.{Asked, Status, Ready}
+use Rattle.link.specs.Exchanges.{Exchange, LineExchange, answer_to, with_station}
 use Rattle.link.specs.Procedure.{LinkSettings, Link, Down, Available, Next, Held, MaySend, after, link_after}
 use Rattle.link.specs.Requests.{RequestKind, kind_of}
 use Rattle.link.specs.declared.request.RequestKind.TheVariants as kind
@@ -21,11 +21,12 @@ class1_polls (suc many) = kind.Class1 ∷ class1_polls many
 abbrev pub services : (burst : ℕ) → List RequestKind
 services burst = kind.Command ∷ (kind.Class2 ∷ class1_polls burst)
 
--- What a visit has, by the link at its beginning: where it is down a status and a reset. Where it
--- is up the held service with its repeats, and then new services.
+-- What a visit has, by the link at its beginning: where it is down a status and a reset. No visit
+-- begins with a link whose status is known: its reset goes out in the visit of its status. Where
+-- the link is up, the held service with its repeats, and then new services.
 abbrev pub whole_visit : LinkSettings → Link → Left
 whole_visit settings Down = record { plan = kind.Status ∷ (kind.Reset ∷ []); repeats = 0 }
-whole_visit settings Available = record { plan = kind.Reset ∷ []; repeats = 0 }
+whole_visit settings Available = record { plan = []; repeats = 0 }
 whole_visit settings (Next fcb) = record { plan = services settings.burst; repeats = 0 }
 whole_visit settings (Held fcb service missed) = record {
   plan = services settings.burst;
@@ -51,6 +52,14 @@ IsVisitFrom settings station link left (x ∷ xs) =
 
 abbrev pub IsVisit : LinkSettings → (station : ℕ) → Link → List Exchange → Type 0
 IsVisit settings station link xs = IsVisitFrom settings station link (whole_visit settings link) xs
+
+-- The latest of these exchanges is a status, and its answer is that the link can be reset.
+pub record EndsReady (station : ℕ) (xs : List Exchange) : Type 0 where
+  pub earlier : List Exchange
+  pub status : Exchange
+  pub are : xs ≡ earlier ++ status ∷ []
+  pub asked : status.request ≡ Status
+  pub answered : answer_to station status ≡ Some Ready
 
 -- the exchanges of a visit, with the station's index
 pub record Visit : Type 0 where

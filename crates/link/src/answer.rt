@@ -1,53 +1,49 @@
 //! Which frames answer which request.
 ghost use Rattle.std.specs.Prelude.{◌≡◌, length, ◌≤◌};
-ghost use Rattle.link.specs.Answers.{comes_from, unable_answer, service_answer, code_answer, single_answer, data_answer, answer_of};
+ghost use Rattle.link.specs.Control.{secondary_code};
+ghost use Rattle.link.specs.Answers.{unable_answer, service_answer, code_answer, single_answer, data_answer, answer_of};
 
 use crate::asdu::Asdu;
+use crate::control::{Control, SecondaryFunction};
 use crate::service::{Asked, Service};
 use ft12::Frame;
 
 /// What an answer says.
 #[derive(Drop)]
 pub enum Answer {
-    /// The status of the link: it can be reset (function 11).
+    /// The status of the link: it can be reset.
     Ready,
-    /// It is done (function 0, or the single character).
+    /// It is done (a positive acknowledgement, or the single character).
     Confirmed,
-    /// The link is busy: the user data weren't taken (function 1).
+    /// The link is busy: the user data weren't taken.
     Busy,
-    /// User data (function 8).
+    /// User data.
     Report(Asdu),
-    /// No such data are there (function 9, or the single character).
+    /// No such data are there (as a function, or by the single character).
     NoData,
-    /// The service isn't functioning, or isn't implemented (functions 14 and 15).
+    /// The service isn't functioning, or isn't implemented.
     Unable,
 }
 
-/// Whether the control octet is a secondary station's, and the address is this one.
-fn comes_from_station(station: u16, c: u8, a: u16) -> bool
-    ensures { result ≡ comes_from station c a }
+fn unable(function: SecondaryFunction) -> Option<Answer>
+    ensures { result ≡ unable_answer (secondary_code function) }
 {
-    c / 64 % 2 == 0 && a == station
-}
-
-fn unable_code(code: u8) -> Option<Answer>
-    ensures { result ≡ unable_answer code }
-{
-    if code == 14 || code == 15 {
-        Some(Answer::Unable)
-    } else {
-        None
+    match function {
+        SecondaryFunction::NotFunctioning | SecondaryFunction::NotImplemented => {
+            Some(Answer::Unable)
+        }
+        _ => None,
     }
 }
 
-fn service_code(service: &Service, code: u8) -> Option<Answer>
-    ensures { result ≡ service_answer service.now code }
+fn to_service(service: &Service, function: SecondaryFunction) -> Option<Answer>
+    ensures { result ≡ service_answer service.now (secondary_code function) }
 {
-    match service {
-        Service::Class1 | Service::Class2 if code == 9 => Some(Answer::NoData),
-        Service::Command(_) if code == 0 => Some(Answer::Confirmed),
-        Service::Command(_) if code == 1 => Some(Answer::Busy),
-        _ => unable_code(code),
+    match (service, function) {
+        (Service::Class1 | Service::Class2, SecondaryFunction::NoData) => Some(Answer::NoData),
+        (Service::Command(_), SecondaryFunction::Confirm) => Some(Answer::Confirmed),
+        (Service::Command(_), SecondaryFunction::Busy) => Some(Answer::Busy),
+        (_, _) => unable(function),
     }
 }
 
@@ -62,15 +58,15 @@ impl Asked {
         }
     }
 
-    fn code(&self, code: u8) -> Option<Answer>
-        ensures { result ≡ code_answer self.now code }
+    fn said(&self, function: SecondaryFunction) -> Option<Answer>
+        ensures { result ≡ code_answer self.now (secondary_code function) }
     {
-        match self {
-            Asked::Status if code == 11 => Some(Answer::Ready),
-            Asked::Status => unable_code(code),
-            Asked::Reset if code == 0 => Some(Answer::Confirmed),
-            Asked::Reset => None,
-            Asked::Counted(_, service) => service_code(service, code),
+        match (self, function) {
+            (Asked::Status, SecondaryFunction::LinkStatus) => Some(Answer::Ready),
+            (Asked::Status, _) => unable(function),
+            (Asked::Reset, SecondaryFunction::Confirm) => Some(Answer::Confirmed),
+            (Asked::Reset, _) => None,
+            (Asked::Counted(_, service), _) => to_service(service, function),
         }
     }
 
@@ -92,20 +88,17 @@ impl Asked {
     {
         match frame {
             Frame::Single => self.single(),
-            Frame::Fixed { c, a } => {
-                if comes_from_station(station, *c, *a) {
-                    self.code(*c % 16)
-                } else {
-                    None
-                }
-            }
-            Frame::Data { c, a, body } => {
-                if comes_from_station(station, *c, *a) && *c % 16 == 8 {
-                    self.data(body.as_slice())
-                } else {
-                    None
-                }
-            }
+            Frame::Fixed { c, a } => match Control::from_octet(*c) {
+                Control::Secondary { function, .. } if *a == station => self.said(function),
+                _ => None,
+            },
+            Frame::Data { c, a, body } => match Control::from_octet(*c) {
+                Control::Secondary {
+                    function: SecondaryFunction::UserData,
+                    ..
+                } if *a == station => self.data(body.as_slice()),
+                _ => None,
+            },
         }
     }
 }

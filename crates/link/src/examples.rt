@@ -1,12 +1,16 @@
 //! The tables by worked examples: what frames say in answer, what requests look like, and what
 //! turns begin with.
-ghost use Rattle.std.specs.Prelude.{◌≡◌, [], true, false, Some, None};
+ghost use Rattle.std.specs.Prelude.{◌≡◌, [], ◌∷◌, true, false, Some, None};
+ghost use Rattle.link.specs.declared.control.Control.TheVariants as control;
+ghost use Rattle.link.specs.declared.control.PrimaryFunction.TheVariants as primary;
+ghost use Rattle.link.specs.declared.control.SecondaryFunction.TheVariants as secondary;
+ghost use Rattle.link.specs.Control.{is_primary, is_secondary, fcb_bit, fcv_bit, acd_bit, dfc_bit, reserved_bit, function_code, octet_of};
 ghost use Rattle.link.specs.Answers.{Single, Fixed, Status, Reset, Counted, Class1, Class2, Command, Ready, Confirmed, Busy, Report, NoData, Unable, answer_of};
-ghost use Rattle.link.specs.Examples.{octet, in_state};
+ghost use Rattle.link.specs.Examples.{octet, in_state, two_repeats};
 ghost use Rattle.link.specs.Flags.{clear, flags_in};
-ghost use Rattle.link.specs.Procedure.{Down, Available, Next, Held};
+ghost use Rattle.link.specs.Procedure.{Down, Available, Next, Held, after_silence, has_repeats};
 ghost use Rattle.link.specs.Requests.{Foreign, Unknown, Asks, request_frame, reading_of};
-ghost use Rattle.link.specs.Secondary.{data_frame};
+ghost use Rattle.link.specs.Secondary.{data_frame, control_of, short_of};
 ghost use Rattle.link.specs.Turns.{Starting, Commanding, Polling, Class1Polling, Over, wants, wanted};
 ghost use Rattle.link.specs.Primary.{outcome_by, with_gap};
 ghost use Rattle.link.specs.declared.outcome.Outcome.TheVariants as outcome;
@@ -60,7 +64,12 @@ pub fn answers_by_example()
         × (flags_in (Fixed 0x11 1) ≡ record { acd = false; dfc = true })
         × (flags_in (data_frame 0x38 1 octet) ≡ record { acd = true; dfc = true })
         × (flags_in (Fixed 0x0F 1) ≡ clear)
+        × (flags_in (Fixed 0x70 1) ≡ clear)
         × (flags_in Single ≡ clear) }
+    ensures stations { (short_of 0 1 [] ≡ Single) × (short_of 0 1 (octet ∷ []) ≡ Fixed 0x20 1)
+        × (short_of 9 1 [] ≡ Single) × (short_of 9 1 (octet ∷ []) ≡ Fixed 0x29 1)
+        × (control_of 8 [] ≡ 0x08) × (control_of 8 (octet ∷ []) ≡ 0x28)
+        × (control_of 11 [] ≡ 0x0B) × (control_of 1 (octet ∷ []) ≡ 0x21) }
     ensures told { (outcome_by 3 Reset Confirmed ≡ outcome.Started 3)
         × (outcome_by 3 (Counted true (Command octet)) Confirmed ≡ outcome.Accepted 3)
         × (outcome_by 3 (Counted true (Command octet)) Busy ≡ outcome.Busy 3)
@@ -75,6 +84,34 @@ pub fn answers_by_example()
         × (with_gap (Some 2) (outcome_by 3 Reset Confirmed) ≡ outcome.StartedGap 3 2)
         × (with_gap (Some 2) (outcome_by 3 (Counted true Class1) NoData) ≡ outcome.Empty 3)
         × (with_gap (Some 2) (outcome_by 3 Status Unable) ≡ outcome.Down 3) }
+{}
+
+/// The bits of control octets and the values of whole ones (IEC 60870-5-2:1992, 5.1.2).
+pub fn controls_by_example()
+    ensures bits { (is_primary 0x40 ≡ true) × (is_primary 0xBF ≡ false)
+        × (is_secondary 0x40 ≡ false) × (is_secondary 0xBF ≡ true)
+        × (fcb_bit 0x20 ≡ true) × (fcb_bit 0xDF ≡ false)
+        × (fcv_bit 0x10 ≡ true) × (fcv_bit 0xEF ≡ false)
+        × (acd_bit 0x20 ≡ true) × (acd_bit 0xDF ≡ false)
+        × (dfc_bit 0x10 ≡ true) × (dfc_bit 0xEF ≡ false)
+        × (reserved_bit 0x80 ≡ true) × (reserved_bit 0x7F ≡ false)
+        × (function_code 0xF0 ≡ 0) × (function_code 0x0F ≡ 15) }
+    ensures primary { (octet_of (control.Primary false false false primary.ResetLink) ≡ 0x40)
+        × (octet_of (control.Primary false false false primary.ResetProcess) ≡ 0x41)
+        × (octet_of (control.Primary false true true primary.UserData) ≡ 0x73)
+        × (octet_of (control.Primary false false false primary.UserDataUnconfirmed) ≡ 0x44)
+        × (octet_of (control.Primary false false false primary.AccessDemand) ≡ 0x48)
+        × (octet_of (control.Primary false false false primary.LinkStatus) ≡ 0x49)
+        × (octet_of (control.Primary false true true primary.Class1) ≡ 0x7A)
+        × (octet_of (control.Primary false false true primary.Class2) ≡ 0x5B)
+        × (octet_of (control.Primary true true false primary.Special15) ≡ 0xEF) }
+    ensures secondary { (octet_of (control.Secondary false false false secondary.Confirm) ≡ 0x00)
+        × (octet_of (control.Secondary false false true secondary.Busy) ≡ 0x11)
+        × (octet_of (control.Secondary false true false secondary.UserData) ≡ 0x28)
+        × (octet_of (control.Secondary false true false secondary.NoData) ≡ 0x29)
+        × (octet_of (control.Secondary false false false secondary.LinkStatus) ≡ 0x0B)
+        × (octet_of (control.Secondary false false false secondary.NotFunctioning) ≡ 0x0E)
+        × (octet_of (control.Secondary true true true secondary.NotImplemented) ≡ 0xBF) }
 {}
 
 /// What each request looks like, and what a frame asks for (IEC 60870-5-2, 5.1: PRM 1, and FCV 1
@@ -109,7 +146,7 @@ pub fn requests_by_example()
 
 /// What a turn has next, of a station in each state (this gateway's own profile), with `burst` 2:
 /// with leave to poll or without, and where an unanswered service is to be sent again at once or
-/// isn't.
+/// isn't; and how often it is, with `retries` 2, until it is held or given up.
 pub fn turns_by_example()
     ensures starts { (wanted 2 false false (in_state Down false false None) Starting
         ≡ wants Status Starting)
@@ -146,4 +183,19 @@ pub fn turns_by_example()
         ≡ wants (Counted true Class2) (Class1Polling 0))
         × (wanted 2 true false (in_state (Held true Class2 1) false false None) (Class1Polling 0)
         ≡ None) }
+    ensures repeats { (after_silence (two_repeats true) (Counted true Class1) true (Next true)
+        ≡ Held true Class1 1)
+        × (has_repeats (two_repeats true) (Held true Class1 1) ≡ true)
+        × (after_silence (two_repeats false) (Counted true Class1) true (Held true Class1 1)
+        ≡ Held true Class1 2)
+        × (has_repeats (two_repeats false) (Held true Class1 2) ≡ true)
+        × (after_silence (two_repeats true) (Counted true Class1) true (Held true Class1 2)
+        ≡ Held true Class1 3)
+        × (has_repeats (two_repeats true) (Held true Class1 3) ≡ false)
+        × (after_silence (two_repeats false) (Counted true Class1) true (Held true Class1 2)
+        ≡ Down)
+        × (after_silence (two_repeats true) (Counted true Class1) true (Held true Class1 3)
+        ≡ Held true Class1 3)
+        × (after_silence (two_repeats true) Status true Available ≡ Down)
+        × (after_silence (two_repeats true) Reset true Available ≡ Down) }
 {}

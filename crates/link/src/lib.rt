@@ -24,8 +24,10 @@
 //! - what the crates above go by is one record ([`line_keeps_the_procedures`]);
 //! - a station runs as an outstation that hears each request to it ([`station_is_an_outstation`]),
 //!   and its answers say what waits there ([`station_tells_what_waits`]);
-//! - the tables of requests, answers and turns have worked examples ([`answers_by_example`],
-//!   [`requests_by_example`], [`turns_by_example`]);
+//! - a control octet is a value ([`Control`], [`controls_are_octets`]);
+//! - the tables of control octets, requests, answers and turns have worked examples
+//!   ([`controls_by_example`], [`answers_by_example`], [`requests_by_example`],
+//!   [`turns_by_example`]);
 //! - and where the frame count bit is kept and an outstation's answers come in their exchange and
 //!   unaltered, each service acts once and its answer is taken once ([`each_service_acts_once`],
 //!   [`sessions_are_known`], [`commands_are_accepted`], [`reports_are_learnt`],
@@ -36,6 +38,7 @@ mod answer;
 mod asdu;
 mod asking;
 mod awaited;
+mod control;
 mod examples;
 mod flags;
 mod gaps;
@@ -60,7 +63,10 @@ mod visits;
 pub use answer::Answer;
 pub use asdu::Asdu;
 pub use asking::next_changes_nothing;
-pub use examples::{answers_by_example, requests_by_example, turns_by_example};
+pub use control::{Control, PrimaryFunction, SecondaryFunction, controls_are_octets};
+pub use examples::{
+    answers_by_example, controls_by_example, requests_by_example, turns_by_example,
+};
 pub use flags::flags_are_heeded;
 pub use gaps::{gaps_are_ended_sessions, gaps_are_told};
 pub use laws::{

@@ -10,6 +10,7 @@ ghost use Rattle.link.specs.Holding.{outstanding_of, IsFittingChoice, frame_afte
 use crate::answer::Answer;
 use crate::asdu::Asdu;
 use crate::awaited::Awaited;
+use crate::control::{shows_acd, shows_dfc};
 use crate::no_memory::NoMemory;
 use crate::outcome::{Outcome, told};
 use crate::procedure::Link;
@@ -83,8 +84,8 @@ impl StationState {
         ensures { self.new ≡ station_answered self.old request.now frame.now answer.now }
     {
         self.link.answer(request, answer);
-        self.acd = class1_waits(frame);
-        self.dfc = is_full(frame);
+        self.acd = acd_in(frame);
+        self.dfc = dfc_in(frame);
         self.session.answer(request, answer);
     }
 
@@ -95,21 +96,23 @@ impl StationState {
     }
 }
 
-fn class1_waits(frame: &Frame) -> bool
+#[tactic(auto, unfolding(crate::specs::Primary::acd_of))]
+fn acd_in(frame: &Frame) -> bool
     ensures { result ≡ acd_of frame.now }
 {
     match frame {
         Frame::Single => false,
-        Frame::Fixed { c, .. } | Frame::Data { c, .. } => *c / 32 % 2 == 1,
+        Frame::Fixed { c, .. } | Frame::Data { c, .. } => shows_acd(*c),
     }
 }
 
-fn is_full(frame: &Frame) -> bool
+#[tactic(auto, unfolding(crate::specs::Primary::dfc_of))]
+fn dfc_in(frame: &Frame) -> bool
     ensures { result ≡ dfc_of frame.now }
 {
     match frame {
         Frame::Single => false,
-        Frame::Fixed { c, .. } | Frame::Data { c, .. } => *c / 16 % 2 == 1,
+        Frame::Fixed { c, .. } | Frame::Data { c, .. } => shows_dfc(*c),
     }
 }
 

@@ -1,9 +1,11 @@
 //! Requests as frames and octets.
 ghost use Rattle.std.specs.Prelude.{◌≡◌, ◌≤◌, ◌<◌, length};
 ghost use Rattle.ft12.specs.Spelling.{spelling};
-ghost use Rattle.link.specs.Requests.{counted_control, request_frame, FitsAddress, FitsAsked, service_kind, kind_of, comes_to, counted_reading, plain_reading, short_reading, data_reading, reading_of};
+ghost use Rattle.link.specs.Control.{primary_code};
+ghost use Rattle.link.specs.Requests.{counted_control, plain_control, request_frame, FitsAddress, FitsAsked, service_kind, kind_of, counted_reading, plain_reading, short_by, data_by, reading_of};
 
 use crate::asdu::Asdu;
+use crate::control::{Control, PrimaryFunction};
 use crate::service::{Asked, Service};
 use arrayvec::ArrayVec;
 use ft12::{Frame, LinkSize, encode};
@@ -59,15 +61,30 @@ impl Service {
     }
 }
 
-fn control(fcb: bool, function: u8) -> u8
-    requires { function < 16 }
+/// The control octet of a request whose frame count bit is valid.
+fn counted_control(fcb: bool, function: PrimaryFunction) -> u8
     ensures { result ≡ counted_control fcb function }
 {
-    if fcb {
-        0x70 + function
-    } else {
-        0x50 + function
-    }
+    let control = Control::Primary {
+        reserved: false,
+        fcb,
+        fcv: true,
+        function,
+    };
+    control.octet()
+}
+
+/// The control octet of a request without a frame count bit.
+fn plain_control(function: PrimaryFunction) -> u8
+    ensures { result ≡ plain_control function }
+{
+    let control = Control::Primary {
+        reserved: false,
+        fcb: false,
+        fcv: false,
+        function,
+    };
+    control.octet()
 }
 
 impl Asked {
@@ -87,23 +104,23 @@ impl Asked {
     {
         match self {
             Asked::Status => Frame::Fixed {
-                c: 0x49,
+                c: plain_control(PrimaryFunction::LinkStatus),
                 a: address,
             },
             Asked::Reset => Frame::Fixed {
-                c: 0x40,
+                c: plain_control(PrimaryFunction::ResetLink),
                 a: address,
             },
             Asked::Counted(fcb, Service::Class1) => Frame::Fixed {
-                c: control(*fcb, 10),
+                c: counted_control(*fcb, PrimaryFunction::Class1),
                 a: address,
             },
             Asked::Counted(fcb, Service::Class2) => Frame::Fixed {
-                c: control(*fcb, 11),
+                c: counted_control(*fcb, PrimaryFunction::Class2),
                 a: address,
             },
             Asked::Counted(fcb, Service::Command(asdu)) => Frame::Data {
-                c: control(*fcb, 3),
+                c: counted_control(*fcb, PrimaryFunction::UserData),
                 a: address,
                 body: asdu.copied().into_octets(),
             },
@@ -120,54 +137,49 @@ impl Asked {
     }
 }
 
-fn comes_to_station(station: u16, c: u8, a: u16) -> bool
-    ensures { result ≡ comes_to station c a }
-{
-    c / 64 % 2 == 1 && a == station
-}
-
-fn counted(fcb: bool, function: u8) -> Reading
-    ensures { result ≡ counted_reading fcb function }
+fn counted(fcb: bool, function: PrimaryFunction) -> Reading
+    ensures { result ≡ counted_reading fcb (primary_code function) }
 {
     match function {
-        10 => Reading::Asks(Asked::Counted(fcb, Service::Class1)),
-        11 => Reading::Asks(Asked::Counted(fcb, Service::Class2)),
+        PrimaryFunction::Class1 => Reading::Asks(Asked::Counted(fcb, Service::Class1)),
+        PrimaryFunction::Class2 => Reading::Asks(Asked::Counted(fcb, Service::Class2)),
         _ => Reading::Unknown,
     }
 }
 
-fn plain(function: u8) -> Reading
-    ensures { result ≡ plain_reading function }
+fn plain(function: PrimaryFunction) -> Reading
+    ensures { result ≡ plain_reading (primary_code function) }
 {
     match function {
-        9 => Reading::Asks(Asked::Status),
-        0 => Reading::Asks(Asked::Reset),
+        PrimaryFunction::LinkStatus => Reading::Asks(Asked::Status),
+        PrimaryFunction::ResetLink => Reading::Asks(Asked::Reset),
         _ => Reading::Unknown,
     }
 }
 
-fn short(c: u8) -> Reading
-    ensures { result ≡ short_reading c }
+fn short(fcb: bool, fcv: bool, function: PrimaryFunction) -> Reading
+    ensures { result ≡ short_by fcb fcv (primary_code function) }
 {
-    if c / 16 % 2 == 1 {
-        counted(c / 32 % 2 == 1, c % 16)
+    if fcv {
+        counted(fcb, function)
     } else {
-        plain(c % 16)
+        plain(function)
     }
 }
 
-fn with_data(c: u8, octets: &[u8]) -> Reading
+fn with_data(fcb: bool, fcv: bool, function: PrimaryFunction, octets: &[u8]) -> Reading
     requires { length octets.now ≤ 253 }
-    ensures { result ≡ data_reading c octets.now }
+    ensures { result ≡ data_by fcb fcv (primary_code function) octets.now }
 {
     if octets.is_empty() {
         return Reading::Unknown;
     }
-    if c / 16 % 2 == 1 && c % 16 == 3 {
-        let service = Service::Command(Asdu::new(octets));
-        Reading::Asks(Asked::Counted(c / 32 % 2 == 1, service))
-    } else {
-        Reading::Unknown
+    match function {
+        PrimaryFunction::UserData if fcv => {
+            let service = Service::Command(Asdu::new(octets));
+            Reading::Asks(Asked::Counted(fcb, service))
+        }
+        _ => Reading::Unknown,
     }
 }
 
@@ -177,19 +189,23 @@ pub fn read_request(station: u16, frame: &Frame) -> Reading
 {
     match frame {
         Frame::Single => Reading::Foreign,
-        Frame::Fixed { c, a } => {
-            if comes_to_station(station, *c, *a) {
-                short(*c)
-            } else {
-                Reading::Foreign
-            }
-        }
-        Frame::Data { c, a, body } => {
-            if comes_to_station(station, *c, *a) {
-                with_data(*c, body.as_slice())
-            } else {
-                Reading::Foreign
-            }
-        }
+        Frame::Fixed { c, a } => match Control::from_octet(*c) {
+            Control::Primary {
+                fcb,
+                fcv,
+                function,
+                ..
+            } if *a == station => short(fcb, fcv, function),
+            _ => Reading::Foreign,
+        },
+        Frame::Data { c, a, body } => match Control::from_octet(*c) {
+            Control::Primary {
+                fcb,
+                fcv,
+                function,
+                ..
+            } if *a == station => with_data(fcb, fcv, function, body.as_slice()),
+            _ => Reading::Foreign,
+        },
     }
 }

@@ -6,11 +6,11 @@ use crate::asdu::Asdu;
 /// What a request with a valid frame count bit (FCV 1) asks for.
 #[derive(Drop)]
 pub enum Service {
-    /// User data of class 1 (function 10).
+    /// User data of class 1.
     Class1,
-    /// User data of class 2 (function 11).
+    /// User data of class 2.
     Class2,
-    /// To take user data, and confirm it (function 3).
+    /// To take user data, and confirm it.
     Command(Asdu),
 }
 
@@ -30,9 +30,9 @@ impl Service {
 /// What a request asks for. Services are counted by the frame count bit.
 #[derive(Drop)]
 pub enum Asked {
-    /// The status of the link (function 9).
+    /// The status of the link.
     Status,
-    /// To reset the link (function 0).
+    /// To reset the link.
     Reset,
     /// A service, with its frame count bit.
     Counted(bool, Service),

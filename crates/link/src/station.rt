@@ -4,9 +4,12 @@ ghost use Rattle.std.specs.Bool.{OnTrue, OnFalse};
 ghost use Rattle.ft12.specs.Spelling.{Fits};
 ghost use Rattle.link.specs.declared.service.Asked.TheVariants as Asked;
 ghost use Rattle.link.specs.Requests.{FitsAddress, FitsFrame};
+ghost use Rattle.link.specs.Control.{secondary_code as number};
+ghost use Rattle.link.specs.declared.control.SecondaryFunction.TheVariants as function;
 ghost use Rattle.link.specs.Secondary.{served_class1, served_class2, served_command, control_of, short_of, data_frame, one_more_given, is_same, IsServed, IsCommandServed, IsReadingHeard, with_frame, HearsOctets, fresh_station};
 
 use crate::asdu::Asdu;
+use crate::control::{Control, SecondaryFunction};
 use crate::no_memory::NoMemory;
 use crate::request::{Reading, read_request};
 use crate::service::{Asked, Service};
@@ -100,27 +103,27 @@ impl Station {
     }
 
     /// The control octet of an answer.
-    fn control(&self, code: u8) -> u8
-        requires { code < 16 }
-        ensures { result ≡ control_of code self.now.class1 }
+    fn control(&self, by: SecondaryFunction) -> u8
+        ensures { result ≡ control_of (number by) self.now.class1 }
     {
-        if self.class1.is_empty() {
-            code
-        } else {
-            code + 32
-        }
+        let control = Control::Secondary {
+            reserved: false,
+            acd: !self.class1.is_empty(),
+            dfc: false,
+            function: by,
+        };
+        control.octet()
     }
 
-    fn short(&self, code: u8) -> Frame
-        requires { code < 16 }
-        ensures frame { result ≡ short_of code self.now.address self.now.class1 }
+    fn short(&self, by: SecondaryFunction) -> Frame
+        ensures frame { result ≡ short_of (number by) self.now.address self.now.class1 }
         ensures fits { Fits self.now.size result }
     {
         if self.class1.is_empty() {
             Frame::Single
         } else {
             Frame::Fixed {
-                c: code + 32,
+                c: self.control(by),
                 a: self.address,
             }
         }
@@ -142,17 +145,17 @@ impl Station {
         requires { FitsFrame self.old.size report }
         ensures state { self.new ≡ record
             (with_frame self.old fcb (data_frame
-            (control_of 8 self.old.class1) self.old.address report)) {
+            (control_of (number function.UserData) self.old.class1) self.old.address report)) {
               given =
                   one_more_given self.old.given;
             } }
-        ensures answer { result ≡ Some
-            (data_frame (control_of 8 self.old.class1) self.old.address report) }
+        ensures answer { result ≡ Some (data_frame
+            (control_of (number function.UserData) self.old.class1) self.old.address report) }
         ensures fits { IfSome result (Fits self.old.size) }
     {
         self.given = self.given.saturating_add(1);
         let frame = Frame::Data {
-            c: self.control(8),
+            c: self.control(SecondaryFunction::UserData),
             a: self.address,
             body: report.into_octets(),
         };
@@ -167,7 +170,7 @@ impl Station {
         match self.class1.pop_front() {
             Some(report) => self.give(fcb, report),
             None => {
-                let frame = self.short(9);
+                let frame = self.short(SecondaryFunction::NoData);
                 self.keep(fcb, frame)
             }
         }
@@ -181,7 +184,7 @@ impl Station {
         match self.class2.pop_front() {
             Some(report) => self.give(fcb, report),
             None => {
-                let frame = self.short(9);
+                let frame = self.short(SecondaryFunction::NoData);
                 self.keep(fcb, frame)
             }
         }
@@ -203,11 +206,11 @@ impl Station {
         ensures fits { IfSome result (Fits self.old.size) }
     {
         if self.accept(asdu) {
-            let frame = self.short(0);
+            let frame = self.short(SecondaryFunction::Confirm);
             self.keep(fcb, frame)
         } else {
             let frame = Frame::Fixed {
-                c: self.control(1),
+                c: self.control(SecondaryFunction::Busy),
                 a: self.address,
             };
             self.keep(fcb, frame)
@@ -246,13 +249,13 @@ impl Station {
     {
         match request {
             Asked::Status => Some(Frame::Fixed {
-                c: self.control(11),
+                c: self.control(SecondaryFunction::LinkStatus),
                 a: self.address,
             }),
             Asked::Reset => {
                 self.bit = Some(false);
                 self.last = None;
-                Some(self.short(0))
+                Some(self.short(SecondaryFunction::Confirm))
             }
             Asked::Counted(fcb, service) => self.serve_counted(*fcb, service),
         }
@@ -265,7 +268,7 @@ impl Station {
         match reading {
             Reading::Foreign => None,
             Reading::Unknown => Some(Frame::Fixed {
-                c: self.control(15),
+                c: self.control(SecondaryFunction::NotImplemented),
                 a: self.address,
             }),
             Reading::Asks(request) => self.serve(request),
@@ -275,7 +278,8 @@ impl Station {
     /// Hears octets: answers a whole frame with PRM 1 to its own address, and nothing else. An
     /// unchanged frame count bit gives the last answer again. With a new one a poll gives the
     /// oldest report of its class, and a command is accepted, or answered that the station is busy
-    /// where memory is refused. Requests that it doesn't know are answered 15.
+    /// where memory is refused. Requests that it doesn't know are answered that
+    /// they aren't implemented.
     pub fn hear(&mut self, octets: &[u8]) -> Option<Frame>
         ensures heard { HearsOctets self.old octets.now result self.new }
         ensures fits { IfSome result (Fits self.old.size) }

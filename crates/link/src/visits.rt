@@ -1,12 +1,13 @@
 //! Turns end: what goes out to a station in one turn, and how long the others wait.
-ghost use Rattle.std.specs.Prelude.{◌≤◌, ◌<◌, ◌*◌, ◌-◌, ℕ, List, All, length};
+ghost use Rattle.std.specs.Prelude.{◌≡◌, ◌≤◌, ◌<◌, ◌*◌, ◌-◌, ◌∷◌, ◌++◌, ℕ, List, All, length};
 ghost use Rattle.ft12.specs.Fronts.{front_of};
+ghost use Rattle.link.specs.Answers.{Reset};
 ghost use Rattle.link.specs.Exchanges.{Exchange, all_of, no_exchanges, views};
 ghost use Rattle.link.specs.Procedure.{LinkSettings, Link};
 ghost use Rattle.link.specs.Requests.{FitsAddress};
 ghost use Rattle.link.specs.Primary.{start};
 ghost use Rattle.link.specs.Runs.{Call, MayCallAll, called_all, exchanged_all};
-ghost use Rattle.link.specs.Visits.{AreInVisits, IsVisit, most_of_visit};
+ghost use Rattle.link.specs.Visits.{AreInVisits, EndsReady, IsVisit, most_of_visit};
 ghost use Rattle.link.specs.Waits.{AlwaysWants, stations_asked, waited};
 
 use ft12::front_is_computed;
@@ -15,7 +16,8 @@ use ft12::front_is_computed;
 /// station. A station that is down is asked its status and then reset; what is answered that it
 /// can't be served, or not at all, ends the visit. One that is up is sent the service that it
 /// holds, then at most one new command, one class 2 poll and `burst` class 1 polls, each repeated
-/// at most `retries` times, and only while it has no answer. So a visit has an end.
+/// at most `retries` times, and only while it has no answer. So a visit has an end. A reset goes
+/// out directly after a status of its own visit that was answered: no visit begins with one.
 pub fn turns_end()
     ensures visits { (settings : LinkSettings) (addresses : List ℕ) (calls : List Call) →
         0 < length addresses → All (FitsAddress settings.size) addresses → 0 < settings.burst →
@@ -26,6 +28,10 @@ pub fn turns_end()
     ensures most { (settings : LinkSettings) (station : ℕ) (link : Link) (xs : List Exchange) →
         IsVisit settings station link xs →
         length xs ≤ most_of_visit settings }
+    ensures resets { (settings : LinkSettings) (station : ℕ) (link : Link)
+        (before later : List Exchange) (x : Exchange) →
+        IsVisit settings station link (before ++ x ∷ later) → x.request ≡ Reset →
+        EndsReady station before }
 {
     front_is_computed();
 }

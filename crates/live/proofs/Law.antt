@@ -1,9 +1,9 @@
 -- The laws of the port over live ends.
-use Rattle.std.proofs.Common.{◌≡◌, ℕ, ◌+◌, ◌-◌, ◌<◌, ◌≤◌, true, false, Bool, List, ◌∷◌, Option, Some, None, refl, sym, ap, subst, ◌∙◌, arith, nat_le, nat_lt, if◌then◌else◌}
+use Rattle.std.proofs.Common.{◌≡◌, ℕ, ◌+◌, ◌-◌, ◌<◌, ◌≤◌, true, false, Bool, List, ◌∷◌, Option, Some, None, refl, sym, ap, subst, ◌∙◌, arith, nat_le, nat_lt, if◌then◌else◌, ◌⊎◌, inl, inr}
 use Rattle.gateway.specs.declared.ports.Next.{Next}
 use Rattle.gateway.specs.declared.ports.Next.TheVariants as next
 use Rattle.live.specs.Timing.{Moments, read_at, moment_at, moment_by, is_heard_out, goes_on, is_behind, eve}
-use Rattle.live.specs.Ends.{Ends, Answers, Turns, IsTold, IsTurn, event_at, taken_by, told_at, turn, turn_by, sources_by, round, look, unless_found, next_round, looked_at, found_at, after, nothing_more, let_in}
+use Rattle.live.specs.Ends.{Ends, Peer, Answers, Turns, TurnsToWall, TurnsToEnds, looking, IsTold, IsTurn, event_at, taken_by, told_at, turn, turn_by, sources_by, round, look, unless_found, next_round, looked_at, found_at, after, nothing_more, let_in}
 use Rattle.live.specs.Wires.{History}
 use Rattle.live.specs.declared.source.Source.{Source}
 use Rattle.live.specs.declared.source.Source.TheVariants.{Door, Connection, Line}
@@ -34,8 +34,16 @@ by_request t q r now asked some late = heard_by (is_heard_out t r) (goes_on t r 
 
 pub heard_out : (old new : Ends) (event : Next) (r : Request) → Turns old event new → new.timing.request ≡ Some r → 0 < new.timing.answer_ms →
     AtMoment event (λ moment. r.moment + new.timing.answer_ms ≤ moment → new.timing.answer_ms ≤ new.timing.heard - r.written)
-heard_out old new event r t asked some =
-    let Holds : ℕ → Type 0 = λ moment. r.moment + new.timing.answer_ms ≤ moment → new.timing.answer_ms ≤ new.timing.heard - r.written in
+heard_out old new event r (inl t) asked some =
+    let Holds : ℕ → Type 0 = λ moment. r.moment + new.timing.answer_ms ≤ moment →
+    new.timing.answer_ms ≤ new.timing.heard - r.written in
+    let P : Next → Type 0 = λ e. AtMoment e Holds in
+    let Q : Timing → Type 0 = λ k. Holds (moment_at k t.begun) in
+    let same : new.timing ≡ old.timing = ap (λ (e : Ends). e.timing) t.told.ends in
+    subst P (sym t.told.told) (subst Q same (by_request new.timing new.timing.request r t.begun asked some))
+heard_out old new event r (inr t) asked some =
+    let Holds : ℕ → Type 0 = λ moment. r.moment + new.timing.answer_ms ≤ moment →
+    new.timing.answer_ms ≤ new.timing.heard - r.written in
     let P : Next → Type 0 = λ e. AtMoment e Holds in
     subst P (sym t.told.told) (at_moment (moment_at new.timing t.now) t.told.taken Holds (by_request new.timing new.timing.request r t.now asked some))
 
@@ -68,7 +76,12 @@ timely false (Some found.Fault) e now behind = at_clock e.clock now (λ n. Unit 
 
 pub in_time : (old new : Ends) (event : Next) → Turns old event new → AtClock new.clock (λ now. AtBytes event (λ moment. now ≤ moment + 50))
 unfolding InTime
-in_time old new event t =
+in_time old new event (inl t) =
+    let P : Next → Type 0 = λ e. AtClock new.clock (λ now. AtBytes e (λ moment. now ≤ moment + 50)) in
+    let R : Moments → Type 0 = λ c. AtClock c (λ now. Unit {0}) in
+    let told = ap (λ (e : Ends). e.clock) t.told.ends in
+    subst P (sym t.told.told) (subst R (sym told) (at_clock old.clock t.begun (λ n. Unit {0}) tt))
+in_time old new event (inr t) =
     let P : Next → Type 0 = λ e. AtClock new.clock (λ now. AtBytes e (λ moment. now ≤ moment + 50)) in
     let Q : Option Found × Ends → Type 0 = λ p. InTime t.now p in
     subst P (sym t.told.told) (subst Q (sym t.told.ends) (timely (is_behind t.found.timing t.now) t.f t.found t.now refl))
@@ -77,7 +90,7 @@ in_time old new event t =
 Keeps : Timing → Timing → Type 0
 Keeps a b = (b.request ≡ a.request) × (b.answer_ms ≡ a.answer_ms)
 
-let_in_keeps : (k : Timing) (v : Option History) (e : Ends) → Keeps k e.timing → Keeps k (let_in v e).timing
+let_in_keeps : (k : Timing) (v : Option Peer) (e : Ends) → Keeps k e.timing → Keeps k (let_in v e).timing
 let_in_keeps k None e h = h
 let_in_keeps k (Some visitor) e h = h
 
@@ -137,7 +150,10 @@ taken_keeps k true (Some found.Fault) e h = h
 
 pub kept : (old new : Ends) (event : Next) → Turns old event new → (new.timing.request ≡ old.timing.request) × (new.timing.answer_ms ≡ old.timing.answer_ms)
 unfolding Keeps
-kept old new event t =
+kept old new event (inl t) =
+    let same : new.timing ≡ old.timing = ap (λ (e : Ends). e.timing) t.told.ends in
+    (ap (λ (k : Timing). k.request) same, ap (λ (k : Timing). k.answer_ms) same)
+kept old new event (inr t) =
     let Q : Option Found × Ends → Type 0 = λ p. Keeps old.timing p.1.timing in
-    let found : Keeps old.timing t.found.timing = subst Q (sym t.turn.turned) (turn_keeps old.timing old.is_cut_due t.begun t.turn.answers (told_at t.begun old) (refl, refl)) in
+    let found : Keeps old.timing t.found.timing = subst Q (sym t.turn.turned) (turn_keeps old.timing old.is_cut_due t.begun t.turn.answers (looking (told_at t.begun old)) (refl, refl)) in
     subst Q (sym t.told.ends) (taken_keeps old.timing (is_behind t.found.timing t.now) t.f (told_at t.now t.found) found)

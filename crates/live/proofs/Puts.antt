@@ -2,8 +2,7 @@
 use Rattle.std.proofs.Common.{◌≡◌, ℕ, List, Bool, true, false, Some, None, sym, ap, ◌∙◌}
 use Rattle.gateway.specs.Log.{LineOut, TcpOut, Closed, GapOut}
 use Rattle.session.specs.declared.kinds.Close.{Close}
-use Rattle.live.specs.Wires.{History}
-use Rattle.live.specs.Ends.{Ends, after_action, written_open, IsWritten, Puts}
+use Rattle.live.specs.Ends.{Ends, Peer, after_action, written_open, IsWritten, Puts}
 
 -- nothing is written, where a cut is due
 pub dropped_due : (old new : Ends) (octets : List ℕ) → old.is_cut_due ≡ true → new ≡ old → IsWritten old octets new
@@ -13,7 +12,7 @@ dropped_due old new octets due same = record { taken = false; done = same ∙ sy
 pub dropped_none : (old new : Ends) (octets : List ℕ) → old.is_cut_due ≡ false → old.connection ≡ None → new ≡ old → IsWritten old octets new
 dropped_none old new octets due none same = record { taken = false; done = same ∙ sym (ap (λ b. written_open b octets false old.connection old) due ∙ ap (λ h. written_open false octets false h old) none) }
 
-pub written : (old new : Ends) (octets : List ℕ) (wire : History) (taken : Bool) → old.is_cut_due ≡ false → old.connection ≡ Some wire → new ≡ written_open false octets taken (Some wire) old → IsWritten old octets new
+pub written : (old new : Ends) (octets : List ℕ) (peer : Peer) (taken : Bool) → old.is_cut_due ≡ false → old.connection ≡ Some peer → new ≡ written_open false octets taken (Some peer) old → IsWritten old octets new
 written old new octets wire taken due there done = record { taken = taken; done = done ∙ sym (ap (λ b. written_open b octets taken old.connection old) due ∙ ap (λ h. written_open false octets taken h old) there) }
 
 pub put_line : (old new : Ends) (moment written : ℕ) (octets : List ℕ) (taken : Bool) → new ≡ after_action moment (LineOut octets) written taken old → Puts old moment (LineOut octets) new

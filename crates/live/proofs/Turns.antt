@@ -1,10 +1,11 @@
 -- A turn from its looks. Each source answers at its look; a turn is told by the answers of all three.
-use Rattle.std.proofs.Common.{◌≡◌, ℕ, true, false, Option, Some, None, IfSome, refl, sym, ap, ◌∙◌}
-use Rattle.live.specs.Wires.{IsNew}
+use Rattle.std.proofs.Common.{◌≡◌, ℕ, true, false, Option, Some, None, IfSome, refl, sym, ap, subst, ◌∙◌, ◌⊎◌, inl, inr}
+use Rattle.live.specs.declared.guests.Guests.{Guests}
 use Rattle.live.specs.Timing.{is_behind, moment_at}
-use Rattle.live.specs.Ends.{Ends, Answers, after, found_at, looked_at, next_round, unless_found, look, nothing_more, round, turn, turn_by, sources_by, taken_by, told_at, IsTurn, IsTold, Turns, event_at}
+use Rattle.live.specs.Ends.{Ends, Peer, IsGuest, let_in, Answers, after, found_at, looked_at, next_round, unless_found, look, nothing_more, round, turn, turn_by, sources_by, taken_by, told_at, looking, IsTurn, IsTold, IsWallTold, Turns, TurnsToWall, TurnsToEnds, event_at}
 use Rattle.gateway.specs.declared.ports.Next.{Next}
 use Rattle.live.specs.Looks.{Looks, answers_for}
+use Rattle.live.specs.Walls.{is_wall_due}
 use Rattle.live.specs.declared.found.Found.{Found}
 use Rattle.live.specs.declared.found.Found.TheVariants.{Cut, Bytes}
 use Rattle.live.specs.declared.wires.Got.TheVariants.{Quiet}
@@ -17,11 +18,25 @@ joined Door a b c = record { visitor = a.visitor; connection = b.connection; lin
 joined Connection a b c = record { visitor = c.visitor; connection = a.connection; line = b.line }
 joined Line a b c = record { visitor = b.visitor; connection = c.connection; line = a.line }
 
-visitor_of : (s : Source) (a b c : Answers) → IfSome a.visitor IsNew → IfSome b.visitor IsNew → IfSome c.visitor IsNew → IfSome (joined s a b c).visitor IsNew
+visitor_of : (g : Guests) (s : Source) (a b c : Answers) → IfSome a.visitor (IsGuest g) → IfSome b.visitor (IsGuest g) → IfSome c.visitor (IsGuest g) → IfSome (joined s a b c).visitor (IsGuest g)
 unfolding joined
-visitor_of Door a b c x y z = x
-visitor_of Connection a b c x y z = z
-visitor_of Line a b c x y z = y
+visitor_of g Door a b c x y z = x
+visitor_of g Connection a b c x y z = z
+visitor_of g Line a b c x y z = y
+
+-- looks leave who may come in as it was
+let_in_same : (v : Option Peer) (e : Ends) → (let_in v e).guests ≡ e.guests
+let_in_same None e = refl
+let_in_same (Some peer) e = refl
+
+looked_same : (s : Source) (t : ℕ) (a : Answers) (e : Ends) → (looked_at s t a e).guests ≡ e.guests
+looked_same Door t a e = let_in_same a.visitor e
+looked_same Connection t a e = refl
+looked_same Line t a e = refl
+
+-- so does a look that finds nothing
+same_guests : (s : Source) (t : ℕ) (old new : Ends) → Looks s t old None new → new.guests ≡ old.guests
+same_guests s t old new l = ap (λ (e : Ends). e.guests) l.ends ∙ looked_same s t (answers_for None new) old
 
 found_1 : (s : Source) (a b c : Answers) (e : Ends) → found_at s (joined s a b c) e ≡ found_at s a e
 unfolding joined
@@ -104,7 +119,7 @@ first_turn t old new f due level l =
     let a = answers_for (Some f) new in
     record {
       answers = joined old.first a a a;
-      visitor = visitor_of old.first a a a l.visitor l.visitor l.visitor;
+      visitor = visitor_of old.guests old.first a a a l.visitor l.visitor l.visitor;
       turned = sym (plain t (joined old.first a a a) old due level ∙ look_1 old.first t a a a old new (Some f) _ l.found l.ends);
     }
 
@@ -113,9 +128,11 @@ pub second_turn : (t : ℕ) (old mid new : Ends) (f : Found) → old.is_cut_due 
 second_turn t old mid new f due level l m =
     let a = answers_for None mid in
     let b = answers_for (Some f) new in
+    let P : Guests → Type 0 = λ g. IfSome b.visitor (IsGuest g) in
+    let second = subst P (same_guests old.first t old mid l) m.visitor in
     record {
       answers = joined old.first a b b;
-      visitor = visitor_of old.first a b b l.visitor m.visitor m.visitor;
+      visitor = visitor_of old.guests old.first a b b l.visitor second second;
       turned = sym (plain t (joined old.first a b b) old due level ∙ (look_1 old.first t a b b old mid None _ l.found l.ends ∙ look_2 old.first t a b b mid new (Some f) _ m.found m.ends));
     }
 
@@ -125,9 +142,14 @@ third_turn t old mid more new f due level l m n =
     let a = answers_for None mid in
     let b = answers_for None more in
     let c = answers_for f new in
+    let same = same_guests old.first t old mid l in
+    let P : Guests → Type 0 = λ g. IfSome b.visitor (IsGuest g) in
+    let Q : Guests → Type 0 = λ g. IfSome c.visitor (IsGuest g) in
+    let second = subst P same m.visitor in
+    let third = subst Q (same_guests (after old.first) t mid more m ∙ same) n.visitor in
     record {
       answers = joined old.first a b c;
-      visitor = visitor_of old.first a b c l.visitor m.visitor n.visitor;
+      visitor = visitor_of old.guests old.first a b c l.visitor second third;
       turned = sym (plain t (joined old.first a b c) old due level ∙ (look_1 old.first t a b c old mid None _ l.found l.ends ∙ (look_2 old.first t a b c mid more None _ m.found m.ends ∙ (look_3 old.first t a b c more new f _ n.found n.ends ∙ last_look f new))));
     }
 
@@ -148,5 +170,17 @@ told_level now old f event level told = record {
 }
 
 -- a turn, with its event
-pub turned : (old found new : Ends) (begun now : ℕ) (f : Option Found) (event : Next) → IsTurn begun (told_at begun old) f found → IsTold now (told_at now found) f event new → Turns old event new
-turned old found new begun now f event turn told = record { begun = begun; now = now; f = f; found = found; turn = turn; told = told }
+pub turned : (old found new : Ends) (begun now : ℕ) (f : Option Found) (event : Next) →
+    is_wall_due old.walled begun ≡ false → IsTurn begun (looking (told_at begun old)) f found →
+    IsTold now (told_at now found) f event new → Turns old event new
+turned old found new begun now f event due turn told =
+    let t : TurnsToEnds old event new =
+    record { begun = begun; due = due; now = now; f = f; found = found; turn = turn; told = told } in
+    inr t
+
+-- the wall clock, which is due
+pub turned_to_wall : (old new : Ends) (begun : ℕ) (event : Next) → is_wall_due old.walled begun ≡ true →
+    IsWallTold begun (told_at begun old) event new → Turns old event new
+turned_to_wall old new begun event due told =
+    let t : TurnsToWall old event new = record { begun = begun; due = due; told = told } in
+    inl t

@@ -1,32 +1,50 @@
 -- The ends of a live run, and what its port does with them (this gateway's own profile).
-use Rattle.std.specs.Prelude.{ℕ, ◌+◌, ◌≤◌, List, Bool, true, false, not, Option, Some, None, IfSome, ◌≡◌}
+use Rattle.std.specs.Prelude.{ℕ, ◌+◌, ◌-◌, ◌≤◌, ◌⊎◌, List, Bool, true, false, not, Option, Some, None, IfSome, ◌≡◌}
 use Rattle.gateway.specs.Log.{Output, LineOut, TcpOut, Closed, GapOut}
 use Rattle.gateway.specs.declared.ports.Next.{Next}
 use Rattle.gateway.specs.declared.ports.Next.TheVariants as next
 use Rattle.session.specs.declared.kinds.Close.{Close}
 use Rattle.session.specs.declared.kinds.Close.TheVariants.{Replaced}
+use Rattle.std.specs.declared.net.ip_addr.IpAddr.{IpAddr}
+use Rattle.live.specs.Guests.{LetsIn}
+use Rattle.live.specs.declared.guests.Guests.{Guests}
 use Rattle.live.specs.Wires.{Looked, Wrote, History, noted, IsNew, Visits, visited}
 use Rattle.live.specs.declared.wires.Got.{Got}
 use Rattle.live.specs.declared.wires.Got.TheVariants.{Octets, Quiet, Gone}
 use Rattle.live.specs.Timing.{Moments, read_at, moment_at, is_behind, heard_at, asked_at}
+use Rattle.live.specs.Walls.{is_wall_due, told_at_moment}
 use Rattle.live.specs.declared.timing.Timing.{Timing}
+use Rattle.live.specs.declared.walled.Walled.{Walled}
 use Rattle.live.specs.declared.found.Found.{Found}
 use Rattle.live.specs.declared.found.Found.TheVariants as found
 use Rattle.live.specs.declared.source.Source.{Source}
 use Rattle.live.specs.declared.source.Source.TheVariants.{Door, Connection, Line}
 
--- What happened at the line, at the connection, if there is one, at the door, and what the clock told; the source that is
--- looked at first; whether a write to the connection failed, so that a cut is due; how often the line was gone; and what tells
--- the moment of an event.
+-- who is at the other end of a connection, and what has happened at its wire
+pub record Peer : Type 0 where
+  pub address : IpAddr
+  pub wire : History
+
+-- nothing has happened at the wire, and the address may come in
+pub record IsGuest (guests : Guests) (peer : Peer) : Type 0 where
+  pub is_new : IsNew peer.wire
+  pub lets_in : LetsIn guests peer.address
+
+-- Who may come in; what happened at the line, at the connection, if there is one, at the door, and what the clock told; the
+-- source that is looked at first; whether a write to the connection failed, so that a cut is due; how often the line was gone;
+-- what tells the moment of an event; and what the wall clock showed, and when it was told last.
 pub record Ends : Type 0 where
+  pub guests : Guests
   pub line : History
-  pub connection : Option History
+  pub connection : Option Peer
   pub door : Visits
   pub clock : Moments
   pub first : Source
   pub is_cut_due : Bool
   pub failed : ℕ
   pub timing : Timing
+  pub walls : Moments
+  pub walled : Walled
 
 -- the sources in their round
 abbrev pub after : Source → Source
@@ -34,14 +52,14 @@ after Door = Connection
 after Connection = Line
 after Line = Door
 
--- what the ends answer in one round, each if it is looked at: a visitor at the door, with what happened at its wire so far
+-- what the ends answer in one round, each if it is looked at: a visitor at the door, with what happened at the wire so far
 pub record Answers : Type 0 where
-  pub visitor : Option History
+  pub visitor : Option Peer
   pub connection : Got
   pub line : Got
 
 -- a visitor is found
-abbrev pub of_visitor : Option History → Option Found
+abbrev pub of_visitor : Option Peer → Option Found
 of_visitor None = None
 of_visitor (Some visitor) = Some found.Open
 
@@ -51,9 +69,9 @@ of_connection (Octets len) = Some (found.Bytes len)
 of_connection Quiet = None
 of_connection Gone = Some found.Cut
 
-abbrev pub of_open : Option History → Got → Option Found
+abbrev pub of_open : Option Peer → Got → Option Found
 of_open None got = None
-of_open (Some wire) got = of_connection got
+of_open (Some peer) got = of_connection got
 
 -- what a look at the line finds
 abbrev pub of_line : Got → Option Found
@@ -68,7 +86,7 @@ found_at Connection answers ends = of_open ends.connection answers.connection
 found_at Line answers ends = of_line answers.line
 
 -- a visitor takes the place of the connection that was
-abbrev pub let_in : Option History → Ends → Ends
+abbrev pub let_in : Option Peer → Ends → Ends
 let_in None ends = record ends { door = visited ends.door false }
 let_in (Some visitor) ends = record ends { door = visited ends.door true; connection = Some visitor }
 
@@ -78,9 +96,13 @@ read_open wire (Octets len) = Some (noted wire (Looked (Octets len)))
 read_open wire Quiet = Some (noted wire (Looked Quiet))
 read_open wire Gone = None
 
-abbrev pub read_from : Option History → Got → Option History
+abbrev pub at_address : IpAddr → Option History → Option Peer
+at_address address None = None
+at_address address (Some wire) = Some (record { address = address; wire = wire })
+
+abbrev pub read_from : Option Peer → Got → Option Peer
 read_from None got = None
-read_from (Some wire) got = read_open wire got
+read_from (Some peer) got = at_address peer.address (read_open peer.wire got)
 
 -- a line that is gone has failed once more
 abbrev pub failed_by : Got → ℕ → ℕ
@@ -165,7 +187,7 @@ event_at now (Some found.Fault) = next.Fault
 -- what was found, and the ends after it, are those of a turn in which the ends answered so
 pub record IsTurn (begun : ℕ) (old : Ends) (f : Option Found) (new : Ends) : Type 0 where
   pub answers : Answers
-  pub visitor : IfSome answers.visitor IsNew
+  pub visitor : IfSome answers.visitor (IsGuest old.guests)
   pub turned : (f, new) ≡ turn begun answers old
 
 -- the clock tells this moment
@@ -178,20 +200,52 @@ pub record IsTold (now : ℕ) (old : Ends) (f : Option Found) (event : Next) (ne
   pub ends : (taken, new) ≡ taken_by (is_behind old.timing now) f old
   pub told : event ≡ event_at (moment_at new.timing now) taken
 
--- The clock is read before the looks and after them, and what was found is an event of the moment that is due.
-pub record Turns (old : Ends) (event : Next) (new : Ends) : Type 0 where
+-- the wall clock shows this, and is told at this moment of the clock
+abbrev pub wall_told_at : (now shown : ℕ) → Ends → Ends
+wall_told_at now shown ends = record ends {
+  walls = read_at ends.walls shown;
+  walled = told_at_moment now;
+}
+
+-- It is told as it stood at the moment that is due, which may be behind the clock.
+pub record IsWallTold (now : ℕ) (old : Ends) (event : Next) (new : Ends) : Type 0 where
+  pub shown : ℕ
+  pub ends : new ≡ wall_told_at now shown old
+  pub told :
+      event ≡ next.Wall (moment_at old.timing now) (shown - (now - moment_at old.timing now))
+
+-- Where the wall clock is due it is told, and no end is looked at.
+pub record TurnsToWall (old : Ends) (event : Next) (new : Ends) : Type 0 where
   pub begun : ℕ
+  pub due : is_wall_due old.walled begun ≡ true
+  pub told : IsWallTold begun (told_at begun old) event new
+
+abbrev pub looking : Ends → Ends
+looking ends = record ends { walled = record ends.walled { has_looked = true } }
+
+-- Where it isn't due the clock is read before the looks and after them, and what was found is an
+-- event of the moment that is due.
+pub record TurnsToEnds (old : Ends) (event : Next) (new : Ends) : Type 0 where
+  pub begun : ℕ
+  pub due : is_wall_due old.walled begun ≡ false
   pub now : ℕ
   pub f : Option Found
   pub found : Ends
-  pub turn : IsTurn begun (told_at begun old) f found
+  pub turn : IsTurn begun (looking (told_at begun old)) f found
   pub told : IsTold now (told_at now found) f event new
 
+abbrev pub Turns : Ends → Next → Ends → Type 0
+Turns old event new = TurnsToWall old event new ⊎ TurnsToEnds old event new
+
 -- the ends after octets for the connection: they are dropped where there is none, and where a cut is due
-abbrev pub written_open : Bool → List ℕ → Bool → Option History → Ends → Ends
-written_open true octets taken wire ends = ends
+abbrev pub written_open : Bool → List ℕ → Bool → Option Peer → Ends → Ends
+written_open true octets taken peer ends = ends
 written_open false octets taken None ends = ends
-written_open false octets taken (Some wire) ends = record ends { connection = Some (noted wire (Wrote octets taken)); is_cut_due = not taken }
+written_open false octets taken (Some peer) ends =
+    record ends {
+      connection = Some (record peer { wire = noted peer.wire (Wrote octets taken) });
+      is_cut_due = not taken;
+    }
 
 -- octets for the connection were put out so, taken or not
 pub record IsWritten (old : Ends) (octets : List ℕ) (new : Ends) : Type 0 where

@@ -1,6 +1,10 @@
 -- Words of the laws (this gateway's own profile).
-use Rattle.std.specs.Prelude.{ℕ, List, [], ◌∷◌, Some, None}
+use Rattle.std.specs.Prelude.{◌≡◌, ℕ, List, [], ◌∷◌, Option, Some, None, option_map}
+use Rattle.std.specs.declared.net.ip_addr.IpAddr.{IpAddr}
+use Rattle.live.specs.Ends.{Ends, Peer}
+use Rattle.live.specs.Guests.{LetsIn}
 use Rattle.live.specs.Timing.{Moments}
+use Rattle.live.specs.declared.guests.Guests.{Guests}
 use Rattle.gateway.specs.declared.ports.Next.{Next}
 use Rattle.gateway.specs.declared.ports.Next.TheVariants as next
 
@@ -11,6 +15,7 @@ AtMoment (next.Open now) Holds = Holds now
 AtMoment (next.Bytes now len) Holds = Holds now
 AtMoment (next.Cut now) Holds = Holds now
 AtMoment (next.Tick now) Holds = Holds now
+AtMoment (next.Wall now number) Holds = Holds now
 AtMoment next.Done Holds = Unit {0}
 AtMoment next.Fault Holds = Unit {0}
 
@@ -21,6 +26,7 @@ AtBytes (next.Open now) Holds = Unit {0}
 AtBytes (next.Bytes now len) Holds = Holds now
 AtBytes (next.Cut now) Holds = Unit {0}
 AtBytes (next.Tick now) Holds = Unit {0}
+AtBytes (next.Wall now number) Holds = Unit {0}
 AtBytes next.Done Holds = Unit {0}
 AtBytes next.Fault Holds = Unit {0}
 
@@ -29,3 +35,28 @@ abbrev pub AtClock : Moments → (ℕ → Type 0) → Type 0
 AtClock None Holds = Unit {0}
 AtClock (Some []) Holds = Unit {0}
 AtClock (Some (now ∷ before)) Holds = Holds now
+
+-- a connection is open, and it is one of a guest
+abbrev pub IsOfGuest : Guests → Option Peer → Type 0
+IsOfGuest guests None = ⊥
+IsOfGuest guests (Some peer) = LetsIn guests peer.address
+
+-- the connection of this address is still open, or none is
+abbrev pub IsSameOrNone : (before : Option IpAddr) → Option Peer → Type 0
+IsSameOrNone before None = Unit {0}
+IsSameOrNone before (Some peer) = before ≡ Some peer.address
+
+-- who is at the other end of the connection
+abbrev pub peer_of : Ends → Option IpAddr
+peer_of ends = option_map (λ (p : Peer). p.address) ends.connection
+
+-- Where a connection is opened it is one of a guest; any other event leaves the one that was, or none.
+abbrev pub KeepsOut : Ends → Next → Ends → Type 0
+KeepsOut old (next.Open now) new = IsOfGuest old.guests new.connection
+KeepsOut old (next.Line now len) new = IsSameOrNone (peer_of old) new.connection
+KeepsOut old (next.Bytes now len) new = IsSameOrNone (peer_of old) new.connection
+KeepsOut old (next.Cut now) new = IsSameOrNone (peer_of old) new.connection
+KeepsOut old (next.Tick now) new = IsSameOrNone (peer_of old) new.connection
+KeepsOut old (next.Wall now number) new = IsSameOrNone (peer_of old) new.connection
+KeepsOut old next.Done new = IsSameOrNone (peer_of old) new.connection
+KeepsOut old next.Fault new = IsSameOrNone (peer_of old) new.connection

@@ -1,5 +1,7 @@
+pub mod Guests
 pub mod Wires
 pub mod Timing
+pub mod Walls
 pub mod Ends
 pub mod Looks
 pub mod Streams

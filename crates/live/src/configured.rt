@@ -37,6 +37,7 @@ pub(crate) fn config(alloc: Global, answer_ms: u64) -> Result<Config, AllocError
         t2_ms: 10000,
         t3_ms: 20000,
         select_ms: 30000,
+        max_age_ms: 10000,
     };
     Ok(Config::new(line, tcp, Vec::from_slice(alloc, &[STATION])?))
 }

@@ -1,8 +1,9 @@
 //! Laws of the port over live ends, in the terms of the clock, the requests and the looks at the line.
-ghost use Rattle.std.specs.Prelude.{◌≡◌, ◌+◌, ◌-◌, ◌<◌, ◌≤◌, Some};
+ghost use Rattle.std.specs.Prelude.{◌≡◌, ◌+◌, ◌-◌, ◌<◌, ◌≤◌, Some, true, false};
 ghost use Rattle.gateway.specs.declared.ports.Next.{Next};
 ghost use Rattle.live.specs.Ends.{Ends, Turns};
-ghost use Rattle.live.specs.Law.{AtMoment, AtBytes, AtClock};
+ghost use Rattle.live.specs.Law.{AtMoment, AtBytes, AtClock, KeepsOut};
+ghost use Rattle.live.specs.Walls.{is_wall};
 ghost use Rattle.live.specs.declared.timing.Request.{Request};
 
 /// Where an event's moment lets an exchange end (`answer_ms` or more after its request's), a look at the line has begun `answer_ms`
@@ -24,4 +25,17 @@ pub fn what_the_centre_sent_is_told_in_time()
 pub fn looks_ask_nothing()
     ensures { (old new : Ends) (event : Next) → Turns old event new →
         (new.timing.request ≡ old.timing.request) × (new.timing.answer_ms ≡ old.timing.answer_ms) }
+{}
+
+/// Nobody but a guest comes in: an event that opens a connection opens one of a guest, and who is none leaves the open
+/// connection as it was.
+pub fn nobody_but_guests_comes_in()
+    ensures { (old new : Ends) (event : Next) → Turns old event new → KeepsOut old event new }
+{}
+
+/// Two events that follow each other never both tell the wall clock: whatever the gateway stalls, the
+/// ends are looked at in between.
+pub fn the_ends_are_looked_at_between_wall_moments()
+    ensures { (a b c : Ends) (first second : Next) → Turns a first b → Turns b second c →
+        is_wall first ≡ true → is_wall second ≡ false }
 {}

@@ -7,8 +7,8 @@
 //!
 //! Proved, for any ends that tell what happens at them: an event is the first thing found in one round that begins after the
 //! source of the last event, else a tick; each source of the round is looked at once, and none after the one that had something;
-//! a connection that is gone is a cut; after a write to the connection that failed the next event is a cut, no end is looked at
-//! before, and nothing more is written to it; a close ends the connection and that cut; who comes through the door takes the
+//! a connection that is gone is a cut; after a write to the connection that failed the next event but the wall clock is a cut, no
+//! end is looked at before, and nothing more is written to it; a close ends the connection and that cut; who comes through the door takes the
 //! place of the connection, and stays when the gateway closes the one before; a request that the line doesn't take is lost and
 //! no failure; the line's end alone is one.
 //!
@@ -16,6 +16,10 @@
 //! whose line hasn't been looked at for `answer_ms` since the request was written ([`no_exchange_ends_unheard`]); where that
 //! moment is more than 50 ms behind the clock, the line alone is looked at, and octets of a control centre that would bear such
 //! a moment are not taken: the connection is cut ([`what_the_centre_sent_is_told_in_time`]).
+//!
+//! The wall clock is told at the first call, and again where a second has passed since and the ends
+//! have been looked at in between ([`the_ends_are_looked_at_between_wall_moments`]): as it stood at
+//! the moment that the event bears. A wall clock that is set is told as it then shows.
 //!
 //! [`Redialled`] is a wire that is reached again where it has gone: proved, for any dialler that tells its tries, is that it is
 //! quiet and takes nothing while it is away, is tried at once and then every second, and begins as a new wire each time.
@@ -27,6 +31,7 @@
 #[cfg(test)]
 mod configured;
 mod found;
+mod guests;
 mod laws;
 #[cfg(test)]
 mod memory;
@@ -38,10 +43,17 @@ mod stream;
 #[cfg(test)]
 mod timed;
 mod timing;
+mod walled;
+mod watched;
 mod wires;
 
-pub use laws::{looks_ask_nothing, no_exchange_ends_unheard, what_the_centre_sent_is_told_in_time};
+pub use guests::Guests;
+pub use laws::{
+    looks_ask_nothing, no_exchange_ends_unheard, nobody_but_guests_comes_in,
+    the_ends_are_looked_at_between_wall_moments, what_the_centre_sent_is_told_in_time,
+};
 pub use port::Live;
 pub use redial::{Dialler, Redialled};
 pub use sockets::{CentreListener, CentreSocket, LineDialler, LineSocket, SystemClock};
-pub use wires::{Clock, Door, Got, Wire};
+pub use watched::{Sight, Watched};
+pub use wires::{Clock, CutCause, Door, Got, Reached, SentAway, Visitor, Wire};

@@ -1,7 +1,9 @@
 //! Ends in memory, which count what is asked of them and fail when they are told to.
 ghost use Rattle.std.specs.Prelude.{None};
 
-use crate::wires::{Clock, Door, Got, Wire};
+use crate::guests::Guests;
+use crate::wires::{Clock, Door, Got, SentAway, Visitor, Wire};
+use std::net::{IpAddr, Ipv4Addr};
 
 /// A wire. Its reads find nothing, or one octet each, and it takes what is written, but for one read and one write that fail.
 #[derive(Debug, Drop)]
@@ -71,10 +73,26 @@ impl Door for MemoryDoor {
 
     ghost visits = { λ _. None };
 
-    fn accept(&mut self) -> Option<MemoryWire> {
-        self.visitor.take()
+    fn accept(&mut self, guests: &Guests) -> Option<Visitor<MemoryWire>> {
+        let wire = self.visitor.take()?;
+        let address = IpAddr::V4(Ipv4Addr::LOCALHOST);
+        if guests.lets_in(address) {
+            Some(Visitor { address, wire })
+        } else {
+            None
+        }
+    }
+
+    fn sent_away(&self) -> SentAway {
+        SentAway {
+            count: 0,
+            last: None,
+        }
     }
 }
+
+/// What the wall clock showed when the memory's clock began, in ms.
+pub(crate) const WALL_MS: u64 = 1_795_000_000_000;
 
 /// A clock that goes on by 1 ms at each reading.
 #[derive(Debug, Drop)]
@@ -83,8 +101,14 @@ pub(crate) struct MemoryClock(pub(crate) u64);
 impl Clock for MemoryClock {
     ghost moments = { λ _. None };
 
+    ghost walls = { λ _. None };
+
     fn now_ms(&mut self) -> u64 {
         self.0 = self.0.saturating_add(1);
         self.0
+    }
+
+    fn wall_ms(&mut self) -> u64 {
+        WALL_MS.saturating_add(self.0)
     }
 }

@@ -1,19 +1,23 @@
 //! The port over live ends.
-ghost use Rattle.std.specs.Prelude.{◌≡◌, ℕ, ◌+◌, ◌<◌, true, false, List, [], None, IfSome};
+ghost use Rattle.std.specs.Prelude.{◌≡◌, ℕ, ◌+◌, ◌<◌, true, false, List, [], None, IfSome, option_map};
 ghost use Rattle.gateway.specs.Ports.{FitsBuffer, faults_of, output_of, told_by};
-ghost use Rattle.live.specs.Ends.{Ends, told_at, IsTurn, IsTold, Turns, Puts, FitsFound, IsWritten, faults_in};
+ghost use Rattle.live.specs.Ends.{Ends, Peer, told_at, IsTurn, IsTold, IsWallTold, Turns, Puts, FitsFound, IsWritten, faults_in};
 ghost use Rattle.live.specs.Timing.{is_behind, moment_at};
 ghost use Rattle.live.specs.Looks.{Looks, LooksAt};
+ghost use Rattle.live.specs.Walls.{untold};
 ghost use Rattle.gateway.specs.Log.{tell, Went};
 ghost use Rattle.gateway.specs.declared.ports.Next.TheVariants.{Done};
 
 use crate::found::{Found, event_at};
+use crate::guests::Guests;
 use crate::source::Source;
 use crate::timing::Timing;
-use crate::wires::{Clock, Door, Got, Wire};
+use crate::walled::Walled;
+use crate::wires::{Clock, CutCause, Door, Got, Reached, SentAway, Visitor, Wire};
 use gateway::{Action, Next, Port};
 use session::Close;
 use std::marker::Model;
+use std::net::IpAddr;
 
 /// The port over a line, a door and a clock. It tells no log.
 #[derive(Drop)]
@@ -21,46 +25,97 @@ pub struct Live<L: Wire, D: Door + Drop, C: Clock + Drop> {
     line: L,
     door: D,
     clock: C,
-    connection: Option<D::Wire>,
+    guests: Guests,
+    connection: Option<Visitor<D::Wire>>,
     /// The source that is looked at first.
     first: Source,
     /// A write to the connection failed, so that the next event is a cut.
     is_cut_due: bool,
+    /// Why the latest connection that was cut was cut.
+    why_cut: CutCause,
     failures: u64,
     timing: Timing,
+    walled: Walled,
 }
 
 impl<L: Wire, D: Door + Drop, C: Clock + Drop> Model for Live<L, D, C> {
     ghost use Rattle.std.specs.Prelude.{option_map};
-    ghost use Rattle.live.specs.Ends.{Ends};
+    ghost use Rattle.live.specs.Ends.{Ends, Peer};
 
     ghost Value = { Ends };
 
-    ghost view = { λ a. record { line = L.history a.line; connection = option_map (λ wire. D.Wire.history wire) a.connection; door = D.visits a.door; clock = C.moments a.clock; first = a.first; is_cut_due = a.is_cut_due; failed = a.failures; timing = a.timing } };
+    ghost view = { λ a. record {
+      guests = a.guests;
+      line = L.history a.line;
+      connection = option_map (λ v. record { address = v.address; wire = D.Wire.history v.wire }) a.connection;
+      door = D.visits a.door;
+      clock = C.moments a.clock;
+      first = a.first;
+      is_cut_due = a.is_cut_due;
+      failed = a.failures;
+      timing = a.timing;
+      walls = C.walls a.clock;
+      walled = a.walled;
+    } };
 }
 
 impl<L: Wire, D: Door + Drop, C: Clock + Drop> Live<L, D, C> {
     ghost use Rattle.live.specs.declared.source.Source.TheVariants as sources;
 
-    /// A port over these ends, with no connection yet. An answer of the line is awaited for `answer_ms`, in ms, as in the
-    /// gateway's settings.
-    pub fn new(line: L, door: D, clock: C, answer_ms: u64) -> Live<L, D, C>
-        ensures { result ≡ record { line = L.history line; connection = None; door = D.visits door; clock = C.moments clock; first = sources.Door; is_cut_due = false; failed = 0; timing = record { answer_ms = answer_ms; heard = 0; request = None } } }
+    /// A port over these ends, with no connection yet. Nobody but these guests comes in. An answer of the line is awaited for
+    /// `answer_ms`, in ms, as in the gateway's settings.
+    pub fn new(line: L, door: D, clock: C, guests: Guests, answer_ms: u64) -> Live<L, D, C>
+        ensures { result ≡ record {
+          guests = guests;
+          line = L.history line;
+          connection = None;
+          door = D.visits door;
+          clock = C.moments clock;
+          first = sources.Door;
+          is_cut_due = false;
+          failed = 0;
+          timing = record { answer_ms = answer_ms; heard = 0; request = None };
+          walls = C.walls clock;
+          walled = untold;
+        } }
     {
         Live {
+            guests,
             line,
             door,
             clock,
             connection: None,
             first: Source::Door,
             is_cut_due: false,
+            why_cut: CutCause::Gone,
             failures: 0,
             timing: Timing {
                 answer_ms,
                 heard: 0,
                 request: None,
             },
+            walled: Walled::new(),
         }
+    }
+
+    /// Whose connection is open.
+    pub(crate) fn peer(&self) -> Option<IpAddr>
+        ensures { result ≡ option_map (λ (p : Peer). p.address) self.now.connection }
+    {
+        match &self.connection {
+            Some(visitor) => Some(visitor.address),
+            None => None,
+        }
+    }
+
+    /// Why the latest connection that was cut was cut.
+    pub(crate) fn why_cut(&self) -> CutCause {
+        self.why_cut
+    }
+
+    /// Who wasn't let in.
+    pub(crate) fn sent_away(&self) -> SentAway {
+        self.door.sent_away()
     }
 
     fn read_clock(&mut self) -> u64
@@ -81,6 +136,7 @@ impl<L: Wire, D: Door + Drop, C: Clock + Drop> Live<L, D, C> {
         if self.is_cut_due {
             self.is_cut_due = false;
             self.connection = None;
+            self.why_cut = CutCause::NotTaken;
             self.first = Source::Connection.after();
             return Some(Found::Cut);
         }
@@ -122,28 +178,30 @@ impl<L: Wire, D: Door + Drop, C: Clock + Drop> Live<L, D, C> {
         ensures failed { self.new.failed ≡ self.old.failed + faults_in result }
         ensures looks { LooksAt sources.Door 0 self.old result self.new }
     {
-        match self.door.accept() {
-            Some(wire) => {
-                self.connection = Some(wire);
+        match self.door.accept(&self.guests) {
+            Some(visitor) => {
+                self.connection = Some(visitor);
                 Some(Found::Open)
             }
             None => None,
         }
     }
 
+    #[tactic(auto, using(crate::proofs::Octets::octets_came, crate::proofs::Octets::nothing_came))]
     fn look_at_connection(&mut self, buf: &mut [u8; 1024]) -> Option<Found>
         ensures fits { IfSome result FitsFound }
         ensures failed { self.new.failed ≡ self.old.failed + faults_in result }
         ensures looks { LooksAt sources.Connection 0 self.old result self.new }
     {
-        let Some(wire) = &mut self.connection else {
+        let Some(visitor) = self.connection.as_mut() else {
             return None;
         };
-        match wire.read(buf) {
+        match visitor.wire.read(buf) {
             Got::Octets(len) => Some(Found::Bytes(len)),
             Got::Quiet => None,
             Got::Gone => {
                 self.connection = None;
+                self.why_cut = CutCause::Gone;
                 Some(Found::Cut)
             }
         }
@@ -179,9 +237,23 @@ impl<L: Wire, D: Door + Drop, C: Clock + Drop> Live<L, D, C> {
         let mut taken = found;
         if self.timing.is_behind(now) && matches!(found, Some(Found::Bytes(_))) {
             self.connection = None;
+            self.why_cut = CutCause::Late;
             taken = Some(Found::Cut);
         }
         event_at(self.timing.moment(now), taken)
+    }
+
+    /// The wall clock, as it stood at the moment that is due now.
+    fn tell_wall(&mut self, now: u64) -> Next
+        ensures fits { FitsBuffer result }
+        ensures failed { faults_of result ≡ 0 }
+        ensures same { self.new.failed ≡ self.old.failed }
+        ensures told { IsWallTold now self.old result self.new }
+    {
+        let shown = self.clock.wall_ms();
+        self.walled.tell(now);
+        let moment = self.timing.moment(now);
+        Next::Wall(moment, shown.saturating_sub(now.saturating_sub(moment)))
     }
 
     /// Octets for the connection are dropped where there is none, and where a cut is due.
@@ -192,9 +264,16 @@ impl<L: Wire, D: Door + Drop, C: Clock + Drop> Live<L, D, C> {
         if self.is_cut_due {
             return;
         }
-        if let Some(wire) = self.connection.as_mut() {
-            self.is_cut_due = !wire.write(octets);
+        if let Some(visitor) = self.connection.as_mut() {
+            self.is_cut_due = !visitor.wire.write(octets);
         }
+    }
+}
+
+impl<L: Wire + Reached, D: Door + Drop, C: Clock + Drop> Live<L, D, C> {
+    /// The line is there.
+    pub(crate) fn is_line_there(&self) -> bool {
+        self.line.is_reached()
     }
 }
 
@@ -207,8 +286,9 @@ impl<L: Wire, D: Door + Drop, C: Clock + Drop> Port for Live<L, D, C> {
 
     ghost script = { λ _. [] };
 
-    /// The clock is read before the looks and after them.
-    #[tactic(auto, using(crate::proofs::Turns::turned))]
+    /// The clock is read before the looks and after them. Where the wall clock is due it is told
+    /// instead.
+    #[tactic(auto, using(crate::proofs::Turns::turned, crate::proofs::Turns::turned_to_wall))]
     fn next(&mut self, buf: &mut [u8; 1024]) -> Next
         requires { self.old.failed < u64.MAX }
         ensures told { tell None (told_by result buf.new) ≡ None }
@@ -218,6 +298,10 @@ impl<L: Wire, D: Door + Drop, C: Clock + Drop> Port for Live<L, D, C> {
         ensures turns { Turns self.old result self.new }
     {
         let begun = self.read_clock();
+        if self.walled.is_due(begun) {
+            return self.tell_wall(begun);
+        }
+        self.walled.look();
         let found = self.turn(begun, buf);
         let now = self.read_clock();
         self.tell(now, found)
@@ -238,12 +322,12 @@ impl<L: Wire, D: Door + Drop, C: Clock + Drop> Port for Live<L, D, C> {
             Action::Tcp(octets) => self.put_on_connection(*octets),
             // Its wire went when another took its place.
             Action::Close(Close::Replaced) => {}
-            // Nobody at the ends is told of a gap.
-            Action::Gap { .. } => {}
             Action::Close(_) => {
                 self.connection = None;
                 self.is_cut_due = false;
             }
+            // Nobody at the ends is told of a gap.
+            Action::Gap { .. } => {}
         }
         true
     }

@@ -1,10 +1,10 @@
 //! A wire that comes back.
-ghost use Rattle.std.specs.Prelude.{◌≡◌, ◌≢◌, None, IfSome};
+ghost use Rattle.std.specs.Prelude.{◌≡◌, ◌≢◌, None, IfSome, is_some};
 ghost use Rattle.live.specs.Wires.{FitsBuffer, IsNew};
 ghost use Rattle.live.specs.Redial.{IsRedialled, IsTried, IsPut, is_due, told_at};
 ghost use Rattle.live.specs.declared.wires.Got.TheVariants.{Gone};
 
-use crate::wires::{Clock, Got, Wire};
+use crate::wires::{Clock, Got, Reached, Wire};
 use std::marker::Model;
 
 /// How long after a try the next one follows, in ms.
@@ -103,6 +103,14 @@ impl<D: Dialler + Drop, C: Clock + Drop> Redialled<D, C> {
             Some(wire) => self.wire = Some(wire),
             None => self.wire = None,
         }
+    }
+}
+
+impl<D: Dialler + Drop, C: Clock + Drop> Reached for Redialled<D, C> {
+    fn is_reached(&self) -> bool
+        ensures { result ≡ is_some self.now.wire }
+    {
+        self.wire.is_some()
     }
 }
 

@@ -4,13 +4,16 @@
 //! line are seen at once, those of a control centre after one look at a quiet line.
 ghost use Rattle.std.specs.Prelude.{None};
 
+use crate::guests::Guests;
 use crate::redial::Dialler;
 use crate::stream::{drop_waiting, read_once, write_once, write_some};
-use crate::wires::{Clock, Door, Got, Wire};
+use crate::wires::{Clock, Door, Got, Reached, SentAway, Visitor, Wire};
 use std::io::{Eprint, ErrorKind};
-use std::net::{Net, OpenListener, OpenStream, SocketAddr, TcpListener, TcpStream, ToSocketAddrs};
+use std::net::{
+    IpAddr, Net, OpenListener, OpenStream, SocketAddr, TcpListener, TcpStream, ToSocketAddrs,
+};
 use std::os::unix::net::UnixStream;
-use std::time::{Duration, Instant};
+use std::time::{Duration, Instant, SystemTime};
 use std::{io, thread};
 
 /// How long a look at the line waits, in ms. A system may round it up to some ms.
@@ -117,6 +120,12 @@ impl Wire for LineSocket {
     }
 }
 
+impl Reached for LineSocket {
+    fn is_reached(&self) -> bool {
+        true
+    }
+}
+
 /// Reaches the line at `tcp:HOST:PORT` or `unix:PATH` again and again, within half a second for each address that HOST has. A name
 /// is looked up at each try.
 #[derive(Drop)]
@@ -183,13 +192,15 @@ impl Wire for CentreSocket {
     }
 }
 
-/// The door: a TCP listener that doesn't wait. All who wait come in, and the last of them stays.
+/// The door: a TCP listener that doesn't wait. All guests who wait come in, and the last of them stays; who is none is sent
+/// away.
 #[derive(Drop)]
 pub struct CentreListener<'a, R> {
     rt: &'a R,
     listener: TcpListener,
     /// That nobody can be let in was said, and nobody has come in since.
     is_shut: bool,
+    sent_away: SentAway,
 }
 
 impl<'a, R: Net<Listener = TcpListener, Stream = TcpStream> + Eprint> CentreListener<'a, R> {
@@ -205,6 +216,10 @@ impl<'a, R: Net<Listener = TcpListener, Stream = TcpStream> + Eprint> CentreList
             rt,
             listener,
             is_shut: false,
+            sent_away: SentAway {
+                count: 0,
+                last: None,
+            },
         })
     }
 
@@ -215,6 +230,12 @@ impl<'a, R: Net<Listener = TcpListener, Stream = TcpStream> + Eprint> CentreList
     /// Those of the system.
     pub fn address(&self) -> io::Result<SocketAddr> {
         self.listener.local_addr()
+    }
+
+    /// Who has this address isn't let in.
+    fn note_away(&mut self, address: IpAddr) {
+        self.sent_away.count = self.sent_away.count.saturating_add(1);
+        self.sent_away.last = Some(address);
     }
 
     /// Says once that nobody can be let in, as with too few descriptors.
@@ -231,13 +252,19 @@ impl<R: Net<Listener = TcpListener, Stream = TcpStream> + Eprint> Door for Centr
 
     ghost visits = { λ _. None };
 
-    fn accept(&mut self) -> Option<CentreSocket> {
+    /// An IPv4 address that is written as an IPv6 one counts as that IPv4 address.
+    fn accept(&mut self, guests: &Guests) -> Option<Visitor<CentreSocket>> {
         let mut newest = None;
-        for _ in 0..VISITORS {
+        'taking: for _ in 0..VISITORS {
             match self.listener.accept() {
-                Ok((stream, _)) => {
+                Ok((stream, address)) => {
                     self.is_shut = false;
-                    newest = Some(stream);
+                    let address = address.ip().to_canonical();
+                    if guests.lets_in(address) {
+                        newest = Some((address, stream));
+                    } else {
+                        self.note_away(address);
+                    }
                 }
                 Err(fault) => match fault.kind() {
                     ErrorKind::WouldBlock => break,
@@ -250,7 +277,13 @@ impl<R: Net<Listener = TcpListener, Stream = TcpStream> + Eprint> Door for Centr
                 },
             }
         }
-        CentreSocket::new(newest?).ok()
+        let (address, stream) = newest?;
+        let wire = CentreSocket::new(stream).ok()?;
+        Some(Visitor { address, wire })
+    }
+
+    fn sent_away(&self) -> SentAway {
+        self.sent_away
     }
 }
 
@@ -280,11 +313,24 @@ impl<'a, R: std::rt::Clock> SystemClock<'a, R> {
 impl<R: std::rt::Clock> Clock for SystemClock<'_, R> {
     ghost moments = { λ _. None };
 
+    ghost walls = { λ _. None };
+
     fn now_ms(&mut self) -> u64 {
         if let Ok(passed) = self.start.elapsed(self.rt) {
             self.now = u64::try_from(passed.as_millis()).unwrap_or(u64::MAX);
         }
         self.now
+    }
+
+    /// Where it can't be read, or shows a time before 1970, this is 0, which is near no time tag.
+    fn wall_ms(&mut self) -> u64 {
+        let Ok(shown) = SystemTime::now(self.rt) else {
+            return 0;
+        };
+        let Ok(passed) = shown.duration_since(SystemTime::UNIX_EPOCH) else {
+            return 0;
+        };
+        u64::try_from(passed.as_millis()).unwrap_or(u64::MAX)
     }
 }
 

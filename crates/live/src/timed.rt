@@ -1,8 +1,11 @@
 //! Ends in memory in a time of their own, in which the gateway stalls wherever a test wants it to.
 ghost use Rattle.std.specs.Prelude.{None, ◌≤◌};
 
-use crate::wires::{Clock, Door, Got, Wire};
+use crate::guests::Guests;
+use crate::memory::WALL_MS;
+use crate::wires::{Clock, Door, Got, SentAway, Visitor, Wire};
 use std::cell::Cell;
+use std::net::{IpAddr, Ipv4Addr};
 
 /// The time, in ms, and when the gateway stalls in it.
 #[derive(Drop)]
@@ -186,17 +189,26 @@ impl<'a> Door for TimedDoor<'a> {
 
     ghost visits = { λ _. None };
 
-    fn accept(&mut self) -> Option<TimedCentre<'a>> {
+    fn accept(&mut self, guests: &Guests) -> Option<Visitor<TimedCentre<'a>>> {
         self.time.begin();
-        if !self.has_visitor {
+        let address = IpAddr::V4(Ipv4Addr::LOCALHOST);
+        if !self.has_visitor || !guests.lets_in(address) {
             return None;
         }
         self.has_visitor = false;
-        Some(TimedCentre {
+        let wire = TimedCentre {
             time: self.time,
             look_ms: 0,
             has_started: false,
-        })
+        };
+        Some(Visitor { address, wire })
+    }
+
+    fn sent_away(&self) -> SentAway {
+        SentAway {
+            count: 0,
+            last: None,
+        }
     }
 }
 
@@ -207,8 +219,15 @@ pub(crate) struct TimedClock<'a>(pub(crate) &'a Time);
 impl Clock for TimedClock<'_> {
     ghost moments = { λ _. None };
 
+    ghost walls = { λ _. None };
+
     fn now_ms(&mut self) -> u64 {
         self.0.begin();
         self.0.now()
+    }
+
+    fn wall_ms(&mut self) -> u64 {
+        self.0.begin();
+        WALL_MS.saturating_add(self.0.now())
     }
 }

@@ -1,6 +1,9 @@
 //! The ends of a live run.
 ghost use Rattle.std.specs.Prelude.{◌≡◌, List, Bool, Option, IfSome};
 
+use crate::guests::Guests;
+use std::net::IpAddr;
+
 /// What one look at a wire finds.
 #[derive(Clone, Copy, Debug, PartialEq, Eq)]
 pub enum Got {
@@ -29,30 +32,81 @@ pub trait Wire: Drop {
         ensures told { history self.new ≡ noted (history self.old) (Wrote octets.now result) };
 }
 
+/// Why a connection is cut.
+#[derive(Clone, Copy, Debug, PartialEq, Eq)]
+pub enum CutCause {
+    /// Its wire is at its end, or broken.
+    Gone,
+    /// It didn't take what was written to it.
+    NotTaken,
+    /// What came on it would have been told too late.
+    Late,
+}
+
+/// A wire that may be away.
+pub trait Reached {
+    /// It is there.
+    fn is_reached(&self) -> bool;
+}
+
+/// Who came through a door.
+#[derive(Drop)]
+pub struct Visitor<W: Wire> {
+    /// The address of the other end.
+    pub address: IpAddr,
+    /// What octets go over.
+    pub wire: W,
+}
+
 /// Where connections come from.
 pub trait Door {
     ghost use Rattle.live.specs.Wires.{Visits, IsNew, visited};
+    ghost use Rattle.live.specs.Guests.{LetsIn};
     ghost use Rattle.std.specs.Option.{is_some};
 
     type Wire: Wire;
 
-    /// Whether someone was there at each look, the newest first, where it tells that.
+    /// Whether someone came in at each look, the newest first, where it tells that.
     ghost visits: { Self → Visits };
 
-    /// Looks once for a new connection, without a wait. Nothing has happened at its wire yet.
-    fn accept(&mut self) -> Option<Self::Wire>
-        ensures fresh { IfSome result (λ wire. IsNew (Self.Wire.history wire)) }
+    /// Looks once for a new connection, without a wait, and lets in no one but these guests: who else comes is sent away at
+    /// once. Nothing has happened at the wire yet.
+    fn accept(&mut self, guests: &Guests) -> Option<Visitor<Self::Wire>>
+        ensures guest { IfSome result (λ visitor. LetsIn guests.now visitor.address) }
+        ensures fresh { IfSome result (λ visitor. IsNew (Self.Wire.history visitor.wire)) }
         ensures told { visits self.new ≡ visited (visits self.old) (is_some result) };
+
+    /// How many were sent away so far, and the address of the last of them.
+    fn sent_away(&self) -> SentAway;
 }
 
-/// A clock that begins anywhere. One that tells what it told adds each moment.
+/// Those whom a door sent away.
+#[derive(Clone, Copy, Debug, PartialEq, Eq)]
+pub struct SentAway {
+    /// How many they are.
+    pub count: u64,
+    /// The address of the last one.
+    pub last: Option<IpAddr>,
+}
+
+/// A clock that begins anywhere and never goes back, and the wall clock beside it, which people set.
+/// One that tells what it told adds each moment, and each number that the wall clock showed.
 pub trait Clock {
     ghost use Rattle.live.specs.Timing.{Moments, read_at};
 
     /// The moments that it told, the newest first, where it tells them.
     ghost moments: { Self → Moments };
 
+    /// What the wall clock showed, the newest first, where it tells that.
+    ghost walls: { Self → Moments };
+
     /// The moment, in milliseconds.
     fn now_ms(&mut self) -> u64
-        ensures told { moments self.new ≡ read_at (moments self.old) result };
+        ensures told { moments self.new ≡ read_at (moments self.old) result }
+        ensures others { walls self.new ≡ walls self.old };
+
+    /// What the wall clock shows, in milliseconds since 1970-01-01 UTC. It may go back.
+    fn wall_ms(&mut self) -> u64
+        ensures told { walls self.new ≡ read_at (walls self.old) result }
+        ensures others { moments self.new ≡ moments self.old };
 }

@@ -24,7 +24,8 @@ valid_agrees a u nr next sent small count counter =
     ]
 
 -- and how many frames a valid one acknowledges
-pub reached_newly : (a u nr next sent : ℕ) → u < 32768 → a + u ≡ sent → next ≡ sent % 32768 → nat_le ((next + (32768 - nr % 32768)) % 32768) u ≡ true
+pub reached_newly : (a u nr next sent : ℕ) → u < 32768 → a + u ≡ sent → next ≡ sent % 32768
+    → nat_le ((next + (32768 - nr % 32768)) % 32768) u ≡ true
     → reached a nr ≡ a + (u - (next + (32768 - nr % 32768)) % 32768)
 reached_newly a u nr next sent small count counter valid = omega (arith, reached-valid a u nr small, leb-true _ _ valid)
 

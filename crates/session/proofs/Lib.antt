@@ -1,4 +1,5 @@
 pub mod Counters
+pub mod States
 pub mod Keeps
 pub mod Standard
 pub mod Obeyed

@@ -11,7 +11,7 @@ use Rattle.session.specs.Session.{Session, is_close, may_send, outcome_of, taken
 use Rattle.session.specs.History.{History, Sent, is_started, still_unacknowledged, confirmation_of, frame_due}
 use Rattle.session.specs.Runs.{Settings, IsInRange, Call, Open, Cut, Take, Send, Confirm, Pull, Run, run, told, with_frame, may_take, after_call}
 use Rattle.session.specs.Rules.{IsHeard, KeepsRules}
-use Rattle.session.proofs.Keeps.{Keeps, run_keeps}
+use Rattle.session.proofs.Keeps.{Keeps, if_taken, if_sent, run_keeps}
 use Rattle.session.proofs.Standard.{verdict, confirms, pulls, sends}
 
 none_of : (o : Option Apdu) → is_none o ≡ true → o ≡ None
@@ -20,30 +20,39 @@ none_of (Some frame) e = absurd cc
 
 heard : (p : Settings) (s : Session) (h : History) → IsInRange p → Keeps p s h → may_take s ≡ true → IsHeard h
 heard p s h range keeps may =
-    let tests = and_parts s.connected (is_none (confirmed s).0) may in
+    let tests = and_parts (session.is_open s) (is_none (confirmed s).0) may in
     record {
       connected = sym keeps.connected ∙ tests.0;
       confirmed = sym (confirms p s h range keeps) ∙ none_of (confirmed s).0 tests.1;
     }
 
-judged : (p : Settings) (frame : Apdu) (now : ℕ) (s : Session) (h : History) → IsInRange p → Keeps p s h → IsHeard h → KeepsRules p h
+judged : (p : Settings) (frame : Apdu) (now : ℕ) (s : Session) (h : History) → IsInRange p → Keeps p s h → IsHeard h
+    → KeepsRules p h
     → (o : Taken) → outcome_of s frame ≡ o → KeepsRules p (told o frame now ∷ h)
-judged p frame now s h range keeps is rules (Close cause) e = ((is, (frame, ap is_close (sym (verdict p s h range keeps frame) ∙ e))), rules)
-judged p frame now s h range keeps is rules Asdu e = ((is, ap is_close (sym (verdict p s h range keeps frame) ∙ e)), rules)
-judged p frame now s h range keeps is rules Nothing e = ((is, ap is_close (sym (verdict p s h range keeps frame) ∙ e)), rules)
+judged p frame now s h range keeps is rules (Close cause) e =
+    ((is, (frame, ap is_close (sym (verdict p s h range keeps frame) ∙ e))), rules)
+judged p frame now s h range keeps is rules Asdu e = (
+  (is, ap is_close (sym (verdict p s h range keeps frame) ∙ e)),
+  rules,
+)
+judged p frame now s h range keeps is rules Nothing e =
+    ((is, ap is_close (sym (verdict p s h range keeps frame) ∙ e)), rules)
 
-take_rules : (p : Settings) (frame : Apdu) (now : ℕ) (r : Run) → IsInRange p → Keeps p r.session r.history → KeepsRules p r.history
+take_rules : (p : Settings) (frame : Apdu) (now : ℕ) (r : Run) → IsInRange p → Keeps p r.session r.history
+    → KeepsRules p r.history
     → (b : Bool) → may_take r.session ≡ b
-    → let next : Run = cond b (record { session = taken frame now r.session; history = told (outcome_of r.session frame) frame now ∷ r.history }) r in KeepsRules p next.history
+    → KeepsRules p (if_taken b frame now r).history
 take_rules p frame now r range keeps rules true may =
-    judged p frame now r.session r.history range keeps (heard p r.session r.history range keeps may) rules (outcome_of r.session frame) refl
+    judged p frame now r.session r.history range keeps (heard p r.session r.history range keeps may) rules
+    (outcome_of r.session frame) refl
 take_rules p frame now r range keeps rules false may = rules
 
 send_rules : (p : Settings) (kind : Kind) (now : ℕ) (r : Run) → Keeps p r.session r.history → KeepsRules p r.history
     → (b : Bool) → may_send r.session ≡ b
-    → let next : Run = cond b (record { session = session.sent kind now r.session; history = Sent r.session.next_sent r.session.next_received kind now ∷ r.history }) r in KeepsRules p next.history
+    → KeepsRules p (if_sent b kind now r).history
 send_rules p kind now r keeps rules true may =
-    let tests = and_parts (is_started r.history) (nat_lt (length (still_unacknowledged r.history)) p.k) (sym (sends p r.session r.history keeps) ∙ may) in (
+    let tests = and_parts (is_started r.history) (nat_lt (length (still_unacknowledged r.history)) p.k)
+    (sym (sends p r.session r.history keeps) ∙ may) in (
       record {
         send_number = keeps.window.next_is;
         receive_number = keeps.receipt.next_is;
@@ -54,15 +63,18 @@ send_rules p kind now r keeps rules true may =
     )
 send_rules p kind now r keeps rules false may = rules
 
-confirm_rules : (p : Settings) (now : ℕ) (h : History) → KeepsRules p h → (o : Option Apdu) → confirmation_of h ≡ o → KeepsRules p (with_frame o now h)
+confirm_rules : (p : Settings) (now : ℕ) (h : History) → KeepsRules p h → (o : Option Apdu) → confirmation_of h ≡ o
+    → KeepsRules p (with_frame o now h)
 confirm_rules p now h rules None e = rules
 confirm_rules p now h rules (Some frame) e = (inl e, rules)
 
-pull_rules : (p : Settings) (now : ℕ) (h : History) → KeepsRules p h → (o : Option Apdu) → frame_due p.w p.t2 p.t3 now h ≡ o → KeepsRules p (with_frame o now h)
+pull_rules : (p : Settings) (now : ℕ) (h : History) → KeepsRules p h → (o : Option Apdu)
+    → frame_due p.w p.t2 p.t3 now h ≡ o → KeepsRules p (with_frame o now h)
 pull_rules p now h rules None e = rules
 pull_rules p now h rules (Some frame) e = (inr e, rules)
 
-call_rules : (p : Settings) (call : Call) (r : Run) → IsInRange p → Keeps p r.session r.history → KeepsRules p r.history → KeepsRules p (after_call call r).history
+call_rules : (p : Settings) (call : Call) (r : Run) → IsInRange p → Keeps p r.session r.history
+    → KeepsRules p r.history → KeepsRules p (after_call call r).history
 call_rules p (Open now) r range keeps rules = (refl, tt)
 call_rules p Cut r range keeps rules = tt
 call_rules p (Take frame now) r range keeps rules = take_rules p frame now r range keeps rules (may_take r.session) refl
@@ -74,4 +86,5 @@ call_rules p (Pull now) r range keeps rules =
 
 pub run_rules : (p : Settings) (calls : List Call) → IsInRange p → KeepsRules p (run p calls).history
 run_rules p [] range = tt
-run_rules p (call ∷ earlier) range = call_rules p call (run p earlier) range (run_keeps p earlier range) (run_rules p earlier range)
+run_rules p (call ∷ earlier) range = call_rules p call (run p earlier) range (run_keeps p earlier range)
+    (run_rules p earlier range)

@@ -4,7 +4,7 @@ use Rattle.apci.specs.declared.apdu.Apdu.{Apdu}
 use Rattle.session.specs.declared.kinds.Kind.{Kind}
 use Rattle.session.specs.declared.kinds.Taken.{Taken}
 use Rattle.session.specs.declared.kinds.Taken.TheVariants.{Nothing, Asdu, Close}
-use Rattle.session.specs.Session.{Session, new_session, opened, closed, taken, outcome_of, sent, may_send, confirmed, pulled, Due}
+use Rattle.session.specs.Session.{Session, new_session, opened, closed, is_open, taken, outcome_of, sent, may_send, confirmed, pulled, Due}
 use Rattle.session.specs.History.{Happened, History, Opened, Came, Refused, Sent, Went}
 
 pub record Settings : Type 0 where
@@ -48,7 +48,7 @@ gone due now r = record { session = due.1; history = with_frame due.0 now r.hist
 
 -- `take` is for an open connection, once `confirm` has answered None
 abbrev pub may_take : Session → Bool
-may_take s = s.connected && is_none (confirmed s).0
+may_take s = is_open s && is_none (confirmed s).0
 
 -- A call whose condition doesn't hold isn't made.
 abbrev pub after_call : Call → Run → Run

@@ -7,6 +7,8 @@ use Rattle.apci.specs.declared.apdu.Uf.TheVariants.{StartAct, StartCon, StopAct,
 use Rattle.session.specs.declared.kinds.Kind.{Kind}
 use Rattle.session.specs.declared.kinds.Kind.TheVariants.{Queue, Own}
 use Rattle.session.specs.declared.kinds.Unacknowledged.{Unacknowledged}
+use Rattle.session.specs.declared.kinds.Transfer.{Transfer}
+use Rattle.session.specs.declared.kinds.Transfer.TheVariants as Transfer
 use Rattle.session.specs.declared.kinds.Close.TheVariants.{SendNumber, ReceiveNumber, Stopped}
 use Rattle.session.specs.declared.kinds.Taken.{Taken}
 use Rattle.session.specs.declared.kinds.Taken.TheVariants.{Nothing, Asdu, Close}
@@ -18,10 +20,8 @@ pub record Session : Type 0 where
   pub t1 : ℕ
   pub t2 : ℕ
   pub t3 : ℕ
-  pub connected : Bool
-  pub started : Bool
-  -- a STOPDT act is not confirmed yet
-  pub stopping : Bool
+  -- how far data transfer is (5.3)
+  pub transfer : Transfer
   -- the sent I frames that are not acknowledged, oldest first
   pub unacknowledged : List Unacknowledged
   -- how many of the queue's and of the own frames the last frame acknowledged
@@ -49,9 +49,7 @@ new_session k w t1 t2 t3 = record {
   t1 = t1;
   t2 = t2;
   t3 = t3;
-  connected = false;
-  started = false;
-  stopping = false;
+  transfer = Transfer.Closed;
   unacknowledged = [];
   acked_queue = 0;
   acked_own = 0;
@@ -65,13 +63,46 @@ new_session k w t1 t2 t3 = record {
 }
 
 abbrev pub opened : ℕ → Session → Session
-opened now s = record (new_session s.k s.w s.t1 s.t2 s.t3) { connected = true; last_frame = now }
+opened now s = record (new_session s.k s.w s.t1 s.t2 s.t3) {
+  transfer = Transfer.Stopped;
+  last_frame = now;
+}
 
 abbrev pub closed : Session → Session
 closed s = new_session s.k s.w s.t1 s.t2 s.t3
 
+abbrev pub opens : Transfer → Bool
+opens Transfer.Closed = false
+opens Transfer.Stopped = true
+opens Transfer.Started = true
+opens Transfer.Stopping = true
+
+abbrev pub runs : Transfer → Bool
+runs Transfer.Closed = false
+runs Transfer.Stopped = false
+runs Transfer.Started = true
+runs Transfer.Stopping = false
+
+abbrev pub stops : Transfer → Bool
+stops Transfer.Closed = false
+stops Transfer.Stopped = false
+stops Transfer.Started = false
+stops Transfer.Stopping = true
+
+abbrev pub is_open : Session → Bool
+is_open s = opens s.transfer
+
+-- data transfer is started, and no STOPDT act is pending
 abbrev pub is_running : Session → Bool
-is_running s = s.connected && s.started && not s.stopping
+is_running s = runs s.transfer
+
+-- a STOPDT act is not confirmed yet
+abbrev pub is_stopping : Session → Bool
+is_stopping s = stops s.transfer
+
+-- how far data transfer is after a STARTDT act or STOPDT act: without a connection they say nothing
+abbrev pub turned_to : Transfer → Session → Transfer
+turned_to transfer s = if is_open s then transfer else Transfer.Closed
 
 abbrev pub may_send : Session → Bool
 may_send s = is_running s && nat_lt (length s.unacknowledged) s.k
@@ -145,9 +176,9 @@ counted now s = record s {
 }
 
 abbrev pub after_u : Uf → Session → Session
-after_u StartAct s = record s { started = true; stopping = false; reply = Some StartCon }
+after_u StartAct s = record s { transfer = turned_to Transfer.Started s; reply = Some StartCon }
 after_u StartCon s = s
-after_u StopAct s = record s { stopping = true }
+after_u StopAct s = record s { transfer = turned_to Transfer.Stopping s }
 after_u StopCon s = s
 after_u TestAct s = record s { reply = Some TestCon }
 after_u TestCon s = record s { test_sent = None }
@@ -174,7 +205,7 @@ is_test_late now s None = false
 is_test_late now s (Some moment) = nat_le s.t1 (now - moment)
 
 abbrev pub timed_out : ℕ → Session → Bool
-timed_out now s = s.connected && (is_late now s s.unacknowledged || is_test_late now s s.test_sent)
+timed_out now s = is_open s && (is_late now s s.unacknowledged || is_test_late now s s.test_sent)
 
 -- what is sent next, if anything, and the session after it
 abbrev pub Due : Type 0
@@ -188,16 +219,16 @@ acknowledgement s = (Some (S s.next_received), record s { unconfirmed = 0 })
 
 abbrev pub replied : Option Uf → Session → Due
 replied None s =
-    if s.stopping && length s.unacknowledged == 0
-    then (Some (U StopCon), record s { started = false; stopping = false })
+    if is_stopping s && length s.unacknowledged == 0
+    then (Some (U StopCon), record s { transfer = Transfer.Stopped })
     else nothing_due s
 replied (Some u) s = (Some (U u), record s { reply = None })
 
 -- the confirmations, with the S frame of a STOPDT act first
 abbrev pub confirmed : Session → Due
 confirmed s =
-    if not s.connected then nothing_due s
-    else (if s.stopping && nat_lt 0 s.unconfirmed then acknowledgement s
+    if not (is_open s) then nothing_due s
+    else (if is_stopping s && nat_lt 0 s.unconfirmed then acknowledgement s
     else replied s.reply s)
 
 abbrev pub is_s_due : ℕ → Session → Bool
@@ -210,7 +241,7 @@ is_test_due now s = is_none s.test_sent && nat_le s.t3 (now - s.last_frame)
 -- an S frame if due, then a TESTFR act if due
 abbrev pub pulled : ℕ → Session → Due
 pulled now s =
-    if not s.connected then nothing_due s
+    if not (is_open s) then nothing_due s
     else (if is_s_due now s then acknowledgement s
     else (if is_test_due now s then (Some (U TestAct), record s { test_sent = Some now })
     else nothing_due s))

@@ -5,7 +5,7 @@ ghost use Rattle.apci.specs.Borrowed.{owned};
 ghost use Rattle.apci.specs.Spelling.{Fits};
 ghost use Rattle.session.specs.Session.{from_queue};
 
-use crate::kinds::{Close, Kind, Taken, Unacknowledged};
+use crate::kinds::{Close, Kind, Taken, Transfer, Unacknowledged};
 use apci::{Apdu, ApduRef, Uf};
 use circular_buffer::HeapCircularBuffer;
 use std::alloc::Global;
@@ -30,10 +30,7 @@ pub struct Session {
     t1: u64,
     t2: u64,
     t3: u64,
-    connected: bool,
-    started: bool,
-    /// A STOPDT act isn't confirmed yet.
-    stopping: bool,
+    transfer: Transfer,
     /// The sent I frames that aren't acknowledged, oldest first.
     unacknowledged: HeapCircularBuffer<Unacknowledged>,
     acked_queue: usize,
@@ -64,7 +61,7 @@ impl Model for Session {
 }
 
 impl Session {
-    ghost use Rattle.session.specs.Session.{new_session, opened, closed, is_running, may_send as can_send, sent as after_sent, left_by, refuses, outcome_of, taken, timed_out, confirmed, pulled, is_valid, acknowledged, newly_by, counted, after_u};
+    ghost use Rattle.session.specs.Session.{new_session, opened, closed, is_open, is_stopping, turned_to, is_running, may_send as can_send, sent as after_sent, left_by, refuses, outcome_of, taken, timed_out, confirmed, pulled, is_valid, acknowledged, newly_by, counted, after_u};
 
     /// A session without a connection. This alone takes memory: room for k frames.
     ///
@@ -93,9 +90,7 @@ impl Session {
             t1,
             t2,
             t3,
-            connected: false,
-            started: false,
-            stopping: false,
+            transfer: Transfer::Closed,
             unacknowledged,
             acked_queue: 0,
             acked_own: 0,
@@ -113,9 +108,7 @@ impl Session {
     pub fn open(&mut self, now: u64)
         ensures { self.new ≡ opened now self.old }
     {
-        self.connected = true;
-        self.started = false;
-        self.stopping = false;
+        self.transfer = Transfer::Stopped;
         self.unacknowledged.clear();
         self.acked_queue = 0;
         self.acked_own = 0;
@@ -133,21 +126,28 @@ impl Session {
         ensures { self.new ≡ closed self.old }
     {
         self.open(0);
-        self.connected = false;
+        self.transfer = Transfer::Closed;
     }
 
     /// Whether a connection is open.
     pub fn is_open(&self) -> bool
-        ensures { result ≡ self.now.connected }
+        ensures { result ≡ is_open self.now }
     {
-        self.connected
+        !matches!(self.transfer, Transfer::Closed)
     }
 
     /// Whether data transfer is started and no STOPDT is pending. Without a connection it is false.
     pub fn runs(&self) -> bool
         ensures { result ≡ is_running self.now }
     {
-        self.connected && self.started && !self.stopping
+        matches!(self.transfer, Transfer::Started)
+    }
+
+    /// Whether a STOPDT act isn't confirmed yet.
+    fn is_stopping(&self) -> bool
+        ensures { result ≡ is_stopping self.now }
+    {
+        matches!(self.transfer, Transfer::Stopping)
     }
 
     /// Whether an I frame may go out: data transfer runs, and fewer than k are unacknowledged.
@@ -271,17 +271,26 @@ impl Session {
         self.unconfirmed = self.unconfirmed.saturating_add(1).min(self.w);
     }
 
+    /// A STARTDT act or STOPDT act came. Without a connection it says nothing.
+    fn turn_to(&mut self, transfer: Transfer)
+        ensures { self.new ≡ record self.old { transfer = turned_to transfer self.old } }
+    {
+        self.transfer = match self.transfer {
+            Transfer::Closed => Transfer::Closed,
+            Transfer::Stopped | Transfer::Started | Transfer::Stopping => transfer,
+        };
+    }
+
     /// A U frame came.
     fn obey(&mut self, function: Uf)
         ensures { self.new ≡ after_u function self.old }
     {
         match function {
             Uf::StartAct => {
-                self.started = true;
-                self.stopping = false;
+                self.turn_to(Transfer::Started);
                 self.reply = Some(Uf::StartCon);
             }
-            Uf::StopAct => self.stopping = true,
+            Uf::StopAct => self.turn_to(Transfer::Stopping),
             Uf::TestAct => self.reply = Some(Uf::TestCon),
             Uf::TestCon => self.test_sent = None,
             Uf::StartCon | Uf::StopCon => {}
@@ -299,7 +308,7 @@ impl Session {
     pub fn due(&self, now: u64) -> Option<Close>
         ensures { result ≡ (if timed_out now self.now then Some Close.Timeout else None) }
     {
-        if !self.connected {
+        if !self.is_open() {
             return None;
         }
         let frame_late = match self.unacknowledged.front() {
@@ -335,18 +344,17 @@ impl Session {
         ensures due { (result, self.new) ≡ confirmed self.old }
         ensures fits { IfSome result Fits }
     {
-        if !self.connected {
+        if !self.is_open() {
             return None;
         }
-        if self.stopping && self.unconfirmed > 0 {
+        if self.is_stopping() && self.unconfirmed > 0 {
             return Some(self.confirm_received());
         }
         if let Some(function) = self.reply.take() {
             return Some(Apdu::U(function));
         }
-        if self.stopping && self.unacknowledged.is_empty() {
-            self.started = false;
-            self.stopping = false;
+        if self.is_stopping() && self.unacknowledged.is_empty() {
+            self.transfer = Transfer::Stopped;
             return Some(Apdu::U(Uf::StopCon));
         }
         None
@@ -357,7 +365,7 @@ impl Session {
         ensures due { (result, self.new) ≡ pulled now self.old }
         ensures fits { IfSome result Fits }
     {
-        if !self.connected {
+        if !self.is_open() {
             return None;
         }
         let waited = now.saturating_sub(self.unconfirmed_since);
@@ -381,9 +389,7 @@ impl Session {
             t1: _,
             t2: _,
             t3: _,
-            connected: _,
-            started: _,
-            stopping: _,
+            transfer: _,
             unacknowledged,
             acked_queue: _,
             acked_own: _,

@@ -18,6 +18,19 @@ pub struct Unacknowledged {
     pub moment: u64,
 }
 
+/// How far data transfer is on a connection (IEC 60870-5-104, 5.3).
+#[derive(Clone, Copy, Debug, PartialEq, Eq)]
+pub enum Transfer {
+    /// There is no connection.
+    Closed,
+    /// A connection is open: no STARTDT act came yet, or the latest STOPDT act is confirmed.
+    Stopped,
+    /// The latest STARTDT act or STOPDT act is a STARTDT act.
+    Started,
+    /// A STOPDT act isn't confirmed yet, whether or not data transfer was started before it.
+    Stopping,
+}
+
 /// Why a connection is closed. The numbers are those that the program prints.
 #[derive(Clone, Copy, Debug, PartialEq, Eq)]
 pub enum Close {

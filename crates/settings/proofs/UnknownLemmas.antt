@@ -13,11 +13,17 @@ use Rattle.settings.specs.Unknown.{knows, prefix, member_keys, unknown_in, unkno
 use Rattle.settings.specs.declared.unknown.Section.{Section}
 use Rattle.settings.specs.declared.unknown.Section.TheVariants.{Station}
 
-pub step_known : (s : Section) (k : String Global) (before ks it : List (String Global)) (all : List (List ℕ)) → it ≡ k ∷ ks → knows s (string_bytes k) ≡ true → map string_bytes before ++ unknown_in s (map string_bytes it) ≡ all → map string_bytes before ++ unknown_in s (map string_bytes ks) ≡ all
+pub step_known : (s : Section) (k : String Global) (before ks it : List (String Global)) (all : List (List ℕ))
+    → it ≡ k ∷ ks → knows s (string_bytes k) ≡ true → map string_bytes before ++ unknown_in s (map string_bytes it)
+    ≡ all → map string_bytes before ++ unknown_in s (map string_bytes ks) ≡ all
 step_known s k before ks it all e known_so h = let g = rw e at h in rw known_so at g
 
-pub step_new : (s : Section) (k path : String Global) (before ks it : List (String Global)) (all : List (List ℕ)) → it ≡ k ∷ ks → knows s (string_bytes k) ≡ false → string_bytes path ≡ prefix s ++ string_bytes k → map string_bytes before ++ unknown_in s (map string_bytes it) ≡ all → map string_bytes (before ++ path ∷ []) ++ unknown_in s (map string_bytes ks) ≡ all
-step_new s k path before ks it all e unknown_so text h = let g = rw e at h in let g2 = rw unknown_so at g in rw (map-append, append_assoc, text) g2
+pub step_new : (s : Section) (k path : String Global) (before ks it : List (String Global)) (all : List (List ℕ))
+    → it ≡ k ∷ ks → knows s (string_bytes k) ≡ false → string_bytes path ≡ prefix s ++ string_bytes k
+    → map string_bytes before ++ unknown_in s (map string_bytes it) ≡ all
+    → map string_bytes (before ++ path ∷ []) ++ unknown_in s (map string_bytes ks) ≡ all
+step_new s k path before ks it all e unknown_so text h = let g = rw e at h in let g2 = rw unknown_so at g in
+    rw (map-append, append_assoc, text) g2
 
 keys_of_view : (es : List (String Global × Value)) → member_keys (members_view es) ≡ map string_bytes (keys_of es)
 keys_of_view [] = refl
@@ -26,15 +32,23 @@ keys_of_view (e ∷ es) = ap (λ ks. string_bytes e.0 ∷ ks) (keys_of_view es)
 pub keys_of_table : (m : BTreeMap (String Global) Value) → member_keys (table_view m) ≡ map string_bytes (keys m)
 keys_of_table m = keys_of_view m.entries
 
-pub items_next : (vs : List Value) (i : ℕ) (d : Value) → i < length vs → unknown_items (items_view (drop i vs)) ≡ unknown_of Station (view (get_or vs i d)) ++ unknown_items (items_view (drop (i + 1) vs))
+pub items_next : (vs : List Value) (i : ℕ) (d : Value) → i < length vs
+    → unknown_items (items_view (drop i vs)) ≡ unknown_of Station (view (get_or vs i d))
+    ++ unknown_items (items_view (drop (i + 1) vs))
 items_next vs i d lt = rw (items_view-drop vs i d lt)
 
 pub items_end : (vs : List Value) (i : ℕ) → length vs ≤ i → unknown_items (items_view (drop i vs)) ≡ []
 items_end vs i le = rw (drop_all i vs le)
 
-least_seen : (paths : List (String Global)) (path : String Global) → Contains paths path → All (λ x. is_lt (string_cmp x path) ≡ false) paths → IsLeastOf (map string_bytes paths) (string_bytes path)
+least_seen : (paths : List (String Global)) (path : String Global) → Contains paths path
+    → All (λ x. is_lt (string_cmp x path) ≡ false) paths → IsLeastOf (map string_bytes paths) (string_bytes path)
 least_seen paths path (k, lt, e) least = record {
-  among = (k, rw (length-map paths string_bytes) lt, get_or-map string_bytes paths k path (string_bytes path) lt ∙ ap string_bytes e);
+  among = (
+    k,
+    rw (length-map paths string_bytes) lt,
+    get_or-map string_bytes paths k path (string_bytes path) lt
+        ∙ ap string_bytes e,
+  );
   least = λ j d below.
       let within : j < length paths = rw (length-map paths string_bytes) at below in
       let same = get_or-map string_bytes paths j path d within in
@@ -42,8 +56,11 @@ least_seen paths path (k, lt, e) least = record {
 }
 
 -- the least of the texts is the least of the paths that they are
-pub least_of : (paths : List (String Global)) (path : String Global) (all : List (List ℕ)) → map string_bytes paths ≡ all → Contains paths path → All (λ x. is_lt (string_cmp x path) ≡ false) paths → IsLeastOf all (string_bytes path)
+pub least_of : (paths : List (String Global)) (path : String Global) (all : List (List ℕ))
+    → map string_bytes paths ≡ all → Contains paths path → All (λ x. is_lt (string_cmp x path) ≡ false) paths
+    → IsLeastOf all (string_bytes path)
 least_of paths path all same among least = rw (← same) (least_seen paths path among least)
 
-pub none_of : (paths : List (String Global)) (all : List (List ℕ)) → map string_bytes paths ≡ all → paths ≡ [] → all ≡ []
+pub none_of : (paths : List (String Global)) (all : List (List ℕ)) → map string_bytes paths ≡ all → paths ≡ []
+    → all ≡ []
 none_of paths all same none = rw (← same) (ap (map string_bytes) none)

@@ -14,6 +14,7 @@ pub record Tcp : Type 0 where
   pub t2_ms : ℕ
   pub t3_ms : ℕ
   pub select_ms : ℕ
+  pub max_age_ms : ℕ
 
 abbrev pub tcp_of : TcpSettings → Tcp
 tcp_of t = record {
@@ -23,6 +24,7 @@ tcp_of t = record {
   t2_ms = t.t2_ms;
   t3_ms = t.t3_ms;
   select_ms = t.select_ms;
+  max_age_ms = t.max_age_ms;
 }
 
 -- t2 is below t1, also where one of them has its default
@@ -34,4 +36,13 @@ tcp_settings t = do
   t2 ← whole_of (row (codes "t2_ms") (codes "tcp.t2_ms") 1 (t1 - 1) (Some 10000)) t
   t3 ← whole_of (row (codes "t3_ms") (codes "tcp.t3_ms") 1 86400000 (Some 20000)) t
   s ← whole_of (row (codes "select_ms") (codes "tcp.select_ms") 1 600000 (Some 30000)) t
-  Ok (record { k = k; w = w; t1_ms = t1; t2_ms = t2; t3_ms = t3; select_ms = s })
+  a ← whole_of (row (codes "max_age_ms") (codes "tcp.max_age_ms") 1 3600000 (Some 10000)) t
+  Ok (record {
+    k = k;
+    w = w;
+    t1_ms = t1;
+    t2_ms = t2;
+    t3_ms = t3;
+    select_ms = s;
+    max_age_ms = a;
+  })

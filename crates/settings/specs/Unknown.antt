@@ -32,6 +32,7 @@ knows Tcp k =
     bytes_eq k (codes "k") || bytes_eq k (codes "w")
     || bytes_eq k (codes "t1_ms") || bytes_eq k (codes "t2_ms")
     || bytes_eq k (codes "t3_ms") || bytes_eq k (codes "select_ms")
+    || bytes_eq k (codes "max_age_ms")
 knows Station k =
     bytes_eq k (codes "address") || bytes_eq k (codes "ca") || bytes_eq k (codes "select")
 knows Live k = bytes_eq k (codes "line") || bytes_eq k (codes "listen")

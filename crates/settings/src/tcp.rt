@@ -58,6 +58,14 @@ const SELECT_MS: Whole = Whole {
     default: Some(30000),
 };
 
+const MAX_AGE_MS: Whole = Whole {
+    key: "max_age_ms",
+    path: "tcp.max_age_ms",
+    low: 1,
+    high: 3600000,
+    default: Some(10000),
+};
+
 /// Reads the keys of the table `tcp` in their order.
 pub(crate) fn read_tcp(table: Option<&Table>) -> Result<TcpSettings, WrongKey>
     ensures { seen_by tcp_of result ≡ tcp_settings (members_in table.entry) }
@@ -72,6 +80,7 @@ pub(crate) fn read_tcp(table: Option<&Table>) -> Result<TcpSettings, WrongKey>
     .read(table)?;
     let t3_ms = T3_MS.read(table)?;
     let select_ms = SELECT_MS.read(table)?;
+    let max_age_ms = MAX_AGE_MS.read(table)?;
     Ok(TcpSettings {
         k,
         w,
@@ -79,5 +88,6 @@ pub(crate) fn read_tcp(table: Option<&Table>) -> Result<TcpSettings, WrongKey>
         t2_ms: u64::from(t2_ms),
         t3_ms: u64::from(t3_ms),
         select_ms: u64::from(select_ms),
+        max_age_ms: u64::from(max_age_ms),
     })
 }

@@ -14,14 +14,14 @@ const CONFIG_FULL: &str =
     "[line]\nlink = 2\ncause = 2\nca = 2\nioa = 3\nanswer_ms = 60000\nretries = 0\n\
     silence = \"reset\"\nburst = 255\nqueue = 65535\n\
     [tcp]\nk = 32767\nw = 1\nt1_ms = 255000\nt2_ms = 254999\n\
-    t3_ms = 86400000\nselect_ms = 600000\n\
+    t3_ms = 86400000\nselect_ms = 600000\nmax_age_ms = 3600000\n\
     [[station]]\naddress = 65534\nca = 65533\nselect = true\n\
     [[station]]\naddress = 65533\nca = 65534\n[live]\nline = \"anything\"\nlisten = \"\"\n";
 
 /// A change of config A, and what `check` then prints.
 type Change = (&'static str, &'static str, &'static str);
 
-static CHANGES: [Change; 87] = [
+static CHANGES: [Change; 90] = [
     // Keys that have to be there.
     ("link = 1\n", "", "config: line.link"),
     ("cause = 1\n", "", "config: line.cause"),
@@ -129,6 +129,22 @@ static CHANGES: [Change; 87] = [
     (
         "[[station]]",
         "[tcp]\nselect_ms = 600001\n[[station]]",
+        "config: tcp.select_ms",
+    ),
+    (
+        "[[station]]",
+        "[tcp]\nmax_age_ms = 0\n[[station]]",
+        "config: tcp.max_age_ms",
+    ),
+    (
+        "[[station]]",
+        "[tcp]\nmax_age_ms = 3600001\n[[station]]",
+        "config: tcp.max_age_ms",
+    ),
+    // It comes after the other keys of its table.
+    (
+        "[[station]]",
+        "[tcp]\nmax_age_ms = 0\nselect_ms = 0\n[[station]]",
         "config: tcp.select_ms",
     ),
     (
@@ -317,6 +333,7 @@ fn each_value_is_read(rt: HostRuntime) -> Result<(), Fail> {
         t2_ms: 10000,
         t3_ms: 20000,
         select_ms: 30000,
+        max_age_ms: 10000,
     };
     assert_eq!(rt; *config.tcp(), tcp);
     let station = Station {
@@ -347,6 +364,7 @@ fn each_value_is_read(rt: HostRuntime) -> Result<(), Fail> {
         t2_ms: 254999,
         t3_ms: 86400000,
         select_ms: 600000,
+        max_age_ms: 3600000,
     };
     assert_eq!(rt; *config.tcp(), tcp);
     let first = Station {

@@ -34,6 +34,7 @@ impl Section {
                     || key == "t2_ms"
                     || key == "t3_ms"
                     || key == "select_ms"
+                    || key == "max_age_ms"
             }
             Section::Station => key == "address" || key == "ca" || key == "select",
             Section::Live => key == "line" || key == "listen",

@@ -1,6 +1,6 @@
 -- The lines that show octets of the serial line (texts of this gateway's own profile; the frames
 -- and the fields of the control octet are those of IEC 60870-5-1, 6.2.4.2 and IEC 60870-5-2, 5.1).
-use Rattle.std.specs.Prelude.{◌≡◌, ℕ, ◌-◌, ◌%◌, ◌==◌, if◌then◌else◌, codes, List, [], ◌∷◌, ◌++◌, length}
+use Rattle.std.specs.Prelude.{◌≡◌, ℕ, ◌-◌, if◌then◌else◌, codes, List, [], ◌∷◌, ◌++◌, length}
 use Rattle.std.specs.Fmt.{decimal}
 use Rattle.hex.specs.Hex.{encode_upper}
 use Rattle.ft12.specs.declared.frame.Frame.{Frame}
@@ -10,27 +10,30 @@ use Rattle.ft12.specs.declared.frame.Why.TheVariants as why
 use Rattle.ft12.specs.declared.frame.Front.{Front}
 use Rattle.ft12.specs.declared.frame.Front.TheVariants.{Whole, More, Never}
 use Rattle.ft12.specs.Reading.{IsFront}
-use Rattle.show.specs.Bits.{bit}
+use Rattle.link.specs.Control.{is_primary, fcb_bit, fcv_bit, acd_bit, dfc_bit, function_code}
+use Rattle.show.specs.Bits.{flag}
 use Rattle.show.specs.Outcome.{rest_line, with_rest}
 use Rattle.show.specs.Units.{unit_lines, unit_outcome}
 use Rattle.show.specs.declared.sizes.LineSizes.{LineSizes}
 use Rattle.show.specs.declared.outcome.Outcome.{Outcome}
 use Rattle.show.specs.declared.outcome.Outcome.TheVariants as outcome
 
--- The control octet and its fields. Of a primary station (PRM, bit 6, is 1) bits 5 and 4 are FCB
--- and FCV, of a secondary one ACD and DFC; bits 3 to 0 are the function.
+-- The control octet and its fields: PRM, and then FCB and FCV of a primary station, or ACD and DFC
+-- of a secondary one, and the number of the function.
 abbrev pub primary_text : ℕ → List ℕ
 primary_text c =
-    codes "c=" ++ encode_upper (c ∷ []) ++ codes " prm=1 fcb=" ++ decimal (bit 5 c)
-    ++ codes " fcv=" ++ decimal (bit 4 c) ++ codes " function=" ++ decimal (c % 16)
+    codes "c=" ++ encode_upper (c ∷ []) ++ codes " prm=1 fcb=" ++ decimal (flag (fcb_bit c))
+    ++ codes " fcv=" ++ decimal (flag (fcv_bit c))
+    ++ codes " function=" ++ decimal (function_code c)
 
 abbrev pub secondary_text : ℕ → List ℕ
 secondary_text c =
-    codes "c=" ++ encode_upper (c ∷ []) ++ codes " prm=0 acd=" ++ decimal (bit 5 c)
-    ++ codes " dfc=" ++ decimal (bit 4 c) ++ codes " function=" ++ decimal (c % 16)
+    codes "c=" ++ encode_upper (c ∷ []) ++ codes " prm=0 acd=" ++ decimal (flag (acd_bit c))
+    ++ codes " dfc=" ++ decimal (flag (dfc_bit c))
+    ++ codes " function=" ++ decimal (function_code c)
 
 abbrev pub control_text : ℕ → List ℕ
-control_text c = if bit 6 c == 1 then primary_text c else secondary_text c
+control_text c = if is_primary c then primary_text c else secondary_text c
 
 abbrev pub frame_line : Frame → List ℕ
 frame_line Single = codes "single" ++ 10 ∷ []

@@ -1,5 +1,5 @@
 //! Parts of an octet.
-ghost use Rattle.std.specs.Prelude.{◌≡◌, ◌==◌, ◌<◌, ◌%◌, ◌^◌};
+ghost use Rattle.std.specs.Prelude.{◌≡◌, ◌<◌, ◌%◌, ◌^◌};
 ghost use Rattle.show.specs.Bits.{bit, flag};
 
 /// One bit of an octet, 0 or 1. Bit 0 is the lowest.
@@ -8,21 +8,6 @@ pub(crate) fn bit(octet: u8, place: u32) -> u8
     ensures { result ≡ bit place octet }
 {
     (octet >> place) & 1
-}
-
-/// Whether a bit is 1.
-pub(crate) fn is_set(octet: u8, place: u32) -> bool
-    requires { place < 8 }
-    ensures { result ≡ (bit place octet == 1) }
-{
-    bit(octet, place) == 1
-}
-
-/// The function of a control octet: bits 3 to 0.
-pub(crate) fn function_in(octet: u8) -> u8
-    ensures { result ≡ octet % 16 }
-{
-    octet & 0x0F
 }
 
 /// The cause in the cause octet: bits 5 to 0.

@@ -2,7 +2,8 @@
 ghost use Rattle.std.specs.Prelude.{◌≡◌, IfOk, string_bytes};
 ghost use Rattle.show.specs.Line.{control_text};
 
-use crate::bits::{bit, function_in, is_set};
+use crate::bits::flag;
+use link::Control;
 use std::alloc::{AllocError, Global};
 
 /// The octet and its fields, by the direction that its PRM bit names.
@@ -10,12 +11,24 @@ pub(crate) fn control_text(alloc: Global, octet: u8) -> Result<String, AllocErro
     ensures { IfOk result (λ text. string_bytes text ≡ control_text octet) }
 {
     let digits = hex::encode_upper(alloc, &[octet][..])?;
-    let high = bit(octet, 5);
-    let low = bit(octet, 4);
-    let function = function_in(octet);
-    if is_set(octet, 6) {
-        format!(in alloc; "c={digits} prm=1 fcb={high} fcv={low} function={function}")
-    } else {
-        format!(in alloc; "c={digits} prm=0 acd={high} dfc={low} function={function}")
+    match Control::from_octet(octet) {
+        Control::Primary {
+            fcb,
+            fcv,
+            function,
+            ..
+        } => {
+            let (fcb, fcv, code) = (flag(fcb), flag(fcv), function.code());
+            format!(in alloc; "c={digits} prm=1 fcb={fcb} fcv={fcv} function={code}")
+        }
+        Control::Secondary {
+            acd,
+            dfc,
+            function,
+            ..
+        } => {
+            let (acd, dfc, code) = (flag(acd), flag(dfc), function.code());
+            format!(in alloc; "c={digits} prm=0 acd={acd} dfc={dfc} function={code}")
+        }
     }
 }

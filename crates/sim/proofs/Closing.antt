@@ -15,7 +15,7 @@ use Rattle.session.specs.declared.kinds.Close.TheVariants.{Grammar, SendNumber, 
 use Rattle.gateway.specs.Connections.{closed_by, Channel, no_channel, receiving, sending, ends, present, past, over, AreConnections, IsBegun}
 use Rattle.gateway.specs.Entries.{stored_log, log_of, told_of}
 use Rattle.gateway.specs.Frames.{Connection, Sent, data_frames, objects_of_frames, monitor_objects_sent}
-use Rattle.gateway.specs.Log.{Log, Came, Went, LineIn, Opened, TcpIn, CutOff, Ticked, LineOut, TcpOut, Closed, GapOut}
+use Rattle.gateway.specs.Log.{Log, Came, Went, LineIn, Opened, TcpIn, CutOff, Ticked, WallIs, LineOut, TcpOut, Closed, GapOut}
 use Rattle.gateway.specs.Objects.{objects}
 use Rattle.gateway.specs.Reports.{Setup}
 use Rattle.gateway.specs.Streams.{spelled, AreFrames, IsOneFrame}
@@ -99,6 +99,7 @@ counts_told (told.Came (entries.Line now octets) ∷ ts) log = counts_other ts (
 counts_told (told.Came (entries.Bytes now octets) ∷ ts) log = counts_other ts (sent_counts (stored_log ts (Came now (TcpIn octets.items) ∷ log))) (sent_counts log) (counts_told ts (Came now (TcpIn octets.items) ∷ log))
 counts_told (told.Came (entries.Cut now) ∷ ts) log = counts_other ts (sent_counts (stored_log ts (Came now CutOff ∷ log))) (sent_counts log) (counts_told ts (Came now CutOff ∷ log))
 counts_told (told.Came (entries.Tick now) ∷ ts) log = counts_other ts (sent_counts (stored_log ts (Came now Ticked ∷ log))) (sent_counts log) (counts_told ts (Came now Ticked ∷ log))
+counts_told (told.Came (entries.Wall now number) ∷ ts) log = counts_other ts (sent_counts (stored_log ts (Came now (WallIs number) ∷ log))) (sent_counts log) (counts_told ts (Came now (WallIs number) ∷ log))
 counts_told (told.Line now octets ∷ ts) log = counts_other ts (sent_counts (stored_log ts (told_of (told.Line now octets) ∷ log))) (sent_counts log) (counts_told ts (told_of (told.Line now octets) ∷ log))
 counts_told (told.Tcp now octets ∷ ts) log =
     counts_told ts (told_of (told.Tcp now octets) ∷ log)
@@ -215,6 +216,7 @@ counted_log p (Came now CutOff ∷ log) acts = counted_log p log acts
 counted_log p (Came now (TcpIn octets) ∷ log) acts = counted_like (present log) (receiving (present log) octets) (past log) (sent_counts log) (received_open (present log) octets) (received_sent (present log) octets) (counted_log p log acts)
 counted_log p (Came now (LineIn octets) ∷ log) acts = counted_log p log acts
 counted_log p (Came now Ticked ∷ log) acts = counted_log p log acts
+counted_log p (Came now (WallIs number) ∷ log) acts = counted_log p log acts
 counted_log p (Went now (LineOut octets) ∷ log) acts = counted_log p log acts.1
 counted_log p (Went now (TcpOut octets) ∷ log) acts = counted_sent (present log) octets (past log) (sent_counts log) acts.0.may.0 acts.0.may.1 (counted_log p log acts.1)
 counted_log p (Went now (Closed cause) ∷ log) acts = counted_closed (ends cause) (present log) (closed_by cause (present log)) (past log) (sent_counts log) (closed_open cause (present log)) (closed_sent cause (present log)) (counted_log p log acts.1)

@@ -16,7 +16,7 @@ use Rattle.link.specs.Exchanges.{Exchange, Exchanges, OpenExchange, Sending, as_
 use Rattle.link.specs.Outstation.{Turn, silent, all_done}
 use Rattle.link.specs.Requests.{request_in}
 use Rattle.link.specs.Secondary.{Secondary, HearsOctets, served}
-use Rattle.gateway.specs.Log.{Log, Came, Went, LineIn, Opened, TcpIn, CutOff, Ticked, LineOut, TcpOut, Closed, GapOut, latest}
+use Rattle.gateway.specs.Log.{Log, Came, Went, LineIn, Opened, TcpIn, CutOff, Ticked, WallIs, LineOut, TcpOut, Closed, GapOut, latest}
 use Rattle.gateway.specs.Line.{IsWaiting}
 use Rattle.gateway.specs.Reports.{Setup, address_at, index_of, AreFound, sending_in, exchanges_of, exchanges_with}
 use Rattle.gateway.specs.Traffic.{ActsRightly}
@@ -25,9 +25,9 @@ use Rattle.sim.specs.declared.directive.Directive.{Directive}
 use Rattle.sim.specs.declared.directive.Fate.{Fate}
 use Rattle.sim.specs.declared.directive.Fate.TheVariants.{Unheard, AnswerLost, AnswerSpoilt, Answered}
 use Rattle.sim.specs.Centres.{start_apdu, acknowledging_apdu, centre_of}
-use Rattle.sim.specs.Losses.{fate_of, ack_of, is_cut_at, sent_at}
+use Rattle.sim.specs.Losses.{fate_of, ack_of, is_cut_at, sent_at, wall_at}
 use Rattle.sim.specs.Lives.{Plan, HeardByAll, IsPutOut, AreLived, requests_in, arriving, waiting_in}
-use Rattle.sim.specs.Calls.{calls_in, line_event, quiet_event, sending_event, event_at, FollowsPlan}
+use Rattle.sim.specs.Calls.{calls_in, line_event, quiet_event, sending_event, usual_event, walled_event, event_at, FollowsPlan}
 use Rattle.sim.specs.Outstations.{is_heard, request_to, requests_to, TakesTurn, TakesTurns}
 use Rattle.sim.specs.declared.tally.Tally.{Tally}
 use Rattle.sim.specs.Tallies.{tally_at, each_asked, each_heard, awaited_in, tallies_of}
@@ -179,14 +179,21 @@ sending_waits : (octets : List ℕ) (m : Option (List ℕ)) (ack : ℕ) (c : Cen
 sending_waits octets (Some asdu) ack c waiting e = cc
 sending_waits octets None ack c waiting e = quiet_waits octets ack c waiting e
 
-event_waits : (octets : List ℕ) (ds : List Directive) (call : ℕ) (c : Centre) (waiting : Option (List ℕ)) → LineIn octets ≡ event_at ds call c waiting → waiting ≡ Some octets
-event_waits octets ds call c waiting e = go (c.is_open && is_cut_at ds call) (not c.is_open) (not c.is_started) e
+usual_waits : (octets : List ℕ) (ds : List Directive) (call : ℕ) (c : Centre) (waiting : Option (List ℕ)) → LineIn octets ≡ usual_event ds call c waiting → waiting ≡ Some octets
+usual_waits octets ds call c waiting e = go (c.is_open && is_cut_at ds call) (not c.is_open) (not c.is_started) e
   where
     go : (x y z : Bool) → LineIn octets ≡ (if x then CutOff else if y then Opened else if z then TcpIn start_apdu else sending_event (sent_at ds call) (ack_of ds) c waiting) → waiting ≡ Some octets
     go true y z f = cc
     go false true z f = cc
     go false false true f = cc
     go false false false f = sending_waits octets (sent_at ds call) (ack_of ds) c waiting f
+
+event_waits : (octets : List ℕ) (ds : List Directive) (call : ℕ) (c : Centre) (waiting : Option (List ℕ)) → LineIn octets ≡ event_at ds call c waiting → waiting ≡ Some octets
+event_waits octets ds call c waiting e = walled (wall_at ds call) e
+  where
+    walled : (n : Option ℕ) → LineIn octets ≡ walled_event n (usual_event ds call c waiting) → waiting ≡ Some octets
+    walled (Some number) f = cc
+    walled None f = usual_waits octets ds call c waiting f
 
 -- The requests of its exchanges
 
@@ -250,6 +257,10 @@ same_asked p ds i (Came now CutOff ∷ log) =
 same_asked p ds i (Came now Ticked ∷ log) =
     let e : Exchanges = exchanges_of p log in
     let at : ℕ = latest (Came now Ticked ∷ log) in
+    after_current p.link.size i e.ended e.current (timed_current p.link.answer_ms at e.current) (timed_requests p.link.size i p.link.answer_ms at e.current) ∙ same_asked p ds i log
+same_asked p ds i (Came now (WallIs number) ∷ log) =
+    let e : Exchanges = exchanges_of p log in
+    let at : ℕ = latest (Came now (WallIs number) ∷ log) in
     after_current p.link.size i e.ended e.current (timed_current p.link.answer_ms at e.current) (timed_requests p.link.size i p.link.answer_ms at e.current) ∙ same_asked p ds i log
 same_asked p ds i (Went now (LineOut octets) ∷ log) =
     let heard : Bool = is_heard (fate_of ds (requests_in log + 1)) in
@@ -412,6 +423,10 @@ serves laws plan (Came now CutOff ∷ log) answers stations i d none fits lt liv
     (serves laws plan log answers stations i d none fits lt lived fit follows.2 acts)
 serves laws plan (Came now Ticked ∷ log) answers stations i d none fits lt lived fit follows acts =
     serves_timed plan.setup (requests_to plan.setup plan.directives i log) (exchanges_of plan.setup log) (waiting_in plan log answers) i (latest (Came now Ticked ∷ log)) (get_or plan.stations i d) (get_or stations i d)
+    (tally_at (tallies_of plan log answers stations lived) i)
+    (serves laws plan log answers stations i d none fits lt lived fit follows.2 acts)
+serves laws plan (Came now (WallIs number) ∷ log) answers stations i d none fits lt lived fit follows acts =
+    serves_timed plan.setup (requests_to plan.setup plan.directives i log) (exchanges_of plan.setup log) (waiting_in plan log answers) i (latest (Came now (WallIs number) ∷ log)) (get_or plan.stations i d) (get_or stations i d)
     (tally_at (tallies_of plan log answers stations lived) i)
     (serves laws plan log answers stations i d none fits lt lived fit follows.2 acts)
 serves laws plan (Went now (LineOut octets) ∷ log) [] stations i d none fits lt lived fit follows acts = absurd lived

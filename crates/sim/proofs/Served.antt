@@ -30,7 +30,7 @@ use Rattle.sim.proofs.Counting.{tally_over, counted_all}
 use Rattle.sim.proofs.Tallying.{tally_all, length_tallies}
 use Rattle.sim.specs.declared.directive.Class.TheVariants.{One, Two}
 use Rattle.sim.specs.declared.directive.Directive.{Directive}
-use Rattle.sim.specs.declared.directive.Directive.TheVariants.{Turns, Ack, Report, LoseRequest, LoseAnswer, SpoilAnswer, Cut, Send}
+use Rattle.sim.specs.declared.directive.Directive.TheVariants.{Turns, Ack, Wall, Report, LoseRequest, LoseAnswer, SpoilAnswer, Cut, Send}
 use Rattle.sim.specs.Losses.{report_said}
 use Rattle.sim.specs.Lives.{begun_from, plan_of, waiting_in}
 use Rattle.sim.specs.Outstations.{requests_to, first_station, HasSessions, IsCounted, HasServed, HaveServed}
@@ -126,6 +126,7 @@ reported_by index (Report i Two octets) = go (i == index)
     go false = omega arith
 reported_by index (Turns n) = omega arith
 reported_by index (Ack n) = omega arith
+reported_by index (Wall n) = omega arith
 reported_by index (LoseRequest n) = omega arith
 reported_by index (LoseAnswer n) = omega arith
 reported_by index (SpoilAnswer n place) = omega arith

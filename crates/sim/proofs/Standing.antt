@@ -5,7 +5,7 @@ use Rattle.std.specs.List.{AllByRecursion}
 use Rattle.ft12.specs.declared.frame.Frame.{Frame}
 use Rattle.ft12.specs.Spelling.{Fits}
 use Rattle.link.specs.Secondary.{Secondary}
-use Rattle.gateway.specs.Log.{Log, LogEntry, Came, Went, Input, LineIn, Opened, TcpIn, CutOff, Ticked, LineOut, TcpOut, Closed, GapOut, last_moment, latest}
+use Rattle.gateway.specs.Log.{Log, LogEntry, Came, Went, Input, LineIn, Opened, TcpIn, CutOff, Ticked, WallIs, LineOut, TcpOut, Closed, GapOut, last_moment, latest}
 use Rattle.gateway.specs.Reports.{Setup, sending_in, exchanges_of}
 use Rattle.link.specs.Exchanges.{OpenExchange, Exchanges, Sending, heard_octets, heard_current, timed, timed_current, begun_by}
 use Rattle.sim.specs.declared.tally.Tally.{Tally}
@@ -41,6 +41,7 @@ sent_after Opened c n le = omega arith
 sent_after (TcpIn octets) c n le = sent_by octets c n le
 sent_after CutOff c n le = omega arith
 sent_after Ticked c n le = omega arith
+sent_after (WallIs number) c n le = omega arith
 
 received_after : (event : Input) (c : Centre) (n : ℕ) → c.received ≤ n → (after_event event c).received ≤ n + 1
 received_after (LineIn octets) c n le = omega arith
@@ -48,6 +49,7 @@ received_after Opened c n le = omega arith
 received_after (TcpIn octets) c n le = received_by octets c n le
 received_after CutOff c n le = omega arith
 received_after Ticked c n le = omega arith
+received_after (WallIs number) c n le = omega arith
 
 waiting_after : (plan : Plan) (log : Log) (answers : List (Option Frame)) (now : ℕ) (event : Input) (at : Standing) → at.waiting ≡ waiting_in plan log answers →
     (standing_after plan (Came now event) at).waiting ≡ waiting_in plan (Came now event ∷ log) answers
@@ -56,6 +58,7 @@ waiting_after plan log answers now Opened at e = e
 waiting_after plan log answers now (TcpIn octets) at e = e
 waiting_after plan log answers now CutOff at e = e
 waiting_after plan log answers now Ticked at e = e
+waiting_after plan log answers now (WallIs number) at e = e
 
 -- What may still be answered
 
@@ -112,6 +115,9 @@ awaits_came p log now CutOff t at is =
 awaits_came p log now Ticked t at is =
     ap (awaited_timed p.link.answer_ms now) is ∙ awaits_timed p.link.answer_ms now (exchanges_of p log).current
     ∙ ap (λ (n : ℕ). awaited_in (timed_current p.link.answer_ms n (exchanges_of p log).current)) (sym at)
+awaits_came p log now (WallIs number) t at is =
+    ap (awaited_timed p.link.answer_ms now) is ∙ awaits_timed p.link.answer_ms now (exchanges_of p log).current
+    ∙ ap (λ (n : ℕ). awaited_in (timed_current p.link.answer_ms n (exchanges_of p log).current)) (sym at)
 
 -- once a request has gone out
 awaits_begun : (now : ℕ) (m : Option Sending) (e : Exchanges) (a : Option Awaited) → a ≡ awaited_in e.current → awaited_asked now m a ≡ awaited_in (begun_by now m e).current
@@ -130,6 +136,7 @@ counts_came plan log answers stations lived now Opened t is each = each
 counts_came plan log answers stations lived now (TcpIn octets) t is each = each
 counts_came plan log answers stations lived now CutOff t is each = each
 counts_came plan log answers stations lived now Ticked t is each = each
+counts_came plan log answers stations lived now (WallIs number) t is each = each
 
 came_with : (plan : Plan) (log : Log) (stations : List Secondary) (at : Standing) (now : ℕ) (event : Input) → event ≡ event_at plan.directives (at.call + 1) at.centre at.waiting →
     now ≡ min (at.moment + lasting plan.answer_ms event) last_moment → at.call < turns_of plan.directives → Stands plan log stations at → Stands plan (Came now event ∷ log) stations (standing_after plan (Came now event) at)

@@ -15,7 +15,7 @@ use Rattle.link.specs.Delivery.{reports}
 use Rattle.link.specs.Exchanges.{OpenExchange, Exchanges, Sending, as_list, all_of, heard_octets, heard_current, timed, timed_current, whole_of, view}
 use Rattle.link.specs.Outstation.{Turn, all_done}
 use Rattle.link.specs.Secondary.{Secondary}
-use Rattle.gateway.specs.Log.{Log, Came, Went, LineIn, Opened, TcpIn, CutOff, Ticked, LineOut, TcpOut, Closed, GapOut}
+use Rattle.gateway.specs.Log.{Log, Came, Went, LineIn, Opened, TcpIn, CutOff, Ticked, WallIs, LineOut, TcpOut, Closed, GapOut}
 use Rattle.gateway.specs.Reports.{Setup, address_at, sending_in, exchanges_of}
 use Rattle.sim.specs.declared.tally.Tally.{Tally}
 use Rattle.sim.specs.declared.tallies.Awaited.{Awaited}
@@ -183,6 +183,7 @@ length_tallies plan (Came now Opened ∷ log) answers stations lived = length_ta
 length_tallies plan (Came now (TcpIn octets) ∷ log) answers stations lived = length_tallies plan log answers stations lived
 length_tallies plan (Came now CutOff ∷ log) answers stations lived = length_tallies plan log answers stations lived
 length_tallies plan (Came now Ticked ∷ log) answers stations lived = length_tallies plan log answers stations lived
+length_tallies plan (Came now (WallIs number) ∷ log) answers stations lived = length_tallies plan log answers stations lived
 length_tallies plan (Went now (LineOut octets) ∷ log) [] stations lived = absurd lived
 length_tallies plan (Went now (LineOut octets) ∷ log) (answer ∷ answers) stations lived =
     length_asked (sending_in plan.setup octets) lived.0 (tallies_of plan log answers lived.0 lived.2) ∙ length_tallies plan log answers lived.0 lived.2

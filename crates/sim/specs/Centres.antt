@@ -1,5 +1,5 @@
--- What the control centre of a simulated line knows (IEC 60870-5-104, 5.1 and 5.3): whether its connection is open, and its
--- frames on it.
+-- What the control centre of a simulated line knows (IEC 60870-5-104, 5.1 and 5.3): whether its
+-- connection is open, and its frames on it.
 use Rattle.std.specs.Prelude.{ℕ, ◌+◌, ◌%◌, ◌==◌, Bool, true, false, if◌then◌else◌, List, [], ◌∷◌, slice_index}
 use Rattle.apci.specs.Spelling.{spelling}
 use Rattle.apci.specs.declared.apdu.Apdu.TheVariants.{I, S, U}
@@ -23,7 +23,8 @@ first_control octets = slice_index octets 2
 abbrev pub is_data : List ℕ → Bool
 is_data octets = first_control octets % 2 == 0
 
--- An APDU has gone to the gateway: STARTDT act starts data transfer, an I or an S format acknowledges all that was received.
+-- An APDU has gone to the gateway: STARTDT act starts data transfer, an I or an S format
+-- acknowledges all that was received.
 abbrev pub after_sending : List ℕ → Centre → Centre
 after_sending octets c =
     if first_control octets == 0x07 then record c { is_started = true }

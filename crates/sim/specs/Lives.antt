@@ -1,4 +1,5 @@
--- The stations of a simulated line: how they begin, and what each request that isn't lost makes of them.
+-- The stations of a simulated line: how they begin, and what each request that isn't lost makes of
+-- them.
 use Rattle.std.specs.Prelude.{◌≡◌, ℕ, ◌+◌, ◌%◌, List, [], ◌∷◌, ◌++◌, length, Option, Some, None}
 use Rattle.std.specs.List.{flat_map}
 use Rattle.ft12.specs.declared.frame.LinkSize.{LinkSize}
@@ -17,8 +18,8 @@ use Rattle.sim.specs.declared.directive.Fate.{Fate}
 use Rattle.sim.specs.declared.directive.Fate.TheVariants.{Unheard, AnswerLost, AnswerSpoilt, Answered}
 use Rattle.sim.specs.Losses.{fate_of, report_said}
 
--- what is fixed in a run: what the gateway is set to, the size of link addresses, how long an answer is awaited, what the script
--- says, and the stations as they begin
+-- what is fixed in a run: what the gateway is set to, the size of link addresses, how long an
+-- answer is awaited, what the script says, and the stations as they begin
 pub record Plan : Type 0 where
   pub setup : Setup
   pub size : LinkSize
@@ -51,11 +52,13 @@ abbrev pub later : Option Frame → Option Frame → Option Frame
 later a None = a
 later a (Some frame) = Some frame
 
--- Each station hears the octets. What comes is what the last one that answers says (only the one that is asked answers).
+-- Each station hears the octets. What comes is what the last one that answers says (only the one
+-- that is asked answers).
 abbrev pub HeardByAll : List ℕ → List Secondary → Option Frame → List Secondary → Type 0
 HeardByAll octets [] answer [] = answer ≡ None
 HeardByAll octets (s ∷ ss) answer (t ∷ ts) =
-    (first : Option Frame) × (others : Option Frame) × HearsOctets s octets first t × HeardByAll octets ss others ts × (answer ≡ later first others)
+    (first : Option Frame) × (others : Option Frame) × HearsOctets s octets first t
+    × HeardByAll octets ss others ts × (answer ≡ later first others)
 HeardByAll octets ss answer ts = ⊥
 
 -- a request that is lost is heard by none, any other by all
@@ -75,23 +78,29 @@ AreLived plan [] [] stations = stations ≡ plan.stations
 AreLived plan [] (answer ∷ answers) stations = ⊥
 AreLived plan (Went now (LineOut octets) ∷ log) [] stations = ⊥
 AreLived plan (Went now (LineOut octets) ∷ log) (answer ∷ answers) stations =
-    (before : List Secondary) × IsPutOut (fate_of plan.directives (requests_in log + 1)) octets before answer stations × AreLived plan log answers before
+    (before : List Secondary)
+    × IsPutOut (fate_of plan.directives (requests_in log + 1)) octets before answer stations
+    × AreLived plan log answers before
 AreLived plan (entry ∷ log) answers stations = AreLived plan log answers stations
 
--- what of an answer comes to wait: nothing where it is lost, and one octet is changed where it is spoilt
+-- what of an answer comes to wait: nothing where it is lost, and one octet is changed where it is
+-- spoilt
 abbrev pub arriving : LinkSize → Fate → Option Frame → Option (List ℕ)
 arriving size fate None = None
 arriving size Unheard (Some frame) = None
 arriving size AnswerLost (Some frame) = None
-arriving size (AnswerSpoilt place) (Some frame) = Some (spoilt (place % length (spelling size frame)) (spelling size frame))
+arriving size (AnswerSpoilt place) (Some frame) =
+    Some (spoilt (place % length (spelling size frame)) (spelling size frame))
 arriving size Answered (Some frame) = Some (spelling size frame)
 
--- What waits: the answer to the latest request, until octets are given. A next request takes its place.
+-- What waits: the answer to the latest request, until octets are given. A next request takes its
+-- place.
 abbrev pub waiting_in : Plan → Log → List (Option Frame) → Option (List ℕ)
 waiting_in plan [] answers = None
 waiting_in plan (Came now (LineIn octets) ∷ log) answers = None
 waiting_in plan (Went now (LineOut octets) ∷ log) [] = None
-waiting_in plan (Went now (LineOut octets) ∷ log) (answer ∷ answers) = arriving plan.size (fate_of plan.directives (requests_in log + 1)) answer
+waiting_in plan (Went now (LineOut octets) ∷ log) (answer ∷ answers) =
+    arriving plan.size (fate_of plan.directives (requests_in log + 1)) answer
 waiting_in plan (entry ∷ log) answers = waiting_in plan log answers
 
 -- the station with these reports of each class after those that it has

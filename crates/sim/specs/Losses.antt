@@ -4,7 +4,7 @@ use Rattle.std.specs.List.{list_any}
 use Rattle.sim.specs.declared.directive.Class.{Class}
 use Rattle.sim.specs.declared.directive.Class.TheVariants.{One, Two}
 use Rattle.sim.specs.declared.directive.Directive.{Directive}
-use Rattle.sim.specs.declared.directive.Directive.TheVariants.{Turns, Ack, Report, LoseRequest, LoseAnswer, SpoilAnswer, Cut, Send}
+use Rattle.sim.specs.declared.directive.Directive.TheVariants.{Turns, Ack, Wall, Report, LoseRequest, LoseAnswer, SpoilAnswer, Cut, Send}
 use Rattle.sim.specs.declared.directive.Fate.{Fate}
 use Rattle.sim.specs.declared.directive.Fate.TheVariants.{Unheard, AnswerLost, AnswerSpoilt, Answered}
 
@@ -25,6 +25,10 @@ abbrev pub ack_said : Directive → Option ℕ
 ack_said (Ack n) = Some n
 ack_said directive = None
 
+abbrev pub wall_said : Directive → Option ℕ
+wall_said (Wall n) = Some n
+wall_said directive = None
+
 abbrev pub spoil_said : (request : ℕ) → Directive → Option ℕ
 spoil_said request (SpoilAnswer n place) = if n == request then Some place else None
 spoil_said request directive = None
@@ -41,9 +45,17 @@ or_number (Some n) other = n
 abbrev pub turns_of : List Directive → ℕ
 turns_of ds = or_number (first_said turns_said ds) 0
 
--- from how many unacknowledged I frames on the control centre acknowledges: 1 where the script doesn't say
+-- from how many unacknowledged I frames on the control centre acknowledges: 1 where the script
+-- doesn't say
 abbrev pub ack_of : List Directive → ℕ
 ack_of ds = or_number (first_said ack_said ds) 1
+
+-- what the wall clock shows, in milliseconds since 1970-01-01 UTC: told at the first call
+abbrev pub wall_of : List Directive → Option ℕ
+wall_of ds = first_said wall_said ds
+
+abbrev pub wall_at : List Directive → (call : ℕ) → Option ℕ
+wall_at ds call = if call == 1 then wall_of ds else None
 
 abbrev pub loses_request : (request : ℕ) → Directive → Bool
 loses_request request (LoseRequest n) = n == request
@@ -67,7 +79,8 @@ abbrev pub spoilt_fate : Option ℕ → Fate
 spoilt_fate None = Answered
 spoilt_fate (Some place) = AnswerSpoilt place
 
--- what becomes of a request, by its number: it isn't heard, or else its answer is lost, or else spoilt
+-- what becomes of a request, by its number: it isn't heard, or else its answer is lost, or else
+-- spoilt
 abbrev pub fate_of : List Directive → (request : ℕ) → Fate
 fate_of ds request =
     if list_any (loses_request request) ds then Unheard
@@ -81,5 +94,6 @@ is_class class other = false
 
 -- what a line has the station with this index report
 abbrev pub report_said : (station : ℕ) → Class → Directive → List (List ℕ)
-report_said station class (Report i other octets) = if (i == station) && is_class class other then octets ∷ [] else []
+report_said station class (Report i other octets) =
+    if (i == station) && is_class class other then octets ∷ [] else []
 report_said station class directive = []

@@ -13,15 +13,16 @@ use Rattle.sim.specs.Lives.{Plan, AreLived, waiting_in, requests_in}
 use Rattle.sim.specs.Tallies.{Tallied, tallied_after, awaited_in, tallies_of, fresh_tally}
 use Rattle.sim.specs.Calls.{calls_in, moment_of, event_at, lasting, FollowsPlan}
 
--- The log is a run of the plan, in which the stations answered the requests so, the newest first, each answer by a frame that has
--- a spelling; and which leaves them so.
-pub record IsPlayed (plan : Plan) (log : Log) (answers : List (Option Frame)) (stations : List Secondary) : Type 0 where
+-- The log is a run of the plan, in which the stations answered the requests so, the newest first,
+-- each answer by a frame that has a spelling; and which leaves them so.
+pub record IsPlayed (plan : Plan) (log : Log) (answers : List (Option Frame))
+    (stations : List Secondary) : Type 0 where
   pub lived : AreLived plan log answers stations
   pub fit : AllByRecursion (λ answer. IfSome answer (Fits plan.size)) answers
   pub follows : FollowsPlan plan log answers
 
--- where a run stands: what waits, what the control centre knows, how many calls and requests there were, and what is counted of
--- the stations' links
+-- where a run stands: what waits, what the control centre knows, how many calls and requests there
+-- were, and what is counted of the stations' links
 pub record Standing : Type 0 where
   pub waiting : Option (List ℕ)
   pub centre : Centre
@@ -31,7 +32,8 @@ pub record Standing : Type 0 where
   pub tallied : Tallied
 
 -- The log is a run of the plan, and stands so.
-pub record Stands (plan : Plan) (log : Log) (stations : List Secondary) (at : Standing) : Type 0 where
+pub record Stands (plan : Plan) (log : Log) (stations : List Secondary)
+    (at : Standing) : Type 0 where
   pub answers : List (Option Frame)
   pub played : IsPlayed plan log answers stations
   pub waiting : at.waiting ≡ waiting_in plan log answers

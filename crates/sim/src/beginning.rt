@@ -23,7 +23,8 @@ fn report(
     directive: &Directive,
 ) -> Result<(), NoMemory>
     requires { FitsStations station.old.size stations directive.now }
-    ensures { OnOk result (station.new ≡ with_reports station.old (report_said index One directive.now) (report_said index Two directive.now)) }
+    ensures { OnOk result (station.new ≡ with_reports station.old
+        (report_said index One directive.now) (report_said index Two directive.now)) }
 {
     match directive {
         Directive::Report(i, Class::One, asdu) if *i == index => station.report1(asdu.octets()),
@@ -41,7 +42,9 @@ fn report_all(
     directives: &[Directive],
 ) -> Result<(), NoMemory>
     requires { AllByRecursion (FitsStations station.old.size stations) directives.now }
-    ensures { OnOk result (station.new ≡ with_reports station.old (flat_map (report_said index One) directives.now) (flat_map (report_said index Two) directives.now)) }
+    ensures { OnOk result (station.new ≡ with_reports station.old
+        (flat_map (report_said index One) directives.now)
+        (flat_map (report_said index Two) directives.now)) }
 {
     for directive in directives {
         report(station, index, stations, directive)?;
@@ -57,7 +60,8 @@ pub(crate) fn begin(
     script: &Script,
 ) -> Result<Vec<Station>, NoMemory>
     requires { FitsSettings config.now script.now }
-    ensures { IfOk result (λ v. v.items ≡ begun_from config.now.line.link 0 script.now config.now.stations) }
+    ensures { IfOk result (λ v. v.items
+        ≡ begun_from config.now.line.link 0 script.now config.now.stations) }
 {
     let size = config.line().link;
     let settings = config.stations();

@@ -4,11 +4,12 @@ ghost use Rattle.std.specs.Option.{option_copied};
 ghost use Rattle.sim.specs.Directives.{IsWithinRanges};
 ghost use Rattle.sim.specs.Scripts.{clashes, is_turns};
 ghost use Rattle.sim.specs.Texts.{reports_for};
-ghost use Rattle.sim.specs.Losses.{turns_said, ack_said, spoil_said, send_said, loses_request, loses_answer, cuts};
+ghost use Rattle.sim.specs.Losses.{turns_said, ack_said, wall_said, spoil_said, send_said, loses_request, loses_answer, cuts};
 
 use link::Asdu;
 
-/// A class of user data (IEC 60870-5-2): what a station gives at requests of class 1, or of class 2.
+/// A class of user data (IEC 60870-5-2): what a station gives at requests of class 1, or of class
+/// 2.
 #[derive(Clone, Copy, Debug, PartialEq, Eq)]
 pub enum Class {
     One,
@@ -28,26 +29,30 @@ pub enum Fate {
     Answered,
 }
 
-/// What a line of a script says. Requests on the line and calls of the port are counted from 1; there is none with number 0.
+/// What a line of a script says. Requests on the line and calls of the port are counted from 1;
+/// there is none with number 0.
 #[derive(Drop)]
 pub enum Directive {
     /// So many calls of the port.
     Turns(u64),
     /// The control centre acknowledges once so many I frames are unacknowledged, 1 to 32767.
     Ack(u64),
-    /// The station with this index, from 0, has this report from the start: 1 to 253 octets, or 252 with two-octet link
-    /// addresses.
+    /// At the first call the wall clock shows so many milliseconds since 1970-01-01 UTC.
+    Wall(u64),
+    /// The station with this index, from 0, has this report from the start: 1 to 253 octets, or 252
+    /// with two-octet link addresses.
     Report(usize, Class, Asdu),
     /// The request with this number isn't heard.
     LoseRequest(u64),
     /// The answer to the request with this number is lost.
     LoseAnswer(u64),
-    /// In the answer to the request with the first number the octet at this place, modulo its length, is changed in all eight
-    /// bits.
+    /// In the answer to the request with the first number the octet at this place, modulo its
+    /// length, is changed in all eight bits.
     SpoilAnswer(u64, u64),
     /// At the call with this number the connection is cut.
     Cut(u64),
-    /// At the call with this number an I frame with this ASDU, of 9 to 249 octets, goes to the gateway.
+    /// At the call with this number an I frame with this ASDU, of 9 to 249 octets, goes to the
+    /// gateway.
     Send(u64, Asdu),
 }
 
@@ -66,6 +71,7 @@ impl Directive {
         match self {
             Directive::Turns(_) => matches!(other, Directive::Turns(_)),
             Directive::Ack(_) => matches!(other, Directive::Ack(_)),
+            Directive::Wall(_) => matches!(other, Directive::Wall(_)),
             Directive::SpoilAnswer(n, _) => match other {
                 Directive::SpoilAnswer(m, _) => n == m,
                 _ => false,
@@ -95,6 +101,16 @@ impl Directive {
     {
         match self {
             Directive::Ack(n) => Some(*n),
+            _ => None,
+        }
+    }
+
+    /// What the wall clock shows, if it says so.
+    pub(crate) fn wall(&self) -> Option<u64>
+        ensures { result ≡ wall_said self.now }
+    {
+        match self {
+            Directive::Wall(number) => Some(*number),
             _ => None,
         }
     }

@@ -9,6 +9,8 @@ use arrayvec::ArrayVec;
 /// What is due at a call before the line has its turn.
 #[derive(Drop)]
 pub enum Due {
+    /// The wall clock shows so many milliseconds since 1970-01-01 UTC.
+    Wall(u64),
     /// The connection is cut.
     Cut,
     /// A connection is opened.
@@ -24,8 +26,12 @@ impl Due {
 
     /// What is due at the call with this number.
     pub(crate) fn at(script: &Script, call: u64, centre: &Centre) -> Due
-        ensures { (waiting : Option (List ℕ)) → due_input result waiting ≡ event_at script.now call centre.now waiting }
+        ensures { (waiting : Option (List ℕ))
+            → due_input result waiting ≡ event_at script.now call centre.now waiting }
     {
+        if let Some(number) = script.wall_at(call) {
+            return Due::Wall(number);
+        }
         if !centre.is_open {
             return Due::Open;
         }

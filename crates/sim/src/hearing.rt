@@ -24,7 +24,8 @@ fn later_of(before: Option<Frame>, frame: Option<Frame>) -> Option<Frame>
 /// Each station hears the octets. The answer is that of the last one that answers.
 fn hear_all(stations: &mut [Station], octets: &[u8]) -> Option<Frame>
     ensures heard { HeardByAll octets.now stations.old result stations.new }
-    ensures fits { (size : LinkSize) → AllByRecursion (λ s. s.size ≡ size) stations.old → IfSome result (Fits size) }
+    ensures fits { (size : LinkSize) → AllByRecursion (λ s. s.size ≡ size) stations.old
+        → IfSome result (Fits size) }
 {
     let mut answer = None;
     for station in stations.iter_mut() {
@@ -37,7 +38,8 @@ fn hear_all(stations: &mut [Station], octets: &[u8]) -> Option<Frame>
 /// Puts a request out to the stations, of which each hears it where it isn't lost.
 pub(crate) fn put_out(stations: &mut [Station], fate: Fate, octets: &[u8]) -> Option<Frame>
     ensures out { IsPutOut fate octets.now stations.old result stations.new }
-    ensures fits { (size : LinkSize) → AllByRecursion (λ s. s.size ≡ size) stations.old → IfSome result (Fits size) }
+    ensures fits { (size : LinkSize) → AllByRecursion (λ s. s.size ≡ size) stations.old
+        → IfSome result (Fits size) }
 {
     match fate {
         Fate::Unheard => None,
@@ -74,7 +76,8 @@ pub(crate) fn arriving(
 /// The octets of a frame, with the one at the place, modulo their length, changed.
 fn spoilt(size: LinkSize, place: u64, frame: &Frame) -> ArrayVec<u8, 261>
     requires { Fits size frame.now }
-    ensures { result.items ≡ spoilt (place % length (spelling size frame.now)) (spelling size frame.now) }
+    ensures { result.items ≡ spoilt (place % length (spelling size frame.now))
+        (spelling size frame.now) }
 {
     let mut octets = encode(size, frame);
     let len = octets.len();

@@ -24,15 +24,19 @@ use delivery::{each_session_is_known, losses_have_gaps, nothing_is_lost, silence
 use ft12::{front_is_computed, spoilt_lines_are_no_lines};
 use link::station_is_an_outstation;
 
-/// Whatever requests and answers a script loses or spoils, each simulated station is an honest outstation: it took its turns as the
-/// standard has it, no answer of it came late, and none was altered unseen. It gave the script's reports of each class in order,
-/// each once. In each session of its link what was taken from it is what it gave, or all but the last; and so for the commands that it
-/// accepted. What is counted of its sessions ([`crate::Tally`]) is what they say: how many there are, how many of those that ended have a
-/// gap, and how many reports were lost in these, which are at most as many as the gaps. Where unanswered services are held its link
-/// is never reset, and this holds of the whole run.
+/// Whatever requests and answers a script loses or spoils, each simulated station is an honest
+/// outstation: it took its turns as the standard has it, no answer of it came late, and none was
+/// altered unseen. It gave the script's reports of each class in order, each once. In each session
+/// of its link what was taken from it is what it gave, or all but the last; and so for the commands
+/// that it accepted. What is counted of its sessions ([`crate::Tally`]) is what they say: how many
+/// there are, how many of those that ended have a gap, and how many reports were lost in these,
+/// which are at most as many as the gaps. Where unanswered services are held its link is never
+/// reset, and this holds of the whole run.
 pub fn stations_are_honest()
-    ensures { (c : Settings) (ds : List Directive) (log : Log) (answers : List (Option Frame)) (stations : List Secondary) (tallies : List Tally) →
-        AreDistinct c.stations → (played : IsPlayed (plan_of c ds) log answers stations) → tallies ≡ tallies_of (plan_of c ds) log answers stations played.lived →
+    ensures { (c : Settings) (ds : List Directive) (log : Log) (answers : List (Option Frame))
+        (stations : List Secondary) (tallies : List Tally) →
+        AreDistinct c.stations → (played : IsPlayed (plan_of c ds) log answers stations) →
+        tallies ≡ tallies_of (plan_of c ds) log answers stations played.lived →
         length log < 2 ^ 64 → IsFaithful (setup_of c) log → HaveServed c ds log 0 stations tallies }
 {
     front_is_computed();
@@ -44,11 +48,12 @@ pub fn stations_are_honest()
     silence_is_no_reset();
 }
 
-/// The closing lines of a run's connections, which the text counts from its actions, have the numbers of the monitor objects that
-/// the frames of the connections bear.
+/// The closing lines of a run's connections, which the text counts from its actions, have the
+/// numbers of the monitor objects that the frames of the connections bear.
 pub fn connections_are_counted()
-    ensures { (p : Setup) (told : List Told) → IsFaithful p (log_of told) → (d : Delivers p (log_of told)) →
-        connection_lines 1 told ≡ lines_of_connections (connections_in (log_of told) d.here d.earlier) }
+    ensures { (p : Setup) (told : List Told) → IsFaithful p (log_of told) →
+        (d : Delivers p (log_of told)) → connection_lines 1 told
+        ≡ lines_of_connections (connections_in (log_of told) d.here d.earlier) }
 {
     spellings_cancel();
 }

@@ -1,7 +1,8 @@
 //! One line of a script.
 ghost use Rattle.std.specs.Prelude.{◌≡◌, ℕ, ◌<◌, ◌≤◌, IfOk, IfSome, length, option_map};
 ghost use Rattle.ft12.specs.declared.frame.LinkSize.{LinkSize};
-ghost use Rattle.sim.specs.Directives.{number_of, counted, counted_by, losing_by, sending_by, spoiling_by, longest_report, class_of, classed, reporting_by, of_three, of_four, directive_in, FitsStations, IsWithinRanges};
+ghost use Rattle.traces.specs.Fields.{decimal_of};
+ghost use Rattle.sim.specs.Directives.{number_of, counted, counted_by, walled_by, of_two, losing_by, sending_by, spoiling_by, longest_report, class_of, classed, reporting_by, of_three, of_four, directive_in, FitsStations, IsWithinRanges};
 
 use crate::directive::{Class, Directive};
 use ft12::LinkSize;
@@ -25,7 +26,8 @@ fn number(digits: &[u8]) -> Option<u64>
     }
 }
 
-/// What a line says, where there are so many stations and link addresses have this size. `None` where it says nothing.
+/// What a line says, where there are so many stations and link addresses have this size. `None`
+/// where it says nothing.
 pub(crate) fn read_line(
     alloc: Global,
     size: LinkSize,
@@ -38,13 +40,36 @@ pub(crate) fn read_line(
 {
     let fields = pieces(alloc, line, SPACE)?;
     match fields.as_slice() {
-        [word, number] => Ok(counted(*word, *number)),
+        [word, number] => Ok(of_two(*word, *number)),
         [word, second, third] => of_three(alloc, *word, *second, *third),
         [word, second, third, fourth] => {
             of_four(alloc, size, stations, *word, *second, *third, *fourth)
         }
         _ => Ok(None),
     }
+}
+
+/// `wall WALL`, `turns N`, `ack N` and `cut N`.
+fn of_two(word: &[u8], digits: &[u8]) -> Option<Directive>
+    ensures said { result ≡ of_two word.now digits.now }
+    ensures fits { (size : LinkSize) (stations : ℕ) → IfSome result (FitsStations size stations) }
+    ensures ranges { IfSome result IsWithinRanges }
+{
+    if word == b"wall".as_slice() {
+        walled(digits)
+    } else {
+        counted(word, digits)
+    }
+}
+
+/// `wall WALL`: of all numbers the one that has up to 15 digits, as the moments of traces.
+fn walled(digits: &[u8]) -> Option<Directive>
+    ensures said { result ≡ walled_by (decimal_of digits.now) }
+    ensures fits { (size : LinkSize) (stations : ℕ) → IfSome result (FitsStations size stations) }
+    ensures ranges { IfSome result IsWithinRanges }
+{
+    let number = read_decimal(digits)?;
+    Some(Directive::Wall(number))
 }
 
 /// `turns N`, `ack N` and `cut N`.
@@ -70,7 +95,8 @@ fn of_three(
     third: &[u8],
 ) -> Result<Option<Directive>, AllocError>
     ensures said { IfOk result (λ said. said ≡ of_three word.now second.now third.now) }
-    ensures fits { (size : LinkSize) (stations : ℕ) → IfOk result (λ said. IfSome said (FitsStations size stations)) }
+    ensures fits { (size : LinkSize) (stations : ℕ)
+        → IfOk result (λ said. IfSome said (FitsStations size stations)) }
     ensures ranges { IfOk result (λ said. IfSome said IsWithinRanges) }
 {
     match word {
@@ -120,7 +146,8 @@ fn of_four(
     third: &[u8],
     fourth: &[u8],
 ) -> Result<Option<Directive>, AllocError>
-    ensures said { IfOk result (λ said. said ≡ of_four size stations word.now second.now third.now fourth.now) }
+    ensures said { IfOk result (λ said. said
+        ≡ of_four size stations word.now second.now third.now fourth.now) }
     ensures fits { IfOk result (λ said. IfSome said (FitsStations size stations)) }
     ensures ranges { IfOk result (λ said. IfSome said IsWithinRanges) }
 {
@@ -176,7 +203,8 @@ fn reporting(
     octets: Option<Vec<u8>>,
 ) -> Option<Directive>
     requires { IfSome octets (λ v. 1 ≤ length v.items) }
-    ensures said { result ≡ reporting_by size stations station class_number (option_map (λ v. v.items) octets) }
+    ensures said { result
+        ≡ reporting_by size stations station class_number (option_map (λ v. v.items) octets) }
     ensures fits { IfSome result (FitsStations size stations) }
     ensures ranges { IfSome result IsWithinRanges }
 {

@@ -14,7 +14,8 @@ use traces::{TextFault, is_skipped, pieces};
 
 const LINE_FEED: u8 = b'\n';
 
-/// The lines that line feeds end. What follows the last line feed is a line where there is something.
+/// The lines that line feeds end. What follows the last line feed is a line where there is
+/// something.
 #[tactic(auto, using(crate::proofs::ScriptLemmas::ended_without, crate::proofs::ScriptLemmas::ended_with))]
 fn lines(alloc: Global, text: &[u8]) -> Result<Vec<&[u8]>, AllocError>
     ensures { IfOk result (λ v. map (λ line. line.now) v.items ≡ lines_of text.entry.now) }
@@ -51,7 +52,9 @@ fn read_lines(
     stations: usize,
     lines: &[&[u8]],
 ) -> Result<Script, TextFault>
-    ensures script { MatchResult result (AreSaidBy size stations (map (λ line. line.now) lines.now)) (IsFaultOf size stations (map (λ line. line.now) lines.now)) }
+    ensures script { MatchResult result
+        (AreSaidBy size stations (map (λ line. line.now) lines.now))
+        (IsFaultOf size stations (map (λ line. line.now) lines.now)) }
     ensures fits { IfOk result (AllByRecursion (FitsStations size stations)) }
 {
     let mut directives = Vec::new(alloc);
@@ -71,11 +74,13 @@ fn read_lines(
     }
 }
 
-/// Reads a whole script for these settings: lines that end in a line feed (the last may lack it), empty ones and those that begin
-/// with `#` skipped. Numbers are 1 to 9 decimal digits, octets in hexadecimal of either case. The lines are `turns N`, `ack N` (1 to
-/// 32767), `report S CLASS HEX` (station from 1, class 1 or 2), `lose request N`, `lose answer N`, `spoil answer N P`, `cut N` and
-/// `send N HEX` (9 to 249 octets). The first wrong line is the fault; a second `turns`, `ack`, `spoil answer` for one request or
-/// `send` for one call is wrong, and a script without `turns` at the line after the last.
+/// Reads a whole script for these settings: lines that end in a line feed (the last may lack it),
+/// empty ones and those that begin with `#` skipped. Numbers are 1 to 9 decimal digits, octets in
+/// hexadecimal of either case. The lines are `turns N`, `ack N` (1 to 32767), `wall WALL` (1 to 15
+/// digits), `report S CLASS HEX` (station from 1, class 1 or 2), `lose request N`, `lose answer N`,
+/// `spoil answer N P`, `cut N` and `send N HEX` (9 to 249 octets). The first wrong line is the
+/// fault; a second `turns`, `ack`, `wall`, `spoil answer` for one request or `send` for one call is
+/// wrong, and a script without `turns` at the line after the last.
 pub fn read_script(alloc: Global, config: &Config, text: &[u8]) -> Result<Script, TextFault>
     ensures script { IsScriptOf config.now text.now result }
     ensures fits { IfOk result (FitsSettings config.now) }

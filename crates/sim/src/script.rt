@@ -3,15 +3,16 @@ ghost use Rattle.std.specs.Prelude.{◌≡◌, ◌≤◌, IfSome, length};
 ghost use Rattle.std.specs.List.{list_any};
 ghost use Rattle.std.specs.Option.{option_copied};
 ghost use Rattle.sim.specs.Scripts.{IsScript};
-ghost use Rattle.sim.specs.Losses.{turns_of, ack_of, is_cut_at, sent_at, fate_of, first_said, spoil_said, loses_request, loses_answer};
+ghost use Rattle.sim.specs.Losses.{turns_of, ack_of, wall_of, wall_at, is_cut_at, sent_at, fate_of, first_said, spoil_said, loses_request, loses_answer};
 
 use crate::directive::{Directive, Fate};
 use link::Asdu;
 use std::marker::Model;
 
-/// What is to happen on a simulated line: how many calls of its port there are, what its stations report, which requests and
-/// answers are lost or spoilt, when the connection is cut and what the control centre sends. Contracts see it as the list of its
-/// lines. Of `turns` and `ack` it has one at most, `turns` it has; no answer is spoilt twice, and no call sends twice.
+/// What is to happen on a simulated line: how many calls of its port there are, what its stations
+/// report, which requests and answers are lost or spoilt, when the connection is cut and what the
+/// control centre sends. Contracts see it as the list of its lines. Of `turns`, `ack` and `wall` it
+/// has one at most, `turns` it has; no answer is spoilt twice, and no call sends twice.
 #[derive(Drop)]
 pub struct Script {
     directives: Vec<Directive>,
@@ -72,6 +73,27 @@ impl Script {
             }
         }
         1
+    }
+
+    /// What the wall clock shows at the first call.
+    #[tactic(auto, using(crate::proofs::Finding::first_next, crate::proofs::Finding::first_here, crate::proofs::Finding::first_none))]
+    fn wall(&self) -> Option<u64>
+        ensures { result ≡ wall_of self.now }
+    {
+        for directive in &self.directives {
+            if let Some(number) = directive.wall() {
+                return Some(number);
+            }
+        }
+        None
+    }
+
+    /// What the wall clock shows at the call with this number, in milliseconds since 1970-01-01
+    /// UTC; it is told at the first call alone.
+    pub fn wall_at(&self, call: u64) -> Option<u64>
+        ensures { result ≡ wall_at self.now call }
+    {
+        if call == 1 { self.wall() } else { None }
     }
 
     /// The place at which the answer to this request is spoilt, if it is.

@@ -1,8 +1,8 @@
 //! The port of a simulated line.
-ghost use Rattle.std.specs.Prelude.{◌≡◌, ℕ, ◌+◌, ◌<◌, ◌≤◌, ◌^◌, min, Bool, true, false, List, [], ◌∷◌, ◌++◌, length, take, IfOk, OnOk, OnErr, Option, Some, None, if◌then◌else◌, option_map, nat_le};
+ghost use Rattle.std.specs.Prelude.{◌≡◌, ℕ, ◌+◌, ◌<◌, ◌≤◌, ◌^◌, min, Bool, true, false, List, [], ◌∷◌, ◌++◌, length, IfOk, OnOk, OnErr, Option, Some, None, if◌then◌else◌, option_map, nat_le};
 ghost use Rattle.gateway.specs.Log.{LogEntry, Came, Went, LineOut, TcpOut, Closed, GapOut, Input, tell, last_moment};
 ghost use Rattle.gateway.specs.Ports.{told_by, output_of, FitsBuffer, faults_of};
-ghost use Rattle.gateway.specs.Entries.{FitsPort, event_of, log_of, number_of, told_of};
+ghost use Rattle.gateway.specs.Entries.{FitsPort, event_of, log_of, told_of};
 ghost use Rattle.sim.specs.Lives.{Plan, plan_of};
 ghost use Rattle.sim.specs.Losses.{turns_of};
 ghost use Rattle.sim.specs.Scripts.{FitsSettings};
@@ -22,11 +22,13 @@ use link::{NoMemory, Station, station_is_an_outstation};
 use session::Close;
 use std::alloc::{AllocError, Global};
 use std::marker::Model;
+use traces::{announce, cause_number};
 
 /// The last moment that counts.
 const LAST_MOMENT: u64 = 999_999_999_999_999;
 
-/// A line whose stations and control centre do as a script says, as the port of a gateway. It stores its log.
+/// A line whose stations and control centre do as a script says, as the port of a gateway. It
+/// stores its log.
 #[derive(Drop)]
 pub struct Sim<'a> {
     alloc: Global,
@@ -58,50 +60,27 @@ impl<'a> Model for Sim<'a> {
       log = log_of a.log.items;
       failed = a.failures;
       stations = a.stations.items;
-      standing = record { waiting = option_map (λ v. v.items) a.waiting; centre = a.centre; call = a.call; moment = a.moment; requests = a.requests; tallied = a.tallies };
+      standing = record {
+        waiting = option_map (λ v. v.items) a.waiting;
+        centre = a.centre;
+        call = a.call;
+        moment = a.moment;
+        requests = a.requests;
+        tallied = a.tallies;
+      };
     } };
 
     // The log is a run of the plan, and the rest is as it stands after the log.
     ghost invariant = { λ a. (a.turns ≡ turns_of a.script.now)
-        × Stands (plan_of a.config.now a.script.now) (log_of a.log.items) a.stations.items (record { waiting = option_map (λ v. v.items) a.waiting; centre = a.centre; call = a.call; moment = a.moment; requests = a.requests; tallied = a.tallies }) };
-}
-
-/// Copies the octets to the front.
-fn fill(buf: &mut [u8; 1024], octets: &[u8])
-    requires { length octets.now ≤ 1024 }
-    ensures { take (length octets.now) buf.new ≡ octets.now }
-{
-    buf[..octets.len()].copy_from_slice(octets);
-}
-
-/// Copies the octets of an event to the front of the buffer.
-fn announce(entry: &Entry, buf: &mut [u8; 1024]) -> Next
-    requires { FitsPort entry.now }
-    ensures told { told_by result buf.new ≡ event_of entry.now ∷ [] }
-    ensures fits { FitsBuffer result }
-    ensures healthy { faults_of result ≡ 0 }
-    ensures some { result ≡ Next.Done → ⊥ }
-{
-    match entry {
-        Entry::Line(now, octets) => {
-            fill(buf, octets);
-            Next::Line(*now, octets.len())
-        }
-        Entry::Open(now) => Next::Open(*now),
-        Entry::Bytes(now, octets) => {
-            fill(buf, octets);
-            Next::Bytes(*now, octets.len())
-        }
-        Entry::Cut(now) => Next::Cut(*now),
-        Entry::Tick(now) => Next::Tick(*now),
-    }
-}
-
-/// The number of a cause.
-fn number(cause: Close) -> u8
-    ensures { result ≡ number_of cause }
-{
-    cause as u8
+        × Stands (plan_of a.config.now a.script.now) (log_of a.log.items) a.stations.items
+        (record {
+          waiting = option_map (λ v. v.items) a.waiting;
+          centre = a.centre;
+          call = a.call;
+          moment = a.moment;
+          requests = a.requests;
+          tallied = a.tallies;
+        }) };
 }
 
 /// Adds to the log.
@@ -122,7 +101,7 @@ fn centre_after(entry: &Entry, centre: Centre) -> Centre
         Entry::Open(_) => Centre::opened(),
         Entry::Cut(_) => Centre::shut(),
         Entry::Bytes(_, octets) => centre.after_sending(octets),
-        Entry::Line(_, _) | Entry::Tick(_) => centre,
+        Entry::Line(_, _) | Entry::Tick(_) | Entry::Wall(_, _) => centre,
     }
 }
 
@@ -135,7 +114,8 @@ pub(crate) fn moment_at(entry: &Entry) -> u64
         | Entry::Open(now)
         | Entry::Bytes(now, _)
         | Entry::Cut(now)
-        | Entry::Tick(now) => *now,
+        | Entry::Tick(now)
+        | Entry::Wall(now, _) => *now,
     }
 }
 
@@ -147,7 +127,8 @@ fn is_given(entry: &Entry) -> bool
 
 /// Takes away what waits, where it is given.
 fn forget(waiting: &mut Option<ArrayVec<u8, 261>>, is_given: bool)
-    ensures { option_map (λ v. v.items) waiting.new ≡ (if is_given then None else option_map (λ v. v.items) waiting.old) }
+    ensures { option_map (λ v. v.items) waiting.new
+        ≡ (if is_given then None else option_map (λ v. v.items) waiting.old) }
 {
     if is_given {
         *waiting = None;
@@ -215,11 +196,13 @@ impl<'a> Sim<'a> {
     /// The next event.
     fn next_entry(&self) -> Result<Entry, AllocError>
         requires { self.now.standing.call < u64.MAX }
-        ensures event { IfOk result (λ entry. event_of entry ≡ coming self.now.plan self.now.standing) }
+        ensures event { IfOk result (λ entry. event_of entry
+            ≡ coming self.now.plan self.now.standing) }
         ensures fits { IfOk result FitsPort }
     {
         let answer_ms = self.config.line().answer_ms;
         match Due::at(self.script, self.call + 1, &self.centre) {
+            Due::Wall(number) => Ok(Entry::Wall(self.after(1), number)),
             Due::Cut => Ok(Entry::Cut(self.after(1))),
             Due::Open => Ok(Entry::Open(self.after(1))),
             Due::Apdu(octets) => {
@@ -302,7 +285,7 @@ impl<'a> Sim<'a> {
         ensures plan { self.new.plan ≡ self.old.plan }
         ensures failed { self.new.failed ≡ self.old.failed }
     {
-        keep(&mut self.log, Told::Close(now, number(cause)))?;
+        keep(&mut self.log, Told::Close(now, cause_number(cause)))?;
         self.centre = Centre::shut();
         Ok(())
     }

@@ -59,7 +59,8 @@ impl From<link::NoMemory> for SimFault {
 /// Writes all the octets.
 fn write_octets<W: Write>(out: &mut W, octets: &[u8]) -> Result<(), SimFault>
     ensures all { OnOk result (Appends (W.contents out.old) (W.contents out.new) octets.now) }
-    ensures begun { IfErr result (λ e. (e ≡ fault.Write) × IsBegun (W.contents out.old) (W.contents out.new) octets.now) }
+    ensures begun { IfErr result (λ e. (e ≡ fault.Write)
+        × IsBegun (W.contents out.old) (W.contents out.new) octets.now) }
 {
     let mut done = 0;
     while done < octets.len() {
@@ -94,17 +95,20 @@ fn run<'a>(alloc: Global, config: &'a Config, script: &'a Script) -> Result<Sim<
     }
 }
 
-/// Runs a gateway with these settings over a line, stations and a control centre that do as the script says, for as many calls as it
-/// says, and writes the text of the run: a line for each action, then one for each station and for each connection. The script is
-/// to be one for these settings.
+/// Runs a gateway with these settings over a line, stations and a control centre that do as the
+/// script says, for as many calls as it says, and writes the text of the run: a line for each
+/// action, then one for each station and for each connection. The script is to be one for these
+/// settings.
 ///
-/// Whatever the script loses or spoils, each station is an honest outstation of that run, and what goes to the control centre is a
-/// contiguous run, on each connection, of a merge of what was taken from the stations. Where unanswered services are held (`silence`
-/// is `Hold`), what was taken from a station is what it gave, or all but its last report; with `Reset` this holds of each session
+/// Whatever the script loses or spoils, each station is an honest outstation of that run, and what
+/// goes to the control centre is a contiguous run, on each connection, of a merge of what was taken
+/// from the stations. Where unanswered services are held (`silence` is `Hold`), what was taken from
+/// a station is what it gave, or all but its last report; with `Reset` this holds of each session
 /// between two resets.
 ///
-/// After `Write` what was written is the beginning of the text of such a run; after `NoMemory` nothing was written. That a `write` that
-/// fails or takes no octet is answered by `Write`, and no other, is no clause: a test shows it.
+/// After `Write` what was written is the beginning of the text of such a run; after `NoMemory`
+/// nothing was written. That a `write` that fails or takes no octet is answered by `Write`, and no
+/// other, is no clause: a test shows it.
 pub fn simulate<W: Write>(
     alloc: Global,
     config: &Config,
@@ -112,8 +116,10 @@ pub fn simulate<W: Write>(
     out: &mut W,
 ) -> Result<(), SimFault>
     requires { FitsSettings config.now script.now }
-    ensures run { OnOk result (IsSimulated config.now script.now (W.contents out.old) (W.contents out.new)) }
-    ensures left { IfErr result (IsLeft config.now script.now (W.contents out.old) (W.contents out.new)) }
+    ensures run { OnOk result
+        (IsSimulated config.now script.now (W.contents out.old) (W.contents out.new)) }
+    ensures left { IfErr result
+        (IsLeft config.now script.now (W.contents out.old) (W.contents out.new)) }
 {
     stations_are_honest();
     connections_are_counted();

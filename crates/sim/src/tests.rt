@@ -30,6 +30,7 @@ fn config(alloc: Global, link: LinkSize) -> Result<Config, AllocError> {
         t2_ms: 10000,
         t3_ms: 20000,
         select_ms: 30000,
+        max_age_ms: 10000,
     };
     let first = Station {
         address: 1,
@@ -49,24 +50,26 @@ fn config(alloc: Global, link: LinkSize) -> Result<Config, AllocError> {
 fn each_kind_of_line_is_read(rt: HostRuntime) -> Result<(), Fail> {
     let alloc = rt.alloc();
     let config = config(alloc, LinkSize::One)?;
-    let text =
-        b"# a comment\n\nturns 000000008\nack 32767\nreport 2 1 0aFF\nlose request 0\nlose answer 3\nspoil answer 3 999999999\ncut 7\nsend 1 640106000100000014\nreport 1 2 00";
+    let text = b"# a comment\n\nturns 000000008\nack 32767\nwall 999999999999999\nreport 2 1 0aFF\n\
+        lose request 0\nlose answer 3\nspoil answer 3 999999999\ncut 7\n\
+        send 1 640106000100000014\nreport 1 2 00";
     let script = read_script(alloc, &config, text)?;
     let lines = script.directives();
-    assert_eq!(rt; lines.len(), 9);
+    assert_eq!(rt; lines.len(), 10);
     assert!(rt; matches!(&lines[0], Directive::Turns(8)));
     assert!(rt; matches!(&lines[1], Directive::Ack(32767)));
-    match &lines[2] {
+    assert!(rt; matches!(&lines[2], Directive::Wall(999999999999999)));
+    match &lines[3] {
         Directive::Report(1, Class::One, octets) => {
             assert_eq!(rt; octets.octets(), &[0x0A, 0xFF][..]);
         }
         _ => assert!(rt; false),
     }
-    assert!(rt; matches!(&lines[3], Directive::LoseRequest(0)));
-    assert!(rt; matches!(&lines[4], Directive::LoseAnswer(3)));
-    assert!(rt; matches!(&lines[5], Directive::SpoilAnswer(3, 999999999)));
-    assert!(rt; matches!(&lines[6], Directive::Cut(7)));
-    match &lines[7] {
+    assert!(rt; matches!(&lines[4], Directive::LoseRequest(0)));
+    assert!(rt; matches!(&lines[5], Directive::LoseAnswer(3)));
+    assert!(rt; matches!(&lines[6], Directive::SpoilAnswer(3, 999999999)));
+    assert!(rt; matches!(&lines[7], Directive::Cut(7)));
+    match &lines[8] {
         Directive::Send(1, octets) => {
             assert_eq!(rt;
                 octets.octets(),
@@ -75,7 +78,7 @@ fn each_kind_of_line_is_read(rt: HostRuntime) -> Result<(), Fail> {
         }
         _ => assert!(rt; false),
     }
-    assert!(rt; matches!(&lines[8], Directive::Report(0, Class::Two, _)));
+    assert!(rt; matches!(&lines[9], Directive::Report(0, Class::Two, _)));
     Ok(())
 }
 
@@ -103,8 +106,16 @@ fn the_first_wrong_line_is_told(rt: HostRuntime) -> Result<(), Fail> {
         ("turns  1", 1),
         ("turns 1\r\n", 1),
         ("Turns 1", 1),
+        ("wall", 1),
+        ("wall \nturns 1", 1),
+        ("wall x\nturns 1", 1),
+        ("wall 1 1\nturns 1", 1),
+        ("Wall 1\nturns 1", 1),
+        ("wall 1000000000000000\nturns 1", 1),
+        ("wall 0000000000000001\nturns 1", 1),
         // What stands once
         ("turns 1\nturns 1\n", 2),
+        ("turns 1\nwall 1\n\nwall 2\n", 4),
         ("turns 1\nack 1\nack 1\n", 3),
         ("spoil answer 1 1\n\nspoil answer 01 2\nturns 1", 3),
         (
@@ -214,6 +225,7 @@ fn one_station(alloc: Global) -> Result<Config, AllocError> {
         t2_ms: 10000,
         t3_ms: 20000,
         select_ms: 30000,
+        max_age_ms: 10000,
     };
     let station = Station {
         address: 1,
@@ -276,6 +288,69 @@ fn no_calls_give_the_closing_lines(rt: HostRuntime) -> Result<(), Fail> {
         out.as_slice(),
         b"station 1 reports 1 given 0 accepted 0\n".as_slice()
     );
+    Ok(())
+}
+
+/// A command with a time tag, judged at an age of 3.2 s and of 10 s.
+const FRESH: &str = "1 > S 1049014A16
+3 > T 68040B000000
+4 > S 1040014116
+5 > S 107B017C16
+7 > S 6809096853012D0106010A00019416
+8 > S 107B017C16
+9 > S 105B015C16
+station 1 reports 0 given 0 accepted 1
+connection 1 objects 0
+";
+
+/// The same at 10.001 s: one millisecond too old.
+const OLD: &str = "1 > S 1049014A16
+3 > T 68040B000000
+4 > S 1040014116
+5 > S 107B017C16
+6 > T 6815000002003A01470001000A000001D5DD220C9D0218
+8 > S 105B015C16
+9 > S 107B017C16
+station 1 reports 0 given 0 accepted 0
+connection 1 objects 0
+";
+
+/// The same without a wall clock, so one call earlier.
+const UNKNOWN: &str = "1 > S 1049014A16
+2 > T 68040B000000
+3 > S 1040014116
+4 > S 107B017C16
+5 > T 6815000002003A01470001000A000001D5DD220C9D0218
+7 > S 105B015C16
+8 > S 107B017C16
+station 1 reports 0 given 0 accepted 0
+connection 1 objects 0
+";
+
+#[test]
+fn the_wall_clock_comes_at_the_first_call(rt: HostRuntime) -> Result<(), Fail> {
+    // The tag is 1709210096789 ms; the command comes 5 ms after the wall clock was told.
+    for (text, want) in [
+        (
+            "turns 9\nwall 1709210100000\nsend 6 3A01060001000A000001D5DD220C9D0218\n",
+            FRESH,
+        ),
+        (
+            "send 6 3A01060001000A000001D5DD220C9D0218\nturns 9\nwall 1709210106784",
+            FRESH,
+        ),
+        (
+            "wall 1709210106785\nturns 9\nsend 6 3A01060001000A000001D5DD220C9D0218\n",
+            OLD,
+        ),
+        (
+            "turns 8\nsend 5 3A01060001000A000001D5DD220C9D0218\n",
+            UNKNOWN,
+        ),
+    ] {
+        let out = written(rt.alloc(), text)?;
+        assert_eq!(rt; out.as_slice(), want.as_bytes(), "{text}");
+    }
     Ok(())
 }
 

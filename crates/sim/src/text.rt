@@ -18,7 +18,8 @@ use traces::append_line;
 #[tactic(auto, using(crate::proofs::TextLemmas::text_more, crate::proofs::TextLemmas::text_end))]
 /// Appends the lines of a log's actions, in their order.
 fn push_actions(alloc: Global, lines: &mut String, log: &[Told]) -> Result<(), AllocError>
-    ensures { OnOk result (string_bytes lines.new ≡ string_bytes lines.old ++ flat_map stored_line log.now) }
+    ensures { OnOk result (string_bytes lines.new ≡ string_bytes lines.old
+        ++ flat_map stored_line log.now) }
 {
     for told in log {
         append_line(alloc, lines, told)?;
@@ -44,7 +45,8 @@ fn push_station(
     station: &Station,
 ) -> Result<(), AllocError>
     requires { index + 1 < 2 ^ 64 }
-    ensures { OnOk result (string_bytes lines.new ≡ string_bytes lines.old ++ line_of_station directives.now index station.now) }
+    ensures { OnOk result (string_bytes lines.new ≡ string_bytes lines.old
+        ++ line_of_station directives.now index station.now) }
 {
     let number = index + 1;
     let reports = reports(directives, index);
@@ -63,7 +65,8 @@ fn push_stations(
     directives: &[Directive],
     stations: &[Station],
 ) -> Result<(), AllocError>
-    ensures { OnOk result (string_bytes lines.new ≡ string_bytes lines.old ++ station_lines directives.now 0 stations.now) }
+    ensures { OnOk result (string_bytes lines.new ≡ string_bytes lines.old
+        ++ station_lines directives.now 0 stations.now) }
 {
     for (index, station) in stations.iter().enumerate() {
         push_station(lines, directives, index, station)?;
@@ -125,7 +128,8 @@ fn objects_until_next(log: &[Told]) -> u64
 
 /// Appends the closing line of the connection with this number.
 fn push_connection(lines: &mut String, number: u64, count: u64) -> Result<(), AllocError>
-    ensures { OnOk result (string_bytes lines.new ≡ string_bytes lines.old ++ connection_line number count) }
+    ensures { OnOk result (string_bytes lines.new ≡ string_bytes lines.old
+        ++ connection_line number count) }
 {
     writeln!(lines, "connection {number} objects {count}")
 }
@@ -134,7 +138,8 @@ fn push_connection(lines: &mut String, number: u64, count: u64) -> Result<(), Al
 #[tactic(auto, using(crate::proofs::TextLemmas::connection_more, crate::proofs::TextLemmas::connection_skip, crate::proofs::TextLemmas::connection_end))]
 fn push_connections(lines: &mut String, log: &[Told]) -> Result<(), AllocError>
     requires { length log.now < 2 ^ 63 }
-    ensures { OnOk result (string_bytes lines.new ≡ string_bytes lines.old ++ connection_lines 1 log.now) }
+    ensures { OnOk result (string_bytes lines.new ≡ string_bytes lines.old
+        ++ connection_lines 1 log.now) }
 {
     let mut number = 1u64;
     for (i, told) in log.iter().enumerate() {
@@ -146,10 +151,12 @@ fn push_connections(lines: &mut String, log: &[Told]) -> Result<(), AllocError>
     Ok(())
 }
 
-/// Appends the closing line of the sessions of the station with this index, where there was more than one.
+/// Appends the closing line of the sessions of the station with this index, where there was more
+/// than one.
 fn push_tally(lines: &mut String, index: usize, tally: Tally) -> Result<(), AllocError>
     requires { index + 1 < 2 ^ 64 }
-    ensures { OnOk result (string_bytes lines.new ≡ string_bytes lines.old ++ line_of_sessions index tally) }
+    ensures { OnOk result (string_bytes lines.new ≡ string_bytes lines.old
+        ++ line_of_sessions index tally) }
 {
     if tally.sessions <= 1 {
         return Ok(());
@@ -167,7 +174,8 @@ fn push_tally(lines: &mut String, index: usize, tally: Tally) -> Result<(), Allo
 #[tactic(auto, using(crate::proofs::TextLemmas::session_more, crate::proofs::TextLemmas::session_end))]
 /// Appends the closing lines of sessions.
 fn push_tallies(lines: &mut String, tallies: &[Tally]) -> Result<(), AllocError>
-    ensures { OnOk result (string_bytes lines.new ≡ string_bytes lines.old ++ session_lines 0 tallies.now) }
+    ensures { OnOk result (string_bytes lines.new ≡ string_bytes lines.old
+        ++ session_lines 0 tallies.now) }
 {
     for (index, tally) in tallies.iter().enumerate() {
         push_tally(lines, index, *tally)?;
@@ -175,8 +183,8 @@ fn push_tallies(lines: &mut String, tallies: &[Tally]) -> Result<(), AllocError>
     Ok(())
 }
 
-/// The text of a run: a line for each action of its log, one for each station, one for each connection, and one for each station
-/// whose link had more than one session.
+/// The text of a run: a line for each action of its log, one for each station, one for each
+/// connection, and one for each station whose link had more than one session.
 pub(crate) fn text(
     alloc: Global,
     directives: &[Directive],
@@ -185,7 +193,8 @@ pub(crate) fn text(
     tallies: &[Tally],
 ) -> Result<String, AllocError>
     requires { length log.now < 2 ^ 63 }
-    ensures { IfOk result (λ text. string_bytes text ≡ run_text directives.now log.now stations.now tallies.now) }
+    ensures { IfOk result (λ text. string_bytes text
+        ≡ run_text directives.now log.now stations.now tallies.now) }
 {
     let mut lines = String::new(alloc);
     push_actions(alloc, &mut lines, log)?;

@@ -3,7 +3,11 @@ use Rattle.std.proofs.Common.{◌≡◌, ℕ, List, [], ◌∷◌, Option, inl, 
 use Rattle.std.specs.Prelude.{Bool, Result}
 use Rattle.std.specs.Borrow.{Bor}
 use Rattle.clap.specs.Words.{Text}
-use Rattle.telegate.specs.Shell.{IsUnread, IsNotRead, Responds, RunsFile, files_of}
+use Rattle.telegate.specs.Shell.{IsUnread, IsNotRead, Responds, RunsFile, AreWishes, files_of}
+use Rattle.telegate.specs.CommandLine.{texts_of}
+use Rattle.telegate.specs.Faults.{status_of}
+use Rattle.telegate.specs.Guests.{IsGuestsFault}
+use Rattle.telegate.specs.declared.host.Wishes.{Wishes}
 use Rattle.telegate.specs.declared.command_line.Request.{Request}
 use Rattle.telegate.specs.declared.command_line.Request.TheVariants.{Run}
 use Rattle.telegate.specs.declared.fault.Fault.{Fault}
@@ -34,10 +38,21 @@ module _ (has : Text → List ℕ → Type 0) (lacks : Text → Type 0) where
   pub later_of_more : (file : Text) (octets : List ℕ) (files : List Text) (exit : ℕ) → has file octets → IsNotRead has lacks files exit → IsNotRead has lacks (file ∷ files) exit
   later_of_more file octets files exit read h = record { name = h.name; why = h.why; unread = deeper file octets files h.name h.why read h.unread; status = h.status }
 
-  module _ (ran : List ℕ → Bool → Result (Unit {0}) Fault → Type 0) where
+  module _ (ran : List ℕ → Wishes → Result (Unit {0}) Fault → Type 0) where
     -- a command whose files can't be read
     pub unanswered : (request : Request) (files : List Text) (known : Option (List ℕ)) (exit : ℕ) → files_of request ≡ files → IsNotRead has lacks files exit → Responds has lacks ran request known known exit
     unanswered request files known exit are h = inr (subst (λ (fs : List Text). IsNotRead has lacks fs exit) (sym are) h, keeps_same known)
 
-    pub has_run : (request : Request) (config : Bor Text) (redial : Bool) (known : Option (List ℕ)) (exit : ℕ) → request ≡ Run config redial → RunsFile has lacks ran config.now redial exit → Responds has lacks ran request known known exit
-    has_run request config redial known exit is h = subst (λ (r : Request). Responds has lacks ran r known known exit) (sym is) (elim h [ inl live ↦ inl (live, keeps_same known) | inr none ↦ inr (none, keeps_same known) ])
+    pub has_run : (request : Request) (config : Bor Text) (redial log : Bool) (allow : Option (Bor (List (Bor Text)))) (wishes : Wishes) (known : Option (List ℕ)) (exit : ℕ) →
+        request ≡ Run config redial log allow → AreWishes redial log (texts_of allow) wishes → RunsFile has lacks ran config.now wishes exit →
+        Responds has lacks ran request known known exit
+    has_run request config redial log allow wishes known exit is wished h =
+        subst (λ (r : Request). Responds has lacks ran r known known exit) (sym is) (elim h [
+          | inl live ↦ inl (inl (record { wishes = wishes; wished = wished; live = live }), keeps_same known)
+          | inr none ↦ inr (none, keeps_same known)
+        ])
+
+    pub no_guests : (request : Request) (config : Bor Text) (redial log : Bool) (allow : Option (Bor (List (Bor Text)))) (fault : Fault) (known : Option (List ℕ)) (exit : ℕ) →
+        request ≡ Run config redial log allow → IsGuestsFault (texts_of allow) fault → exit ≡ status_of fault → Responds has lacks ran request known known exit
+    no_guests request config redial log allow fault known exit is none status =
+        subst (λ (r : Request). Responds has lacks ran r known known exit) (sym is) (inl (inr (record { fault = fault; is = none; status = status }), keeps_same known))

@@ -3,3 +3,5 @@ pub mod Commands
 pub mod Kept
 pub mod Files
 pub mod Printing
+pub mod Addresses
+pub mod Turning

@@ -63,7 +63,8 @@ pub record IsLineAnswer (sizes hex : List ℕ) (answer : Answer) : Type 0 where
 -- sizes are judged before octets
 abbrev pub IsLineFault : List ℕ → List ℕ → Fault → Type 0
 IsLineFault sizes hex Sizes = sizes_of sizes ≡ None
-IsLineFault sizes hex Octets = ((s : LineSizes) × (sizes_of sizes ≡ Some s)) × (octets_of hex ≡ None)
+IsLineFault sizes hex Octets = ((s : LineSizes) × (sizes_of sizes ≡ Some s))
+    × (octets_of hex ≡ None)
 IsLineFault sizes hex NoMemory = Unit {0}
 IsLineFault sizes hex _ = ⊥
 
@@ -87,7 +88,8 @@ IsConfigFault config NoMemory = Unit {0}
 IsConfigFault config _ = ⊥
 
 abbrev pub IsReadConfig : List ℕ → Result Settings Fault → Type 0
-IsReadConfig config result = MatchResult result (λ c. IsReadOfText config (Ok c)) (IsConfigFault config)
+IsReadConfig config result =
+    MatchResult result (λ c. IsReadOfText config (Ok c)) (IsConfigFault config)
 
 -- it is told that settings are good
 pub record TellsGood (answer : Answer) : Type 0 where
@@ -103,11 +105,14 @@ pub record IsCheckAnswer (config : List ℕ) (answer : Answer) : Type 0 where
 abbrev pub IsChecked : List ℕ → Result Answer Fault → Type 0
 IsChecked config result = MatchResult result (IsCheckAnswer config) (IsConfigFault config)
 
--- The lines of the actions of the log of a run over these entries, and those with which the run ends: the events of the log are a
--- tick at moment 0 and the entries, the log keeps every promise of a gateway with these settings, and so delivers what the outstations
--- reported. What is left and was counted is that of a gateway whose state agrees with this log: of the reports that went out on the
--- open connection the very ASDUs that aren't acknowledged, then as many pieces of the others as have places.
-pub record IsRun (settings : Settings) (entries : List Entry) (closing : Closing) (answer : Answer) : Type 0 where
+-- The lines of the actions of the log of a run over these entries, and those with which the run
+-- ends: the events of the log are a tick at moment 0 and the entries, the log keeps every promise
+-- of a gateway with these settings, and so delivers what the outstations reported. What is left and
+-- was counted is that of a gateway whose state agrees with this log: of the reports that went out
+-- on the open connection the very ASDUs that aren't acknowledged, then as many pieces of the others
+-- as have places.
+pub record IsRun (settings : Settings) (entries : List Entry) (closing : Closing)
+    (answer : Answer) : Type 0 where
   pub log : Log
   pub events : events_of log ≡ script_of entries
   pub faithful : IsFaithful (setup_of settings) log
@@ -117,7 +122,8 @@ pub record IsRun (settings : Settings) (entries : List Entry) (closing : Closing
   pub state : State
   pub follows : Follows (setup_of settings) state (Some log)
   pub accounts : IsAccounted (setup_of settings) state log
-  pub text : answer.text.items ≡ lines_of_actions log ++ closing_lines closing.left closing.counts state
+  pub text : answer.text.items ≡ lines_of_actions log
+      ++ closing_lines closing.left closing.counts state
   pub status : answer.status ≡ 0
 
 pub record IsRunAnswer (config trace : List ℕ) (closing : Closing) (answer : Answer) : Type 0 where
@@ -136,20 +142,24 @@ abbrev pub IsGood : Result Answer Fault → Type 0
 IsGood result = MatchResult result TellsGood IsMemory
 
 abbrev pub IsRunOf : Settings → List Entry → Closing → Result Answer Fault → Type 0
-IsRunOf settings entries closing result = MatchResult result (IsRun settings entries closing) IsMemory
+IsRunOf settings entries closing result =
+    MatchResult result (IsRun settings entries closing) IsMemory
 
 -- settings are judged before the trace
 abbrev pub IsRunFault : List ℕ → List ℕ → Fault → Type 0
 IsRunFault config trace (Config why) = IsReadOfText config (Err why)
-IsRunFault config trace (Trace n) = ((s : Settings) × IsReadOfText config (Ok s)) × IsTraceOf trace (Err (WrongLine n))
+IsRunFault config trace (Trace n) = ((s : Settings) × IsReadOfText config (Ok s))
+    × IsTraceOf trace (Err (WrongLine n))
 IsRunFault config trace NoMemory = Unit {0}
 IsRunFault config trace _ = ⊥
 
 abbrev pub IsReplayed : List ℕ → List ℕ → Closing → Result Answer Fault → Type 0
-IsReplayed config trace closing result = MatchResult result (IsRunAnswer config trace closing) (IsRunFault config trace)
+IsReplayed config trace closing result =
+    MatchResult result (IsRunAnswer config trace closing) (IsRunFault config trace)
 
 -- the text of a run of the script over a simulated line, whatever it loses
-pub record IsSimulation (settings : Settings) (script : List Directive) (answer : Answer) : Type 0 where
+pub record IsSimulation (settings : Settings) (script : List Directive)
+    (answer : Answer) : Type 0 where
   pub run : IsSimulated settings script (Some []) (Some answer.text.items)
   pub status : answer.status ≡ 0
 
@@ -166,19 +176,22 @@ IsSimulationOf settings script result = MatchResult result (IsSimulation setting
 -- settings are judged before the script
 abbrev pub IsSimulationFault : List ℕ → List ℕ → Fault → Type 0
 IsSimulationFault config text (Config why) = IsReadOfText config (Err why)
-IsSimulationFault config text (Script n) = (s : Settings) × (IsReadOfText config (Ok s) × IsScriptOf s text (Err (WrongLine n)))
+IsSimulationFault config text (Script n) =
+    (s : Settings) × (IsReadOfText config (Ok s) × IsScriptOf s text (Err (WrongLine n)))
 IsSimulationFault config text NoMemory = Unit {0}
 IsSimulationFault config text _ = ⊥
 
 abbrev pub IsSimulatedBy : List ℕ → List ℕ → Result Answer Fault → Type 0
-IsSimulatedBy config text result = MatchResult result (IsSimulationAnswer config text) (IsSimulationFault config text)
+IsSimulatedBy config text result =
+    MatchResult result (IsSimulationAnswer config text) (IsSimulationFault config text)
 
 -- the answer to a command
 abbrev pub IsAnsweredBy : Job → Result Answer Fault → Type 0
 IsAnsweredBy (Show101 sizes hex) result = IsShown101 sizes.now hex.now result
 IsAnsweredBy (Show104 hex) result = IsShown104 hex.now result
 IsAnsweredBy (Check config) result = IsChecked config.now result
-IsAnsweredBy (Replay config trace left counts) result = IsReplayed config.now trace.now (record { left = left; counts = counts }) result
+IsAnsweredBy (Replay config trace left counts) result =
+    IsReplayed config.now trace.now (record { left = left; counts = counts }) result
 IsAnsweredBy (Sim config script) result = IsSimulatedBy config.now script.now result
 
 -- the command is done: its answer's text was appended to the output, and the status is the answer's
@@ -195,7 +208,8 @@ pub record IsStopped (job : Job) (old new : Option (List ℕ)) (exit : ℕ) : Ty
   pub printed : Keeps old new
   pub status : exit ≡ status_of fault
 
--- the command has an answer, of whose text a beginning was appended to the output, which then failed
+-- the command has an answer, of whose text a beginning was appended to the output, which then
+-- failed
 pub record IsCutShort (job : Job) (old new : Option (List ℕ)) (exit : ℕ) : Type 0 where
   pub answer : Answer
   pub answered : IsAnsweredBy job (Ok answer)
@@ -204,4 +218,5 @@ pub record IsCutShort (job : Job) (old new : Option (List ℕ)) (exit : ℕ) : T
 
 -- what a command does to the output, whose octets are these before and after, and its exit status
 abbrev pub Performs : Job → Option (List ℕ) → Option (List ℕ) → ℕ → Type 0
-Performs job old new status = IsDone job old new status ⊎ (IsStopped job old new status ⊎ IsCutShort job old new status)
+Performs job old new status =
+    IsDone job old new status ⊎ (IsStopped job old new status ⊎ IsCutShort job old new status)

@@ -1,4 +1,5 @@
--- What a run prints behind the lines of its actions, where it is asked for (texts of this gateway's own profile).
+-- What a run prints behind the lines of its actions, where it is asked for (texts of this gateway's
+-- own profile).
 use Rattle.std.specs.Prelude.{ℕ, Bool, List, [], ◌∷◌, ◌++◌, codes, if◌then◌else◌}
 use Rattle.std.specs.List.{flat_map}
 use Rattle.std.specs.Fmt.{decimal}
@@ -16,7 +17,8 @@ abbrev pub skipped_text : (skipped : ℕ) → List ℕ
 skipped_text skipped = codes "counts skipped " ++ decimal skipped ++ codes " "
 
 abbrev pub others_text : (mirrors lost spoilt : ℕ) → List ℕ
-others_text mirrors lost spoilt = codes "mirrors " ++ decimal mirrors ++ codes " lost " ++ decimal lost ++ codes " spoilt " ++ decimal spoilt ++ 10 ∷ []
+others_text mirrors lost spoilt = codes "mirrors " ++ decimal mirrors ++ codes " lost "
+    ++ decimal lost ++ codes " spoilt " ++ decimal spoilt ++ 10 ∷ []
 
 abbrev pub counts_line : Counts → List ℕ
 counts_line c = skipped_text c.skipped ++ others_text c.mirrors c.lost c.spoilt

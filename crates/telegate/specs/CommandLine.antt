@@ -1,10 +1,11 @@
 -- The words of the command line (this gateway's own profile): `telegate COMMAND WORD.. [--FLAG..]`.
-use Rattle.std.specs.Prelude.{◌≡◌, Bool, true, false, List, [], ◌∷◌, Option, Some, None, MatchOption, codes}
-use Rattle.clap.specs.Words.{App, Rule, Row, Text, app_of, first_of, new_app, new_rule, one_of, rule_of, with_rule, with_subcommand}
+use Rattle.std.specs.Prelude.{◌≡◌, Bool, true, false, List, [], ◌∷◌, Option, Some, None, MatchOption, codes, map, option_map}
+use Rattle.std.specs.Borrow.{Bor}
+use Rattle.clap.specs.Words.{App, Rule, Row, Text, all_of, app_of, first_of, new_app, new_rule, one_of, rule_of, with_rule, with_subcommand}
 use Rattle.clap.specs.declared.builder.arg.Arg.{Arg}
 use Rattle.clap.specs.declared.builder.command.Command.{Command}
 use Rattle.clap.specs.declared.builder.command.Command.TheViews.{out-Command}
-use Rattle.clap.specs.declared.builder.action.ArgAction.TheVariants.{Set, SetTrue}
+use Rattle.clap.specs.declared.builder.action.ArgAction.TheVariants.{Append, Set, SetTrue}
 use Rattle.telegate.specs.declared.command_line.Request.{Request}
 use Rattle.telegate.specs.declared.command_line.Request.TheVariants.{Show101, Show104, Check, Replay, Sim, Run}
 
@@ -17,6 +18,10 @@ word name = record (new_rule name) { action = Some Set; required = true }
 -- `--name`, anywhere behind the command, at most once
 abbrev pub flag : Text → Rule
 flag name = record (new_rule name) { long = Some name; action = Some SetTrue }
+
+-- `--name WORD`, anywhere behind the command, any number of times
+abbrev pub option : Text → Rule
+option name = record (new_rule name) { long = Some name; action = Some Append }
 
 -- a command with these words and flags, in this order
 abbrev pub with_all : List Rule → App → App
@@ -36,18 +41,24 @@ abbrev pub check : App
 check = command (codes "check") (word (codes "CONFIG") ∷ [])
 
 abbrev pub replay : App
-replay = command (codes "replay") (word (codes "CONFIG") ∷ word (codes "TRACE") ∷ flag (codes "left") ∷ flag (codes "counts") ∷ [])
+replay = command (codes "replay") (word (codes "CONFIG") ∷ word (codes "TRACE")
+    ∷ flag (codes "left") ∷ flag (codes "counts") ∷ [])
 
 abbrev pub sim : App
 sim = command (codes "sim") (word (codes "CONFIG") ∷ word (codes "SCRIPT") ∷ [])
 
 abbrev pub run : App
-run = command (codes "run") (word (codes "CONFIG") ∷ flag (codes "redial") ∷ [])
+run = command (codes "run") (word (codes "CONFIG") ∷ flag (codes "redial") ∷ flag (codes "log")
+    ∷ option (codes "allow") ∷ [])
 
 -- the program, of whose commands one has to be named
 abbrev pub bare : App
 bare = record {
-  top = record ((new_app (codes "telegate")).top) { subcommand_required = true; arg_required_else_help = true; has_version = true };
+  top = record ((new_app (codes "telegate")).top) {
+    subcommand_required = true;
+    arg_required_else_help = true;
+    has_version = true;
+  };
   subs = [];
 }
 
@@ -75,21 +86,38 @@ IsGiven rows name text = first_of name rows ≡ Some text
 
 -- whether a flag is given
 abbrev pub IsFlag : List Row → (name : Text) → Bool → Type 0
-IsFlag rows name flag = (one_of name rows ≡ None → flag ≡ false) × (one_of name rows ≡ Some (codes "true") → flag ≡ true) × (one_of name rows ≡ Some (codes "false") → flag ≡ false)
+IsFlag rows name flag = (one_of name rows ≡ None → flag ≡ false)
+    × (one_of name rows ≡ Some (codes "true") → flag ≡ true)
+    × (one_of name rows ≡ Some (codes "false") → flag ≡ false)
+
+-- the words given under a name, in their order, if any are
+abbrev pub AreGiven : List Row → (name : Text) → Option (List Text) → Type 0
+AreGiven rows name texts = texts ≡ all_of name rows
+
+abbrev pub texts_of : Option (Bor (List (Bor Text))) → Option (List Text)
+texts_of words = option_map (λ ws. map (λ word. word.now) ws.now) words
 
 -- the command that was named, with what was given for it, asks for this
 abbrev pub AsksFor : (name : Text) → List Row → Request → Type 0
-AsksFor name rows (Show101 sizes hex) = (name ≡ codes "show101") × IsGiven rows (codes "SIZES") sizes.now × IsGiven rows (codes "HEX") hex.now
+AsksFor name rows (Show101 sizes hex) = (name ≡ codes "show101")
+    × IsGiven rows (codes "SIZES") sizes.now × IsGiven rows (codes "HEX") hex.now
 AsksFor name rows (Show104 hex) = (name ≡ codes "show104") × IsGiven rows (codes "HEX") hex.now
 AsksFor name rows (Check config) = (name ≡ codes "check") × IsGiven rows (codes "CONFIG") config.now
 AsksFor name rows (Replay config trace left counts) =
-    (name ≡ codes "replay") × IsGiven rows (codes "CONFIG") config.now × IsGiven rows (codes "TRACE") trace.now × IsFlag rows (codes "left") left × IsFlag rows (codes "counts") counts
-AsksFor name rows (Sim config script) = (name ≡ codes "sim") × IsGiven rows (codes "CONFIG") config.now × IsGiven rows (codes "SCRIPT") script.now
-AsksFor name rows (Run config redial) = (name ≡ codes "run") × IsGiven rows (codes "CONFIG") config.now × IsFlag rows (codes "redial") redial
+    (name ≡ codes "replay") × IsGiven rows (codes "CONFIG") config.now
+    × IsGiven rows (codes "TRACE") trace.now × IsFlag rows (codes "left") left
+    × IsFlag rows (codes "counts") counts
+AsksFor name rows (Sim config script) = (name ≡ codes "sim")
+    × IsGiven rows (codes "CONFIG") config.now × IsGiven rows (codes "SCRIPT") script.now
+AsksFor name rows (Run config redial log allow) =
+    (name ≡ codes "run") × IsGiven rows (codes "CONFIG") config.now
+    × IsFlag rows (codes "redial") redial
+    × IsFlag rows (codes "log") log × AreGiven rows (codes "allow") (texts_of allow)
 
 -- the request, or none where none is asked for
 abbrev pub IsAsked : (name : Text) → List Row → Option Request → Type 0
-IsAsked name rows asked = MatchOption asked ((request : Request) → AsksFor name rows request → ⊥) (AsksFor name rows)
+IsAsked name rows asked =
+    MatchOption asked ((request : Request) → AsksFor name rows request → ⊥) (AsksFor name rows)
 
 -- the same of the command that the words name, if any
 abbrev pub IsRequestOf : Option (Text × List Row) → Option Request → Type 0

@@ -1,14 +1,15 @@
 -- The exit statuses of faults (this gateway's own profile).
 use Rattle.std.specs.Prelude.{ℕ}
 use Rattle.telegate.specs.declared.fault.Fault.{Fault}
-use Rattle.telegate.specs.declared.fault.Fault.TheVariants.{Config, Trace, Script, Sizes, Octets, Device, NoMemory}
+use Rattle.telegate.specs.declared.fault.Fault.TheVariants.{Config, Trace, Script, Sizes, Octets, Address, Device, NoMemory}
 
--- 1 wrong content, 3 a device that failed, 4 no memory
+-- 1 wrong content, 2 a wrong word, 3 a device that failed, 4 no memory
 abbrev pub status_of : Fault → ℕ
 status_of (Config why) = 1
 status_of (Trace line) = 1
 status_of (Script line) = 1
 status_of Sizes = 1
 status_of Octets = 1
+status_of Address = 2
 status_of Device = 3
 status_of NoMemory = 4

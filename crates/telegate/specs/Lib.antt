@@ -4,3 +4,4 @@ pub mod Answers
 pub mod Running
 pub mod CommandLine
 pub mod Shell
+pub mod Guests

@@ -1,4 +1,5 @@
--- What the program does with its words and with the files that they name (this gateway's own profile).
+-- What the program does with its words and with the files that they name (this gateway's own
+-- profile).
 use Rattle.std.specs.Prelude.{◌≡◌, ◌⊎◌, ℕ, Bool, List, [], ◌∷◌, ◌++◌, Option, Some, None, Result, Ok, Err, codes}
 use Rattle.std.specs.Io.KnownBytes.{Keeps}
 use Rattle.clap.specs.Words.{Text, HasKind, fault_of, kind_of, subcommand_of}
@@ -6,8 +7,10 @@ use Rattle.clap.specs.declared.error.Error.{Error}
 use Rattle.clap.specs.declared.error.kind.ErrorKind.{ErrorKind}
 use Rattle.clap.specs.declared.error.kind.ErrorKind.TheVariants as kind
 use Rattle.telegate.specs.Answers.{Performs}
-use Rattle.telegate.specs.CommandLine.{IsRequestOf, program}
+use Rattle.telegate.specs.CommandLine.{IsRequestOf, texts_of, program}
 use Rattle.telegate.specs.Faults.{status_of}
+use Rattle.telegate.specs.Guests.{AreGuests, IsGuestsFault}
+use Rattle.telegate.specs.declared.host.Wishes.{Wishes}
 use Rattle.telegate.specs.declared.command_line.Request.{Request}
 use Rattle.telegate.specs.declared.command_line.Request.TheVariants.{Show101, Show104, Check, Replay, Sim, Run}
 use Rattle.telegate.specs.declared.fault.Fault.{Fault}
@@ -23,7 +26,8 @@ abbrev pub IsJobOf : (has : Text → List ℕ → Type 0) → Request → Job �
 IsJobOf has (Show101 sizes hex) (job.Show101 s h) = (s.now ≡ sizes.now) × (h.now ≡ hex.now)
 IsJobOf has (Show104 hex) (job.Show104 h) = h.now ≡ hex.now
 IsJobOf has (Check config) (job.Check c) = has config.now c.now
-IsJobOf has (Replay config trace left counts) (job.Replay c t l n) = has config.now c.now × has trace.now t.now × (l ≡ left) × (n ≡ counts)
+IsJobOf has (Replay config trace left counts) (job.Replay c t l n) =
+    has config.now c.now × has trace.now t.now × (l ≡ left) × (n ≡ counts)
 IsJobOf has (Sim config script) (job.Sim c s) = has config.now c.now × has script.now s.now
 IsJobOf has _ _ = ⊥
 
@@ -34,12 +38,15 @@ files_of (Show104 hex) = []
 files_of (Check config) = config.now ∷ []
 files_of (Replay config trace left counts) = config.now ∷ trace.now ∷ []
 files_of (Sim config script) = config.now ∷ script.now ∷ []
-files_of (Run config redial) = config.now ∷ []
+files_of (Run config redial log allow) = config.now ∷ []
 
 -- this is the first of the files that can't be read
-abbrev pub IsFirstUnread : (has : Text → List ℕ → Type 0) → (lacks : Text → Type 0) → List Text → Text → Type 0
+abbrev pub IsFirstUnread : (has : Text → List ℕ → Type 0) → (lacks : Text → Type 0) → List Text
+    → Text → Type 0
 IsFirstUnread has lacks [] name = ⊥
-IsFirstUnread has lacks (file ∷ files) name = ((name ≡ file) × lacks file) ⊎ (((octets : List ℕ) × has file octets) × IsFirstUnread has lacks files name)
+IsFirstUnread has lacks (file ∷ files) name =
+    ((name ≡ file) × lacks file)
+    ⊎ (((octets : List ℕ) × has file octets) × IsFirstUnread has lacks files name)
 
 abbrev pub unreadable_line : Text → List ℕ
 unreadable_line name = codes "cannot read " ++ name ++ 10 ∷ []
@@ -49,12 +56,14 @@ status_unread Unreadable = 3
 status_unread NoMemory = 4
 
 -- the files are read no further, and why
-abbrev pub IsUnread : (has : Text → List ℕ → Type 0) → (lacks : Text → Type 0) → List Text → Text → Unread → Type 0
+abbrev pub IsUnread : (has : Text → List ℕ → Type 0) → (lacks : Text → Type 0) → List Text → Text
+    → Unread → Type 0
 IsUnread has lacks files name Unreadable = IsFirstUnread has lacks files name
 IsUnread has lacks files name NoMemory = Unit {0}
 
 -- one of these files couldn't be read, and the exit status says why
-pub record IsNotRead (has : Text → List ℕ → Type 0) (lacks : Text → Type 0) (files : List Text) (exit : ℕ) : Type 0 where
+pub record IsNotRead (has : Text → List ℕ → Type 0) (lacks : Text → Type 0) (files : List Text)
+    (exit : ℕ) : Type 0 where
   pub name : Text
   pub why : Unread
   pub unread : IsUnread has lacks files name why
@@ -63,7 +72,8 @@ pub record IsNotRead (has : Text → List ℕ → Type 0) (lacks : Text → Type
 -- Commands
 
 -- the command's job was done
-pub record IsJobDone (has : Text → List ℕ → Type 0) (request : Request) (old new : Option (List ℕ)) (exit : ℕ) : Type 0 where
+pub record IsJobDone (has : Text → List ℕ → Type 0) (request : Request) (old new : Option (List ℕ))
+    (exit : ℕ) : Type 0 where
   pub job : Job
   pub of : IsJobOf has request job
   pub done : Performs job old new exit
@@ -73,25 +83,59 @@ status_of_run (Ok done) = 0
 status_of_run (Err fault) = status_of fault
 
 -- The gateway ran live by the settings of a file, and the exit status says how that ended.
-pub record HasRunLive (has : Text → List ℕ → Type 0) (ran : List ℕ → Bool → Result (Unit {0}) Fault → Type 0) (config : Text) (redial : Bool) (exit : ℕ) : Type 0 where
+pub record HasRunLive (has : Text → List ℕ → Type 0)
+    (ran : List ℕ → Wishes → Result (Unit {0}) Fault → Type 0)
+    (config : Text) (wishes : Wishes) (exit : ℕ) : Type 0 where
   pub octets : List ℕ
   pub read : has config octets
   pub ended : Result (Unit {0}) Fault
-  pub run : ran octets redial ended
+  pub run : ran octets wishes ended
   pub status : exit ≡ status_of_run ended
 
 -- the same, or the file couldn't be read
-abbrev pub RunsFile : (has : Text → List ℕ → Type 0) → (lacks : Text → Type 0) → (ran : List ℕ → Bool → Result (Unit {0}) Fault → Type 0) → (config : Text) → (redial : Bool) → (exit : ℕ) → Type 0
-RunsFile has lacks ran config redial exit = HasRunLive has ran config redial exit ⊎ IsNotRead has lacks (config ∷ []) exit
+abbrev pub RunsFile : (has : Text → List ℕ → Type 0) → (lacks : Text → Type 0)
+    → (ran : List ℕ → Wishes → Result (Unit {0}) Fault → Type 0) →
+    (config : Text) → (wishes : Wishes) → (exit : ℕ) → Type 0
+RunsFile has lacks ran config wishes exit =
+    HasRunLive has ran config wishes exit ⊎ IsNotRead has lacks (config ∷ []) exit
+
+-- the wishes are those of the words
+pub record AreWishes (redial log : Bool) (allow : Option (List Text)) (wishes : Wishes)
+    : Type 0 where
+  pub redials : wishes.redial ≡ redial
+  pub logs : wishes.log ≡ log
+  pub guests : AreGuests allow wishes.guests
+
+-- the gateway ran live as the words wish
+pub record HasRunAsWished (has : Text → List ℕ → Type 0)
+    (ran : List ℕ → Wishes → Result (Unit {0}) Fault → Type 0)
+    (config : Text) (redial log : Bool) (allow : Option (List Text)) (exit : ℕ) : Type 0 where
+  pub wishes : Wishes
+  pub wished : AreWishes redial log allow wishes
+  pub live : HasRunLive has ran config wishes exit
+
+-- a word behind `--allow` is no address, and no file was read
+pub record HasNoGuests (allow : Option (List Text)) (exit : ℕ) : Type 0 where
+  pub fault : Fault
+  pub is : IsGuestsFault allow fault
+  pub status : exit ≡ status_of fault
 
 -- what a command is to do where its files can be read; a live run prints nothing
-abbrev pub IsDone : (has : Text → List ℕ → Type 0) → (ran : List ℕ → Bool → Result (Unit {0}) Fault → Type 0) → Request → (old new : Option (List ℕ)) → (exit : ℕ) → Type 0
-IsDone has ran (Run config redial) old new exit = HasRunLive has ran config.now redial exit × Keeps old new
+abbrev pub IsDone : (has : Text → List ℕ → Type 0)
+    → (ran : List ℕ → Wishes → Result (Unit {0}) Fault → Type 0) → Request →
+    (old new : Option (List ℕ)) → (exit : ℕ) → Type 0
+IsDone has ran (Run config redial log allow) old new exit =
+    (HasRunAsWished has ran config.now redial log (texts_of allow) exit
+    ⊎ HasNoGuests (texts_of allow) exit) × Keeps old new
 IsDone has ran request old new exit = IsJobDone has request old new exit
 
 -- the command is done, or a file couldn't be read and nothing was printed
-abbrev pub Responds : (has : Text → List ℕ → Type 0) → (lacks : Text → Type 0) → (ran : List ℕ → Bool → Result (Unit {0}) Fault → Type 0) → Request → (old new : Option (List ℕ)) → (exit : ℕ) → Type 0
-Responds has lacks ran request old new exit = IsDone has ran request old new exit ⊎ (IsNotRead has lacks (files_of request) exit × Keeps old new)
+abbrev pub Responds : (has : Text → List ℕ → Type 0) → (lacks : Text → Type 0)
+    → (ran : List ℕ → Wishes → Result (Unit {0}) Fault → Type 0) → Request
+    → (old new : Option (List ℕ)) → (exit : ℕ) → Type 0
+Responds has lacks ran request old new exit =
+    IsDone has ran request old new exit
+    ⊎ (IsNotRead has lacks (files_of request) exit × Keeps old new)
 
 -- Words
 
@@ -107,7 +151,9 @@ abbrev pub IsTold : ErrorKind → (exit : ℕ) → Type 0
 IsTold kind exit = (exit ≡ status_of_kind kind) ⊎ (exit ≡ 3)
 
 -- the words ask for a command, and it is done
-pub record IsAskedAndDone (has : Text → List ℕ → Type 0) (lacks : Text → Type 0) (ran : List ℕ → Bool → Result (Unit {0}) Fault → Type 0) (words : List Text) (old new : Option (List ℕ)) (exit : ℕ) : Type 0 where
+pub record IsAskedAndDone (has : Text → List ℕ → Type 0) (lacks : Text → Type 0)
+    (ran : List ℕ → Wishes → Result (Unit {0}) Fault → Type 0) (words : List Text)
+    (old new : Option (List ℕ)) (exit : ℕ) : Type 0 where
   pub request : Request
   pub asked : IsRequestOf (subcommand_of program words) (Some request)
   pub done : Responds has lacks ran request old new exit
@@ -122,5 +168,9 @@ pub record IsUsage (words : List Text) (exit : ℕ) : Type 0 where
 abbrev pub IsNoRequest : List Text → (exit : ℕ) → Type 0
 IsNoRequest words exit = IsRequestOf (subcommand_of program words) None × (exit ≡ 2)
 
-abbrev pub Obeys : (has : Text → List ℕ → Type 0) → (lacks : Text → Type 0) → (ran : List ℕ → Bool → Result (Unit {0}) Fault → Type 0) → (words : List Text) → (old new : Option (List ℕ)) → (exit : ℕ) → Type 0
-Obeys has lacks ran words old new exit = IsAskedAndDone has lacks ran words old new exit ⊎ (IsUsage words exit ⊎ IsNoRequest words exit)
+abbrev pub Obeys : (has : Text → List ℕ → Type 0) → (lacks : Text → Type 0)
+    → (ran : List ℕ → Wishes → Result (Unit {0}) Fault → Type 0) → (words : List Text)
+    → (old new : Option (List ℕ)) → (exit : ℕ) → Type 0
+Obeys has lacks ran words old new exit =
+    IsAskedAndDone has lacks ran words old new exit
+    ⊎ (IsUsage words exit ⊎ IsNoRequest words exit)

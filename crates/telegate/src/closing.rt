@@ -18,7 +18,8 @@ pub(crate) struct Closing {
 
 /// Appends a line for each piece that no connection has acknowledged.
 fn push_pieces(alloc: Global, lines: &mut String, gateway: &Gateway) -> Result<(), AllocError>
-    ensures { OnOk result (string_bytes lines.new ≡ string_bytes lines.old ++ flat_map left_line (kept gateway.now.centre.queue)) }
+    ensures { OnOk result (string_bytes lines.new ≡ string_bytes lines.old
+        ++ flat_map left_line (kept gateway.now.centre.queue)) }
 {
     for piece in gateway.kept() {
         let digits = hex::encode_upper(alloc, piece)?;
@@ -34,7 +35,8 @@ fn push_left(
     gateway: &Gateway,
     left: bool,
 ) -> Result<(), AllocError>
-    ensures { OnOk result (string_bytes lines.new ≡ string_bytes lines.old ++ left_lines left gateway.now) }
+    ensures { OnOk result (string_bytes lines.new ≡ string_bytes lines.old
+        ++ left_lines left gateway.now) }
 {
     if !left {
         return Ok(());
@@ -44,21 +46,24 @@ fn push_left(
 
 /// Appends the number of reports that can't be used.
 fn push_skipped(lines: &mut String, skipped: u64) -> Result<(), AllocError>
-    ensures { OnOk result (string_bytes lines.new ≡ string_bytes lines.old ++ skipped_text skipped) }
+    ensures { OnOk result (string_bytes lines.new ≡ string_bytes lines.old
+        ++ skipped_text skipped) }
 {
     write!(lines, "counts skipped {skipped} ")
 }
 
 /// Appends the other numbers.
 fn push_others(lines: &mut String, mirrors: u64, lost: u64, spoilt: u64) -> Result<(), AllocError>
-    ensures { OnOk result (string_bytes lines.new ≡ string_bytes lines.old ++ others_text mirrors lost spoilt) }
+    ensures { OnOk result (string_bytes lines.new ≡ string_bytes lines.old
+        ++ others_text mirrors lost spoilt) }
 {
     writeln!(lines, "mirrors {mirrors} lost {lost} spoilt {spoilt}")
 }
 
 /// Appends the line of what was counted, if it is asked for.
 fn push_counts(lines: &mut String, gateway: &Gateway, counts: bool) -> Result<(), AllocError>
-    ensures { OnOk result (string_bytes lines.new ≡ string_bytes lines.old ++ counts_lines counts gateway.now) }
+    ensures { OnOk result (string_bytes lines.new ≡ string_bytes lines.old
+        ++ counts_lines counts gateway.now) }
 {
     if !counts {
         return Ok(());
@@ -75,7 +80,8 @@ pub(crate) fn push_closing(
     gateway: &Gateway,
     closing: Closing,
 ) -> Result<(), AllocError>
-    ensures { OnOk result (string_bytes lines.new ≡ string_bytes lines.old ++ closing_lines closing.left closing.counts gateway.now) }
+    ensures { OnOk result (string_bytes lines.new ≡ string_bytes lines.old
+        ++ closing_lines closing.left closing.counts gateway.now) }
 {
     push_left(alloc, lines, gateway, closing.left)?;
     push_counts(lines, gateway, closing.counts)

@@ -2,7 +2,7 @@
 ghost use Rattle.std.specs.Prelude.{◌≡◌, IfOk, codes, map, option_map, string_bytes};
 ghost use Rattle.clap.specs.Words.{FailsBy, fault_of, found_of, first_of, rows_of, subcommand_of, subcommand_rows_of};
 ghost use Rattle.telegate.specs.CommandLine as line;
-ghost use Rattle.telegate.specs.CommandLine.{IsArgument, IsAsked, IsCommand, IsFlag, IsRequestOf};
+ghost use Rattle.telegate.specs.CommandLine.{AreGiven, texts_of, IsArgument, IsAsked, IsCommand, IsFlag, IsRequestOf};
 
 use crate::help;
 use clap::{Arg, ArgAction, ArgMatches, Command, Error};
@@ -10,7 +10,7 @@ use std::alloc::{AllocError, Global};
 
 /// What the words ask for.
 #[derive(Clone, Copy, Debug, PartialEq, Eq)]
-pub(crate) enum Request<'a> {
+pub(crate) enum Request<'m, 'a> {
     Show101 {
         sizes: &'a str,
         hex: &'a str,
@@ -34,10 +34,13 @@ pub(crate) enum Request<'a> {
         config: &'a str,
         script: &'a str,
     },
-    /// The name of a file, and whether a line that ends is reached again.
+    /// The name of a file, whether a line that ends is reached again, whether it is told what
+    /// happens, and the addresses of the control centres that may connect, if not all may.
     Run {
         config: &'a str,
         redial: bool,
+        log: bool,
+        allow: Option<&'m [&'a str]>,
     },
 }
 
@@ -59,6 +62,15 @@ fn flag<'a>(alloc: Global, name: &'a str, help: &'a str) -> Arg<'a>
         .help(help)
 }
 
+fn option<'a>(alloc: Global, name: &'a str, help: &'a str) -> Arg<'a>
+    ensures { IsArgument (line.option name.entry.now) result }
+{
+    Arg::new(alloc, name)
+        .long(name)
+        .action(ArgAction::Append)
+        .help(help)
+}
+
 fn show101<'a>(alloc: Global) -> Result<Command<'a>, AllocError>
     ensures { IfOk result (IsCommand line.show101) }
 {
@@ -67,7 +79,8 @@ fn show101<'a>(alloc: Global) -> Result<Command<'a>, AllocError>
         .arg(word(
             alloc,
             "SIZES",
-            "Four digits: how many octets the link address, the cause, the common address and the object address have, as 1112",
+            "Four digits: how many octets the link address, the cause, the common address and the \
+            object address have, as 1112",
         ))?
         .arg(word(alloc, "HEX", "1 to 1,024 octets in hexadecimal"))
 }
@@ -113,7 +126,8 @@ fn sim<'a>(alloc: Global) -> Result<Command<'a>, AllocError>
 {
     Command::new(alloc, "sim")
         .about(
-            "Runs the gateway over simulated stations and a simulated control centre, and prints what it puts out",
+            "Runs the gateway over simulated stations and a simulated control centre, and prints \
+            what it puts out",
         )
         .after_help(help::SIM)
         .arg(word(alloc, "CONFIG", "A file of settings"))?
@@ -139,6 +153,16 @@ fn run<'a>(alloc: Global) -> Result<Command<'a>, AllocError>
             alloc,
             "redial",
             "Reaches the line again where it ends, once a second, and goes on",
+        ))?
+        .arg(flag(
+            alloc,
+            "log",
+            "Tells on standard error what happens, one line each",
+        ))?
+        .arg(option(
+            alloc,
+            "allow",
+            "The address of a control centre that may connect; without it any may",
         ))
 }
 
@@ -172,8 +196,10 @@ fn program<'a>(alloc: Global) -> Result<Command<'a>, AllocError>
 /// Reads the words, or gives the text that is to be printed in place of a run.
 pub(crate) fn parse<'a>(alloc: Global, words: &'a [String]) -> Result<ArgMatches<'a>, Error>
     // What the words name is what this command line takes.
-    ensures named { IfOk result (λ m. subcommand_rows_of m ≡ subcommand_of line.program (map string_bytes words.entry.now)) }
-    // Where they ask for nothing, it is by the first of their faults, or by a question for help or the version.
+    ensures named { IfOk result (λ m. subcommand_rows_of m
+        ≡ subcommand_of line.program (map string_bytes words.entry.now)) }
+    // Where they ask for nothing, it is by the first of their faults, or by a question for help or
+    // the version.
     ensures fails { FailsBy (fault_of line.program (map string_bytes words.entry.now)) result }
 {
     program(alloc)?.try_get_matches_from(words)
@@ -181,7 +207,8 @@ pub(crate) fn parse<'a>(alloc: Global, words: &'a [String]) -> Result<ArgMatches
 
 /// The command that was named, and what was given for it.
 fn named<'m, 'a>(matches: &'m ArgMatches<'a>) -> Option<(&'a str, &'m ArgMatches<'a>)>
-    ensures { option_map (λ p. (p.0.now, rows_of (found_of p.1.now))) result ≡ subcommand_rows_of matches.now }
+    ensures { option_map (λ p. (p.0.now, rows_of (found_of p.1.now))) result
+        ≡ subcommand_rows_of matches.now }
 {
     matches.subcommand()
 }
@@ -200,7 +227,14 @@ fn is_given(matches: &ArgMatches<'_>, name: &str) -> bool
     matches.get_flag(name)
 }
 
-fn show101_of<'a>(matches: &ArgMatches<'a>) -> Option<Request<'a>>
+/// The words given under a name, if any are.
+fn all_given<'m, 'a>(matches: &'m ArgMatches<'a>, name: &str) -> Option<&'m [&'a str]>
+    ensures { AreGiven (rows_of (found_of matches.now)) name.now (texts_of result) }
+{
+    matches.get_strs(name)
+}
+
+fn show101_of<'m, 'a>(matches: &'m ArgMatches<'a>) -> Option<Request<'m, 'a>>
     ensures { IsAsked (codes "show101") (rows_of (found_of matches.now)) result }
 {
     Some(Request::Show101 {
@@ -209,7 +243,7 @@ fn show101_of<'a>(matches: &ArgMatches<'a>) -> Option<Request<'a>>
     })
 }
 
-fn show104_of<'a>(matches: &ArgMatches<'a>) -> Option<Request<'a>>
+fn show104_of<'m, 'a>(matches: &'m ArgMatches<'a>) -> Option<Request<'m, 'a>>
     ensures { IsAsked (codes "show104") (rows_of (found_of matches.now)) result }
 {
     Some(Request::Show104 {
@@ -217,7 +251,7 @@ fn show104_of<'a>(matches: &ArgMatches<'a>) -> Option<Request<'a>>
     })
 }
 
-fn check_of<'a>(matches: &ArgMatches<'a>) -> Option<Request<'a>>
+fn check_of<'m, 'a>(matches: &'m ArgMatches<'a>) -> Option<Request<'m, 'a>>
     ensures { IsAsked (codes "check") (rows_of (found_of matches.now)) result }
 {
     Some(Request::Check {
@@ -225,7 +259,7 @@ fn check_of<'a>(matches: &ArgMatches<'a>) -> Option<Request<'a>>
     })
 }
 
-fn replay_of<'a>(matches: &ArgMatches<'a>) -> Option<Request<'a>>
+fn replay_of<'m, 'a>(matches: &'m ArgMatches<'a>) -> Option<Request<'m, 'a>>
     ensures { IsAsked (codes "replay") (rows_of (found_of matches.now)) result }
 {
     Some(Request::Replay {
@@ -236,7 +270,7 @@ fn replay_of<'a>(matches: &ArgMatches<'a>) -> Option<Request<'a>>
     })
 }
 
-fn sim_of<'a>(matches: &ArgMatches<'a>) -> Option<Request<'a>>
+fn sim_of<'m, 'a>(matches: &'m ArgMatches<'a>) -> Option<Request<'m, 'a>>
     ensures { IsAsked (codes "sim") (rows_of (found_of matches.now)) result }
 {
     Some(Request::Sim {
@@ -245,17 +279,19 @@ fn sim_of<'a>(matches: &ArgMatches<'a>) -> Option<Request<'a>>
     })
 }
 
-fn run_of<'a>(matches: &ArgMatches<'a>) -> Option<Request<'a>>
+fn run_of<'m, 'a>(matches: &'m ArgMatches<'a>) -> Option<Request<'m, 'a>>
     ensures { IsAsked (codes "run") (rows_of (found_of matches.now)) result }
 {
     Some(Request::Run {
         config: given(matches, "CONFIG")?,
         redial: is_given(matches, "redial"),
+        log: is_given(matches, "log"),
+        allow: all_given(matches, "allow"),
     })
 }
 
 /// The request of the words.
-pub(crate) fn request_of<'a>(matches: &ArgMatches<'a>) -> Option<Request<'a>>
+pub(crate) fn request_of<'m, 'a>(matches: &'m ArgMatches<'a>) -> Option<Request<'m, 'a>>
     ensures { IsRequestOf (subcommand_rows_of matches.now) result }
 {
     let (name, matches) = named(matches)?;

@@ -40,6 +40,9 @@ pub(crate) enum Fault {
     /// The octets aren't 1 to 1,024 in hexadecimal.
     #[error("bad octets")]
     Octets,
+    /// A word behind `--allow` is no address.
+    #[error("error: --allow takes the address of a host, as 192.0.2.7")]
+    Address,
     /// The output can't be written.
     #[error("device failed")]
     Device,
@@ -71,6 +74,7 @@ impl Fault {
         match self {
             Fault::Config(_) | Fault::Trace(_) | Fault::Script(_) | Fault::Sizes | Fault::Octets =>
                 BAD_CONTENT,
+            Fault::Address => USAGE,
             Fault::Device => DEVICE_FAILED,
             Fault::NoMemory => NO_MEMORY,
         }

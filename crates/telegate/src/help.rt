@@ -16,9 +16,11 @@ milliseconds (1 to 15 digits), HEX is 1 to 1,024 octets, and one space stands be
   MS O        a control centre connects
   MS R HEX    octets come from it
   MS C        its connection is cut
+  MS W WALL   the wall clock shows WALL, in ms since 1970-01-01 UTC (1 to 15 digits)
 Printed, one action a line: `MS > S HEX` to the line, `MS > T HEX` to the control centre, and
 `MS > X CAUSE` where the gateway closes the connection.
-Exit status: 0 done, 1 wrong settings or trace, 2 usage, 3 a file or the output failed, 4 no memory";
+Exit status: 0 done, 1 wrong settings or trace, 2 usage, 3 a file or the output failed, \
+4 no memory";
 
 pub(crate) const SIM: &str = "\
 SCRIPT has lines of these forms, others empty or a comment `#`; a number has 1 to 9 digits:
@@ -29,14 +31,18 @@ SCRIPT has lines of these forms, others empty or a comment `#`; a number has 1 t
   lose answer N         the answer to it is lost
   spoil answer N P      the octet at place P of that answer is changed
   cut N                 at event N the connection is cut
+  wall WALL             at event 1 the wall clock shows WALL (ms since 1970-01-01 UTC)
   send N HEX            at event N the control centre sends this ASDU (9 to 249 octets)
-Exit status: 0 done, 1 wrong settings or script, 2 usage, 3 a file or the output failed, 4 no memory";
+Exit status: 0 done, 1 wrong settings or script, 2 usage, 3 a file or the output failed, \
+4 no memory";
 
 pub(crate) const RUN: &str = "\
 CONFIG has a table `live` with two keys:
   line = \"tcp:HOST:PORT\"    a serial device server, or \"unix:PATH\"
   listen = \"HOST:PORT\"      where control centres connect (the usual port is 2404)
-It prints nothing, and begins with an empty queue: what no control centre had acknowledged is lost
-with the process. With --redial it lives on where the line ends or isn't there.
+It prints nothing on standard output, and begins with an empty queue: what no control centre had
+acknowledged is lost with the process. Who connects takes the control centre's place, if --allow
+(given once for each address) lets it in; without --allow anyone is let in. With --redial it lives
+on where the line ends or isn't there. With --log standard error has a line for what happens.
 Exit status: 1 wrong settings, 2 usage, 3 the line can't be reached or ended, or listening failed,
 4 no memory";

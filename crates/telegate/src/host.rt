@@ -1,10 +1,12 @@
 //! What the program needs of the system that it runs on.
-ghost use Rattle.std.specs.Prelude.{◌≡◌, ℕ, Bool, List, Result, IfOk, IfErr};
+ghost use Rattle.std.specs.Prelude.{◌≡◌, ℕ, List, Result, IfOk, IfErr};
 ghost use Rattle.telegate.specs.declared.fault.Fault.{Fault};
 ghost use Rattle.telegate.specs.declared.host.Unread.TheVariants as unread;
+ghost use Rattle.telegate.specs.declared.host.Wishes.{Wishes};
 
 use crate::fault::Fault;
 use crate::running::run_live;
+use live::Guests;
 use std::io;
 use std::net::{Net, TcpListener, TcpStream};
 use std::rt::{Clock, Files};
@@ -17,6 +19,17 @@ pub(crate) enum Unread {
     NoMemory,
 }
 
+/// What a live run is to do beside its settings.
+#[derive(Debug, PartialEq, Eq, Drop)]
+pub(crate) struct Wishes {
+    /// A line that isn't there, or ends, is reached again.
+    pub(crate) redial: bool,
+    /// What happens is told on standard error.
+    pub(crate) log: bool,
+    /// Who may connect.
+    pub(crate) guests: Guests,
+}
+
 /// A system with files, on which the gateway can run live.
 pub(crate) trait Host {
     // The file of this name has these octets.
@@ -25,17 +38,18 @@ pub(crate) trait Host {
     // The file of this name can't be read.
     ghost lacks: { Self → List ℕ → Type 0 };
 
-    // The gateway ran live, by settings of these octets, with a line that is reached again or not, and this is how that ended.
-    ghost ran: { Self → List ℕ → Bool → Result (Unit {0}) Fault → Type 0 };
+    // The gateway ran live, by settings of these octets and these wishes, and this is how that
+    // ended.
+    ghost ran: { Self → List ℕ → Wishes → Result (Unit {0}) Fault → Type 0 };
 
     /// The octets of a file.
     fn read(&self, name: &str) -> Result<Vec<u8>, Unread>
         ensures octets { IfOk result (λ octets. has self.now name.now octets.items) }
         ensures none { IfErr result (λ why. why ≡ unread.Unreadable → lacks self.now name.now) };
 
-    /// Runs the gateway live, by settings of these octets, until it ends. With `redial` a line that ends is reached again.
-    fn run(&self, config: &[u8], redial: bool) -> Result<(), Fault>
-        ensures { ran self.now config.now redial result };
+    /// Runs the gateway live, by settings of these octets, until it ends.
+    fn run(&self, config: &[u8], wishes: Wishes) -> Result<(), Fault>
+        ensures { ran self.now config.now wishes result };
 }
 
 /// The system of a process. Of what its files hold nothing is known.
@@ -60,7 +74,7 @@ where
         }
     }
 
-    fn run(&self, config: &[u8], redial: bool) -> Result<(), Fault> {
-        run_live(self.0, config, redial)
+    fn run(&self, config: &[u8], wishes: Wishes) -> Result<(), Fault> {
+        run_live(self.0, config, wishes)
     }
 }

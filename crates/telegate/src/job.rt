@@ -3,20 +3,22 @@
 /// A command, with the octets of its files in place of their names.
 #[derive(Clone, Copy, Debug, PartialEq, Eq)]
 pub enum Job<'a> {
-    /// The frame at the front of octets of the line: the sizes of its addresses, and the octets in hexadecimal.
+    /// The frame at the front of octets of the line: the sizes of its addresses, and the octets in
+    /// hexadecimal.
     Show101(&'a str, &'a str),
     /// The APDU at the front of octets of the connection, in hexadecimal.
     Show104(&'a str),
     /// The judgement of a file of settings.
     Check(&'a [u8]),
-    /// A run of the gateway over the events of a trace; and whether a line follows for each piece that no connection has
-    /// acknowledged, and one with what was counted.
+    /// A run of the gateway over the events of a trace; and whether a line follows for each piece
+    /// that no connection has acknowledged, and one with what was counted.
     Replay {
         config: &'a [u8],
         trace: &'a [u8],
         left: bool,
         counts: bool,
     },
-    /// A run of the gateway over simulated stations and a simulated control centre: the settings, and the script.
+    /// A run of the gateway over simulated stations and a simulated control centre: the settings,
+    /// and the script.
     Sim(&'a [u8], &'a [u8]),
 }

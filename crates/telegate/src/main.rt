@@ -1,13 +1,16 @@
-//! `telegate`, a telecontrol gateway from an IEC 60870-5-101 line to an IEC 60870-5-104 connection: the program.
+//! `telegate`, a telecontrol gateway from an IEC 60870-5-101 line to an IEC 60870-5-104 connection:
+//! the program.
 //!
-//! `obey` does what a list of words asks for: it reads the files that they name, in their order, and hands their octets
-//! to `perform`, which does the work of one command (`Job`), or to the gateway's live run. Proved of `obey`, for every
-//! list of words and any host: the command is the one that the words name with what stands at each place, each file's
-//! octets go where its name stood, a file that can't be read ends it with 3 before anything is printed, `run` ends as the
-//! host's live run ended, and words that ask for nothing end with 2, or 0 where they ask for help or the version. Proved of
-//! `perform`: what it appends to a writer that tells its octets is the text of the command's answer and nothing else,
-//! nothing where a text is refused, and a beginning of the answer's text where the writer failed; the exit status is that
-//! of the answer or of the first fault. What the system's files, terminals and sockets do, and the lines of faults, are
+//! `obey` does what a list of words asks for: it reads the files that they name, in their order,
+//! and hands their octets to `perform`, which does the work of one command (`Job`), or to the
+//! gateway's live run. Proved of `obey`, for every list of words and any host: the command is the
+//! one that the words name with what stands at each place, each file's octets go where its name
+//! stood, a file that can't be read ends it with 3 before anything is printed, `run` ends as the
+//! host's live run ended, and words that ask for nothing end with 2, or 0 where they ask for help
+//! or the version. Proved of `perform`: what it appends to a writer that tells its octets is the
+//! text of the command's answer and nothing else, nothing where a text is refused, and a beginning
+//! of the answer's text where the writer failed; the exit status is that of the answer or of the
+//! first fault. What the system's files, terminals and sockets do, and the lines of faults, are
 //! tested.
 #![tactic(auto)]
 
@@ -16,6 +19,7 @@ mod check;
 mod closing;
 mod command_line;
 mod fault;
+mod guests;
 mod help;
 mod host;
 mod job;

@@ -12,9 +12,9 @@ use std::alloc::Global;
 use std::io;
 use std::io::{ErrorKind, Write};
 
-/// Does a command: its answer goes to `out`, or the line of a fault to `err`. Answers the exit status: 0 done, 1 a bad
-/// frame or a file with wrong content, 3 where the output can't be written (what was written is then a beginning of the
-/// answer's text), 4 where memory was refused.
+/// Does a command: its answer goes to `out`, or the line of a fault to `err`. Answers the exit
+/// status: 0 done, 1 a bad frame or a file with wrong content, 3 where the output can't be written
+/// (what was written is then a beginning of the answer's text), 4 where memory was refused.
 pub fn perform<W: Write, E: Write>(alloc: Global, job: &Job<'_>, out: &mut W, err: &mut E) -> u8
     ensures { Performs job.now (W.contents out.old) (W.contents out.new) result }
 {

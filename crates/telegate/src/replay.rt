@@ -14,8 +14,9 @@ use gateway::{Config, End, Entry, Gateway, drive_on, steps_keep_their_order};
 use std::alloc::Global;
 use traces::{Beginning, TextFault, Trace, read_trace};
 
-/// Runs the gateway over the events of a trace, and answers a line for each action, and then the lines of `closing`. The
-/// settings are judged before the trace, and the whole trace before the run.
+/// Runs the gateway over the events of a trace, and answers a line for each action, and then the
+/// lines of `closing`. The settings are judged before the trace, and the whole trace before the
+/// run.
 pub(crate) fn replay(
     alloc: Global,
     config: &[u8],
@@ -76,7 +77,8 @@ fn close(
     gateway: &Gateway,
     closing: Closing,
 ) -> Result<Answer, Fault>
-    ensures { MatchResult result (λ answer. (answer.text.items ≡ text.items ++ closing_lines closing.left closing.counts gateway.now) × (answer.status ≡ 0)) IsMemory }
+    ensures { MatchResult result (λ answer. (answer.text.items ≡ text.items
+        ++ closing_lines closing.left closing.counts gateway.now) × (answer.status ≡ 0)) IsMemory }
 {
     let mut lines = String::new(alloc);
     push_closing(alloc, &mut lines, gateway, closing)?;

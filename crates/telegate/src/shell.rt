@@ -1,4 +1,5 @@
-//! What the program does with its words: the files that they name are read, and the command is done.
+//! What the program does with its words: the files that they name are read, and the command is
+//! done.
 ghost use Rattle.std.specs.Prelude.{◌≡◌, ◌∷◌, [], IfErr, IfOk, OnOk, map, string_bytes};
 ghost use Rattle.std.specs.Io.KnownBytes.{Appends};
 ghost use Rattle.clap.specs.Words.{kind_of};
@@ -6,7 +7,8 @@ ghost use Rattle.telegate.specs.Shell.{IsNotRead, IsTold, Obeys, Responds, RunsF
 
 use crate::command_line::{Request, parse, request_of};
 use crate::fault::{DEVICE_FAILED, DONE, Fault, USAGE};
-use crate::host::{Host, Unread};
+use crate::guests::guests_of;
+use crate::host::{Host, Unread, Wishes};
 use crate::job::Job;
 use crate::performing::{perform, tell};
 use clap::Error;
@@ -15,8 +17,9 @@ use std::alloc::Global;
 use std::io;
 use std::io::Write;
 
-/// Does what the words of a process ask for, of which the first is the program's name. Answers the exit status: that of the
-/// command, or 2 where the words are wrong, and 0 for help and the version.
+/// Does what the words of a process ask for, of which the first is the program's name. Answers the
+/// exit status: that of the command, or 2 where the words are wrong, and 0 for help and the
+/// version.
 pub(crate) fn obey<H: Host, W: Write, E: Write>(
     alloc: Global,
     host: &H,
@@ -24,7 +27,8 @@ pub(crate) fn obey<H: Host, W: Write, E: Write>(
     out: &mut W,
     err: &mut E,
 ) -> u8
-    ensures { Obeys (H.has host.now) (H.lacks host.now) (H.ran host.now) (map string_bytes words.now) (W.contents out.old) (W.contents out.new) result }
+    ensures { Obeys (H.has host.now) (H.lacks host.now) (H.ran host.now)
+        (map string_bytes words.now) (W.contents out.old) (W.contents out.new) result }
 {
     match parse(alloc, words) {
         Ok(matches) => match request_of(&matches) {
@@ -59,11 +63,12 @@ fn show<W: Write>(fault: &Error, to: &mut W) -> io::Result<()> {
 pub(crate) fn respond<H: Host, W: Write, E: Write>(
     alloc: Global,
     host: &H,
-    request: &Request<'_>,
+    request: &Request<'_, '_>,
     out: &mut W,
     err: &mut E,
 ) -> u8
-    ensures { Responds (H.has host.now) (H.lacks host.now) (H.ran host.now) request.now (W.contents out.old) (W.contents out.new) result }
+    ensures { Responds (H.has host.now) (H.lacks host.now) (H.ran host.now) request.now
+        (W.contents out.old) (W.contents out.new) result }
 {
     match request {
         Request::Show101 { sizes, hex } => perform(alloc, &Job::Show101(*sizes, *hex), out, err),
@@ -96,16 +101,32 @@ pub(crate) fn respond<H: Host, W: Write, E: Write>(
             }
             Err(status) => status,
         },
-        Request::Run { config, redial } => run_file(host, *config, *redial, err),
+        Request::Run {
+            config,
+            redial,
+            log,
+            allow,
+        } => match guests_of(alloc, *allow) {
+            Ok(guests) => {
+                let wishes = Wishes {
+                    redial: *redial,
+                    log: *log,
+                    guests,
+                };
+                run_file(host, *config, wishes, err)
+            }
+            Err(fault) => tell(&fault, err),
+        },
     }
 }
 
 /// Runs the gateway live by the settings of a file, and answers the exit status.
-fn run_file<H: Host, E: Write>(host: &H, config: &str, redial: bool, err: &mut E) -> u8
-    ensures { RunsFile (H.has host.now) (H.lacks host.now) (H.ran host.now) config.now redial result }
+fn run_file<H: Host, E: Write>(host: &H, config: &str, wishes: Wishes, err: &mut E) -> u8
+    ensures { RunsFile (H.has host.now) (H.lacks host.now)
+        (H.ran host.now) config.now wishes result }
 {
     match read_file(host, config, err) {
-        Ok(config) => match host.run(config.as_slice(), redial) {
+        Ok(config) => match host.run(config.as_slice(), wishes) {
             Ok(()) => DONE,
             Err(fault) => tell(&fault, err),
         },
@@ -120,8 +141,10 @@ fn read_files<H: Host, E: Write>(
     second: &str,
     err: &mut E,
 ) -> Result<(Vec<u8>, Vec<u8>), u8>
-    ensures read { IfOk result (λ both. H.has host.now first.now both.0.items × H.has host.now second.now both.1.items) }
-    ensures unread { IfErr result (IsNotRead (H.has host.now) (H.lacks host.now) (first.now ∷ second.now ∷ [])) }
+    ensures read { IfOk result (λ both. H.has host.now first.now both.0.items
+        × H.has host.now second.now both.1.items) }
+    ensures unread { IfErr result (IsNotRead (H.has host.now) (H.lacks host.now)
+        (first.now ∷ second.now ∷ [])) }
 {
     match read_file(host, first, err) {
         Ok(first) => match read_file(host, second, err) {
@@ -149,7 +172,8 @@ fn read_file<H: Host, E: Write>(host: &H, name: &str, err: &mut E) -> Result<Vec
 
 /// Writes the line of a file that can't be read.
 fn tell_unreadable<E: Write>(name: &str, err: &mut E) -> io::Result<()>
-    ensures { OnOk result (Appends (E.contents err.old) (E.contents err.new) (unreadable_line name.now)) }
+    ensures { OnOk result (Appends (E.contents err.old) (E.contents err.new)
+        (unreadable_line name.now)) }
 {
     writeln!(err, "cannot read {name}")
 }

@@ -9,8 +9,9 @@ use gateway::Config;
 use sim::{Script, TextFault, read_script};
 use std::alloc::Global;
 
-/// Runs the gateway as a script says, and answers a line for each action, then one for each station and each connection. The
-/// settings are judged before the script, and the whole script before the run.
+/// Runs the gateway as a script says, and answers a line for each action, then one for each station
+/// and each connection. The settings are judged before the script, and the whole script before the
+/// run.
 pub(crate) fn simulate(alloc: Global, config: &[u8], script: &[u8]) -> Result<Answer, Fault>
     ensures { IsSimulatedBy config.now script.now result }
 {

@@ -2,9 +2,9 @@
 mod connection_types;
 mod faults;
 mod line_types;
-mod losses;
 mod shows;
 mod simulations;
+mod tagged_types;
 mod texts;
 mod words;
 mod writers;
@@ -37,7 +37,8 @@ fn text(octets: &[u8]) -> &str {
     std::str::from_utf8(octets).unwrap_or("not UTF-8")
 }
 
-/// Does a command, which is to print these lines, nothing on standard error, and to end with this status.
+/// Does a command, which is to print these lines, nothing on standard error, and to end with this
+/// status.
 fn prints(rt: &impl Abort, alloc: Global, job: &Job<'_>, lines: &str, status: u8) {
     let done = performed(alloc, job);
     assert_eq!(rt; text(done.out.as_slice()), lines);

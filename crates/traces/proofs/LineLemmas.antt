@@ -8,7 +8,7 @@ use Rattle.std.proofs.lemmas.List.Splits.{slice_split_first, slice_split_none, l
 use Rattle.std.specs.Prelude.{count_by}
 use Rattle.std.specs.Option.{option_copied}
 use Rattle.traces.specs.Fields.{pieces_after}
-use Rattle.traces.specs.Event.{event_from, event_in, bare_in, octets_in}
+use Rattle.traces.specs.Event.{event_from, event_in, bare_in, valued_in}
 
 pub cut_here : (text : List ℕ) (separator i : ℕ) → position (λ b. b == separator) text ≡ Some i → slice_split (λ b. b == separator) text ≡ take i text ∷ pieces_after separator (Some (drop (i + 1) text))
 cut_here text separator i found = by_case (nat_lt n (length text)) refl found
@@ -56,7 +56,7 @@ third line moment kind text r s t x y first some second more last =
     first ∙ ap (λ o. moment ∷ pieces_after 32 (option_copied o)) some ∙ ap (λ ps. moment ∷ ps) second ∙ ap (λ o. moment ∷ kind ∷ pieces_after 32 (option_copied o)) more ∙ ap (λ ps. moment ∷ kind ∷ ps) last
 
 pub three_fields : (line moment kind text : List ℕ) (r s t : Option (Bor (List ℕ))) (x y : Bor (List ℕ)) → slice_split (λ b. b == 32) line ≡ moment ∷ pieces_after 32 (option_copied r) → r ≡ Some x →
-    slice_split (λ b. b == 32) x.now ≡ kind ∷ pieces_after 32 (option_copied s) → s ≡ Some y → slice_split (λ b. b == 32) y.now ≡ text ∷ pieces_after 32 (option_copied t) → t ≡ None → event_in line ≡ octets_in moment kind text
+    slice_split (λ b. b == 32) x.now ≡ kind ∷ pieces_after 32 (option_copied s) → s ≡ Some y → slice_split (λ b. b == 32) y.now ≡ text ∷ pieces_after 32 (option_copied t) → t ≡ None → event_in line ≡ valued_in moment kind text
 three_fields line moment kind text r s t x y first some second more last none =
     ap event_from (third line moment kind text r s t x y first some second more last ∙ ap (λ o. moment ∷ kind ∷ text ∷ pieces_after 32 (option_copied o)) none)
 

@@ -7,7 +7,7 @@ use Rattle.std.proofs.KnownBytes.{Appends-trans}
 use Rattle.gateway.specs.Log.{Log, LogEntry, Went, Output, events_of}
 use Rattle.gateway.specs.Entries.{event_of, told_of, stored_log, log_of}
 use Rattle.gateway.specs.declared.entries.Entry.{Entry}
-use Rattle.gateway.specs.declared.entries.Entry.TheVariants.{Line, Open, Bytes, Cut, Tick}
+use Rattle.gateway.specs.declared.entries.Entry.TheVariants.{Line, Open, Bytes, Cut, Tick, Wall}
 use Rattle.gateway.specs.declared.entries.Told.{Told}
 use Rattle.traces.specs.Actions.{line_of, lines_of_actions}
 
@@ -30,6 +30,7 @@ no_line (Open now) log = refl
 no_line (Bytes now octets) log = refl
 no_line (Cut now) log = refl
 no_line (Tick now) log = refl
+no_line (Wall now number) log = refl
 
 -- an entry that came is no longer to come
 pub script_next : (entry : Entry) (log : Log) (left : List Entry) → events_of (event_of entry ∷ log) ++ map event_of left ≡ events_of log ++ map event_of (entry ∷ left)
@@ -38,6 +39,7 @@ script_next (Open now) log left = append_assoc (events_of log) (event_of (Open n
 script_next (Bytes now octets) log left = append_assoc (events_of log) (event_of (Bytes now octets) ∷ []) (map event_of left)
 script_next (Cut now) log left = append_assoc (events_of log) (event_of (Cut now) ∷ []) (map event_of left)
 script_next (Tick now) log left = append_assoc (events_of log) (event_of (Tick now) ∷ []) (map event_of left)
+script_next (Wall now number) log left = append_assoc (events_of log) (event_of (Wall now number) ∷ []) (map event_of left)
 
 -- An action that was put: its line went out, and it is stored.
 

@@ -7,8 +7,8 @@ use Rattle.gateway.specs.Entries.{number_of}
 use Rattle.gateway.specs.declared.entries.Told.{Told}
 use Rattle.gateway.specs.declared.entries.Told.TheVariants as told
 
--- octets to the line (S), an APDU to TCP (T), a close with the number of its cause (X), or a gap (G) with the number of the station,
--- from 1, and that of the session that ended
+-- octets to the line (S), an APDU to TCP (T), a close with the number of its cause (X), or a gap
+-- (G) with the number of the station, from 1, and that of the session that ended
 abbrev pub request_line : (now : ℕ) → (octets : List ℕ) → List ℕ
 request_line now octets = decimal now ++ codes " > S " ++ encode_upper octets ++ 10 ∷ []
 
@@ -19,7 +19,8 @@ abbrev pub close_line : (now number : ℕ) → List ℕ
 close_line now number = decimal now ++ codes " > X " ++ decimal number ++ 10 ∷ []
 
 abbrev pub gap_line : (now station session : ℕ) → List ℕ
-gap_line now station session = decimal now ++ codes " > G " ++ decimal (station + 1) ++ codes " " ++ decimal session ++ 10 ∷ []
+gap_line now station session =
+    decimal now ++ codes " > G " ++ decimal (station + 1) ++ codes " " ++ decimal session ++ 10 ∷ []
 
 abbrev pub line_of : ℕ → Output → List ℕ
 line_of now (LineOut octets) = request_line now octets

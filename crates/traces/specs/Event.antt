@@ -1,18 +1,20 @@
--- The event of one line of a trace (texts of this gateway's own profile): its fields are separated by one space.
+-- The event of one line of a trace (texts of this gateway's own profile): its fields are separated
+-- by one space.
 use Rattle.std.specs.Prelude.{ℕ, ◌==◌, if◌then◌else◌, List, [], ◌∷◌, codes, Option, Some, None}
 use Rattle.std.specs.List.{slice_split}
 use Rattle.std.specs.Str.{bytes_eq}
 use Rattle.gateway.specs.declared.entries.Entry.{Entry}
-use Rattle.gateway.specs.declared.entries.Entry.TheVariants.{Line, Open, Bytes, Cut, Tick}
+use Rattle.gateway.specs.declared.entries.Entry.TheVariants.{Line, Open, Bytes, Cut, Tick, Wall}
 use Rattle.traces.specs.Fields.{decimal_of, octets_of}
 
--- an event, with its moment and its octets as a list
+-- an event, with its moment, and its octets as a list or the number of the wall clock
 pub data Event : Type 0 where
   line : ℕ → List ℕ → Event
   opening : ℕ → Event
   received : ℕ → List ℕ → Event
   cut : ℕ → Event
   tick : ℕ → Event
+  wall : ℕ → ℕ → Event
 
 abbrev pub event_of : Entry → Event
 event_of (Line now octets) = line now octets.items
@@ -20,6 +22,7 @@ event_of (Open now) = opening now
 event_of (Bytes now octets) = received now octets.items
 event_of (Cut now) = cut now
 event_of (Tick now) = tick now
+event_of (Wall now number) = wall now number
 
 -- an event without octets, by its kind
 abbrev pub bare_event : List ℕ → ℕ → Option Event
@@ -51,9 +54,21 @@ octets_at (Some now) kind (Some octets) = octets_event kind now octets
 abbrev pub octets_in : List ℕ → List ℕ → List ℕ → Option Event
 octets_in moment kind text = octets_at (decimal_of moment) kind (octets_of text)
 
+-- the wall clock shows a number: milliseconds since 1970-01-01 UTC
+abbrev pub wall_at : Option ℕ → Option ℕ → Option Event
+wall_at None number = None
+wall_at (Some now) None = None
+wall_at (Some now) (Some number) = Some (wall now number)
+
+-- an event with octets or a number, by its kind
+abbrev pub valued_in : List ℕ → List ℕ → List ℕ → Option Event
+valued_in moment kind text =
+    if bytes_eq kind (codes "W") then wall_at (decimal_of moment) (decimal_of text)
+    else octets_in moment kind text
+
 abbrev pub event_from : List (List ℕ) → Option Event
 event_from (moment ∷ kind ∷ []) = bare_in moment kind
-event_from (moment ∷ kind ∷ text ∷ []) = octets_in moment kind text
+event_from (moment ∷ kind ∷ text ∷ []) = valued_in moment kind text
 event_from _ = None
 
 -- the event of a line, if it is one

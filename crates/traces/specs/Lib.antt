@@ -3,3 +3,4 @@ pub mod Event
 pub mod Trace
 pub mod Actions
 pub mod Traced
+pub mod Printed

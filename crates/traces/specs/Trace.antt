@@ -1,4 +1,5 @@
--- The text of a trace (this gateway's own profile): lines ended by line feeds, each an event, empty or a comment.
+-- The text of a trace (this gateway's own profile): lines ended by line feeds, each an event, empty
+-- or a comment.
 use Rattle.std.specs.Prelude.{◌≡◌, ℕ, ◌+◌, ◌==◌, ◌&&◌, not, Bool, true, if◌then◌else◌, List, [], ◌∷◌, map, Option, Some, None, Result, Vec, MatchResult}
 use Rattle.std.specs.List.{slice_split, filter_map}
 use Rattle.std.specs.Option.{is_none}
@@ -32,7 +33,8 @@ first_wrong n (l ∷ ls) = if is_wrong l then Some n else first_wrong (n + 1) ls
 
 -- no line is wrong, and the entries are the events that the lines tell, in their order
 abbrev pub AreToldBy : List (List ℕ) → List Entry → Type 0
-AreToldBy lines entries = (first_wrong 1 lines ≡ None) × (map event_of entries ≡ filter_map told lines)
+AreToldBy lines entries =
+    (first_wrong 1 lines ≡ None) × (map event_of entries ≡ filter_map told lines)
 
 -- the number is that of the first wrong line, counted from 1 over all lines
 abbrev pub IsFaultOf : List (List ℕ) → TextFault → Type 0
@@ -41,4 +43,5 @@ IsFaultOf lines NoMemory = Unit {0}
 
 -- what the reading of a trace answers
 abbrev pub IsTraceOf : List ℕ → Result (Vec Entry Global) TextFault → Type 0
-IsTraceOf text result = MatchResult result (λ v. AreToldBy (lines_of text) v.items) (IsFaultOf (lines_of text))
+IsTraceOf text result =
+    MatchResult result (λ v. AreToldBy (lines_of text) v.items) (IsFaultOf (lines_of text))

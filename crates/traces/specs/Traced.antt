@@ -12,8 +12,8 @@ use Rattle.traces.specs.declared.health.Health.{Health}
 use Rattle.traces.specs.declared.health.Health.TheVariants.{Good, Refused, Broken}
 use Rattle.traces.specs.Actions.{lines_of_actions}
 
--- the log so far, how often the port failed and why at first, whether the tick at moment 0 was given, the entries that are still
--- to come, and what the writer holds, where that is known
+-- the log so far, how often the port failed and why at first, whether the tick at moment 0 was
+-- given, the entries that are still to come, and what the writer holds, where that is known
 pub record Traced : Type 0 where
   pub log : Log
   pub failed : ℕ
@@ -56,8 +56,8 @@ is_broken Good = false
 is_broken Refused = false
 is_broken Broken = true
 
--- The writer had this before, and has got the lines of the log's actions since; where a write failed it may have got a part of
--- one more line.
+-- The writer had this before, and has got the lines of the log's actions since; where a write
+-- failed it may have got a part of one more line.
 abbrev pub HasLines : Option (List ℕ) → Traced → Type 0
 HasLines before t = is_broken t.health ≡ false → Appends before t.written (lines_of_actions t.log)
 
@@ -77,7 +77,9 @@ pub record IsAnnounced (entry : Entry) (next : Next) (buf : List ℕ) : Type 0 w
 -- The next entry, if there is one, is no longer to come, and stands in the log.
 abbrev pub TakesFrom : List Entry → Traced → Traced → Next → List ℕ → Type 0
 TakesFrom [] old new next buf = (new ≡ old) × (next ≡ Done)
-TakesFrom (entry ∷ left) old new next buf = (new ≡ record old { log = event_of entry ∷ old.log; left = left }) × IsAnnounced entry next buf
+TakesFrom (entry ∷ left) old new next buf =
+    (new ≡ record old { log = event_of entry ∷ old.log; left = left })
+    × IsAnnounced entry next buf
 
 abbrev pub Takes : Traced → Traced → List ℕ → Next → Type 0
 Takes old new buf next = TakesFrom old.left old new next buf

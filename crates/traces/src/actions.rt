@@ -9,8 +9,8 @@ use gateway::{Action, Told};
 use session::Close;
 use std::alloc::{AllocError, Global};
 
-/// The number of a cause.
-fn number(cause: Close) -> u8
+/// The number of a cause, 1 to 7, as it is printed.
+pub fn cause_number(cause: Close) -> u8
     ensures { result ≡ number_of cause }
 {
     cause as u8
@@ -24,14 +24,15 @@ pub(crate) fn stored(alloc: Global, now: u64, action: &Action<'_>) -> Result<Tol
     match action {
         Action::Line(octets) => Ok(Told::Line(now, Vec::from_slice(alloc, octets)?)),
         Action::Tcp(octets) => Ok(Told::Tcp(now, Vec::from_slice(alloc, octets)?)),
-        Action::Close(cause) => Ok(Told::Close(now, number(*cause))),
+        Action::Close(cause) => Ok(Told::Close(now, cause_number(*cause))),
         Action::Gap { station, session } => Ok(Told::Gap(now, *station, *session)),
     }
 }
 
 /// Appends the line of an action that is stored; an event has none. An `Err` is want of memory.
 pub fn append_line(alloc: Global, lines: &mut String, told: &Told) -> Result<(), AllocError>
-    ensures { OnOk result (string_bytes lines.new ≡ string_bytes lines.old ++ stored_line told.now) }
+    ensures { OnOk result (string_bytes lines.new ≡ string_bytes lines.old
+        ++ stored_line told.now) }
 {
     match told {
         Told::Came(_) => Ok(()),

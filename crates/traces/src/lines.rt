@@ -9,7 +9,8 @@ use std::alloc::{AllocError, Global};
 
 /// The pieces of a text between its separators.
 pub fn pieces<'a>(alloc: Global, text: &'a [u8], separator: u8) -> Result<Vec<&'a [u8]>, AllocError>
-    ensures { IfOk result (λ v. map (λ piece. piece.now) v.items ≡ slice_split (λ b. b == separator) text.entry.now) }
+    ensures { IfOk result (λ v. map (λ piece. piece.now) v.items
+        ≡ slice_split (λ b. b == separator) text.entry.now) }
 {
     text.split(|b| *b == separator).collect(alloc)
 }
@@ -25,7 +26,8 @@ fn place(text: &[u8], separator: u8) -> Option<usize>
 /// The piece of a text before its first separator, and what follows that, where there is one.
 #[tactic(auto, using(crate::proofs::LineLemmas::cut_here, crate::proofs::LineLemmas::cut_nowhere))]
 pub(crate) fn cut(text: &[u8], separator: u8) -> (&[u8], Option<&[u8]>)
-    ensures { slice_split (λ b. b == separator) text.entry.now ≡ result.0.now ∷ pieces_after separator (option_copied result.1) }
+    ensures { slice_split (λ b. b == separator) text.entry.now
+        ≡ result.0.now ∷ pieces_after separator (option_copied result.1) }
 {
     match place(text, separator) {
         Some(i) => (&text[..i], Some(&text[i + 1..])),

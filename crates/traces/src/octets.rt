@@ -8,8 +8,8 @@ use std::alloc::{AllocError, Global};
 /// The most octets of one event.
 const MOST_OCTETS: usize = 1024;
 
-/// 1 to 1,024 octets in hexadecimal, each as two digits of either case. `None` where the text is anything else; an `Err`
-/// is want of memory.
+/// 1 to 1,024 octets in hexadecimal, each as two digits of either case. `None` where the text is
+/// anything else; an `Err` is want of memory.
 pub fn read_octets(alloc: Global, text: &[u8]) -> Result<Option<Vec<u8>>, AllocError>
     ensures octets { IfOk result (λ octets. option_map (λ v. v.items) octets ≡ octets_of text.now) }
     ensures most { IfOk result (λ octets. IfSome octets (λ v. length v.items ≤ 1024)) }

@@ -14,7 +14,8 @@ use std::alloc::{AllocError, Global};
 use std::io::Write;
 use std::marker::{Brand, Model, PhantomData};
 
-/// What a writer holds before a run: known to proofs alone, so that they can say what the run has added.
+/// What a writer holds before a run: known to proofs alone, so that they can say what the run has
+/// added.
 pub trait Beginning {
     ghost use Rattle.std.specs.Prelude.{ℕ, List, Option};
 
@@ -28,10 +29,11 @@ impl Beginning for Brand {
     ghost held = { None };
 }
 
-/// A port that gives a tick at moment 0 and then its entries. It stores the log of the run, and writes the line of each
-/// action as it is put: `MS > S HEX` (to the line), `MS > T HEX` (to TCP), `MS > X CAUSE` (a close) or `MS > G S K` (a gap of
-/// station S, counted from 1, at the end of its session K), in upper case.
-/// Room in the log is made before a line is written. After a fault it takes and gives nothing more.
+/// A port that gives a tick at moment 0 and then its entries. It stores the log of the run, and
+/// writes the line of each action as it is put: `MS > S HEX` (to the line), `MS > T HEX` (to TCP),
+/// `MS > X CAUSE` (a close) or `MS > G S K` (a gap of station S, counted from 1, at the end of its
+/// session K), in upper case. Room in the log is made before a line is written. After a fault it
+/// takes and gives nothing more.
 pub struct Trace<W: Write, B: Beginning = Brand> {
     alloc: Global,
     /// Those that are still to come, the last first.
@@ -53,9 +55,23 @@ impl<W: Write, B: Beginning> Model for Trace<W, B> {
 
     ghost Value = { Traced };
 
-    ghost view = { λ a. record { log = log_of a.log.items; failed = a.failures; health = a.health; started = a.is_started; left = reverse a.entries.items; written = W.contents a.out } };
+    ghost view = { λ a. record {
+      log = log_of a.log.items;
+      failed = a.failures;
+      health = a.health;
+      started = a.is_started;
+      left = reverse a.entries.items;
+      written = W.contents a.out;
+    } };
 
-    ghost invariant = { λ a. IsTraced B.held (record { log = log_of a.log.items; failed = a.failures; health = a.health; started = a.is_started; left = reverse a.entries.items; written = W.contents a.out }) };
+    ghost invariant = { λ a. IsTraced B.held (record {
+      log = log_of a.log.items;
+      failed = a.failures;
+      health = a.health;
+      started = a.is_started;
+      left = reverse a.entries.items;
+      written = W.contents a.out;
+    }) };
 }
 
 /// Copies the octets to the front.
@@ -66,8 +82,9 @@ fn fill(buf: &mut [u8; 1024], octets: &[u8])
     buf[..octets.len()].copy_from_slice(octets);
 }
 
-/// Copies the octets of an entry to the front of the buffer.
-fn announce(entry: &Entry, buf: &mut [u8; 1024]) -> Next
+/// What a port answers that gives this entry: its octets are copied to the front of the buffer.
+/// They are to be 1,024 at most.
+pub fn announce(entry: &Entry, buf: &mut [u8; 1024]) -> Next
     requires { FitsPort entry.now }
     ensures { IsAnnounced entry.now result buf.new }
 {
@@ -83,6 +100,7 @@ fn announce(entry: &Entry, buf: &mut [u8; 1024]) -> Next
         }
         Entry::Cut(now) => Next::Cut(*now),
         Entry::Tick(now) => Next::Tick(*now),
+        Entry::Wall(now, number) => Next::Wall(*now, *number),
     }
 }
 
@@ -95,7 +113,14 @@ impl<W: Write, B: Beginning> Trace<W, B> {
     pub fn new(alloc: Global, entries: Vec<Entry>, out: W) -> Trace<W, B>
         requires fits { AllByRecursion FitsPort entries.items }
         requires held { Keeps B.held (W.contents out) }
-        ensures { result ≡ record { log = []; failed = 0; health = Good; started = false; left = entries.items; written = W.contents out } }
+        ensures { result ≡ record {
+          log = [];
+          failed = 0;
+          health = Good;
+          started = false;
+          left = entries.items;
+          written = W.contents out;
+        } }
     {
         let mut entries = entries;
         entries.reverse();
@@ -117,7 +142,8 @@ impl<W: Write, B: Beginning> Trace<W, B> {
     fn start(&mut self) -> Result<Next, AllocError>
         requires { self.old.started ≡ false }
         ensures tick { IfOk result (λ next. next ≡ Next.Tick 0) }
-        ensures ok { OnOk result (self.new ≡ record self.old { log = Came 0 Ticked ∷ self.old.log; started = true }) }
+        ensures ok { OnOk result (self.new
+            ≡ record self.old { log = Came 0 Ticked ∷ self.old.log; started = true }) }
         ensures err { OnErr result (self.new ≡ self.old) }
     {
         self.log.push(Told::Came(Entry::Tick(0)))?;
@@ -143,7 +169,10 @@ impl<W: Write, B: Beginning> Trace<W, B> {
     /// One more failure, at first for want of memory.
     fn fail(&mut self)
         requires { self.old.failed < u64.MAX }
-        ensures { self.new ≡ record self.old { failed = self.old.failed + 1; health = refused self.old.health } }
+        ensures { self.new ≡ record self.old {
+          failed = self.old.failed + 1;
+          health = refused self.old.health;
+        } }
     {
         self.failures += 1;
         if let Health::Good = self.health {

@@ -39,10 +39,12 @@ impl<T: Drop> From<AllocFailed<T>> for TextFault {
     }
 }
 
-/// Reads a whole trace: lines that end in a line feed (the last may lack it), empty ones and those that begin with `#`
-/// skipped. A line is a moment in ms of 1 to 15 decimal digits, a space and `T` (a tick), `O` (a connection opens) or
-/// `C` (it is cut), or `S` (octets from the line) or `R` (from the connection), a space and 1 to 1,024 octets in
-/// hexadecimal. The first wrong line is the fault.
+/// Reads a whole trace: lines that end in a line feed (the last may lack it), empty ones and those
+/// that begin with `#` skipped. A line is a moment in ms of 1 to 15 decimal digits, a space and `T`
+/// (a tick), `O` (a connection opens) or `C` (it is cut), or `S` (octets from the line) or `R`
+/// (from the connection), a space and 1 to 1,024 octets in hexadecimal, or `W` (the wall clock), a
+/// space and its milliseconds since 1970-01-01 UTC, of 1 to 15 decimal digits. The first wrong line
+/// is the fault.
 #[tactic(auto, using(crate::proofs::TraceLemmas::told_skip, crate::proofs::TraceLemmas::wrong_skip, crate::proofs::TraceLemmas::told_next, crate::proofs::TraceLemmas::wrong_next, crate::proofs::TraceLemmas::wrong_here, crate::proofs::TraceLemmas::fits_more))]
 pub fn read_trace(alloc: Global, text: &[u8]) -> Result<Vec<Entry>, TextFault>
     ensures entries { IsTraceOf text.now result }

@@ -1,5 +1,5 @@
 //! Traces, good and wrong.
-use crate::{TextFault, Trace, append_line, read_octets, read_trace};
+use crate::{TextFault, Trace, append_event, append_line, read_octets, read_trace};
 use gateway::{Action, Entry, Next, Port, Told};
 use session::Close;
 use std::alloc::Global;
@@ -36,10 +36,29 @@ fn each_kind_of_line_is_read(rt: HostRuntime) -> Result<(), Fail> {
 }
 
 #[test]
+fn the_wall_clock_is_read(rt: HostRuntime) -> Result<(), Fail> {
+    let alloc = rt.alloc();
+    let text = b"45 W 1709210100000\n0 W 0\n7 W 000000000000005\n1 W 999999999999999";
+    let entries = read_trace(alloc, text)?;
+    assert_eq!(rt; entries.len(), 4);
+    assert!(rt; matches!(&entries[0], Entry::Wall(45, 1709210100000)));
+    assert!(rt; matches!(&entries[1], Entry::Wall(0, 0)));
+    assert!(rt; matches!(&entries[2], Entry::Wall(7, 5)));
+    assert!(rt; matches!(&entries[3], Entry::Wall(1, 999999999999999)));
+    let mut port = Trace::<Vec<u8>>::new(alloc, entries, Vec::new(alloc));
+    let mut buf = [0; 1024];
+    assert!(rt; matches!(port.next(&mut buf), Next::Tick(0)));
+    assert!(rt; matches!(port.next(&mut buf), Next::Wall(45, 1709210100000)));
+    let _ = port.into_writer();
+    Ok(())
+}
+
+#[test]
 fn an_opening_is_read(rt: HostRuntime) -> Result<(), Fail> {
     // The last line lacks its line feed; moments may go back.
     let text =
-        b"10 S 100B010C16\n20 S E5\n30 O\n40 R 680407000000\n0050 S 680909680801010103016400017416\n7 T";
+        b"10 S 100B010C16\n20 S E5\n30 O\n40 R 680407000000\n0050 S 680909680801010103016400017416\n\
+        7 T";
     let entries = read_trace(rt.alloc(), text)?;
     assert_eq!(rt; entries.len(), 6);
     assert!(rt; is_line(&entries[1], 20, &[0xE5]));
@@ -91,6 +110,17 @@ fn the_first_wrong_line_is_told(rt: HostRuntime) -> Result<(), Fail> {
         ("1 S 68 68", 1),
         ("1 s 68", 1),
         ("1 U 68", 1),
+        ("1 W", 1),
+        ("1 W ", 1),
+        ("1 w 1", 1),
+        ("1 W x", 1),
+        ("1 W -1", 1),
+        ("1 W 6A", 1),
+        ("1 W 1 1", 1),
+        ("W 1", 1),
+        (" W 1", 1),
+        ("1 W 1000000000000000", 1),
+        ("1 W 0000000000000001", 1),
         ("1 TT", 1),
         ("1", 1),
         ("T", 1),
@@ -173,6 +203,32 @@ fn a_stored_action_has_a_line(rt: HostRuntime) -> Result<(), Fail> {
     append_line(rt.alloc(), &mut lines, &Told::Came(Entry::Tick(5)))?;
     append_line(rt.alloc(), &mut lines, &Told::Close(70, 5))?;
     assert_eq!(rt; lines.as_str(), "70 > X 5\n");
+    Ok(())
+}
+
+#[test]
+fn an_event_has_the_line_of_a_trace(rt: HostRuntime) -> Result<(), Fail> {
+    let alloc = rt.alloc();
+    let mut buf = [0; 1024];
+    buf[0] = 0xE5;
+    buf[1] = 0x6A;
+    let mut lines = String::new(alloc);
+    for next in [
+        Next::Tick(0),
+        Next::Line(7, 2),
+        Next::Open(9),
+        Next::Bytes(10, 1),
+        Next::Cut(11),
+        Next::Wall(12, 1709210100000),
+        Next::Done,
+        Next::Fault,
+    ] {
+        append_event(alloc, &mut lines, next, &buf)?;
+    }
+    assert_eq!(rt;
+        lines.as_str(),
+        "0 T\n7 S E56A\n9 O\n10 R E5\n11 C\n12 W 1709210100000\n"
+    );
     Ok(())
 }
 

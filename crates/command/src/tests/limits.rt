@@ -1,7 +1,7 @@
 //! 64 waiting commands, 16 selections, 16 own answers.
 use super::{
-    EXECUTE, FOR_ALL, INTERROGATION, MIDDLE, SELECT, SELECT_MS, SMALL, Step, count_of_answers,
-    two_stations,
+    EXECUTE, FOR_ALL, INTERROGATION, MAX_AGE_MS, MIDDLE, SELECT, SELECT_MS, SMALL, Step,
+    count_of_answers, two_stations,
 };
 use crate::{Commands, StationInfo};
 use std::test::Fail;
@@ -117,7 +117,7 @@ fn thirty_two_stations(rt: HostRuntime) -> Result<(), Fail> {
         station.ca = ca;
         ca = ca.wrapping_add(1_u16);
     }
-    let mut commands = Commands::new(rt.alloc(), &stations, SMALL, SELECT_MS)?;
+    let mut commands = Commands::new(rt.alloc(), &stations, SMALL, SELECT_MS, MAX_AGE_MS)?;
     let steps = [
         Step::Forwards(&FOR_ALL, 1),
         Step::Forwards(&FOR_ALL, 2),

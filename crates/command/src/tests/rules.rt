@@ -26,7 +26,8 @@ fn types_that_are_unknown(rt: HostRuntime) -> Result<(), Fail> {
     Ok(())
 }
 
-/// ASDUs with a cause, a station or an object that is unknown, in the sizes `SMALL`, and the cause octets of their answers.
+/// ASDUs with a cause, a station or an object that is unknown, in the sizes `SMALL`, and the cause
+/// octets of their answers.
 const UNKNOWN: [([u8; 10], u8); 6] = [
     // neither activation nor deactivation
     (
@@ -69,7 +70,8 @@ fn causes_addresses_and_objects_that_are_unknown(rt: HostRuntime) -> Result<(), 
     Ok(())
 }
 
-/// ASDUs of a wrong form, or that may not operate, in the sizes `MIDDLE`, and the cause octets of their answers.
+/// ASDUs of a wrong form, or that may not operate, in the sizes `MIDDLE`, and the cause octets of
+/// their answers.
 const WRONG: [([u8; 10], u8); 6] = [
     // SQ 1
     (

@@ -4,7 +4,7 @@ ghost use Rattle.std.specs.Prelude.{◌≡◌, ◌<◌, ◌≤◌, true, List, [
 ghost use Rattle.std.specs.Prelude.{Some, None, if◌then◌else◌};
 ghost use Rattle.apci.specs.Spelling.{Fits};
 ghost use Rattle.apci.specs.Borrowed.{owned};
-ghost use Rattle.session.specs.Session.{confirmed, pulled, may_send, is_running, outcome_of};
+ghost use Rattle.session.specs.Session.{confirmed, pulled, may_send, is_open, is_running, outcome_of};
 ghost use Rattle.session.specs.Session.{timed_out as answers_late};
 ghost use Rattle.events.specs.Pieces.{AreAsdus};
 ghost use Rattle.events.specs.Queue.{free_places, octets_of};
@@ -12,7 +12,7 @@ ghost use Rattle.gateway.specs.Agrees.{IsSpent};
 ghost use Rattle.gateway.specs.Centre.{closed, opened, taken, pushed, next_frame, own_sent};
 ghost use Rattle.gateway.specs.Serial.{judged, has_place};
 ghost use Rattle.gateway.specs.State.{disconnected, connected, received as frame_received};
-ghost use Rattle.gateway.specs.State.{with_serial, with_centre, with_session};
+ghost use Rattle.gateway.specs.State.{with_serial, with_centre, with_session, wall_now};
 ghost use Rattle.gateway.specs.Steps.{Judged, SendsPiece, SendsData};
 ghost use Rattle.gateway.specs.Finding.{Finds};
 ghost use Rattle.gateway.specs.Polls.{has_room};
@@ -224,7 +224,7 @@ impl Gateway {
     }
 
     pub(crate) fn is_open(&self) -> bool
-        ensures { result ≡ self.now.centre.session.connected }
+        ensures { result ≡ is_open self.now.centre.session }
     {
         self.centre.session.is_open()
     }
@@ -273,13 +273,17 @@ impl Gateway {
     fn judge_data(&mut self, apdu: ApduRef<'_>) -> Option<Close>
         requires { Fits (owned apdu) }
         ensures state { self.new
-            ≡ with_serial (judged (owned apdu.entry) self.old.moment self.old.serial) self.old }
+            ≡ with_serial (judged (owned apdu.entry) self.old.moment (wall_now self.old)
+            self.old.serial) self.old }
         ensures close { result ≡ (
-            if has_place (owned apdu.entry) self.old.moment self.old.serial.commands
+            if has_place (owned apdu.entry) self.old.moment (wall_now self.old)
+            self.old.serial.commands
             then None else Some Close.OwnAnswers) }
     {
+        let wall = self.wall();
+        let moment = self.moment;
         match apdu {
-            ApduRef::I { asdu, .. } => self.serial.judge(asdu, self.moment),
+            ApduRef::I { asdu, .. } => self.serial.judge(asdu, moment, wall),
             ApduRef::S { .. } => None,
             ApduRef::U(_) => None,
         }

@@ -27,10 +27,11 @@ ghost use Rattle.gateway.specs.Works.{is_command_report};
 
 use super::Gateway;
 use super::centre::CentreSide;
+use super::tagging::with_tag;
 use crate::counts::Tally;
 use crate::gaps::Gap;
 use apci::Apdu;
-use asdu::{Asdu, Piece, read, translate};
+use asdu::{Asdu, Piece, objects_are_those_of_the_asdu, read, translate};
 use command::{Act, Commands};
 use elements::TypeId;
 use link::{
@@ -164,8 +165,10 @@ impl SerialSide {
         requires plain { monitor_objects_of asdu.now.sizes asdu.now.octets.now ≡ [] }
         ensures { Mirrors asdu.now.sizes moment runs self.old asdu.now.octets.now result self.new }
     {
-        self.commands.mirror(asdu, moment);
-        let pieces = translate(asdu);
+        objects_are_those_of_the_asdu();
+        let tag = self.commands.mirror(asdu, moment);
+        let plain = translate(asdu);
+        let pieces = with_tag(plain, tag);
         if runs {
             return keep_all(&mut self.commands, &pieces);
         }
@@ -237,20 +240,19 @@ impl SerialSide {
 
     /// Judges an ASDU of the control centre. Where its answer finds no place, that closes the
     /// connection.
-    pub(super) fn judge(&mut self, octets: &[u8], moment: u64) -> Option<Close>
+    pub(super) fn judge(&mut self, octets: &[u8], moment: u64, wall: Option<u64>) -> Option<Close>
         requires long { 9 ≤ length octets.now }
         requires short { length octets.now ≤ 249 }
         ensures state { self.new ≡ record self.old {
-          commands =
-              kept_until (listed (judged octets.now moment self.old.commands).0)
-              (judged octets.now moment self.old.commands).1;
+          commands = kept_until (listed (judged octets.now moment wall self.old.commands).0)
+              (judged octets.now moment wall self.old.commands).1;
         } }
         ensures close { result ≡ (
-            if all_kept (listed (judged octets.now moment self.old.commands).0)
-            (judged octets.now moment self.old.commands).1
+            if all_kept (listed (judged octets.now moment wall self.old.commands).0)
+            (judged octets.now moment wall self.old.commands).1
             then None else Some Close.OwnAnswers) }
     {
-        match self.commands.judge_command(octets, moment) {
+        match self.commands.judge_command(octets, moment, wall) {
             Act::Forward => None,
             Act::Own(answer) => {
                 if self.commands.own(&answer) {

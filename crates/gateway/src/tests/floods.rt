@@ -245,6 +245,7 @@ fn moment(entry: &Entry) -> u64 {
         Entry::Open(now) => *now,
         Entry::Cut(now) => *now,
         Entry::Tick(now) => *now,
+        Entry::Wall(now, _) => *now,
     }
 }
 

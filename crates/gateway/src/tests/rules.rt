@@ -1,5 +1,5 @@
-//! The rules that a log keeps, read again slowly from its octets, with nothing of the gateway's parts: for one station with the
-//! link address 1, one octet long, and 200 ms to answer.
+//! The rules that a log keeps, read again slowly from its octets, with nothing of the gateway's
+//! parts: for one station with the link address 1, one octet long, and 200 ms to answer.
 use crate::{Entry, Told};
 use std::alloc::{AllocError, Global};
 
@@ -74,7 +74,8 @@ fn fresh(alloc: Global, is_open: bool) -> Connection {
 }
 
 impl Connection {
-    /// Moves the acknowledged count to a receive number, if that isn't past what was sent (IEC 60870-5-104, 5.1).
+    /// Moves the acknowledged count to a receive number, if that isn't past what was sent
+    /// (IEC 60870-5-104, 5.1).
     fn acknowledge(&mut self, number: u64) -> bool {
         let more = number.wrapping_sub(self.acknowledged) % 32768;
         let count = self.acknowledged.wrapping_add(more);
@@ -129,7 +130,8 @@ impl Connection {
         Ok(0)
     }
 
-    /// Whether an APDU may go out as the next, where so many I frames went out before it, and so many had come before the step.
+    /// Whether an APDU may go out as the next, where so many I frames went out before it,
+    /// and so many had come before the step.
     fn may_go(&self, apdu: &[u8], sent: u64, before: u64) -> bool {
         let told = number(at(apdu, 4), at(apdu, 5));
         let counts = !is_i(apdu) | (number(at(apdu, 2), at(apdu, 3)) == sent % 32768);
@@ -145,7 +147,8 @@ struct Line {
     asked: u64,
     heard: Vec<u8>,
     is_closed: bool,
-    /// The latest request with a frame count bit since the link was reset, and whether it was answered.
+    /// The latest request with a frame count bit since the link was reset, and whether it
+    /// was answered.
     service: Vec<u8>,
     is_answered: bool,
 }
@@ -184,7 +187,8 @@ fn has_data(heard: &[u8]) -> bool {
         & (at(heard, size + 5) == 0x16)
 }
 
-/// Whether what was heard begins with an answer to the request (IEC 60870-5-2, and E5 in place of a short one).
+/// Whether what was heard begins with an answer to the request (IEC 60870-5-2, and E5 in place
+/// of a short one).
 fn answers(request: &[u8], heard: &[u8]) -> bool {
     let function = control(heard) % 16;
     let is_single = at(heard, 0) == 0xE5;
@@ -254,7 +258,8 @@ pub(super) struct Rules {
     line: Line,
 }
 
-/// The actions of a step: how many of each kind, the cause of the last close, and whether octets went to TCP after it.
+/// The actions of a step: how many of each kind, the cause of the last close, and whether
+/// octets went to TCP after it.
 #[derive(Clone, Copy)]
 struct Tally {
     requests: u64,
@@ -315,7 +320,7 @@ impl Rules {
                 self.line.hear(*now, octets)?;
                 Ok((cause == 0) | was_open & (cause > 4) & (cause < 7))
             }
-            Entry::Tick(now) => {
+            Entry::Tick(now) | Entry::Wall(now, _) => {
                 self.line.hear(*now, &[])?;
                 Ok((cause == 0) | was_open & (cause == 5))
             }

@@ -135,7 +135,7 @@ fn class_1_waits(rt: HostRuntime) -> Result<(), NoMemory> {
 }
 
 #[test]
-fn a_command_waits_while_the_station_is_full(rt: HostRuntime) -> Result<(), NoMemory> {
+fn a_command_waits_while_dfc_is_set(rt: HostRuntime) -> Result<(), NoMemory> {
     let mut line = Bench::new(rt.alloc(), settings(3, true, 8), &[1])?;
     assert!(rt; line.open());
     assert!(rt; line.sends(20, &CLASS2));

@@ -1,6 +1,8 @@
 //! What a stall of the gateway does, over ends in a time of their own.
 use super::Live;
 use crate::configured::config;
+use crate::guests::Guests;
+use crate::memory::WALL_MS;
 use crate::source::Source;
 use crate::timed::{Time, TimedClock, TimedDoor, TimedLine};
 use gateway::{Action, End, Gateway, Next, Port, drive_on};
@@ -17,11 +19,19 @@ const ANSWER_MS: u64 = 1000;
 fn ends<'a>(time: &'a Time, answer_ms: u64, has_centre: bool) -> Ends<'a> {
     let line = TimedLine::new(time, answer_ms, 0);
     let door = TimedDoor::new(time, has_centre);
-    Live::new(line, door, TimedClock(time), ANSWER_MS)
+    Live::new(line, door, TimedClock(time), Guests::Anyone, ANSWER_MS)
 }
 
 /// The next event of a port that never fails.
 fn next(rt: &impl Abort, port: &mut Ends<'_>) -> Next {
+    match next_of_all(rt, port) {
+        Next::Wall(..) => next_of_all(rt, port),
+        next => next,
+    }
+}
+
+/// The next event, which may tell the wall clock.
+fn next_of_all(rt: &impl Abort, port: &mut Ends<'_>) -> Next {
     assert!(rt; port.failures() < 9);
     port.next(&mut [0; 1024])
 }
@@ -40,6 +50,36 @@ fn before_any_request_the_moment_is_the_clocks(rt: HostRuntime) {
     assert!(rt; matches!(next(&rt, &mut port), Next::Open(5000)));
     assert!(rt; matches!(next(&rt, &mut port), Next::Bytes(5000, 6)));
     assert!(rt; matches!(next(&rt, &mut port), Next::Bytes(5001, 6)));
+}
+
+/// The wall clock is told now, at this moment.
+fn tells_wall(rt: &impl Abort, port: &mut Ends<'_>, moment: u64) {
+    let told = next_of_all(rt, port);
+    let shown = WALL_MS.saturating_add(moment);
+    assert!(rt;
+        matches!(told, Next::Wall(m, n) if m == moment && n == shown),
+        "{moment}"
+    );
+}
+
+#[test]
+fn the_wall_clock_is_told_each_second_between_the_looks(rt: HostRuntime) {
+    let time = Time::new(0, 0);
+    let mut port = ends(&time, 60000, false);
+    tells_wall(&rt, &mut port, 0);
+    assert!(rt; matches!(next_of_all(&rt, &mut port), Next::Tick(1)));
+    time.pass(998);
+    assert!(rt; matches!(next_of_all(&rt, &mut port), Next::Tick(1000)));
+    tells_wall(&rt, &mut port, 1000);
+    // A stall right after it is no cause to tell it again before the ends are looked at.
+    time.pass(3000);
+    assert!(rt; matches!(next_of_all(&rt, &mut port), Next::Tick(4001)));
+    tells_wall(&rt, &mut port, 4001);
+    // In a stall after a request it is told as it stood at the moment that is due.
+    ask(&rt, &mut port, 4001);
+    assert!(rt; matches!(next_of_all(&rt, &mut port), Next::Tick(4002)));
+    time.pass(1200);
+    tells_wall(&rt, &mut port, 5000);
 }
 
 /// A stall of 1.2 s in the write of a request, which goes out after it: the exchange has its whole time from then on.
@@ -90,7 +130,7 @@ fn connected_after(rt: &impl Abort, stall_ms: u64, look_ms: u64) -> (Next, Next)
     ask(rt, &mut port, 0);
     time.pass(stall_ms);
     if let Some(centre) = &mut port.connection {
-        centre.look_ms = look_ms;
+        centre.wire.look_ms = look_ms;
     }
     let first = next(rt, &mut port);
     (first, next(rt, &mut port))
@@ -119,7 +159,7 @@ fn runs_without_repeat(
     let time = Time::new(every, stall_ms);
     let line = TimedLine::new(&time, 300, 650);
     let door = TimedDoor::new(&time, true);
-    let mut port = Live::new(line, door, TimedClock(&time), ANSWER_MS);
+    let mut port = Live::new(line, door, TimedClock(&time), Guests::Anyone, ANSWER_MS);
     let config = config(alloc, ANSWER_MS)?;
     let mut gateway = Gateway::new(alloc, &config).ok().ok_or("no memory")?;
     assert!(rt; port.failures() < 9);

@@ -1,5 +1,6 @@
 //! The port over ends in memory, rule by rule.
 use super::Live;
+use crate::guests::Guests;
 use crate::memory::{MemoryClock, MemoryDoor, MemoryWire};
 use gateway::{Action, Next, Port};
 use session::Close;
@@ -8,8 +9,12 @@ use std::test::Fail;
 
 type Ends = Live<MemoryWire, MemoryDoor, MemoryClock>;
 
+/// Ends of which the wall clock has just been told.
 fn ends(line: MemoryWire, visitor: Option<MemoryWire>) -> Ends {
-    Live::new(line, MemoryDoor { visitor }, MemoryClock(0), 1000)
+    let door = MemoryDoor { visitor };
+    let mut port = Live::new(line, door, MemoryClock(0), Guests::Anyone, 1000);
+    port.walled.tell(0);
+    port
 }
 
 /// Ends whose connection is open, and whose next look is at the connection.
@@ -71,7 +76,10 @@ fn a_failed_write_to_the_connection_is_a_cut_before_any_look(rt: HostRuntime) ->
     send(&rt, &mut port);
     // What is put until the cut is dropped.
     send(&rt, &mut port);
-    assert_eq!(rt; port.connection.as_ref().ok_or("a connection")?.writes, 1);
+    assert_eq!(rt;
+        port.connection.as_ref().ok_or("a connection")?.wire.writes,
+        1
+    );
     assert!(rt; matches!(next(&rt, &mut port), Next::Cut(8)));
     assert_eq!(rt; port.line.reads, 1);
     assert!(rt; port.door.visitor.is_some());
@@ -100,7 +108,10 @@ fn a_new_connection_takes_the_place_of_the_old(rt: HostRuntime) -> Result<(), Fa
     assert!(rt; matches!(next(&rt, &mut port), Next::Open(4)));
     // The gateway closes the old one, and the new one stays.
     assert!(rt; port.put(2, &Action::Close(Close::Replaced)));
-    assert_eq!(rt; port.connection.as_ref().ok_or("a connection")?.writes, 0);
+    assert_eq!(rt;
+        port.connection.as_ref().ok_or("a connection")?.wire.writes,
+        0
+    );
     assert!(rt; matches!(next(&rt, &mut port), Next::Bytes(6, 1)));
     Ok(())
 }

@@ -2,20 +2,21 @@
 use super::{CentreListener, LineDialler, LineSocket, SystemClock};
 use crate::Live;
 use crate::configured::config;
+use crate::guests::Guests;
 use crate::redial::Redialled;
-use crate::wires::{Door, Got, Wire};
+use crate::wires::{Door, Got, SentAway, Wire};
 use gateway::{End, Gateway, Port, drive_on};
 use std::io::{Read, Write};
-use std::net::{Net, OpenStream, SocketAddr, TcpListener, TcpStream};
+use std::net::{IpAddr, Ipv4Addr, Net, OpenStream, SocketAddr, TcpListener, TcpStream};
 use std::os::unix::net::UnixStream;
 use std::process::Abort;
 use std::test::Fail;
 use std::time::{Duration, Instant};
 
-/// Some turns of the gateway.
+/// Some turns of the gateway, one of which may tell it the wall clock.
 fn turn<P: Port>(rt: &impl Abort, gateway: &mut Gateway, port: &mut P) {
     assert!(rt; port.failures() < 9);
-    assert_eq!(rt; drive_on(gateway, port, 6), End::Turns);
+    assert_eq!(rt; drive_on(gateway, port, 7), End::Turns);
 }
 
 /// These octets come next at the other end of a stream.
@@ -101,7 +102,7 @@ fn a_report_goes_through_and_is_acknowledged(rt: HostRuntime) -> Result<(), Fail
     let door = CentreListener::listen(&rt, "127.0.0.1:0")?;
     let address = door.address()?;
     // The answer is awaited for longer than the test lasts.
-    let mut port = Live::new(line, door, SystemClock::start(&rt)?, 60000);
+    let mut port = Live::new(line, door, SystemClock::start(&rt)?, Guests::Anyone, 60000);
     let config = config(rt.alloc(), 60000)?;
     let mut gateway = Gateway::new(rt.alloc(), &config).ok().ok_or("no memory")?;
 
@@ -149,14 +150,42 @@ fn a_quiet_line_does_not_hold_who_looks(rt: HostRuntime) -> Result<(), Fail> {
 }
 
 #[test]
+fn who_is_no_guest_is_sent_away(rt: HostRuntime) -> Result<(), Fail> {
+    let mut door = CentreListener::listen(&rt, "127.0.0.1:0")?;
+    let address = door.address()?;
+    let here = address.ip();
+    let elsewhere = IpAddr::V4(Ipv4Addr::new(127, 0, 0, 2));
+    let mut stranger = started(&rt, address)?;
+    let guests = Guests::Only(vec![in rt.alloc(); elsewhere]?);
+    assert!(rt; door.accept(&guests).is_none());
+    assert_eq!(rt;
+        door.sent_away(),
+        SentAway {
+            count: 1,
+            last: Some(here)
+        }
+    );
+    assert!(rt;
+        matches!(stranger.read(&mut [0; 1]), Ok(0) | Err(_)),
+        "the connection is shut"
+    );
+    let _guest = started(&rt, address)?;
+    let guests = Guests::Only(vec![in rt.alloc(); elsewhere, here]?);
+    let visitor = door.accept(&guests).ok_or("a visitor")?;
+    assert_eq!(rt; visitor.address, here);
+    assert_eq!(rt; door.sent_away().count, 1);
+    Ok(())
+}
+
+#[test]
 fn of_all_who_wait_the_last_one_stays(rt: HostRuntime) -> Result<(), Fail> {
     let mut door = CentreListener::listen(&rt, "127.0.0.1:0")?;
-    assert!(rt; door.accept().is_none());
+    assert!(rt; door.accept(&Guests::Anyone).is_none());
     let address = door.address()?;
     let mut first = started(&rt, address)?;
     let mut last = started(&rt, address)?;
-    let mut wire = door.accept().ok_or("a visitor")?;
-    assert!(rt; door.accept().is_none());
+    let mut wire = door.accept(&Guests::Anyone).ok_or("a visitor")?.wire;
+    assert!(rt; door.accept(&Guests::Anyone).is_none());
     assert!(rt;
         matches!(first.read(&mut [0; 1]), Ok(0) | Err(_)),
         "the first is shut"

@@ -17,7 +17,8 @@ fn the_first_wrong_setting_is_told(rt: HostRuntime) {
             "config: line.cause\n",
         ),
         (
-            "[line]\nlink = 1\ncause = 1\nca = 1\nioa = 2\nzz = 1\nyy = 2\n[[station]]\naddress = 1\nca = 1\n",
+            "[line]\nlink = 1\ncause = 1\nca = 1\nioa = 2\nzz = 1\nyy = 2\n[[station]]\n\
+            address = 1\nca = 1\n",
             "config: unknown line.yy\n",
         ),
     ] {

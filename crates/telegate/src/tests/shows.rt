@@ -1,5 +1,5 @@
 //! The commands that show a frame.
-use super::{connection_types, line_types, prints, stops, texts};
+use super::{connection_types, line_types, prints, stops, tagged_types, texts};
 use crate::job::Job;
 use std::alloc::Global;
 use std::process::Abort;
@@ -61,6 +61,12 @@ fn values_on_the_connection(rt: HostRuntime) {
 #[test]
 fn commands_on_the_connection(rt: HostRuntime) {
     shows_the_connection(&rt, rt.alloc(), &connection_types::COMMANDS);
+}
+
+#[test]
+fn tagged_commands_in_words(rt: HostRuntime) {
+    shows_the_connection(&rt, rt.alloc(), &tagged_types::TCP);
+    shows_the_line(&rt, rt.alloc(), &tagged_types::LINE);
 }
 
 /// Sizes and octets that are wrong, and the fault.

@@ -33,9 +33,11 @@ connection 1 objects 1
 
 /// A station whose link is reset at once where it is silent.
 const CONFIG_RESET: &str =
-    "[line]\nlink = 1\ncause = 1\nca = 1\nioa = 2\nqueue = 100\nretries = 0\nsilence = \"reset\"\n[[station]]\naddress = 1\nca = 1\n";
+    "[line]\nlink = 1\ncause = 1\nca = 1\nioa = 2\nqueue = 100\nretries = 0\nsilence = \"reset\"\n\
+    [[station]]\naddress = 1\nca = 1\n";
 
-/// Two reports. The answer to the first poll is lost: the reset that follows tells of a gap, and the first report is lost.
+/// Two reports. The answer to the first poll is lost: the reset that follows tells of a gap, and
+/// the first report is lost.
 const LOST_WITH_A_GAP: &str = "1 > S 1049014A16
 2 > T 68040B000000
 3 > S 1040014116
@@ -101,7 +103,8 @@ static SESSIONS: [(&str, &str); 3] = [
         GAP_WITHOUT_LOSS,
     ),
     (
-        "turns 11\nreport 1 2 01010301640001\nreport 1 2 01010301650001\nreport 1 2 01010301660001\nlose answer 3\nlose answer 6\n",
+        "turns 11\nreport 1 2 01010301640001\nreport 1 2 01010301650001\n\
+        report 1 2 01010301660001\nlose answer 3\nlose answer 6\n",
         TWO_GAPS,
     ),
 ];
@@ -191,7 +194,8 @@ fn long_line(alloc: Global, word: &str, octets: usize) -> Result<String, AllocEr
     format!(in alloc; "turns 0\n{word} {octets}\n")
 }
 
-/// The settings, the words before the octets, the most octets, and what is printed where there are no calls.
+/// The settings, the words before the octets, the most octets, and what is printed where there are
+/// no calls.
 static LONGEST: [(&str, &str, usize, &str); 3] = [
     (
         CONFIG_A,

@@ -1,5 +1,5 @@
-//! Each text of the commands that show a frame. The octets and the words were put together by hand from the standard's
-//! tables.
+//! Each text of the commands that show a frame. The octets and the words were put together by hand
+//! from the standard's tables.
 use super::shows::{LineRow, TcpRow};
 
 /// Of the line: the sizes, the octets, the lines and the exit status.
@@ -7,7 +7,9 @@ pub(super) static LINE: [LineRow; 40] = [
     (
         "1112",
         "680909680801010103016400017416",
-        "data c=08 prm=0 acd=0 dfc=0 function=8 address=1 octets=7\nasdu type=1 sq=0 number=1 test=0 negative=0 cause=3 originator=0 ca=1\nobject address=100 value=1 element=01\n",
+        "data c=08 prm=0 acd=0 dfc=0 function=8 address=1 octets=7\n\
+        asdu type=1 sq=0 number=1 test=0 negative=0 cause=3 originator=0 ca=1\n\
+        object address=100 value=1 element=01\n",
         0,
     ),
     ("1112", "E5", "single\n", 0),
@@ -52,7 +54,9 @@ pub(super) static LINE: [LineRow; 40] = [
     (
         "1112",
         "680909680801010103016400017416E500",
-        "data c=08 prm=0 acd=0 dfc=0 function=8 address=1 octets=7\nasdu type=1 sq=0 number=1 test=0 negative=0 cause=3 originator=0 ca=1\nobject address=100 value=1 element=01\nrest 2\n",
+        "data c=08 prm=0 acd=0 dfc=0 function=8 address=1 octets=7\n\
+        asdu type=1 sq=0 number=1 test=0 negative=0 cause=3 originator=0 ca=1\n\
+        object address=100 value=1 element=01\nrest 2\n",
         1,
     ),
     ("1112", "10", "truncated\n", 1),
@@ -150,19 +154,25 @@ pub(super) static LINE: [LineRow; 40] = [
 pub(super) static TCP: [TcpRow; 34] = [
     (
         "6813000000000982030001000A0000008000FFFF80",
-        "I ns=0 nr=0 octets=15\nasdu type=9 sq=1 number=2 test=0 negative=0 cause=3 originator=0 ca=1\nobject address=10 value=-32768 element=008000\nobject address=11 value=-1 element=FFFF80\n",
+        "I ns=0 nr=0 octets=15\n\
+        asdu type=9 sq=1 number=2 test=0 negative=0 cause=3 originator=0 ca=1\n\
+        object address=10 value=-32768 element=008000\nobject address=11 value=-1 element=FFFF80\n",
         0,
     ),
     ("680401", "truncated\n", 1),
     ("680401000200E5", "S nr=1\nrest 1\n", 1),
     (
         "680E0000000001010300010064000001",
-        "I ns=0 nr=0 octets=10\nasdu type=1 sq=0 number=1 test=0 negative=0 cause=3 originator=0 ca=1\nobject address=100 value=1 element=01\n",
+        "I ns=0 nr=0 octets=10\n\
+        asdu type=1 sq=0 number=1 test=0 negative=0 cause=3 originator=0 ca=1\n\
+        object address=100 value=1 element=01\n",
         0,
     ),
     (
         "680EFEFFFEFF01010300010064000001",
-        "I ns=32767 nr=32767 octets=10\nasdu type=1 sq=0 number=1 test=0 negative=0 cause=3 originator=0 ca=1\nobject address=100 value=1 element=01\n",
+        "I ns=32767 nr=32767 octets=10\n\
+        asdu type=1 sq=0 number=1 test=0 negative=0 cause=3 originator=0 ca=1\n\
+        object address=100 value=1 element=01\n",
         0,
     ),
     ("680401000200", "S nr=1\n", 0),

@@ -1,9 +1,11 @@
-//! The words of the command line, over files in memory: which file goes where, and what a process ends with.
+//! The words of the command line, over files in memory: which file goes where, and what a process
+//! ends with.
 use super::{CONFIG_A, OPENED, OPENING, joined, text};
 use crate::fault::Fault;
 use crate::help;
-use crate::host::{Host, Unread};
+use crate::host::{Host, Unread, Wishes};
 use crate::shell::obey;
+use live::Guests;
 use std::alloc::{AllocError, Global};
 use std::process::Abort;
 use std::test::Fail;
@@ -20,7 +22,8 @@ const LEFT: &str = "left 01010300010064000001\n";
 /// The line of what was counted.
 const COUNTS: &str = "counts skipped 0 mirrors 0 lost 0 spoilt 0\n";
 
-/// A host with five files. Its live runs end at once: with a fault that tells them from all others, or well.
+/// A host with five files. Its live runs end at once: with a fault that tells them from all others,
+/// or well.
 #[derive(Drop)]
 struct Shelf {
     alloc: Global,
@@ -45,13 +48,17 @@ impl Host for Shelf {
         Vec::from_slice(self.alloc, octets.as_bytes()).map_err(|_| Unread::NoMemory)
     }
 
-    fn run(&self, config: &[u8], redial: bool) -> Result<(), Fault> {
-        if redial {
-            Err(Fault::Octets)
-        } else if config == CONFIG_A.as_bytes() {
-            Err(Fault::Sizes)
-        } else {
-            Ok(())
+    fn run(&self, config: &[u8], wishes: Wishes) -> Result<(), Fault> {
+        if wishes.redial {
+            return Err(Fault::Octets);
+        }
+        if wishes.log {
+            return Err(Fault::Trace(7));
+        }
+        match wishes.guests {
+            Guests::Only(addresses) => Err(Fault::Script(addresses.len() as u64)),
+            Guests::Anyone if config == CONFIG_A.as_bytes() => Err(Fault::Sizes),
+            Guests::Anyone => Ok(()),
         }
     }
 }
@@ -77,7 +84,7 @@ fn obeyed(alloc: Global, words: &str) -> Result<Ended, AllocError> {
 }
 
 /// Words, what they print, what stands on standard error, and the exit status.
-static COMMANDS: [(&str, &str, &str, u8); 26] = [
+static COMMANDS: [(&str, &str, &str, u8); 30] = [
     ("show101 1112 E5", "single\n", "", 0),
     ("show101 1112 E5E5", "single\nrest 1\n", "", 1),
     ("show101 E5 1112", "", "bad sizes\n", 1),
@@ -114,6 +121,20 @@ static COMMANDS: [(&str, &str, &str, u8); 26] = [
     // A line that is reached again.
     ("run --redial good.toml", "", "bad octets\n", 1),
     ("run good.toml --redial", "", "bad octets\n", 1),
+    ("run --log good.toml", "", "trace: line 7\n", 1),
+    ("run --allow 192.0.2.7 good.toml", "", "script: line 1\n", 1),
+    (
+        "run --allow 192.0.2.7 good.toml --allow ::1",
+        "",
+        "script: line 2\n",
+        1,
+    ),
+    (
+        "run --allow 192.0.2.7 --allow 192.0.2.256 nowhere",
+        "",
+        "error: --allow takes the address of a host, as 192.0.2.7\n",
+        2,
+    ),
     ("run nowhere", "", "cannot read nowhere\n", 3),
     ("run vast", "", "no memory\n", 4),
 ];
@@ -164,8 +185,8 @@ impl Host for Opened {
         }
     }
 
-    fn run(&self, config: &[u8], redial: bool) -> Result<(), Fault> {
-        self.shelf.run(config, redial)
+    fn run(&self, config: &[u8], wishes: Wishes) -> Result<(), Fault> {
+        self.shelf.run(config, wishes)
     }
 }
 
@@ -222,6 +243,15 @@ fn wrong_words_are_a_usage_fault(rt: HostRuntime) -> Result<(), Fail> {
         );
         assert_eq!(rt; ended.status, 2, "{words}");
     }
+    Ok(())
+}
+
+#[test]
+fn a_guest_needs_an_address(rt: HostRuntime) -> Result<(), Fail> {
+    let ended = obeyed(rt.alloc(), "run good.toml --allow")?;
+    assert_eq!(rt; text(ended.out.as_slice()), "");
+    assert!(rt; text(ended.err.as_slice()).starts_with("error: a value is required for '--allow"));
+    assert_eq!(rt; ended.status, 2);
     Ok(())
 }
 

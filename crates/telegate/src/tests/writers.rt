@@ -64,8 +64,8 @@ impl Write for Unflushed {
     }
 }
 
-/// Does a command over a writer that takes so many octets: that is to be all of its text, or a beginning of it and then the
-/// device failed.
+/// Does a command over a writer that takes so many octets: that is to be all of its text, or a
+/// beginning of it and then the device failed.
 fn writes(rt: &impl Abort, alloc: Global, job: &Job<'_>, octets: u64, lines: &str) {
     for has_signals in [false, true] {
         let mut out = Failing::new(alloc, octets, has_signals);

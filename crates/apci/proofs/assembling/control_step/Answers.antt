@@ -14,7 +14,9 @@ pub returns-then-len-lt13 : goal.returns-then-len-lt13
 returns-then-len-lt13 c = i_short c.args.len c.args.octet [] c.requires.long (omega arith) c.in-I.ensures
 
 pub returns-then-len-ne4 : goal.returns-then-len-ne4
-returns-then-len-ne4 c = subst (λ (o : ℕ). IsFront (0x68 ∷ c.args.len ∷ o ∷ []) (Never 1 NotFour)) (sym c.in-S.ensures) (s_not_four c.args.len [] c.requires.long c.requires.short c.if-len-ne4.true)
+returns-then-len-ne4 c = subst (λ (o : ℕ). IsFront (0x68 ∷ c.args.len ∷ o ∷ []) (Never 1 NotFour)) (sym c.in-S.ensures)
+    (s_not_four c.args.len [] c.requires.long c.requires.short c.if-len-ne4.true)
 
 pub returns-then-len-ne4-2 : goal.returns-then-len-ne4-2
-returns-then-len-ne4-2 c = subst (λ (o : ℕ). IsFront (0x68 ∷ c.args.len ∷ o ∷ []) (Never 1 NotFour)) (sym c.in-U.ensures) (u_not_four c.args.len c.in-U.function [] c.requires.long c.requires.short c.if-len-ne4-2.true)
+returns-then-len-ne4-2 c = subst (λ (o : ℕ). IsFront (0x68 ∷ c.args.len ∷ o ∷ []) (Never 1 NotFour))
+    (sym c.in-U.ensures) (u_not_four c.args.len c.in-U.function [] c.requires.long c.requires.short c.if-len-ne4-2.true)

@@ -5,4 +5,7 @@ use Rattle.apci.proofs.assembling.length_step.Goals as goal
 
 pub returns-then-octet-lt4 : goal.returns-then-octet-lt4
 returns-then-octet-lt4 c = no_length c.args.octet [] (λ low high.
-    elim c.then-octet-lt4.branch [ then-octet-lt4-via-then-octet-lt4 w ↦ omega arith | then-octet-lt4-via-else-octet-lt4+then-octet-gt253 w ↦ omega arith ])
+    elim c.then-octet-lt4.branch [
+      | then-octet-lt4-via-then-octet-lt4 w ↦ omega arith
+      | then-octet-lt4-via-else-octet-lt4+then-octet-gt253 w ↦ omega arith
+    ])

@@ -29,14 +29,19 @@ returns c =
     let tag = c.args.tag.now.0 in
     let first = slice_index xs 0 + 13 in
     let rest = take (length xs - 1) (drop 1 xs) in
-    let count = length-infos_at asdu.kind (ioa_len asdu.sizes.ioa) (is_sequence xs) (number_at xs) (drop (header_len asdu.sizes) xs) in
+    let count = length-infos_at asdu.kind (ioa_len asdu.sizes.ioa) (is_sequence xs) (number_at xs)
+    (drop (header_len asdu.sizes) xs) in
     let whole : rest ≡ drop 1 xs = take_all (length xs - 1) (drop 1 xs) (omega (arith, length-drop 1 xs)) in
     let text =
     c.append-3.ensures
-    ∙ ap (λ ys. ys ++ c.octets_of.result) (c.append-2.ensures ∙ ap (λ ys. ys ++ rest) (c.append.ensures ∙ ap (λ ys. ys ++ first ∷ []) c.new-out.ensures) ∙ ap (λ ys. first ∷ ys) whole)
+    ∙ ap (λ ys. ys ++ c.octets_of.result) (c.append-2.ensures
+    ∙ ap (λ ys. ys ++ rest) (c.append.ensures ∙ ap (λ ys. ys ++ first ∷ []) c.new-out.ensures)
+    ∙ ap (λ ys. first ∷ ys) whole)
     ∙ ap (λ ys. (first ∷ drop 1 xs) ++ ys) c.octets_of.ensures.value in
     let O : List ℕ → Type 0 = λ ys. AreOctets ys in
     let S : Sizes → Type 0 = λ s. IsAsdu s (tagged tag (value_of asdu)) c.append-3.new.out.items in
     subst S c.requires.sizes
-    (IsAsdu-tagged asdu.sizes (value_of asdu) xs c.append-3.new.out.items tag spells (count ∙ c.requires.one) c.requires.kind
-    (ap (λ ys. length ys) (sym c.octets_of.ensures.value) ∙ c.octets_of.ensures.seven) (subst O c.octets_of.ensures.value c.octets_of.ensures.are_octets) text)
+    (IsAsdu-tagged asdu.sizes (value_of asdu) xs c.append-3.new.out.items tag spells (count
+    ∙ c.requires.one) c.requires.kind
+    (ap (λ ys. length ys) (sym c.octets_of.ensures.value)
+    ∙ c.octets_of.ensures.seven) (subst O c.octets_of.ensures.value c.octets_of.ensures.are_octets) text)

@@ -24,6 +24,9 @@ returns c =
     let xs = asdu.octets.now in
     let first = slice_index xs 0 - 13 in
     let rest = take (length xs - 7 - 1) (drop 1 xs) in
-    let count = length-infos_at asdu.kind (ioa_len asdu.sizes.ioa) (is_sequence xs) (number_at xs) (drop (header_len asdu.sizes) xs) in
-    let text = c.append-2.ensures ∙ ap (λ ys. ys ++ rest) (c.append.ensures ∙ ap (λ ys. ys ++ first ∷ []) c.new-out.ensures) in
-    IsAsdu-untagged asdu.sizes (value_of asdu) xs c.append-2.new.out.items spells (count ∙ c.requires.one) c.requires.kind text
+    let count = length-infos_at asdu.kind (ioa_len asdu.sizes.ioa) (is_sequence xs) (number_at xs)
+    (drop (header_len asdu.sizes) xs) in
+    let text = c.append-2.ensures ∙ ap (λ ys. ys ++ rest) (c.append.ensures
+    ∙ ap (λ ys. ys ++ first ∷ []) c.new-out.ensures) in
+    IsAsdu-untagged asdu.sizes (value_of asdu) xs c.append-2.new.out.items spells (count
+    ∙ c.requires.one) c.requires.kind text

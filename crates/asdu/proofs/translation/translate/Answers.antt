@@ -25,8 +25,11 @@ pub push-requires : goal.push-requires
 push-requires c =
     let asdu = c.args.asdu.now in
     let most = c.most_objects-most.ensures.value ∙ ap (piece_size asdu.kind) c.is_sequence.ensures in
-    let some : 1 ≤ c.loop-left.left.left = omega arith in
-    (omega arith, room asdu c.most_objects-most.result (length c.loop-left.pieces.items) c.loop-left.left.left c.requires most some (c.loop-left.invariant.count some))
+    let some : 1 ≤ c.loop-left.left.left = omega arith in (
+      omega arith,
+      room asdu c.most_objects-most.result
+          (length c.loop-left.pieces.items) c.loop-left.left.left c.requires most some (c.loop-left.invariant.count some),
+    )
 
 pub spell-requires : goal.spell-requires
 spell-requires c =
@@ -36,7 +39,8 @@ spell-requires c =
     let source = (IsAsdu-value_of asdu asdu.are_octets).value in
     let kind : chunk.kind ≡ asdu.kind = c.split_at.ensures.kinds.0 ∙ loop.kind in
     let mode = c.split_at.ensures.modes.0 ∙ loop.mode in
-    let infos = AreInfos-rest_at chunk.kind chunk.ioa chunk.next_address chunk.left chunk.octets.now chunk.enough chunk.in_range chunk.are_octets in
+    let infos = AreInfos-rest_at chunk.kind chunk.ioa chunk.next_address chunk.left chunk.octets.now chunk.enough
+    chunk.in_range chunk.are_octets in
     let P : TypeId → Type 0 = λ t. AllByRecursion (IsInfo t 3) (infos_left chunk) in
     let most = c.most_objects-most.ensures.value ∙ ap (piece_size asdu.kind) c.is_sequence.ensures in
     let few : chunk.left ≤ piece_size asdu.kind (is_sequence asdu.octets.now) = omega arith in
@@ -77,8 +81,10 @@ loop-left-preserved c =
     let most : c.most_objects-most.result ≡ piece_size asdu.kind (is_sequence asdu.octets.now) =
     c.most_objects-most.ensures.value ∙ ap (piece_size asdu.kind) c.is_sequence.ensures in
     let spells = c.spell.ensures.spells in
-    let count : length (infos_left chunk) ≡ chunk.left = length-rest_at chunk.kind (ioa_len chunk.ioa) chunk.next_address chunk.left chunk.octets.now in
-    let number : number_at p.items ≡ length (infos_left chunk) = number_at-IsAsdu tcp (with_infos v (infos_left chunk)) p.items spells in
+    let count : length (infos_left chunk) ≡ chunk.left =
+    length-rest_at chunk.kind (ioa_len chunk.ioa) chunk.next_address chunk.left chunk.octets.now in
+    let number : number_at p.items ≡ length (infos_left chunk) =
+    number_at-IsAsdu tcp (with_infos v (infos_left chunk)) p.items spells in
     let Pieces : List (Stored ℕ) → Type 0 = λ ps. AllByRecursion (λ q. IsPiece v q.items) ps in
     let Full : List (Stored ℕ) → Type 0 = λ ps. AllByRecursion (λ q. IsFull v q.items) ps in
     let Last : List (Stored ℕ) → Type 0 = λ ps. AllButLast (λ q. IsFull v q.items) ps in
@@ -94,21 +100,29 @@ loop-left-preserved c =
       kind = c.split_at.ensures.kinds.1 ∙ loop.kind;
       mode = c.split_at.ensures.modes.1 ∙ loop.mode;
       joined =
-          ap (λ ps. flat_map (λ q. objects_of tcp q.items) ps ++ value_objects (with_infos v (infos_left others))) pushed
-          ∙ joined-step (λ q. objects_of tcp q.items) v pieces p c.min.result (infos_left left) (infos_left chunk) (infos_left others) (value_objects v)
-          (objects_of-IsAsdu tcp (with_infos v (infos_left chunk)) p.items spells) c.split_at.ensures.first c.split_at.ensures.others loop.joined;
+          ap (λ ps. flat_map (λ q. objects_of tcp q.items) ps
+          ++ value_objects (with_infos v (infos_left others))) pushed
+          ∙ joined-step (λ q. objects_of tcp q.items) v pieces p c.min.result (infos_left left) (infos_left chunk)
+          (infos_left others) (value_objects v)
+          (objects_of-IsAsdu tcp (with_infos v (infos_left chunk)) p.items spells) c.split_at.ensures.first
+          c.split_at.ensures.others loop.joined;
       pieces = subst Pieces (sym pushed) (All-push (λ q. IsPiece v q.items) pieces p loop.pieces here);
-      full = λ more. subst Full (sym pushed) (All-push (λ q. IsFull v q.items) pieces p (loop.full some) (number ∙ count ∙ whole more ∙ most));
+      full = λ more. subst Full (sym pushed) (All-push (λ q. IsFull v q.items) pieces p (loop.full some) (number
+          ∙ count ∙ whole more ∙ most));
       last = subst Last (sym pushed) (AllButLast-push (λ q. IsFull v q.items) pieces p (loop.full some));
       count = λ more.
-          count-step (length pieces) (length c.push.new.self.items) c.most_objects-most.result left.left chunk.left others.left (number_at asdu.octets.now)
+          count-step (length pieces) (length c.push.new.self.items) c.most_objects-most.result left.left chunk.left
+          others.left (number_at asdu.octets.now)
           (loop.count some) (omega arith) (whole more) c.push.ensures.len;
-      enough = enough-step (length pieces) (length c.push.new.self.items) c.most_objects-most.result left.left chunk.left others.left (number_at asdu.octets.now)
+      enough = enough-step (length pieces) (length c.push.new.self.items) c.most_objects-most.result left.left
+          chunk.left others.left (number_at asdu.octets.now)
           (loop.count some) (omega arith) (omega arith) c.push.ensures.len;
-      tight = tight-step (length pieces) (length c.push.new.self.items) c.most_objects-most.result left.left chunk.left others.left (number_at asdu.octets.now)
+      tight = tight-step (length pieces) (length c.push.new.self.items) c.most_objects-most.result left.left chunk.left
+          others.left (number_at asdu.octets.now)
           (loop.count some) (omega arith) (omega arith) c.push.ensures.len;
       few =
-          let before = room asdu c.most_objects-most.result (length pieces) left.left c.requires most some (loop.count some) in
+          let before = room asdu c.most_objects-most.result (length pieces) left.left c.requires most some
+          (loop.count some) in
           let longer = c.push.ensures.len in
           omega arith;
     }
@@ -121,8 +135,10 @@ returns-clause-monitored c =
     let left = c.loop-left.left in
     let pieces = c.loop-left.pieces.items in
     let sent = flat_map (λ p. objects_of tcp p.items) pieces in
-    let count : length (infos_left left) ≡ left.left = length-rest_at left.kind (ioa_len left.ioa) left.next_address left.left left.octets.now in
-    let all : sent ≡ value_objects v = joined-end v (infos_left left) sent (value_objects v) (omega arith) loop.joined in
+    let count : length (infos_left left) ≡ left.left =
+    length-rest_at left.kind (ioa_len left.ioa) left.next_address left.left left.octets.now in
+    let all : sent ≡ value_objects v = joined-end v (infos_left left) sent (value_objects v)
+    (omega arith) loop.joined in
     let source = monitor_objects_of-IsAsdu asdu.sizes v asdu.octets.now (IsAsdu-value_of asdu asdu.are_octets) in
     monitored-pieces (λ p. p.items) v pieces loop.pieces ∙ ap (only_if (is_passed_on v.kind v.cause)) all ∙ sym source
 
@@ -133,14 +149,17 @@ returns-clause-joined c =
     let loop = c.loop-left.invariant in
     let left = c.loop-left.left in
     let sent = flat_map (λ p. objects_of tcp p.items) c.loop-left.pieces.items in
-    let count : length (infos_left left) ≡ left.left = length-rest_at left.kind (ioa_len left.ioa) left.next_address left.left left.octets.now in
+    let count : length (infos_left left) ≡ left.left =
+    length-rest_at left.kind (ioa_len left.ioa) left.next_address left.left left.octets.now in
     joined-end v (infos_left left) sent (value_objects v) (omega arith) loop.joined ∙ sym (objects_of-value_of asdu)
 
 pub returns-clause-some_monitored : goal.returns-clause-some_monitored
-returns-clause-some_monitored c = λ passed. some_monitored (λ p. p.items) (value_of c.args.asdu.now) c.loop-left.pieces.items passed c.loop-left.invariant.pieces
+returns-clause-some_monitored c = λ passed. some_monitored (λ p. p.items)
+    (value_of c.args.asdu.now) c.loop-left.pieces.items passed c.loop-left.invariant.pieces
 
 pub returns-clause-lengths : goal.returns-clause-lengths
-returns-clause-lengths c = lengths (λ p. p.items) (value_of c.args.asdu.now) c.loop-left.pieces.items c.loop-left.invariant.pieces
+returns-clause-lengths c =
+    lengths (λ p. p.items) (value_of c.args.asdu.now) c.loop-left.pieces.items c.loop-left.invariant.pieces
 
 pub returns-clause-number : goal.returns-clause-number
 returns-clause-number c =
@@ -153,5 +172,7 @@ returns-clause-number c =
     let all : n ≡ length v.infos = number_at-IsAsdu asdu.sizes v asdu.octets.now read in
     let loop = c.loop-left.invariant in
     let is : length c.loop-left.pieces.items ≡ div_ceil n c.most_objects-most.result =
-    div_ceil-is (length c.loop-left.pieces.items) c.most_objects-most.result n (omega (arith, c.most_objects-most.ensures.some)) (omega (arith, loop.enough)) (omega (arith, loop.tight)) in
-    is ∙ ap (λ m. div_ceil n m) most ∙ ap (λ k. div_ceil k (piece_size asdu.kind (is_sequence asdu.octets.now))) all ∙ sym (parts-IsAsdu asdu.sizes v asdu.octets.now read)
+    div_ceil-is (length c.loop-left.pieces.items) c.most_objects-most.result n
+    (omega (arith, c.most_objects-most.ensures.some)) (omega (arith, loop.enough)) (omega (arith, loop.tight)) in
+    is ∙ ap (λ m. div_ceil n m) most ∙ ap (λ k. div_ceil k (piece_size asdu.kind (is_sequence asdu.octets.now))) all
+    ∙ sym (parts-IsAsdu asdu.sizes v asdu.octets.now read)

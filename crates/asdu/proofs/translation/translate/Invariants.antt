@@ -14,7 +14,8 @@ abbrev pub invariant-loop-left : goal.invariant-loop-left
 invariant-loop-left l = record {
   kind : l.left.kind ≡ l.asdu.kind;
   mode : is_some l.left.next_address ≡ is_sequence l.asdu.octets.now;
-  joined : flat_map (λ p. objects_of tcp p.items) l.pieces.items ++ value_objects (with_infos (value_of l.asdu) (infos_left l.left)) ≡ value_objects (value_of l.asdu);
+  joined : flat_map (λ p. objects_of tcp p.items) l.pieces.items
+      ++ value_objects (with_infos (value_of l.asdu) (infos_left l.left)) ≡ value_objects (value_of l.asdu);
   pieces : AllByRecursion (λ p. IsPiece (value_of l.asdu) p.items) l.pieces.items;
   full : 1 ≤ l.left.left → AllByRecursion (λ p. IsFull (value_of l.asdu) p.items) l.pieces.items;
   last : AllButLast (λ p. IsFull (value_of l.asdu) p.items) l.pieces.items;

@@ -13,7 +13,8 @@ returns c = λ addresses.
     let sizes = c.args.sizes in
     let v = value_of asdu in
     let source = (IsAsdu-value_of asdu asdu.are_octets).value in
-    let infos = AreInfos-fitting asdu.kind (ioa_len asdu.sizes.ioa) (ioa_len sizes.ioa) v.infos source.infos addresses in
+    let infos = AreInfos-fitting asdu.kind (ioa_len asdu.sizes.ioa)
+    (ioa_len sizes.ioa) v.infos source.infos addresses in
     let long = length-spelled sizes (carried sizes v) source.some infos in
     let objects = c.body_octets.ensures.value
     ∙ ap (λ b. body_len asdu.kind (ioa_len sizes.ioa) b c.number.result) c.is_sequence.ensures

@@ -19,8 +19,10 @@ loop-object-init g c =
     let chunk = c.args.chunk in
     let iterator = c.into_iter-object-iterator.ensures.into_iter_gives in
     let P : TypeId → Type 0 = λ t. AllByRecursion (IsInfo t (ioa_len sizes.ioa)) (infos_left chunk) in
-    let room : header_len sizes + body_len chunk.kind (ioa_len sizes.ioa) (is_some chunk.next_address) chunk.left ≤ g.row.N = rw (c.requires.kind, c.requires.mode) c.requires.room in
-    let start = spell-start sizes (carried sizes (value_of c.args.asdu.now)) chunk.kind (ioa_len chunk.ioa) chunk.next_address chunk.left g.row.N chunk.octets.now
+    let room : header_len sizes + body_len chunk.kind (ioa_len sizes.ioa)
+    (is_some chunk.next_address) chunk.left ≤ g.row.N = rw (c.requires.kind, c.requires.mode) c.requires.room in
+    let start = spell-start sizes (carried sizes (value_of c.args.asdu.now)) chunk.kind
+    (ioa_len chunk.ioa) chunk.next_address chunk.left g.row.N chunk.octets.now
     c.is_some-sequence.result (infos_left c.into_iter-object-iterator.result)
     c.new-out.result.items c.append_header.new.out.items c.append_lead.new.out.items
     c.is_some-sequence.ensures (ap infos_left iterator) c.new-out.ensures c.append_header.ensures c.append_lead.ensures
@@ -45,6 +47,8 @@ returns-clause-spells g c =
     sym (append-nil out)
     ∙ ap (λ is. out ++ spelled_infos k c.is_some-sequence.result is) (sym none)
     ∙ c.loop-object.invariant.text
-    ∙ ap (λ b. header_of sizes (carried sizes (value_of asdu)) chunk.left ++ (lead k chunk.next_address ++ spelled_infos k b (infos_left chunk))) c.is_some-sequence.ensures in
-    spell-spells asdu.sizes sizes (value_of asdu) chunk.kind (ioa_len chunk.ioa) chunk.next_address chunk.left chunk.octets.now out
+    ∙ ap (λ b. header_of sizes (carried sizes (value_of asdu)) chunk.left
+    ++ (lead k chunk.next_address ++ spelled_infos k b (infos_left chunk))) c.is_some-sequence.ensures in
+    spell-spells asdu.sizes sizes (value_of asdu) chunk.kind
+    (ioa_len chunk.ioa) chunk.next_address chunk.left chunk.octets.now out
     source.value c.requires.ca c.requires.kind c.requires.mode c.requires.some c.requires.most c.requires.infos text

@@ -10,6 +10,10 @@ abbrev pub invariant-loop-object : goal.invariant-loop-object
 invariant-loop-object g l = record {
   can : (goal.iterator-loop-object g).can_next l.object-iterator;
   finite : (goal.iterator-loop-object g).is_finite l.object-iterator;
-  text : l.out.items ++ spelled_infos (ioa_len l.sizes.ioa) l.sequence (infos_left l.object-iterator) ≡ header_of l.sizes (carried l.sizes (value_of l.asdu)) l.fn.chunk.left ++ (lead (ioa_len l.sizes.ioa) l.fn.chunk.next_address ++ spelled_infos (ioa_len l.sizes.ioa) l.sequence (infos_left l.fn.chunk));
-  fits : array_vec_len l.out + length (spelled_infos (ioa_len l.sizes.ioa) l.sequence (infos_left l.object-iterator)) ≤ g.row.N;
+  text : l.out.items ++ spelled_infos (ioa_len l.sizes.ioa) l.sequence (infos_left l.object-iterator)
+      ≡ header_of l.sizes (carried l.sizes (value_of l.asdu)) l.fn.chunk.left
+      ++ (lead (ioa_len l.sizes.ioa) l.fn.chunk.next_address
+      ++ spelled_infos (ioa_len l.sizes.ioa) l.sequence (infos_left l.fn.chunk));
+  fits : array_vec_len l.out + length (spelled_infos (ioa_len l.sizes.ioa) l.sequence (infos_left l.object-iterator)) ≤
+      g.row.N;
 }

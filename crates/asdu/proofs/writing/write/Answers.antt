@@ -17,7 +17,8 @@ spell-requires c =
     let sizes = c.args.sizes in
     let objects = c.objects.result in
     let source = (IsAsdu-value_of asdu asdu.are_octets).value in
-    let infos = AreInfos-fitting asdu.kind (ioa_len asdu.sizes.ioa) (ioa_len sizes.ioa) v.infos source.infos c.requires.addresses in
+    let infos = AreInfos-fitting asdu.kind (ioa_len asdu.sizes.ioa)
+    (ioa_len sizes.ioa) v.infos source.infos c.requires.addresses in
     let P : List Info → Type 0 = λ is. AllByRecursion (IsInfo asdu.kind (ioa_len sizes.ioa)) is in
     let count : length v.infos ≡ objects.left =
     ap (λ is. length is) (sym c.objects.ensures.infos)
@@ -49,5 +50,6 @@ spell-requires c =
 pub returns-clause-again : goal.returns-clause-again
 returns-clause-again c = λ same.
     let asdu = c.args.asdu.now in
-    again asdu.sizes c.args.sizes (value_of asdu) (infos_left c.objects.result) asdu.octets.now c.spell.result.items same
+    again asdu.sizes c.args.sizes (value_of asdu) (infos_left c.objects.result) asdu.octets.now c.spell.result.items
+    same
     (IsAsdu-value_of asdu asdu.are_octets) c.objects.ensures.infos c.spell.ensures.spells

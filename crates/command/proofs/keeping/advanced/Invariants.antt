@@ -6,6 +6,7 @@ use Rattle.command.proofs.keeping.advanced.Given as goal
 
 abbrev pub invariant-loop-selection : goal.invariant-loop-selection
 invariant-loop-selection l = record {
-  whole : l.left.items ++ filter_map (next_of l.select_ms l.sign) (drop l.selection-index l.selections) ≡ filter_map (next_of l.select_ms l.sign) l.selections;
+  whole : l.left.items ++ filter_map (next_of l.select_ms l.sign) (drop l.selection-index l.selections)
+      ≡ filter_map (next_of l.select_ms l.sign) l.selections;
   few : array_vec_len l.left ≤ l.selection-index;
 }

@@ -2,7 +2,9 @@ use Rattle.command.proofs.Runs.{run_holds, waits}
 use Rattle.command.proofs.laws.commands_are_forwarded.Goals as goal
 
 pub returns-clause-in_turn : goal.returns-clause-in_turn
-returns-clause-in_turn c = λ stations sizes select_ms calls. (run_holds sizes stations select_ms calls).keeps.queue.sends
+returns-clause-in_turn c = λ stations sizes select_ms max_age_ms calls.
+    (run_holds sizes stations select_ms max_age_ms calls).keeps.queue.sends
 
 pub returns-clause-waiting : goal.returns-clause-waiting
-returns-clause-waiting c = λ stations sizes select_ms calls k. waits sizes stations select_ms calls k
+returns-clause-waiting c =
+    λ stations sizes select_ms max_age_ms calls k. waits sizes stations select_ms max_age_ms calls k

@@ -8,22 +8,33 @@ use Rattle.command.specs.CommandLaws.{CommandLaws}
 use Rattle.command.specs.Laws.{AfterEachRun, OfEachRun}
 use Rattle.command.proofs.Runs.{run_holds}
 use Rattle.command.proofs.Bridge.{executes_selected}
+use Rattle.command.proofs.Tagged.{run_fresh, run_tags}
 use Rattle.command.proofs.OwnAnswers.{of_judging, of_busy}
 use Rattle.command.proofs.Staying.{judging_leaves_waiting, judging_leaves_answers, mirroring_leaves_waiting, mirroring_leaves_answers, sending_leaves_others, sending_leaves_answers}
 use Rattle.command.proofs.laws.commands_keep_the_rules.Goals as goal
 
 -- what holds after each list of calls holds of the state and the history that it leaves
-of_runs : (P : List StationInfo → Sizes → ℕ → State → History → Type 0) → AfterEachRun P → OfEachRun P
-of_runs P after stations sizes select_ms r is = subst (λ (x : Run). P stations sizes select_ms x.state x.history) is.1 (after stations sizes select_ms is.0)
+of_runs : (P : List StationInfo → Sizes → ℕ → ℕ → State → History → Type 0) → AfterEachRun P → OfEachRun P
+of_runs P after stations sizes select_ms max_age_ms r is =
+    subst (λ (x : Run). P stations sizes select_ms max_age_ms x.state x.history) is.1
+    (after stations sizes select_ms max_age_ms is.0)
 
 told : CommandLaws
 told = record {
-  forwarded = λ stations sizes select_ms calls. (run_holds sizes stations select_ms calls).keeps.queue.sends;
-  selected = λ stations sizes select_ms calls.
-      executes_selected sizes stations select_ms (run stations sizes select_ms calls).history (run_holds sizes stations select_ms calls).keeps.rightly (run_holds sizes stations select_ms calls).keeps.executes;
-  right = λ stations sizes select_ms calls. (run_holds sizes stations select_ms calls).keeps.rightly;
-  in_turn = λ stations sizes select_ms calls. (run_holds sizes stations select_ms calls).keeps.own.in_turn;
-  kept = λ stations sizes select_ms calls. (run_holds sizes stations select_ms calls).keeps.own.kept;
+  forwarded = λ stations sizes select_ms max_age_ms calls.
+      (run_holds sizes stations select_ms max_age_ms calls).keeps.queue.sends;
+  selected = λ stations sizes select_ms max_age_ms calls.
+      executes_selected sizes stations select_ms max_age_ms (run stations sizes select_ms max_age_ms calls).history
+      (run_holds sizes stations select_ms max_age_ms calls).keeps.rightly
+      (run_holds sizes stations select_ms max_age_ms calls).keeps.executes;
+  right = λ stations sizes select_ms max_age_ms calls.
+      (run_holds sizes stations select_ms max_age_ms calls).keeps.rightly;
+  in_turn = λ stations sizes select_ms max_age_ms calls.
+      (run_holds sizes stations select_ms max_age_ms calls).keeps.own.in_turn;
+  kept = λ stations sizes select_ms max_age_ms calls. (run_holds sizes stations select_ms max_age_ms
+      calls).keeps.own.kept;
+  fresh = λ stations sizes select_ms max_age_ms calls. run_fresh stations sizes select_ms max_age_ms calls;
+  tags = λ stations sizes select_ms max_age_ms calls v. run_tags stations sizes select_ms max_age_ms calls v;
   judged_waits = judging_leaves_waiting;
   mirrored_waits = mirroring_leaves_waiting;
   sent_waits = sending_leaves_others;
@@ -31,7 +42,7 @@ told = record {
   mirrored_answers = mirroring_leaves_answers;
   sent_answers = sending_leaves_answers;
   judged_plain = of_judging;
-  busy_plain = λ stations sizes select_ms calls. of_busy sizes stations select_ms calls;
+  busy_plain = λ stations sizes select_ms max_age_ms calls. of_busy sizes stations select_ms max_age_ms calls;
 }
 
 pub returns-clause-calls : goal.returns-clause-calls
@@ -39,14 +50,21 @@ returns-clause-calls c = told
 
 pub returns-clause-runs : goal.returns-clause-runs
 returns-clause-runs c = record {
-  first = λ stations sizes select_ms. ([], refl);
-  next = λ stations sizes select_ms call r is. (call ∷ is.0, ap (after_call call) is.1);
-  stations = of_runs _ (λ stations sizes select_ms calls. (run_holds sizes stations select_ms calls).same_stations);
-  sizes = of_runs _ (λ stations sizes select_ms calls. (run_holds sizes stations select_ms calls).same_sizes);
-  select_ms = of_runs _ (λ stations sizes select_ms calls. (run_holds sizes stations select_ms calls).same_time);
+  first = λ stations sizes select_ms max_age_ms. ([], refl);
+  next = λ stations sizes select_ms max_age_ms call r is. (call ∷ is.0, ap (after_call call) is.1);
+  stations = of_runs _ (λ stations sizes select_ms max_age_ms calls.
+      (run_holds sizes stations select_ms max_age_ms calls).same_stations);
+  sizes = of_runs _ (λ stations sizes select_ms max_age_ms calls.
+      (run_holds sizes stations select_ms max_age_ms calls).same_sizes);
+  select_ms = of_runs _ (λ stations sizes select_ms max_age_ms calls.
+      (run_holds sizes stations select_ms max_age_ms calls).same_time);
+  max_age_ms = of_runs _ (λ stations sizes select_ms max_age_ms calls.
+      (run_holds sizes stations select_ms max_age_ms calls).same_age);
   forwarded = of_runs _ told.forwarded;
   selected = of_runs _ told.selected;
   right = of_runs _ told.right;
+  fresh = of_runs _ told.fresh;
+  tags = of_runs _ told.tags;
   in_turn = of_runs _ told.in_turn;
   kept = of_runs _ told.kept;
   busy_plain = of_runs _ told.busy_plain;

@@ -3,13 +3,16 @@ use Rattle.command.proofs.Runs.{run_holds}
 use Rattle.command.proofs.laws.own_answers_are_given.Goals as goal
 
 pub returns-clause-right : goal.returns-clause-right
-returns-clause-right c = λ stations sizes select_ms calls. (run_holds sizes stations select_ms calls).keeps.rightly
+returns-clause-right c = λ stations sizes select_ms max_age_ms calls.
+    (run_holds sizes stations select_ms max_age_ms calls).keeps.rightly
 
 pub returns-clause-in_turn : goal.returns-clause-in_turn
-returns-clause-in_turn c = λ stations sizes select_ms calls. (run_holds sizes stations select_ms calls).keeps.own.in_turn
+returns-clause-in_turn c = λ stations sizes select_ms max_age_ms calls.
+    (run_holds sizes stations select_ms max_age_ms calls).keeps.own.in_turn
 
 pub returns-clause-kept : goal.returns-clause-kept
-returns-clause-kept c = λ stations sizes select_ms calls. (run_holds sizes stations select_ms calls).keeps.own.kept
+returns-clause-kept c = λ stations sizes select_ms max_age_ms calls.
+    (run_holds sizes stations select_ms max_age_ms calls).keeps.own.kept
 
 pub returns-clause-spelled : goal.returns-clause-spelled
 returns-clause-spelled c = refuses

@@ -1,4 +1,4 @@
-use Rattle.command.proofs.Examples.{octets_hold, rules_hold, selections_hold, lines_hold}
+use Rattle.command.proofs.Examples.{octets_hold, rules_hold, selections_hold, lines_hold, tags_hold, mirrors_hold}
 use Rattle.command.proofs.laws.worked_examples_hold.Goals as goal
 
 pub returns-clause-octets : goal.returns-clause-octets
@@ -12,3 +12,9 @@ returns-clause-selections c = selections_hold
 
 pub returns-clause-line : goal.returns-clause-line
 returns-clause-line c = lines_hold
+
+pub returns-clause-tags : goal.returns-clause-tags
+returns-clause-tags c = tags_hold
+
+pub returns-clause-mirrors : goal.returns-clause-mirrors
+returns-clause-mirrors c = mirrors_hold

@@ -1,7 +1,7 @@
 use Rattle.std.proofs.Common.{List, None, ap, ◌∙◌}
 use Rattle.gateway.specs.Reports.{address_at, exchanges_of, exchanges_with}
 use Rattle.delivery.specs.Commands.{LineStep, confirmed_by}
-use Rattle.delivery.proofs.Confirmed.{confirmed_learnt}
+use Rattle.delivery.proofs.Confirmed.{confirmed_learnt, confirmed_alike, sent_alike}
 use Rattle.delivery.proofs.Joining.{Joins, joins}
 use Rattle.delivery.proofs.Judgements.{judged_all}
 use Rattle.delivery.proofs.Line.{LinkLaws}
@@ -23,13 +23,17 @@ returns c = λ p log course f set runs.
       fit = c.requests_wait_their_turn.ensures.fit;
       back = c.requests_are_read_back.ensures.whole;
       answered = c.outcomes_are_answers.ensures.octets;
+      silent = c.outcomes_are_answers.ensures.due;
+      early = c.outcomes_are_answers.ensures.early;
     } in
     let j : Joins p (exchanges_of p log) course.works = joins laws c.waiting_commands_stay.ensures.mirrored p set log course runs f.acts in
     record {
       tells = j.tells;
       steps = λ k. (j.told k).steps;
-      sent = λ k. (j.told k).sent;
-      confirmed = λ k. ap (λ (steps : List LineStep). confirmed_by steps) (j.told k).steps ∙ confirmed_learnt (address_at p.addresses k) None (exchanges_with p k log);
+      all_told = j.left;
+      sent = λ k. sent_alike k course.works.serial.silent course.works ∙ (j.told k).sent;
+      confirmed = λ k. confirmed_alike k course.works.serial.silent course.works ∙ ap (λ (steps : List LineStep). confirmed_by steps) (j.told k).steps ∙ confirmed_learnt p.link (address_at p.addresses k) 0 None (exchanges_with p k log);
       mirrored = j.mirrors;
-      judged = judged_all c.waiting_commands_stay.ensures.mirrored p log course runs;
+      skipped = j.skips;
+      judged = judged_all c.one_front.ensures c.waiting_commands_stay.ensures.mirrored p log course runs;
     }

@@ -1,4 +1,4 @@
-use Rattle.std.proofs.Common.{sym, ◌∙◌}
+use Rattle.std.proofs.Common.{◌∙◌}
 use Rattle.gateway.specs.Reports.{address_at, exchanges_with}
 use Rattle.delivery.specs.Delivery.{sessions_of}
 use Rattle.delivery.proofs.Losses.{told_so, gaps_rested}

@@ -6,4 +6,5 @@ use Rattle.events.proofs.Events.kept.Goals as goal
 pub returns : goal.returns
 returns c =
     let e = c.self.inside in
-    ap octets_of c.iter-pieces.ensures.rest ∙ ap (λ (q : Queue). q.unsent) (queue_of-rewound e.ring.items e.sent e.ring.capacity) ∙ ap kept c.self.view_is
+    ap octets_of c.iter-pieces.ensures.rest ∙ ap (λ (q : Queue). q.unsent)
+    (queue_of-rewound e.ring.items e.sent e.ring.capacity) ∙ ap kept c.self.view_is

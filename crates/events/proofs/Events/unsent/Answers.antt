@@ -12,7 +12,8 @@ returns-in_err-piece-clause-none c =
 pub returns-clause-some : goal.returns-clause-some
 returns-clause-some c =
     let e = c.self.inside in
-    let view : octets_of (drop e.sent e.ring.items) ≡ c.args.self.now.unsent = ap (λ (q : Queue). q.unsent) c.self.view_is in
+    let view : octets_of (drop e.sent e.ring.items) ≡ c.args.self.now.unsent =
+    ap (λ (q : Queue). q.unsent) c.self.view_is in
     sym view ∙ unsent_some e.ring.items e.sent c.in_ok-piece.piece.now (sym c.in_ok-piece.ensures)
     ∙ ap (λ y. y ∷ drop 1 (octets_of (drop e.sent e.ring.items))) (sym c.as_slice.ensures.value)
     ∙ ap (λ u. c.as_slice.result.now ∷ drop 1 u) view

@@ -8,8 +8,11 @@ use Rattle.ft12.proofs.Returns.{no_start}
 use Rattle.ft12.proofs.reading.front_ref.Goals as goal
 
 pub returns-in_default : goal.returns-in_default
-returns-in_default c = subst (IsProperBeginning c.args.size) (sym (nil_from_length c.args.octets.now c.in_default.ensures.cases)) (proper_nil c.args.size)
+returns-in_default c = subst (IsProperBeginning c.args.size)
+    (sym (nil_from_length c.args.octets.now c.in_default.ensures.cases)) (proper_nil c.args.size)
 
 pub returns-in_default-start : goal.returns-in_default-start
 returns-in_default-start c =
-    subst (λ (x : List ℕ). IsFront c.args.size x (Never 0 Start)) (sym c.in-Some.ensures.cases.0) (no_start c.args.size c.in-Some.start.now c.in-Some.rest.now (λ h. omega arith) (λ h. omega arith) (λ h. omega arith))
+    subst (λ (x : List ℕ). IsFront c.args.size x (Never 0 Start)) (sym c.in-Some.ensures.cases.0)
+    (no_start c.args.size c.in-Some.start.now c.in-Some.rest.now (λ h. omega arith) (λ h. omega arith)
+    (λ h. omega arith))

@@ -4,6 +4,11 @@ use Rattle.gateway.proofs.laws.one_cause.Goals as goal
 pub returns : goal.returns
 returns c = one.one_cause (record {
   unique = record { front = c.one_front.ensures; cancel = c.spellings_cancel.ensures };
-  asdus = record { one_asdu = c.one_asdu_one_spelling.ensures.one_asdu; one_spelling = c.one_asdu_one_spelling.ensures.one_spelling; objects = c.objects_are_those_of_the_asdu.ensures.objects };
+  asdus = record {
+    one_asdu = c.one_asdu_one_spelling.ensures.one_asdu;
+    one_spelling =
+        c.one_asdu_one_spelling.ensures.one_spelling;
+    objects = c.objects_are_those_of_the_asdu.ensures.objects;
+  };
   line = c.line_keeps_the_procedures.ensures;
 })

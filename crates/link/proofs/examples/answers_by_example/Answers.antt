@@ -20,7 +20,10 @@ pub returns-clause-strangers : goal.returns-clause-strangers
 returns-clause-strangers c = (refl, refl, refl, refl, refl, refl)
 
 pub returns-clause-flags : goal.returns-clause-flags
-returns-clause-flags c = (refl, refl, refl, refl, refl)
+returns-clause-flags c = (refl, refl, refl, refl, refl, refl)
+
+pub returns-clause-stations : goal.returns-clause-stations
+returns-clause-stations c = (refl, refl, refl, refl, refl, refl, refl, refl)
 
 pub returns-clause-told : goal.returns-clause-told
 returns-clause-told c = (refl, refl, refl, refl, refl, refl, refl, refl)

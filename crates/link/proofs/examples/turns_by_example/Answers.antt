@@ -12,3 +12,6 @@ returns-clause-polls c = (refl, refl, refl, refl, refl)
 
 pub returns-clause-held : goal.returns-clause-held
 returns-clause-held c = (refl, refl, refl, refl, refl)
+
+pub returns-clause-repeats : goal.returns-clause-repeats
+returns-clause-repeats c = (refl, refl, refl, refl, refl, refl, refl, refl, refl, refl)

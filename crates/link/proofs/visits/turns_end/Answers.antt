@@ -4,6 +4,7 @@ use Rattle.link.specs.Telling.{IsStable}
 use Rattle.link.specs.Visits.{whole_visit}
 use Rattle.link.proofs.Visiting.{visit_room, whole_room}
 use Rattle.link.proofs.Fairness.{run_visits}
+use Rattle.link.proofs.Resets.{visit_resets}
 use Rattle.link.proofs.visits.turns_end.Goals as goal
 
 pub returns-clause-visits : goal.returns-clause-visits
@@ -15,3 +16,6 @@ returns-clause-visits c = λ settings addresses calls some fit burst may.
 pub returns-clause-most : goal.returns-clause-most
 returns-clause-most c = λ settings station link xs v.
     omega (arith, visit_room settings station link (whole_visit settings link) xs v, whole_room settings link)
+
+pub returns-clause-resets : goal.returns-clause-resets
+returns-clause-resets c = visit_resets

@@ -7,7 +7,8 @@ pub returns-clause-runs : goal.returns-clause-runs
 returns-clause-runs c = λ p calls range. (run_keeps p calls range).running
 
 pub returns-clause-confirm : goal.returns-clause-confirm
-returns-clause-confirm c = λ p calls range. confirms p (run p calls).session (run p calls).history range (run_keeps p calls range)
+returns-clause-confirm c = λ p calls range. confirms p (run p calls).session (run p calls).history range
+    (run_keeps p calls range)
 
 pub returns-clause-once : goal.returns-clause-once
 returns-clause-once c = λ p calls range. (run_keeps p calls range).once

@@ -7,7 +7,8 @@ use Rattle.settings.proofs.stations.read_stations.Given as goal
 -- what the tables that are left give after the stations so far is what all tables give
 abbrev pub invariant-loop-table : goal.invariant-loop-table
 invariant-loop-table l = record {
-  same : stations_from l.link l.ca l.stations.items (items_view (drop l.table-index l.table-items)) ≡ stations_from l.link l.ca [] (items_view l.table-items);
+  same : stations_from l.link l.ca l.stations.items (items_view (drop l.table-index l.table-items))
+      ≡ stations_from l.link l.ca [] (items_view l.table-items);
   count : length l.stations.items ≡ l.table-index;
   good : AreGood l.link l.ca l.stations.items;
 }

@@ -11,6 +11,7 @@ abbrev pub invariant-loop-object : goal.invariant-loop-object
 invariant-loop-object l = record {
   can : (goal.iterator-loop-object).can_next l.object-iterator;
   finite : (goal.iterator-loop-object).is_finite l.object-iterator;
-  text : string_bytes l.lines ++ flat_map (object_line l.asdu.kind) (infos_left l.object-iterator) ≡ string_bytes l.initial.lines ++ flat_map (object_line l.asdu.kind) (value_of l.asdu).infos;
+  text : string_bytes l.lines ++ flat_map (object_line l.asdu.kind) (infos_left l.object-iterator)
+      ≡ string_bytes l.initial.lines ++ flat_map (object_line l.asdu.kind) (value_of l.asdu).infos;
   sized : AllByRecursion (IsInfo l.asdu.kind (ioa_len l.asdu.sizes.ioa)) (infos_left l.object-iterator);
 }

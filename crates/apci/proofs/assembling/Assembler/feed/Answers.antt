@@ -16,30 +16,49 @@ loop-i-init c =
 pub returns-in-I-clause-listening : goal.returns-in-I-clause-listening
 returns-in-I-clause-listening c =
     let before = c.loop-i.invariant.joined.0 in
-    let h = i_heard c.loop-i.self-inside.state c.loop-i.self-inside.asdu.items before c.args.piece.now c.loop-i.i c.look-octet.result c.stepped.result c.in-I.ns c.in-I.nr
-    c.loop-i.invariant.state c.loop-i.invariant.joined.2 c.loop-i-test.true c.look-octet.ensures.value (rw (← c.deref.ensures.0) c.stepped.ensures) c.in-I.is in
-    let asdu = ap (λ (xs : List ℕ). let made : ArrayVec ℕ = record { items = xs } in made) (sym c.push-in-I.ensures.items) ∙ sym c.replace-asdu.ensures.value in
-    rw (← c.self.view_is, c.loop-i.invariant.joined.1)
-    (subst (λ (v : ArrayVec ℕ). IsFront (before ++ c.args.piece.now) (Whole (I c.in-I.ns c.in-I.nr v) (length before + (c.loop-i.i + 1)))) asdu h.0, refl)
+    let h = i_heard c.loop-i.self-inside.state c.loop-i.self-inside.asdu.items before c.args.piece.now c.loop-i.i
+    c.look-octet.result c.stepped.result c.in-I.ns c.in-I.nr
+    c.loop-i.invariant.state c.loop-i.invariant.joined.2 c.loop-i-test.true c.look-octet.ensures.value
+    (rw (← c.deref.ensures.0) c.stepped.ensures) c.in-I.is in
+    let asdu = ap (λ (xs : List ℕ). let made : ArrayVec ℕ = record { items = xs } in
+    made) (sym c.push-in-I.ensures.items) ∙ sym c.replace-asdu.ensures.value in
+    rw (← c.self.view_is, c.loop-i.invariant.joined.1) (
+      subst (λ (v : ArrayVec ℕ). IsFront (before ++ c.args.piece.now)
+          (Whole (I c.in-I.ns c.in-I.nr v) (length before + (c.loop-i.i + 1)))) asdu h.0,
+      refl,
+    )
 
 pub returns-in-Never-clause-listening : goal.returns-in-Never-clause-listening
 returns-in-Never-clause-listening c =
     let before = c.loop-i.invariant.joined.0 in
-    let h = never_heard c.loop-i.self-inside.state c.loop-i.self-inside.asdu.items before c.args.piece.now c.loop-i.i c.look-octet.result c.stepped.result c.in-Never.place c.in-Never.why
-    c.loop-i.invariant.joined.2 c.loop-i-test.true c.look-octet.ensures.value (rw (← c.deref.ensures.0) c.stepped.ensures) c.in-Never.is in
+    let h = never_heard c.loop-i.self-inside.state c.loop-i.self-inside.asdu.items before c.args.piece.now c.loop-i.i
+    c.look-octet.result c.stepped.result c.in-Never.place c.in-Never.why
+    c.loop-i.invariant.joined.2 c.loop-i-test.true c.look-octet.ensures.value
+    (rw (← c.deref.ensures.0) c.stepped.ensures) c.in-Never.is in
     rw (← c.self.view_is, c.loop-i.invariant.joined.1) (h, refl, refl)
 
 pub returns-in-Never-clause-looked : goal.returns-in-Never-clause-looked
 returns-in-Never-clause-looked c =
     let before = c.loop-i.invariant.joined.0 in
-    let d = decided_here c.loop-i.self-inside.state c.loop-i.self-inside.asdu.items before c.args.piece.now c.loop-i.i c.look-octet.result c.stepped.result c.in-Never.place c.in-Never.why
-    c.loop-i.invariant.state c.loop-i.invariant.joined.2 c.loop-i-test.true c.look-octet.ensures.value (rw (← c.deref.ensures.0) c.stepped.ensures) c.in-Never.is in
-    rw (← c.self.view_is, c.loop-i.invariant.joined.1) (d.0, d.1, omega (arith, d.2, c.loop-i.invariant.looked, c.look-octet.ensures.counted))
+    let d = decided_here c.loop-i.self-inside.state c.loop-i.self-inside.asdu.items before c.args.piece.now c.loop-i.i
+    c.look-octet.result c.stepped.result c.in-Never.place c.in-Never.why
+    c.loop-i.invariant.state c.loop-i.invariant.joined.2 c.loop-i-test.true c.look-octet.ensures.value
+    (rw (← c.deref.ensures.0) c.stepped.ensures) c.in-Never.is in
+    rw (← c.self.view_is, c.loop-i.invariant.joined.1) (
+      d.0,
+      d.1,
+      omega (arith, d.2, c.loop-i.invariant.looked, c.look-octet.ensures.counted),
+    )
 
 pub returns-clause-listening : goal.returns-clause-listening
 returns-clause-listening c =
     let before = c.loop-i.invariant.joined.0 in
-    let all : take c.loop-i.i c.args.piece.now ≡ c.args.piece.now = take_all c.loop-i.i c.args.piece.now c.loop-i-test.false in
+    let all : take c.loop-i.i c.args.piece.now ≡ c.args.piece.now =
+    take_all c.loop-i.i c.args.piece.now c.loop-i-test.false in
     let joined = c.loop-i.invariant.joined.2 ∙ ap (λ (l : List ℕ). Some (before ++ l)) all in
-    rw (← c.self.view_is, c.loop-i.invariant.joined.1)
-    (state_more c.loop-i.self-inside.state c.loop-i.self-inside.asdu.items (before ++ c.args.piece.now) c.loop-i.invariant.state joined, refl, joined)
+    rw (← c.self.view_is, c.loop-i.invariant.joined.1) (
+      state_more c.loop-i.self-inside.state c.loop-i.self-inside.asdu.items (before
+          ++ c.args.piece.now) c.loop-i.invariant.state joined,
+      refl,
+      joined,
+    )

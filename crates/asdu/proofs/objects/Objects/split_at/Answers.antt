@@ -11,4 +11,6 @@ returns-clause-first c =
 pub returns-clause-others : goal.returns-clause-others
 returns-clause-others c =
     let self = c.args.self in
-    others_left self.kind (ioa_len self.ioa) self.next_address c.place_of-next_address.result.0 c.args.number c.place_of-next_address.result.1 self.left self.octets.now _ c.requires c.place_of-next_address.ensures.address c.place_of-next_address.ensures.place refl
+    others_left self.kind (ioa_len self.ioa) self.next_address c.place_of-next_address.result.0 c.args.number
+    c.place_of-next_address.result.1 self.left self.octets.now _ c.requires c.place_of-next_address.ensures.address
+    c.place_of-next_address.ensures.place refl

@@ -8,6 +8,7 @@ use Rattle.asdu.proofs.unit.Asdu.number.Goals as goal
 pub returns-clause-counted : goal.returns-clause-counted
 returns-clause-counted c =
     let asdu = c.args.self.now in
-    let count = length-infos_at asdu.kind (ioa_len asdu.sizes.ioa) (is_sequence asdu.octets.now) (number_at asdu.octets.now) (drop (header_len asdu.sizes) asdu.octets.now) in
+    let count = length-infos_at asdu.kind (ioa_len asdu.sizes.ioa) (is_sequence asdu.octets.now)
+    (number_at asdu.octets.now) (drop (header_len asdu.sizes) asdu.octets.now) in
     let here : c.from.result ≡ number_at asdu.octets.now = grind (arith, common_steps) in
     here ∙ sym count

@@ -5,4 +5,7 @@ use Rattle.gateway.proofs.engine.Gateway.new.Goals as goal
 pub returns-clause-begins : goal.returns-clause-begins
 returns-clause-begins c =
     let config = c.args.config.now in
-    first_follows config c.in_ok-gateway.gateway (Some []) c.master_tells_the_log.ensures.start c.session_keeps_the_standard.ensures c.commands_keep_the_rules.ensures.calls c.line_keeps_the_procedures.ensures c.stations-stations.ensures.rules (timely config.tcp) c.in_ok-gateway.ensures refl
+    first_follows config c.in_ok-gateway.gateway (Some []) c.master_tells_the_log.ensures.start
+    c.session_keeps_the_standard.ensures c.commands_keep_the_rules.ensures.calls
+    c.line_keeps_the_procedures.ensures c.stations-stations.ensures.rules
+    (timely config.tcp) c.in_ok-gateway.ensures refl

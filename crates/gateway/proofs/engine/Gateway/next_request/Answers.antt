@@ -11,10 +11,13 @@ use Rattle.gateway.proofs.engine.Gateway.next_request.Goals as goal
 pub invariant_of-self : goal.invariant_of-self
 invariant_of-self c =
     let old = c.self.inside in
-    asked_sound old.serial.line c.next.new.self.line old.centre.queue c.has_room-may_poll.result c.has_room-may_poll.ensures c.next.ensures.polls c.self.invariant
+    asked_sound old.serial.line c.next.new.self.line old.centre.queue c.has_room-may_poll.result
+    c.has_room-may_poll.ensures c.next.ensures.polls c.self.invariant
 
 pub returns-clause-room : goal.returns-clause-room
 returns-clause-room c =
     let a = c.self.inside in
-    subst (λ (s : State). (x : Sending) → sending s.serial.line (has_room s.centre.queue) ≡ Some x → is_poll_request x.request ≡ true → 3 ≤ free_places s.centre.queue) c.self.view_is
-    (λ x is poll. poll_room c.polls_wait_for_leave.ensures.without a.serial.line a.centre.queue x c.self.invariant is poll)
+    subst (λ (s : State). (x : Sending) → sending s.serial.line (has_room s.centre.queue) ≡ Some x
+    → is_poll_request x.request ≡ true → 3 ≤ free_places s.centre.queue) c.self.view_is
+    (λ x is poll. poll_room c.polls_wait_for_leave.ensures.without a.serial.line a.centre.queue x c.self.invariant is
+    poll)

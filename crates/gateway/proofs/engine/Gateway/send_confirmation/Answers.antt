@@ -6,21 +6,26 @@ use Rattle.gateway.proofs.engine.Gateway.send_confirmation.Goals as goal
 
 pub returns-in-None-clause-kept : goal.returns-in-None-clause-kept
 returns-in-None-clause-kept g c = λ p unjudged phase flushing h.
-    subst (λ x. Tracks p x (g.P.Port.log c.args.port.now) unjudged phase) (sym (no_confirmation c.args.self.now c.confirm.new.self c.in-None.ensures.due c.confirm.ensures.rest)) h
+    subst (λ x. Tracks p x (g.P.Port.log c.args.port.now) unjudged phase)
+    (sym (no_confirmation c.args.self.now c.confirm.new.self c.in-None.ensures.due c.confirm.ensures.rest)) h
 
 pub returns-in-None-clause-open : goal.returns-in-None-clause-open
 returns-in-None-clause-open g c = confirmed_open _ _ _ c.confirm.ensures.due
 
 pub returns-in-None-clause-next : goal.returns-in-None-clause-next
-returns-in-None-clause-next g c = confirmed_next c.args.self.now c.confirm.new.self _ c.confirm.ensures.due c.confirm.ensures.rest
+returns-in-None-clause-next g c =
+    confirmed_next c.args.self.now c.confirm.new.self _ c.confirm.ensures.due c.confirm.ensures.rest
 
 pub returns-in-Some-clause-kept : goal.returns-in-Some-clause-kept
 returns-in-Some-clause-kept g c = λ p unjudged phase flushing h.
-    told_put c.hand.result p _ _ c.args.self.now c.confirm.new.self c.in-Some.apdu _ unjudged phase c.hand.ensures.told (ap (λ (x : State). x.moment) c.confirm.ensures.rest)
-    (sends_confirmation c.args.self.now c.confirm.new.self c.in-Some.apdu c.in-Some.ensures.fits c.in-Some.ensures.due c.confirm.ensures.rest p unjudged phase flushing) h
+    told_put c.hand.result p _ _ c.args.self.now c.confirm.new.self c.in-Some.apdu _ unjudged phase c.hand.ensures.told
+    (ap (λ (x : State). x.moment) c.confirm.ensures.rest)
+    (sends_confirmation c.args.self.now c.confirm.new.self c.in-Some.apdu c.in-Some.ensures.fits c.in-Some.ensures.due
+    c.confirm.ensures.rest p unjudged phase flushing) h
 
 pub returns-in-Some-clause-open : goal.returns-in-Some-clause-open
 returns-in-Some-clause-open g c = confirmed_open _ _ _ c.confirm.ensures.due
 
 pub returns-in-Some-clause-next : goal.returns-in-Some-clause-next
-returns-in-Some-clause-next g c = on_true c.hand.result _ (confirmed_next c.args.self.now c.confirm.new.self _ c.confirm.ensures.due c.confirm.ensures.rest)
+returns-in-Some-clause-next g c = on_true c.hand.result _
+    (confirmed_next c.args.self.now c.confirm.new.self _ c.confirm.ensures.due c.confirm.ensures.rest)

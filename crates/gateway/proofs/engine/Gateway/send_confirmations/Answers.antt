@@ -9,5 +9,6 @@ returns-clause-in_time g c =
     let u = c.send_confirmation-2.new.self in
     let v = c.send_confirmation-3.new.self in
     on_map c.send_confirmation-3.result _ _
-    (λ last. stays_after s u v (stays_after s t u (confirm_in_time law s t c.if-not-send_confirmation.ensures.next) (confirm_in_time law t u c.if-not-send_confirmation-2.ensures.next)) (confirm_in_time law u v last))
+    (λ last. stays_after s u v (stays_after s t u (confirm_in_time law s t c.if-not-send_confirmation.ensures.next)
+    (confirm_in_time law t u c.if-not-send_confirmation-2.ensures.next)) (confirm_in_time law u v last))
     c.send_confirmation-3.ensures.next

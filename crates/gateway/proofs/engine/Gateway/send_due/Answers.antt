@@ -6,7 +6,8 @@ use Rattle.gateway.proofs.engine.Gateway.send_due.Goals as goal
 
 pub returns-in-None-clause-kept : goal.returns-in-None-clause-kept
 returns-in-None-clause-kept g c = λ p unjudged phase flushing clear h.
-    subst (λ x. Tracks p x (g.P.Port.log c.args.port.now) unjudged phase) (sym (none_pulled c.args.self.now c.pull.new.self c.in-None.ensures.due c.pull.ensures.rest)) h
+    subst (λ x. Tracks p x (g.P.Port.log c.args.port.now) unjudged phase)
+    (sym (none_pulled c.args.self.now c.pull.new.self c.in-None.ensures.due c.pull.ensures.rest)) h
 
 pub returns-in-None-clause-open : goal.returns-in-None-clause-open
 returns-in-None-clause-open g c = pulled_open _ _ _ _ c.pull.ensures.due
@@ -16,11 +17,14 @@ returns-in-None-clause-next g c = pulled_next c.args.self.now c.pull.new.self _ 
 
 pub returns-in-Some-clause-kept : goal.returns-in-Some-clause-kept
 returns-in-Some-clause-kept g c = λ p unjudged phase flushing clear h.
-    told_put c.hand.result p _ _ c.args.self.now c.pull.new.self c.in-Some.apdu _ unjudged phase c.hand.ensures.told (ap (λ (x : State). x.moment) c.pull.ensures.rest)
-    (sends_pulled c.args.self.now c.pull.new.self c.in-Some.apdu clear c.in-Some.ensures.fits c.in-Some.ensures.due c.pull.ensures.rest p unjudged phase flushing) h
+    told_put c.hand.result p _ _ c.args.self.now c.pull.new.self c.in-Some.apdu _ unjudged phase c.hand.ensures.told
+    (ap (λ (x : State). x.moment) c.pull.ensures.rest)
+    (sends_pulled c.args.self.now c.pull.new.self c.in-Some.apdu clear c.in-Some.ensures.fits c.in-Some.ensures.due
+    c.pull.ensures.rest p unjudged phase flushing) h
 
 pub returns-in-Some-clause-open : goal.returns-in-Some-clause-open
 returns-in-Some-clause-open g c = pulled_open _ _ _ _ c.pull.ensures.due
 
 pub returns-in-Some-clause-next : goal.returns-in-Some-clause-next
-returns-in-Some-clause-next g c = on_true c.hand.result _ (pulled_next c.args.self.now c.pull.new.self _ c.pull.ensures.due c.pull.ensures.rest)
+returns-in-Some-clause-next g c = on_true c.hand.result _
+    (pulled_next c.args.self.now c.pull.new.self _ c.pull.ensures.due c.pull.ensures.rest)

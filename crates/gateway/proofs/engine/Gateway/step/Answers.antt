@@ -6,36 +6,58 @@ use Rattle.gateway.proofs.engine.Gateway.step.Goals as goal
 
 pub returns-clause-kept : goal.returns-clause-kept
 returns-clause-kept g c = λ p h.
-    let b = begins c.args.self.now c.advance_to.new.self c.hear_event-fits.new.self c.time.new.self c.args.now _ c.hear_event-fits.result c.advance_to.ensures c.hear_event-fits.ensures c.time.ensures in
-    let timed = told_settled p _ c.take.new.self c.settle.new.self c.settle.ensures (c.if-not-take.ensures.kept p c.args.self.now c.args.now b h) in
-    step_follows c.line_keeps_the_procedures.ensures p c.flush.result _ c.flush.new.self c.flush.ensures.confirmed c.flush.ensures.spent (c.flush.ensures.kept p _ Asked tt (c.if-not-ask.ensures.kept p (c.if-not-tell_gap.ensures.kept p (c.if-not-watch.ensures.kept p timed))))
+    let b = begins c.args.self.now c.advance_to.new.self c.hear_event-fits.new.self c.time.new.self c.args.now _
+    c.hear_event-fits.result c.advance_to.ensures c.hear_event-fits.ensures c.time.ensures in
+    let timed = told_settled p _ c.take.new.self c.settle.new.self c.settle.ensures
+    (c.if-not-take.ensures.kept p c.args.self.now c.args.now b h) in
+    step_follows c.line_keeps_the_procedures.ensures p c.flush.result _ c.flush.new.self c.flush.ensures.confirmed
+    c.flush.ensures.spent (c.flush.ensures.kept p _ Asked tt
+    (c.if-not-ask.ensures.kept p (c.if-not-tell_gap.ensures.kept p (c.if-not-watch.ensures.kept p timed))))
 
 pub returns-clause-rests : goal.returns-clause-rests
 returns-clause-rests g c = λ p h.
-    let b = begins c.args.self.now c.advance_to.new.self c.hear_event-fits.new.self c.time.new.self c.args.now _ c.hear_event-fits.result c.advance_to.ensures c.hear_event-fits.ensures c.time.ensures in
-    let timed = told_settled p _ c.take.new.self c.settle.new.self c.settle.ensures (c.if-not-take.ensures.kept p c.args.self.now c.args.now b h) in
+    let b = begins c.args.self.now c.advance_to.new.self c.hear_event-fits.new.self c.time.new.self c.args.now _
+    c.hear_event-fits.result c.advance_to.ensures c.hear_event-fits.ensures c.time.ensures in
+    let timed = told_settled p _ c.take.new.self c.settle.new.self c.settle.ensures
+    (c.if-not-take.ensures.kept p c.args.self.now c.args.now b h) in
     let asked = c.if-not-ask.ensures.kept p (c.if-not-tell_gap.ensures.kept p (c.if-not-watch.ensures.kept p timed)) in
-    told_done c.line_keeps_the_procedures.ensures p c.flush.result _ _ c.ask.new.self c.flush.new.self c.flush.ensures.puts.events
-    (in_time_same c.watch.new.self c.ask.new.self (c.if-not-ask.ensures.session ∙ c.if-not-tell_gap.ensures.session) (c.if-not-ask.ensures.moment ∙ c.if-not-tell_gap.ensures.moment) c.if-not-watch.ensures.in_time)
-    asked c.flush.ensures.spent c.flush.ensures.confirmed c.flush.ensures.pulled c.flush.ensures.in_time (c.flush.ensures.kept p _ Asked tt asked)
+    told_done c.line_keeps_the_procedures.ensures p c.flush.result _ _ c.ask.new.self c.flush.new.self
+    c.flush.ensures.puts.events
+    (in_time_same c.watch.new.self c.ask.new.self (c.if-not-ask.ensures.session
+    ∙ c.if-not-tell_gap.ensures.session) (c.if-not-ask.ensures.moment
+    ∙ c.if-not-tell_gap.ensures.moment) c.if-not-watch.ensures.in_time)
+    asked c.flush.ensures.spent c.flush.ensures.confirmed c.flush.ensures.pulled c.flush.ensures.in_time
+    (c.flush.ensures.kept p _ Asked tt asked)
 
 pub returns-clause-faithful : goal.returns-clause-faithful
 returns-clause-faithful g c = λ p h.
-    let b = begins c.args.self.now c.advance_to.new.self c.hear_event-fits.new.self c.time.new.self c.args.now _ c.hear_event-fits.result c.advance_to.ensures c.hear_event-fits.ensures c.time.ensures in
-    let timed = told_settled p _ c.take.new.self c.settle.new.self c.settle.ensures (c.if-not-take.ensures.kept p c.args.self.now c.args.now b h) in
-    told_leaves p c.flush.result _ c.flush.new.self Asked (c.flush.ensures.kept p _ Asked tt (c.if-not-ask.ensures.kept p (c.if-not-tell_gap.ensures.kept p (c.if-not-watch.ensures.kept p timed))))
+    let b = begins c.args.self.now c.advance_to.new.self c.hear_event-fits.new.self c.time.new.self c.args.now _
+    c.hear_event-fits.result c.advance_to.ensures c.hear_event-fits.ensures c.time.ensures in
+    let timed = told_settled p _ c.take.new.self c.settle.new.self c.settle.ensures
+    (c.if-not-take.ensures.kept p c.args.self.now c.args.now b h) in
+    told_leaves p c.flush.result _ c.flush.new.self Asked
+    (c.flush.ensures.kept p _ Asked tt (c.if-not-ask.ensures.kept p
+    (c.if-not-tell_gap.ensures.kept p (c.if-not-watch.ensures.kept p timed))))
 
 pub returns-then-not-watch-clause-faithful : goal.returns-then-not-watch-clause-faithful
 returns-then-not-watch-clause-faithful g c = λ p h.
-    let b = begins c.args.self.now c.advance_to.new.self c.hear_event-fits.new.self c.time.new.self c.args.now _ c.hear_event-fits.result c.advance_to.ensures c.hear_event-fits.ensures c.time.ensures in
-    c.if-not-watch.ensures.kept p (told_settled p _ c.take.new.self c.settle.new.self c.settle.ensures (c.if-not-take.ensures.kept p c.args.self.now c.args.now b h))
+    let b = begins c.args.self.now c.advance_to.new.self c.hear_event-fits.new.self c.time.new.self c.args.now _
+    c.hear_event-fits.result c.advance_to.ensures c.hear_event-fits.ensures c.time.ensures in
+    c.if-not-watch.ensures.kept p (told_settled p _ c.take.new.self c.settle.new.self c.settle.ensures
+    (c.if-not-take.ensures.kept p c.args.self.now c.args.now b h))
 
 pub returns-then-not-tell_gap-clause-faithful : goal.returns-then-not-tell_gap-clause-faithful
 returns-then-not-tell_gap-clause-faithful g c = λ p h.
-    let b = begins c.args.self.now c.advance_to.new.self c.hear_event-fits.new.self c.time.new.self c.args.now _ c.hear_event-fits.result c.advance_to.ensures c.hear_event-fits.ensures c.time.ensures in
-    c.if-not-tell_gap.ensures.kept p (c.if-not-watch.ensures.kept p (told_settled p _ c.take.new.self c.settle.new.self c.settle.ensures (c.if-not-take.ensures.kept p c.args.self.now c.args.now b h)))
+    let b = begins c.args.self.now c.advance_to.new.self c.hear_event-fits.new.self c.time.new.self c.args.now _
+    c.hear_event-fits.result c.advance_to.ensures c.hear_event-fits.ensures c.time.ensures in
+    c.if-not-tell_gap.ensures.kept p (c.if-not-watch.ensures.kept p
+    (told_settled p _ c.take.new.self c.settle.new.self c.settle.ensures
+    (c.if-not-take.ensures.kept p c.args.self.now c.args.now b h)))
 
 pub returns-then-not-ask-clause-faithful : goal.returns-then-not-ask-clause-faithful
 returns-then-not-ask-clause-faithful g c = λ p h.
-    let b = begins c.args.self.now c.advance_to.new.self c.hear_event-fits.new.self c.time.new.self c.args.now _ c.hear_event-fits.result c.advance_to.ensures c.hear_event-fits.ensures c.time.ensures in
-    c.if-not-ask.ensures.kept p (c.if-not-tell_gap.ensures.kept p (c.if-not-watch.ensures.kept p (told_settled p _ c.take.new.self c.settle.new.self c.settle.ensures (c.if-not-take.ensures.kept p c.args.self.now c.args.now b h))))
+    let b = begins c.args.self.now c.advance_to.new.self c.hear_event-fits.new.self c.time.new.self c.args.now _
+    c.hear_event-fits.result c.advance_to.ensures c.hear_event-fits.ensures c.time.ensures in
+    c.if-not-ask.ensures.kept p (c.if-not-tell_gap.ensures.kept p
+    (c.if-not-watch.ensures.kept p (told_settled p _ c.take.new.self c.settle.new.self c.settle.ensures
+    (c.if-not-take.ensures.kept p c.args.self.now c.args.now b h))))

@@ -6,4 +6,7 @@ use Rattle.gateway.proofs.recording.Recording.take.Goals as goal
 pub invariant_of-self-2 : goal.invariant_of-self-2
 invariant_of-self-2 c =
     let a = c.self.inside in
-    take_sound a.log.items c.keep.new.log.items c.args.entry.now c.in_ok-copy.copy a.left.now c.args.left.now _ a.is_started (ap (λ (r : Recorded). r.started) c.self.view_is ∙ c.requires.started) (ap (λ (r : Recorded). r.left) c.self.view_is ∙ c.requires.first) c.self.invariant c.in_ok-keep.ensures.ok c.in_ok-copy.ensures
+    take_sound a.log.items c.keep.new.log.items c.args.entry.now c.in_ok-copy.copy a.left.now c.args.left.now _
+    a.is_started (ap (λ (r : Recorded). r.started) c.self.view_is
+    ∙ c.requires.started) (ap (λ (r : Recorded). r.left) c.self.view_is
+    ∙ c.requires.first) c.self.invariant c.in_ok-keep.ensures.ok c.in_ok-copy.ensures

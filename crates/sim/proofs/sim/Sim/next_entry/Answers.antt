@@ -1,13 +1,17 @@
 use Rattle.std.proofs.Common.{◌+◌, ℕ, List, option_map, min, sym, ap, ◌∙◌}
-use Rattle.gateway.specs.Log.{Opened, CutOff, Ticked, LineIn, TcpIn, last_moment}
+use Rattle.gateway.specs.Log.{Opened, CutOff, Ticked, WallIs, LineIn, TcpIn, last_moment}
 use Rattle.gateway.specs.declared.settings.LineSettings.{LineSettings}
 use Rattle.sim.specs.Calls.{line_event}
 use Rattle.sim.specs.Played.{Simulated}
 use Rattle.sim.proofs.Keeping.{entry_is}
 use Rattle.sim.proofs.sim.Sim.next_entry.Goals as goal
 
+pub returns-in-Wall-clause-event : goal.returns-in-Wall-clause-event
+returns-in-Wall-clause-event c =
+    entry_is c.args.self.now _ (WallIs c.in-Wall.number) c.after.result c.self.view_is (c.in-Wall.ensures _) c.after.ensures
+
 pub returns-in-Cut-clause-event : goal.returns-in-Cut-clause-event
-returns-in-Cut-clause-event c = entry_is c.args.self.now _ CutOff c.after.result c.self.view_is (c.in-Cut.ensures _) c.after.ensures
+returns-in-Cut-clause-event c = entry_is c.args.self.now _ CutOff c.after-in-Cut.result c.self.view_is (c.in-Cut.ensures _) c.after-in-Cut.ensures
 
 pub returns-in-Open-clause-event : goal.returns-in-Open-clause-event
 returns-in-Open-clause-event c = entry_is c.args.self.now _ Opened c.after-in-Open.result c.self.view_is (c.in-Open.ensures _) c.after-in-Open.ensures

@@ -5,4 +5,5 @@ use Rattle.gateway.proofs.Sound.{room_of}
 use Rattle.gateway.proofs.engine.centre.CentreSide.has_room.Goals as goal
 
 pub returns : goal.returns
-returns c = subst (λ (x : Centre). not c.is_full.result ≡ has_room x.queue) c.self.view_is (room_of c.is_full.result c.self.inside.queue c.is_full.ensures)
+returns c = subst (λ (x : Centre). not c.is_full.result ≡ has_room x.queue) c.self.view_is
+    (room_of c.is_full.result c.self.inside.queue c.is_full.ensures)

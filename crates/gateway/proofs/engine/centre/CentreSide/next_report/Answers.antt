@@ -11,7 +11,8 @@ returns-clause-some c =
       asdu = asdu;
       rest = drop 1 s.queue.unsent;
       first = c.in_ok-asdu.ensures.some;
-      frame = c.data_frame-frame.ensures.frame ∙ ap (λ p. I p.0 p.1 (record { items = asdu })) c.sent-ns.ensures.numbers;
+      frame = c.data_frame-frame.ensures.frame
+          ∙ ap (λ p. I p.0 p.1 (record { items = asdu })) c.sent-ns.ensures.numbers;
       fits = c.data_frame-frame.ensures.fits;
       after = search rules;
     })

@@ -27,4 +27,5 @@ invariant_of-self c =
 pub returns-clause-places : goal.returns-clause-places
 returns-clause-places c =
     let old = c.self.inside in
-    subst (λ (x : Centre). free_places x.queue ≤ free_places c.acknowledge.new.self) c.self.view_is (less_kept c.acked-pieces.result.0 old.queue c.acknowledge.new.self c.acknowledge.ensures)
+    subst (λ (x : Centre). free_places x.queue ≤ free_places c.acknowledge.new.self) c.self.view_is
+    (less_kept c.acked-pieces.result.0 old.queue c.acknowledge.new.self c.acknowledge.ensures)

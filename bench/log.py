@@ -1,0 +1,280 @@
+#!/usr/bin/env python3
+"""Runs `telegate run --log` between ends that come and go, and judges each line on standard error; and `--allow`.
+
+    bench/log.py [--program FILE]
+
+The lines of a run, in their order: the line isn't there, a station is asked, the line is reached, the station is up, a connection is
+opened, started, stopped and cut, another one sends what begins no APDU, the station falls silent and is asked again, the line is lost and
+reached again. Then a flood of connections: a line a second at most. A silent station that is held is told once. With --allow a host of
+another address is sent away, and the open connection stays. A run that can't begin says why. Each line begins with a UTC time that Python
+reads. All of it is on the loopback. The last line is `N passed, M failed`. The program is the one that ./build makes.
+"""
+import argparse
+import datetime
+import os
+import re
+import socket
+import subprocess
+import sys
+import tempfile
+import threading
+import time
+
+import ends
+
+LINE = "[line]\nlink = 1\ncause = 1\nca = 1\nioa = 2\nanswer_ms = 50\nretries = 1\n"
+STATION = "[[station]]\naddress = 7\nca = 1\n"
+# A silent station is held, or its link is reset.
+HELD = LINE + STATION
+SETTINGS = LINE + 'silence = "reset"\n' + STATION
+STOP = bytes.fromhex("680413000000")
+STOPPED = bytes.fromhex("680423000000")
+
+
+class Count:
+    passed = 0
+    failed = 0
+
+    def judge(self, name, is_right, told=""):
+        if is_right:
+            self.passed += 1
+        else:
+            self.failed += 1
+            print(f"{name}: {told}", flush=True)
+
+
+class Log:
+    """The lines of a process's standard error, without their time and moment."""
+
+    def __init__(self, stream):
+        self.lines, self.stamps, self.odd = [], [], []
+        self.thread = threading.Thread(target=self.read, args=(stream,), daemon=True)
+        self.thread.start()
+
+    def read(self, stream):
+        for octets in stream:
+            line = octets.decode().rstrip("\n")
+            parts = re.fullmatch(r"(\S+Z) (\d+) (.*)", line)
+            if parts:
+                self.stamps.append((datetime.datetime.fromisoformat(parts[1].replace("Z", "+00:00")), int(parts[2])))
+                self.lines.append(parts[3])
+            else:
+                self.odd.append(line)
+
+    def waits(self, words, since=0, seconds=10):
+        """The place behind the first line from `since` on that begins with these words, or None."""
+        end = time.monotonic() + seconds
+        while True:
+            for place in range(since, len(self.lines)):
+                if self.lines[place].startswith(words):
+                    return place + 1
+            if time.monotonic() > end:
+                return None
+            time.sleep(0.02)
+
+
+class Station:
+    """The outstation behind the line: it answers, or doesn't; its line can be lost and comes back."""
+
+    def __init__(self, is_there=True):
+        self.port = ends.free_port()
+        self.is_silent = False
+        self.stream = None
+        if is_there:
+            self.begin()
+
+    def begin(self):
+        """Its line can be reached from now on."""
+        self.server = socket.create_server(("127.0.0.1", self.port))
+        threading.Thread(target=self.run, daemon=True).start()
+
+    def run(self):
+        while True:
+            self.stream, _ = self.server.accept()
+            line = ends.Line(self.stream)
+            try:
+                while True:
+                    function, address, _ = line.request()
+                    if not self.is_silent:
+                        line.answer(ends.fixed(0x0B, address) if function == 9 else b"\xe5")
+            except OSError:
+                pass
+            except EOFError:
+                pass
+
+    def lose(self):
+        self.stream.shutdown(socket.SHUT_RDWR)
+
+
+class Run:
+    def __init__(self, program, folder, station, *flags, host="127.0.0.1", settings=SETTINGS):
+        self.door = (host, ends.free_port())
+        config = os.path.join(folder, "live.toml")
+        with open(config, "w") as file:
+            place = f"tcp:127.0.0.1:{station.port}"
+            file.write(f'{settings}[live]\nline = "{place}"\nlisten = "{host}:{self.door[1]}"\n')
+        self.process = subprocess.Popen(
+            [program, "run", *flags, config], stdin=subprocess.DEVNULL, stdout=subprocess.PIPE, stderr=subprocess.PIPE
+        )
+        self.log = Log(self.process.stderr)
+
+    def __enter__(self):
+        return self
+
+    def __exit__(self, *_):
+        self.process.kill()
+        self.process.wait()
+
+    def connect(self, here="127.0.0.1"):
+        return socket.create_connection(self.door, timeout=ends.PATIENCE, source_address=(here, 0))
+
+
+def exchange(stream, octets, answer):
+    stream.sendall(octets)
+    return stream.recv(len(answer)) == answer
+
+
+def a_run(count, program, folder):
+    station = Station(is_there=False)
+    with Run(program, folder, station, "--redial", "--log") as run:
+        log, at = run.log, 0
+
+        def comes(words):
+            nonlocal at
+            found = log.waits(words, at)
+            count.judge(words, found is not None, (at, log.lines, log.odd))
+            at = found or at
+
+        comes("listening at 127.0.0.1:%d" % run.door[1])
+        comes("line not there")
+        comes("station 7 asked for its status")
+        station.begin()
+        comes("line reached")
+        comes("station 7 up")
+        first = run.connect()
+        comes("connection opened by 127.0.0.1")
+        count.judge("STARTDT", exchange(first, ends.START, ends.STARTED))
+        comes("connection started")
+        count.judge("STOPDT", exchange(first, STOP, STOPPED))
+        comes("connection stopped")
+        first.close()
+        comes("connection cut: its other end has gone")
+        time.sleep(1.1)
+        second = run.connect()
+        comes("connection opened by 127.0.0.1")
+        second.sendall(b"\x00")
+        comes("connection closed: octets that begin no APDU")
+        station.is_silent = True
+        comes("station 7 down")
+        station.is_silent = False
+        comes("station 7 up")
+        station.lose()
+        comes("line lost")
+        comes("line reached again")
+        flood(count, run, at)
+        out = run.process.stdout
+        os.set_blocking(out.fileno(), False)
+        count.judge("standard output", not out.read(), "isn't empty")
+        count.judge("each line has its time", not log.odd, log.odd)
+        stamps = log.stamps
+        is_ordered = all(a[0] <= b[0] and a[1] <= b[1] for a, b in zip(stamps, stamps[1:]))
+        now = datetime.datetime.now(datetime.timezone.utc)
+        is_now = abs((now - stamps[-1][0]).total_seconds()) < 20
+        count.judge("times", is_ordered and is_now, stamps)
+        count.judge("still up", run.process.poll() is None, run.process.poll())
+
+
+def flood(count, run, at):
+    """Some hundred connects: at most a line a second of each kind, and how many were left out is told."""
+    began = time.monotonic()
+    opened = []
+    while not any("left out" in line for line in opened) and time.monotonic() < began + 20:
+        for _ in range(400):
+            run.connect().close()
+        time.sleep(1.1)
+        run.connect().close()
+        time.sleep(0.3)
+        opened = [line for line in run.log.lines[at:] if line.startswith("connection opened")]
+    seconds = time.monotonic() - began
+    for kind in ("connection opened", "connection cut", "connection closed"):
+        lines = [line for line in run.log.lines[at:] if line.startswith(kind)]
+        count.judge(f"{kind} in a flood", len(lines) <= seconds + 2, (seconds, lines))
+    count.judge("how many were left out", any(re.search(r"\(\d+ left out\)", line) for line in opened), opened)
+
+
+def held(count, program, folder):
+    """A station that is held when it falls silent: that it doesn't answer is told once, and that it answers again."""
+    station = Station()
+    with Run(program, folder, station, "--log", settings=HELD) as run:
+        up = run.log.waits("station 7 up")
+        count.judge("a held station is up", up is not None, run.log.lines)
+        time.sleep(1)
+        station.is_silent = True
+        silent = run.log.waits("station 7 doesn't answer")
+        time.sleep(1)
+        station.is_silent = False
+        count.judge("it answers again", silent and run.log.waits("station 7 answers again", silent), run.log.lines)
+        told = [line for line in run.log.lines if line.startswith("station 7")]
+        words = ["asked for its status", "up", "doesn't answer", "answers again"]
+        count.judge("each of it once", told == [f"station 7 {word}" for word in words], told)
+
+
+def guests(count, program, folder):
+    station = Station()
+    with Run(program, folder, station, "--log", "--allow", "192.0.2.7", "--allow", "127.0.0.1") as run:
+        count.judge("listening", run.log.waits("listening at") is not None, run.log.odd)
+        centre = run.connect()
+        count.judge("a guest's STARTDT", exchange(centre, ends.START, ends.STARTED))
+        strangers = [run.connect("127.0.0.2") for _ in range(5)]
+        for stranger in strangers:
+            try:
+                octets = stranger.recv(1)
+            except ConnectionError:
+                octets = b""
+            count.judge("a stranger is sent away", octets == b"", octets)
+        count.judge("the guest's connection stays", exchange(centre, ends.TEST, ends.TESTED))
+        count.judge("it is told", run.log.waits("1 sent away, the last at 127.0.0.2") or run.log.waits("5 sent away"), run.log.lines)
+        opened = [line for line in run.log.lines if line.startswith("connection opened")]
+        count.judge("no stranger opened one", len(opened) == 1, opened)
+        station.lose()
+        count.judge("the line's end", run.process.wait(ends.PATIENCE) == 3, run.process.returncode)
+        run.log.thread.join(ends.PATIENCE)
+        lines = run.log.lines[-2:]
+        is_right = lines[0] == "line lost" and re.fullmatch(r"counts skipped 0 .* of \d+ connections 1", lines[1])
+        count.judge("its last lines", is_right and run.log.odd == ["device failed"], (lines, run.log.odd))
+
+
+def troubles(count, program, folder):
+    with socket.create_server(("127.0.0.1", 0)) as taken:
+        here = "127.0.0.1:%d" % taken.getsockname()[1]
+        closed = "tcp:127.0.0.1:%d" % ends.free_port()
+        rows = [
+            (closed, here, "line refused"),
+            ("tcp:no-such-host.invalid:1", here, "name unknown"),
+            ("unix:nowhere", here, "name unknown"),
+            (f"tcp:{here}", here, "port in use"),
+        ]
+        for line, listen, why in rows:
+            config = os.path.join(folder, "trouble.toml")
+            with open(config, "w") as file:
+                file.write(f'{SETTINGS}[live]\nline = "{line}"\nlisten = "{listen}"\n')
+            done = subprocess.run([program, "run", "--log", config], capture_output=True, timeout=ends.PATIENCE, cwd=folder)
+            said = done.stderr.decode().splitlines()
+            is_right = done.returncode == 3 and len(said) == 2 and said[0].endswith(f" 0 {why}") and said[1] == "device failed"
+            count.judge(why, is_right, (done.returncode, said))
+
+
+def main():
+    words = argparse.ArgumentParser()
+    words.add_argument("--program", default=ends.PROGRAM)
+    program = os.path.abspath(words.parse_args().program)
+    count = Count()
+    with tempfile.TemporaryDirectory() as folder:
+        for judge in (a_run, held, guests, troubles):
+            judge(count, program, folder)
+    print(f"{count.passed} passed, {count.failed} failed")
+    return 1 if count.failed else 0
+
+
+if __name__ == "__main__":
+    sys.exit(main())

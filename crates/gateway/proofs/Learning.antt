@@ -1,0 +1,227 @@
+-- What the works and the course learn of an exchange.
+use Rattle.std.proofs.Common.{◌≡◌, ℕ, ◌+◌, Bool, true, false, List, [], ◌∷◌, ◌++◌, Option, Some, None, refl, sym, ap, subst, ◌∙◌}
+use Rattle.std.specs.Prelude.{if◌then◌else◌}
+use Rattle.std.proofs.lemmas.List.{append-nil}
+use Rattle.arrayvec.specs.ArrayVec.{ArrayVec}
+use Rattle.asdu.specs.Sizes.{tcp}
+use Rattle.asdu.specs.InformationObjects.{monitor_objects_of}
+use Rattle.link.specs.declared.outcome.Outcome.{Outcome}
+use Rattle.link.specs.declared.outcome.Outcome.TheVariants as outcome
+use Rattle.link.specs.Telling.{gap_in_outcome}
+use Rattle.session.specs.Session.{is_running as is_running_of}
+use Rattle.command.specs.State as tasks
+use Rattle.command.specs.State.{line_of, refusal_of}
+use Rattle.command.specs.History.{History}
+use Rattle.command.specs.Mirrors as mirrors
+use Rattle.command.specs.Calls.{Run, Busy, Mirror}
+use Rattle.gateway.specs.Log.{Log, latest}
+use Rattle.gateway.specs.Gaps.{gaps_of, gaps_told, gap_for}
+use Rattle.gateway.specs.Frames.{runs}
+use Rattle.gateway.specs.Reports.{Setup}
+use Rattle.gateway.specs.Serial as serial
+use Rattle.gateway.specs.Serial.{Serial, refusals, mirrored}
+use Rattle.gateway.specs.State.{State, with_serial}
+use Rattle.gateway.specs.Works.{Works, is_overfull, told, is_command_report, mirrored_works, LearnsReport, accepted_works, given_up_works, refused_works, LearnsOf, ready_works, unasked_works, done_works}
+use Rattle.gateway.specs.Course.{Course, room_in, IsLeft}
+use Rattle.gateway.specs.Phases.{Asked, resting}
+use Rattle.command.specs.CommandLaws.{CommandLaws}
+use Rattle.gateway.specs.Steps as steps
+use Rattle.gateway.specs.Steps.{Keeps, Mirrors, Learns}
+use Rattle.gateway.specs.Agrees.{Agrees, ArePlain}
+use Rattle.gateway.proofs.Working.{gap_in, kept_overfull, kept_placed, kept_waiting, kept_plain}
+use Rattle.gateway.proofs.Reached.{IsReached}
+use Rattle.gateway.proofs.Offering.{no_monitor}
+
+-- the step before is done
+abbrev pub left_of : Setup → Log → Course → Course
+left_of p log c = record {
+  talk = c.talk;
+  sent = c.sent;
+  earlier = c.earlier;
+  works =
+      done_works (latest log) (room_in p log c) c.works;
+}
+
+pub at_rest_works : (p : Setup) (s : State) (log : Log) (a : Agrees p s log [] (resting log))
+    → s.serial ≡ (left_of p log a.course).works.serial
+at_rest_works p s [] a = a.stands.does
+    ∙ sym (ap (λ b. (if b then unasked_works 0 (room_in p [] a.course)
+    (ready_works 0 a.course.works) else a.course.works).serial) a.stands.asks.0)
+at_rest_works p s (entry ∷ log) a = a.stands.does
+
+pub is_left : (p : Setup) (s : State) (log : Log) (a : Agrees p s log [] (resting log))
+    → IsLeft p log a.course (left_of p log a.course)
+is_left p s [] a = record {
+  told = a.stands.asks.1;
+  none = λ due. let no : false ≡ true = sym a.stands.asks.0 ∙ due in
+      cc;
+  is = refl;
+}
+is_left p s (entry ∷ log) a = record { told = a.stands.asks.2; none = a.stands.asks.0; is = refl }
+
+-- no gap is left of the step before, and each is told
+pub none_left : (p : Setup) (s : State) (log : Log) (a : Agrees p s log [] (resting log)) → s.serial.gap ≡ None
+none_left p s log a = ap (λ (z : Serial). z.gap) (at_rest_works p s log a)
+    ∙ gap_in Asked (latest log) (room_in p log a.course) a.course.works ∙ (is_left p s log a).told
+
+pub all_told : (p : Setup) (s : State) (log : Log) (a : Agrees p s log [] (resting log)) (i : ℕ)
+    → gaps_told i log ≡ gaps_of p i log
+all_told p s log a i = sym (append-nil (gaps_told i log))
+    ∙ ap (λ g. gaps_told i log ++ gap_for i g) (sym (none_left p s log a)) ∙ a.gaps i
+
+-- What is learnt of an exchange
+
+-- the works with the line's side of this state, and this history
+abbrev pub beside : State → History → (is_due : Bool) → Works
+beside s h due = record { serial = s.serial; history = h; is_due = due }
+
+pub record Learnt (p : Setup) (at : ℕ) (is_running : Bool) (o : Outcome) (s t : State) (fits : Bool) (h : History)
+    (is_due : Bool) : Type 0 where
+  pub z : Works
+  pub learns : LearnsOf p at is_running o (beside s h is_due) z
+  pub serial : t.serial ≡ z.serial
+  pub due : z.is_due ≡ is_due
+  pub full : fits ≡ false → is_overfull z.history ≡ true
+  pub placed : fits ≡ true → is_overfull z.history ≡ is_overfull h
+  pub gap : (i : ℕ) → gap_for i t.serial.gap ≡ gap_in_outcome i o
+  pub waiting : t.serial.commands.waiting ≡ s.serial.commands.waiting
+  pub plain : ArePlain t.serial.commands.answers
+
+module _ (p : Setup) (at : ℕ) (s : State) (h : History) (is_due : Bool) (laws : CommandLaws) (clock : s.moment ≡ at)
+    (sizes : s.sizes ≡ p.sizes) (reached : IsReached p (beside s h is_due)) (no_gap : s.serial.gap ≡ None)
+    (plain : ArePlain s.serial.commands.answers) where
+  abbrev w : Works
+  w = beside s h is_due
+
+  abbrev IsLearnt : Bool → Outcome → State → Bool → Type 0
+  IsLearnt is_running o t fits = Learnt p at is_running o s t fits h is_due
+
+  -- where all own answers, if any, found places
+  learnt_all : (is_running : Bool) (o : Outcome) (t : State) (fits : Bool) (z : Works) → LearnsOf p at is_running o w z
+      → t ≡ with_serial z.serial s → fits ≡ true → z.is_due ≡ is_due → is_overfull z.history ≡ is_overfull h →
+      z.serial.commands.waiting ≡ s.serial.commands.waiting → z.serial.commands.answers ≡ s.serial.commands.answers
+      → ((i : ℕ) → gap_for i z.serial.gap ≡ gap_in_outcome i o) → IsLearnt is_running o t fits
+  learnt_all is_running o t fits z learns is all due placed waiting answers gap = record {
+    z = z;
+    learns = learns;
+    serial = ap (λ (x : State). x.serial) is;
+    due = due;
+    full = λ off. let no : false ≡ true = sym off ∙ all in cc;
+    placed = λ on. placed;
+    gap = λ i. ap (λ (x : State). gap_for i x.serial.gap) is ∙ gap i;
+    waiting = ap (λ (x : State). x.serial.commands.waiting) is ∙ waiting;
+    plain = subst ArePlain (sym (ap (λ (x : State). x.serial.commands.answers) is ∙ answers)) plain;
+  }
+
+  refusal_plain : (i : ℕ) (o : Option (List ℕ)) → refusal_of (line_of i s.serial.commands) ≡ o
+      → ArePlain (serial.listed o)
+  refusal_plain i None e = tt
+  refusal_plain i (Some a) e =
+      let none = subst (λ (r : Run). (a : List ℕ) → refusal_of (line_of i r.state) ≡ Some a
+      → monitor_objects_of tcp a ≡ []) reached.1
+      (λ a is. laws.busy_plain p.stations p.sizes p.select_ms p.max_age_ms reached.0 i a is) in
+      (no_monitor a (none a e), tt)
+
+  learnt_busy : (is_running : Bool) (i : ℕ) (t : State) (fits : Bool)
+      → (t ≡ with_serial (serial.refused i s.serial) s) × (fits ≡ serial.refusal_fits i s.serial)
+      → IsLearnt is_running (outcome.Busy i) t fits
+  learnt_busy is_running i t fits e =
+      let own : List (List ℕ) = refusals i s.serial in
+      let c : tasks.State = tasks.given_up i s.serial.commands in
+      record {
+        z = refused_works i w;
+        learns = refl;
+        serial = ap (λ (x : State). x.serial) e.0;
+        due = refl;
+        full = λ off. kept_overfull own c (told (Busy i) w) (sym e.1 ∙ off);
+        placed = λ on. kept_placed own c (told (Busy i) w) (sym e.1 ∙ on);
+        gap = λ i. ap (λ (x : State). gap_for i x.serial.gap) e.0 ∙ ap (gap_for i) no_gap;
+        waiting = ap (λ (x : State). x.serial.commands.waiting) e.0 ∙ kept_waiting own c;
+        plain = subst ArePlain (sym (ap (λ (x : State). x.serial.commands.answers) e.0))
+            (kept_plain own c (refusal_plain i (refusal_of (line_of i s.serial.commands)) refl) plain);
+      }
+
+  learnt_mirror : (is_running : Bool) (station : ℕ) (report : ArrayVec ℕ) (t : State) (fits : Bool)
+      → is_command_report p.sizes report.items ≡ true
+      → Mirrors p.sizes at is_running s.serial report.items fits t.serial
+      → IsLearnt is_running (outcome.Report station report) t fits
+  learnt_mirror true station report t fits of m =
+      let c : tasks.State = mirrors.mirrored m.v at s.serial.commands in
+      record {
+        z = mirrored_works at true m.v m.pieces w;
+        learns = subst (λ b. LearnsReport p at true b report.items w (mirrored_works at true m.v m.pieces w)) (sym of)
+            (m.v, m.plain, m.pieces, m.passed, m.tagged, refl);
+        serial = m.after;
+        due = refl;
+        full = λ off. kept_overfull m.pieces c (told (Mirror m.v at) w) (sym m.all ∙ off);
+        placed = λ on. kept_placed m.pieces c (told (Mirror m.v at) w) (sym m.all ∙ on);
+        gap = λ i. ap (λ (x : Serial). gap_for i x.gap) m.after ∙ ap (gap_for i) no_gap;
+        waiting = ap (λ (x : Serial). x.commands.waiting) m.after ∙ kept_waiting m.pieces c
+            ∙ laws.mirrored_waits m.v at s.serial.commands;
+        plain = subst ArePlain (sym (ap (λ (x : Serial). x.commands.answers) m.after))
+            (kept_plain m.pieces c m.unmonitored (subst ArePlain
+            (sym (laws.mirrored_answers m.v at s.serial.commands)) plain));
+      }
+  learnt_mirror false station report t fits of m = record {
+    z = mirrored_works at false m.v m.pieces w;
+    learns = subst (λ b. LearnsReport p at false b report.items w (mirrored_works at false m.v m.pieces w)) (sym of)
+        (m.v, m.plain, m.pieces, m.passed, m.tagged, refl);
+    serial = m.after;
+    due = refl;
+    full = λ off. let no : false ≡ true = sym off ∙ m.all in cc;
+    placed = λ on. refl;
+    gap = λ i. ap (λ (x : Serial). gap_for i x.gap) m.after ∙ ap (gap_for i) no_gap;
+    waiting = ap (λ (x : Serial). x.commands.waiting) m.after ∙ laws.mirrored_waits m.v at s.serial.commands;
+    plain = subst ArePlain (sym (ap (λ (x : Serial). x.commands.answers) m.after))
+        (subst ArePlain (sym (laws.mirrored_answers m.v at s.serial.commands)) plain);
+  }
+
+  learnt_report : (is_running : Bool) (station : ℕ) (report : ArrayVec ℕ) (t : State) (fits : Bool)
+      → is_command_report p.sizes report.items ≡ false → Keeps s report.items t × (fits ≡ true)
+      → IsLearnt is_running (outcome.Report station report) t fits
+  learnt_report is_running station report t fits of e =
+      let z : Works = record w { serial = serial.reported p.sizes report.items w.serial } in
+      let same : t.serial ≡ z.serial = ap (λ (x : State). x.serial) e.0.after
+      ∙ ap (λ sizes. serial.reported sizes report.items s.serial) sizes in
+      record {
+        z = z;
+        learns = subst (λ b. LearnsReport p at is_running b report.items w z) (sym of) refl;
+        serial = same;
+        due = refl;
+        full = λ off. let no : false ≡ true = sym off ∙ e.1 in cc;
+        placed = λ on. refl;
+        gap = λ i. ap (λ (x : Serial). gap_for i x.gap) same ∙ ap (gap_for i) no_gap;
+        waiting = ap (λ (x : Serial). x.commands.waiting) same;
+        plain = subst ArePlain (sym (ap (λ (x : Serial). x.commands.answers) same)) plain;
+      }
+
+  learnt_of : (is_running : Bool) (station : ℕ) (report : ArrayVec ℕ) (t : State) (fits b : Bool)
+      → is_running_of s.centre.session ≡ is_running → is_command_report p.sizes report.items ≡ b
+      → steps.LearnsReport b s report.items fits t → IsLearnt is_running (outcome.Report station report) t fits
+  learnt_of is_running station report t fits true runs of e =
+      learnt_mirror is_running station report t fits of
+      (subst (λ r. Mirrors p.sizes at r s.serial report.items fits t.serial) runs
+      (subst (λ m. Mirrors p.sizes m (is_running_of s.centre.session) s.serial report.items fits t.serial) clock
+      (subst (λ z. Mirrors z s.moment (is_running_of s.centre.session) s.serial report.items fits t.serial) sizes e.0)))
+  learnt_of is_running station report t fits false runs of e = learnt_report is_running station report t fits of e
+
+  pub learnt : (is_running : Bool) (o : Outcome) (t : State) (fits : Bool)
+      → is_running_of s.centre.session ≡ is_running → Learns s o fits t → IsLearnt is_running o t fits
+  learnt is_running (outcome.Report station report) t fits runs e =
+      learnt_of is_running station report t fits (is_command_report p.sizes report.items) runs refl
+      (subst (λ z. steps.LearnsReport (is_command_report z report.items) s report.items fits t) sizes e)
+  learnt is_running (outcome.Accepted i) t fits runs e =
+      learnt_all is_running (outcome.Accepted i) t fits (accepted_works i w) refl e.0 e.1 refl refl refl refl
+      (λ k. ap (gap_for k) no_gap)
+  learnt is_running (outcome.Busy i) t fits runs e = learnt_busy is_running i t fits e
+  learnt is_running (outcome.Down i) t fits runs e = learnt_all is_running (outcome.Down i) t fits
+      (given_up_works i w) refl e.0 e.1 refl refl refl refl (λ k. ap (gap_for k) no_gap)
+  learnt is_running outcome.None t fits runs e =
+      learnt_all is_running outcome.None t fits w refl e.0 e.1 refl refl refl refl (λ k. ap (gap_for k) no_gap)
+  learnt is_running (outcome.Started i) t fits runs e =
+      learnt_all is_running (outcome.Started i) t fits w refl e.0 e.1 refl refl refl refl (λ k. ap (gap_for k) no_gap)
+  learnt is_running (outcome.StartedGap i k) t fits runs e =
+      learnt_all is_running (outcome.StartedGap i k) t fits
+      (record w { serial = serial.with_gap i k w.serial }) refl e.0 e.1 refl refl refl refl (λ j. refl)
+  learnt is_running (outcome.Empty i) t fits runs e = learnt_all is_running
+      (outcome.Empty i) t fits w refl e.0 e.1 refl refl refl refl (λ k. ap (gap_for k) no_gap)

@@ -1,0 +1,22 @@
+//! The wall clock.
+ghost use Rattle.std.specs.Prelude.{◌≡◌, ◌+◌, ◌-◌, min};
+
+/// What the wall clock showed at a moment.
+#[derive(Clone, Copy, Debug, PartialEq, Eq)]
+pub(crate) struct Wall {
+    /// The moment, in milliseconds.
+    pub(crate) moment: u64,
+    /// Milliseconds since 1970-01-01 UTC.
+    pub(crate) number: u64,
+}
+
+impl Wall {
+    /// What it shows at a later moment.
+    pub(crate) fn at(&self, moment: u64) -> u64
+        ensures { result ≡
+            min (self.now.number + (moment - self.now.moment)) 18446744073709551615 }
+    {
+        self.number
+            .saturating_add(moment.saturating_sub(self.moment))
+    }
+}

@@ -1,0 +1,130 @@
+-- What is told of the line, of the door and of the connection (this gateway's own profile).
+use Rattle.std.specs.Prelude.{◌≡◌, ℕ, ◌-◌, nat_le, bytes_eq, Bool, true, false, List, [], ◌∷◌, Option, Some, None, if◌then◌else◌}
+use Rattle.std.specs.declared.net.ip_addr.IpAddr.{IpAddr}
+use Rattle.session.specs.declared.kinds.Close.{Close}
+use Rattle.live.specs.declared.wires.CutCause.{CutCause}
+use Rattle.live.specs.declared.wires.SentAway.{SentAway}
+use Rattle.journal.specs.Limits.{asked, is_free, one_more}
+use Rattle.journal.specs.declared.limit.Limit.{Limit}
+use Rattle.journal.specs.declared.note.Line.{Line}
+use Rattle.journal.specs.declared.note.Note.{Note}
+use Rattle.journal.specs.declared.note.Note.TheVariants as note
+use Rattle.journal.specs.declared.ends.LineTold.{LineTold}
+use Rattle.journal.specs.declared.ends.LineTold.TheVariants.{Nothing, NotThere, There, Lost}
+use Rattle.journal.specs.declared.ends.LineWatch.{LineWatch}
+use Rattle.journal.specs.declared.ends.DoorWatch.{DoorWatch}
+use Rattle.journal.specs.declared.ends.ConnectionWatch.{ConnectionWatch}
+
+abbrev pub new_limit : Limit
+new_limit = record { told = None; left_out = 0 }
+
+abbrev pub line_by : Note → ℕ → Option ℕ → Option Line
+line_by what now None = None
+line_by what now (Some left_out) = Some (record { moment = now; note = what; left_out = left_out })
+
+-- something happened: a line, or it is counted as left out
+abbrev pub happened : Note → Limit → ℕ → Limit × Option Line
+happened what limit now = ((asked limit now).0, line_by what now (asked limit now).1)
+
+-- something is in another state: a line, or it is told once a second has passed
+abbrev pub changed : Note → Limit → ℕ → Limit × Option Line
+changed what limit now = if is_free limit now then happened what limit now else (limit, None)
+
+-- The line
+
+abbrev pub new_line : LineWatch
+new_line = record { told = Nothing; there = new_limit; away = new_limit }
+
+-- what is to be told of a line of which this was told last
+abbrev pub line_change : LineTold → (is_there : Bool) → Option (LineTold × Note)
+line_change Nothing false = Some (NotThere, note.LineNotThere)
+line_change Nothing true = Some (There, note.LineReached)
+line_change NotThere false = None
+line_change NotThere true = Some (There, note.LineReached)
+line_change There false = Some (Lost, note.LineLost)
+line_change There true = None
+line_change Lost false = None
+line_change Lost true = Some (There, note.LineReachedAgain)
+
+-- it was told, or not yet
+abbrev pub line_told : LineTold → Option Line → LineWatch → LineWatch × Option Line
+line_told told None w = (w, None)
+line_told told (Some line) w = (record w { told = told }, Some line)
+
+abbrev pub line_tried : (is_there : Bool) → ℕ → LineTold → Note → LineWatch
+    → LineWatch × Option Line
+line_tried true now told what w = line_told told (changed what w.there now).1
+    (record w { there = (changed what w.there now).0 })
+line_tried false now told what w = line_told told (changed what w.away now).1
+    (record w { away = (changed what w.away now).0 })
+
+abbrev pub line_changed : Option (LineTold × Note) → (is_there : Bool) → ℕ → LineWatch
+    → LineWatch × Option Line
+line_changed None is_there now w = (w, None)
+line_changed (Some (told, what)) is_there now w = line_tried is_there now told what w
+
+abbrev pub line_seen : (is_there : Bool) → ℕ → LineWatch → LineWatch × Option Line
+line_seen is_there now w = line_changed (line_change w.told is_there) is_there now w
+
+-- Those who aren't let in
+
+abbrev pub new_door : DoorWatch
+new_door = record { told = 0; limit = new_limit }
+
+abbrev pub door_told : ℕ → Option Line → DoorWatch → DoorWatch × Option Line
+door_told count None w = (w, None)
+door_told count (Some line) w = (record w { told = count }, Some line)
+
+-- a line tells how many came since the one before
+abbrev pub door_tried : SentAway → ℕ → DoorWatch → DoorWatch × Option Line
+door_tried s now w =
+    let told = changed (note.SentAway (s.count - w.told) s.last) w.limit now in
+    door_told s.count told.1 (record w { limit = told.0 })
+
+abbrev pub door_seen : SentAway → ℕ → DoorWatch → DoorWatch × Option Line
+door_seen s now w = if nat_le s.count w.told then (w, None) else door_tried s now w
+
+-- The connection
+
+abbrev pub new_connection : ConnectionWatch
+new_connection = record {
+  count = 0;
+  opened = new_limit;
+  started = new_limit;
+  stopped = new_limit;
+  cut = new_limit;
+  closed = new_limit;
+}
+
+abbrev pub connection_opened : Option IpAddr → ℕ → ConnectionWatch → ConnectionWatch × Option Line
+connection_opened peer now w =
+    let told = happened (note.Opened peer) w.opened now in
+    (record w { count = one_more w.count; opened = told.0 }, told.1)
+
+abbrev pub connection_cut : CutCause → ℕ → ConnectionWatch → ConnectionWatch × Option Line
+connection_cut cause now w = let told = happened (note.Cut cause) w.cut now in
+    (record w { cut = told.0 }, told.1)
+
+abbrev pub connection_closed : Close → ℕ → ConnectionWatch → ConnectionWatch × Option Line
+connection_closed cause now w = let told = happened (note.Closed cause) w.closed now in
+    (record w { closed = told.0 }, told.1)
+
+-- STARTDT con and STOPDT con, as they go out (IEC 60870-5-104, 5.1)
+abbrev pub start_confirmed : List ℕ
+start_confirmed = 104 ∷ 4 ∷ 11 ∷ 0 ∷ 0 ∷ 0 ∷ []
+
+abbrev pub stop_confirmed : List ℕ
+stop_confirmed = 104 ∷ 4 ∷ 35 ∷ 0 ∷ 0 ∷ 0 ∷ []
+
+abbrev pub connection_started : ℕ → ConnectionWatch → ConnectionWatch × Option Line
+connection_started now w = let told = happened note.Started w.started now in
+    (record w { started = told.0 }, told.1)
+
+abbrev pub connection_stopped : ℕ → ConnectionWatch → ConnectionWatch × Option Line
+connection_stopped now w = let told = happened note.Stopped w.stopped now in
+    (record w { stopped = told.0 }, told.1)
+
+abbrev pub connection_sent : List ℕ → ℕ → ConnectionWatch → ConnectionWatch × Option Line
+connection_sent octets now w =
+    if bytes_eq octets start_confirmed then connection_started now w else
+    if bytes_eq octets stop_confirmed then connection_stopped now w else (w, None)

@@ -1,0 +1,6 @@
+pub mod Limits
+pub mod Notes
+pub mod Ends
+pub mod Stations
+pub mod Watching
+pub mod Telling

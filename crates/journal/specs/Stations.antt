@@ -1,0 +1,146 @@
+-- What is told of the stations, by the requests that go out to them (IEC 60870-5-2; the lines are
+-- this gateway's own profile).
+use Rattle.std.specs.Prelude.{◌≡◌, ℕ, ◌+◌, ◌*◌, ◌/◌, ◌%◌, ◌==◌, nat_lt, Bool, true, false, List, [], ◌∷◌, length, map, slice_get, slice_index, Option, Some, None, if◌then◌else◌}
+use Rattle.ft12.specs.declared.frame.LinkSize.{LinkSize}
+use Rattle.ft12.specs.declared.frame.LinkSize.TheVariants.{One, Two}
+use Rattle.journal.specs.Ends.{changed, happened, new_limit}
+use Rattle.journal.specs.Limits.{one_more}
+use Rattle.journal.specs.declared.limit.Limit.{Limit}
+use Rattle.journal.specs.declared.note.Line.{Line}
+use Rattle.journal.specs.declared.note.Note.TheVariants as note
+use Rattle.journal.specs.declared.stations.Asking.{Asking}
+use Rattle.journal.specs.declared.stations.Asking.TheVariants.{Status, Counted, Other, Missed}
+use Rattle.journal.specs.declared.stations.StationTold.{StationTold}
+use Rattle.journal.specs.declared.stations.StationTold.TheVariants.{Nothing, Asked, Up, Silent, Down}
+use Rattle.journal.specs.declared.stations.StationWatch.{StationWatch}
+
+-- the octet at this place, or 0 where there is none
+abbrev pub octet : List ℕ → ℕ → ℕ
+octet octets place = if nat_lt place (length octets) then slice_index octets place else 0
+
+-- A request begins with 10, and its control octet follows, or with 68, two lengths and 68 (IEC
+-- 60870-5-1, FT1.2). The link address stands behind the control octet, its low octet first.
+abbrev pub control_place : List ℕ → ℕ
+control_place octets = if octet octets 0 == 16 then 1 else 4
+
+abbrev pub address_of : LinkSize → List ℕ → ℕ
+address_of One octets = octet octets (control_place octets + 1)
+address_of Two octets =
+    octet octets (control_place octets + 1) + 256 * octet octets (control_place octets + 2)
+
+-- By the control octet: a request whose FCV bit is set is counted, by its FCB; one without it, of
+-- function 9, asks for the status of the link.
+abbrev pub asking_of : List ℕ → Asking
+asking_of octets =
+    let control = octet octets (control_place octets) in
+    if control / 16 % 2 == 1 then Counted (control / 32 % 2)
+    else if control % 16 == 9 then Status else Other
+
+abbrev pub new_station : (tries : ℕ) → ℕ → StationWatch
+new_station tries address = record {
+  address = address;
+  tries = tries;
+  bit = 0;
+  sent = 0;
+  told = Nothing;
+  asked = new_limit;
+  up = new_limit;
+  silent = new_limit;
+  again = new_limit;
+  down = new_limit;
+  gap = new_limit;
+}
+
+abbrev pub station_told : StationTold → Option Line → StationWatch → StationWatch × Option Line
+station_told told None w = (w, None)
+station_told told (Some line) w = (record w { told = told }, Some line)
+
+abbrev pub told_asked : ℕ → StationWatch → StationWatch × Option Line
+told_asked now w = let told = changed (note.Asked w.address) w.asked now in
+    station_told Asked told.1 (record w { asked = told.0 })
+
+abbrev pub told_up : ℕ → StationWatch → StationWatch × Option Line
+told_up now w = let told = changed (note.Up w.address) w.up now in
+    station_told Up told.1 (record w { up = told.0 })
+
+abbrev pub told_down : ℕ → StationWatch → StationWatch × Option Line
+told_down now w = let told = changed (note.Down w.address) w.down now in
+    station_told Down told.1 (record w { down = told.0 })
+
+abbrev pub told_silent : ℕ → StationWatch → StationWatch × Option Line
+told_silent now w = let told = changed (note.Silent w.address) w.silent now in
+    station_told Silent told.1 (record w { silent = told.0 })
+
+abbrev pub told_again : ℕ → StationWatch → StationWatch × Option Line
+told_again now w = let told = changed (note.Again w.address) w.again now in
+    station_told Up told.1 (record w { again = told.0 })
+
+abbrev pub told_missed : ℕ → StationWatch → StationWatch × Option Line
+told_missed now w = let told = happened (note.Gap w.address) w.gap now in
+    (record w { gap = told.0 }, told.1)
+
+-- A counted request with the bit of the one before is that request again (IEC 60870-5-2, 5.1.2);
+-- after a reset of the link, or a request for its status, the next one is new.
+abbrev pub counting : Asking → StationWatch → StationWatch
+counting (Counted bit) w =
+    record w { bit = bit; sent = if w.bit == bit then one_more w.sent else 1 }
+counting Status w = record w { sent = 0 }
+counting Other w = record w { sent = 0 }
+counting Missed w = w
+
+-- a request went out more often than a station that is there lets it
+abbrev pub is_unanswered : StationWatch → Bool
+is_unanswered w = nat_lt w.tries w.sent
+
+abbrev pub up_by : (is_unanswered : Bool) → ℕ → StationWatch → StationWatch × Option Line
+up_by true now w = told_silent now w
+up_by false now w = (w, None)
+
+abbrev pub silent_by : (is_unanswered : Bool) → ℕ → StationWatch → StationWatch × Option Line
+silent_by true now w = (w, None)
+silent_by false now w = told_again now w
+
+-- A station that is asked for its status is told once; one that gets counted requests is up, and
+-- down once it is asked again. One that doesn't answer is told, and that it answers again.
+abbrev pub station_by : StationTold → Asking → ℕ → StationWatch → StationWatch × Option Line
+station_by Nothing Status now w = told_asked now w
+station_by Nothing (Counted bit) now w = told_up now w
+station_by Asked (Counted bit) now w = told_up now w
+station_by Down (Counted bit) now w = told_up now w
+station_by Up (Counted bit) now w = up_by (is_unanswered w) now w
+station_by Silent (Counted bit) now w = silent_by (is_unanswered w) now w
+station_by Up Status now w = told_down now w
+station_by Silent Status now w = told_down now w
+station_by told Missed now w = told_missed now w
+station_by told asking now w = (w, None)
+
+abbrev pub station_asked : Asking → ℕ → StationWatch → StationWatch × Option Line
+station_asked asking now w = station_by w.told asking now (counting asking w)
+
+-- the station after a request to this link address, if it is its own
+abbrev pub after_request : ℕ → Asking → ℕ → StationWatch → StationWatch
+after_request address asking now w =
+    if w.address == address then (station_asked asking now w).0 else w
+
+-- what the station with this link address has to tell of it
+abbrev pub line_in : ℕ → Asking → ℕ → List StationWatch → Option Line
+line_in address asking now [] = None
+line_in address asking now (w ∷ ws) =
+    if w.address == address then (station_asked asking now w).1 else line_in address asking now ws
+
+-- this is asked of the station with this link address, or told of it
+abbrev pub told : ℕ → Asking → ℕ → List StationWatch → List StationWatch × Option Line
+told address asking now ws =
+    (map (after_request address asking now) ws, line_in address asking now ws)
+
+-- a request goes out to the station whose address it bears
+abbrev pub asked : LinkSize → List ℕ → ℕ → List StationWatch → List StationWatch × Option Line
+asked size octets now ws = told (address_of size octets) (asking_of octets) now ws
+
+-- reports of the station at this place may be lost
+abbrev pub gap_at : Option StationWatch → ℕ → List StationWatch → List StationWatch × Option Line
+gap_at None now ws = (ws, None)
+gap_at (Some w) now ws = told w.address Missed now ws
+
+abbrev pub gap : (place : ℕ) → ℕ → List StationWatch → List StationWatch × Option Line
+gap place now ws = gap_at (slice_get ws place) now ws

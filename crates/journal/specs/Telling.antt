@@ -1,0 +1,86 @@
+-- The lines of a run, and what they are a function of (this gateway's own profile).
+use Rattle.std.specs.Prelude.{◌≡◌, ℕ, ◌-◌, ◌^◌, min, not, Bool, true, false, List, ◌∷◌, length, Option, Some, None, if◌then◌else◌}
+use Rattle.events.specs.Queue.{kept as pieces_kept}
+use Rattle.gateway.specs.Log.{Output}
+use Rattle.gateway.specs.State.{State, counts_of}
+use Rattle.gateway.specs.declared.ports.Next.{Next}
+use Rattle.live.specs.declared.watched.Sight.{Sight}
+use Rattle.journal.specs.Watching.{Watching, heard, put, is_look_due, looked_at, line_of, sum_line}
+use Rattle.journal.specs.declared.note.Line.{Line}
+use Rattle.journal.specs.declared.note.Note.{Note}
+
+-- the lines so far, the newest first, where they are told
+abbrev pub Lines : Type 0
+Lines = Option (List Line)
+
+-- One more, where it is taken. A sink that tells nothing goes on telling nothing.
+abbrev pub kept : (taken : Bool) → Line → Lines → Lines
+kept false line lines = lines
+kept true line None = None
+kept true line (Some before) = Some (line ∷ before)
+
+-- what was told, where to, and whether that took no line any more, which ends the telling
+pub record Book : Type 0 where
+  pub watching : Watching
+  pub lines : Lines
+  pub is_over : Bool
+
+-- a line is told, taken or not
+abbrev pub told : Option Line → (taken : Bool) → Book → Book
+told None taken b = b
+told (Some line) taken b = record b { lines = kept taken line b.lines; is_over = not taken }
+
+abbrev pub after : Watching × Option Line → (taken : Bool) → Book → Book
+after w taken b = told w.1 taken (record b { watching = w.0 })
+
+-- nothing is told any more once the telling is over
+abbrev pub unless_over : Book → Book → Book
+unless_over old new = if old.is_over then old else new
+
+-- an event came, and the ends were seen so
+pub record HearsSeeing (sight : Sight) (old : Book) (event : Next) (new : Book) : Type 0 where
+  pub taken : Bool
+  pub done : new ≡ unless_over old (after (heard event sight old.watching) taken old)
+
+-- an event came, and the ends were seen in some way
+pub record Hears (old : Book) (event : Next) (new : Book) : Type 0 where
+  pub sight : Sight
+  pub hears : HearsSeeing sight old event new
+
+-- an action went out
+pub record Puts (old : Book) (now : ℕ) (action : Output) (new : Book) : Type 0 where
+  pub taken : Bool
+  pub done : new ≡ unless_over old (after (put now action old.watching) taken old)
+
+-- a number as it is told: past the greatest of its type it stays there
+abbrev pub counted : ℕ → ℕ
+counted n = min n (2 ^ 64 - 1)
+
+abbrev pub taken_in : State → ℕ
+taken_in gateway = counted (length (pieces_kept gateway.centre.queue))
+
+-- the gateway was looked at, if that was due
+abbrev pub looked : State → (taken : Bool) → Book → Book
+looked s taken b =
+    if is_look_due b.watching
+    then after (looked_at (counts_of s) (taken_in s) b.watching) taken b
+    else b
+
+pub record Looks (old : Book) (gateway : State) (new : Book) : Type 0 where
+  pub taken : Bool
+  pub done : new ≡ unless_over old (looked gateway taken old)
+
+-- the run is over: the counts are told once more
+pub record Closes (old : Book) (gateway : State) (new : Book) : Type 0 where
+  pub taken : Bool
+  pub done : new ≡ unless_over old
+      (told (Some (sum_line (counts_of gateway) (taken_in gateway) old.watching)) taken old)
+
+pub record IsTold (line : Option Line) (old new : Book) : Type 0 where
+  pub taken : Bool
+  pub done : new ≡ told line taken old
+
+-- something is told that no event says
+pub record Notes (old : Book) (note : Note) (new : Book) : Type 0 where
+  pub taken : Bool
+  pub done : new ≡ unless_over old (told (Some (line_of note old.watching)) taken old)

@@ -1,0 +1,195 @@
+//! What is told of the line, of the door and of the connection.
+ghost use Rattle.std.specs.Prelude.{◌≡◌};
+ghost use Rattle.journal.specs.Ends as spec;
+
+use crate::limit::Limit;
+use crate::note::{Line, Note};
+use live::{CutCause, SentAway};
+use session::Close;
+use std::net::IpAddr;
+
+/// The APDU STARTDT con (IEC 60870-5-104, 5.1).
+const START_CONFIRMED: [u8; 6] = [0x68, 0x04, 0x0B, 0x00, 0x00, 0x00];
+
+/// The APDU STOPDT con (IEC 60870-5-104, 5.1).
+const STOP_CONFIRMED: [u8; 6] = [0x68, 0x04, 0x23, 0x00, 0x00, 0x00];
+
+/// The line of something that happened, or none where it is left out.
+pub(crate) fn happened(note: Note, limit: &mut Limit, now: u64) -> Option<Line>
+    ensures { (limit.new, result) ≡ spec.happened note limit.old now }
+{
+    let left_out = limit.ask(now)?;
+    Some(Line {
+        moment: now,
+        note,
+        left_out,
+    })
+}
+
+/// The line of a change, or none yet, where the one before is less than a second old.
+pub(crate) fn changed(note: Note, limit: &mut Limit, now: u64) -> Option<Line>
+    ensures { (limit.new, result) ≡ spec.changed note limit.old now }
+{
+    if !limit.is_free(now) {
+        return None;
+    }
+    happened(note, limit, now)
+}
+
+/// What was told of the line last.
+#[derive(Clone, Copy, Debug, PartialEq, Eq)]
+pub(crate) enum LineTold {
+    Nothing,
+    NotThere,
+    There,
+    Lost,
+}
+
+/// What is told of the line.
+#[derive(Clone, Copy, Debug, PartialEq, Eq)]
+pub(crate) struct LineWatch {
+    told: LineTold,
+    there: Limit,
+    away: Limit,
+}
+
+impl LineWatch {
+    pub(crate) fn new() -> LineWatch
+        ensures { result ≡ spec.new_line }
+    {
+        LineWatch {
+            told: LineTold::Nothing,
+            there: Limit::new(),
+            away: Limit::new(),
+        }
+    }
+
+    /// The line is there, or isn't.
+    pub(crate) fn see(&mut self, is_there: bool, now: u64) -> Option<Line>
+        ensures { (self.new, result) ≡ spec.line_seen is_there now self.old }
+    {
+        let (told, note) = line_change(self.told, is_there)?;
+        let line = if is_there {
+            changed(note, &mut self.there, now)?
+        } else {
+            changed(note, &mut self.away, now)?
+        };
+        self.told = told;
+        Some(line)
+    }
+}
+
+/// What is to be told next of a line of which this was told last.
+fn line_change(told: LineTold, is_there: bool) -> Option<(LineTold, Note)>
+    ensures { result ≡ spec.line_change told is_there }
+{
+    match (told, is_there) {
+        (LineTold::Nothing, false) => Some((LineTold::NotThere, Note::LineNotThere)),
+        (LineTold::Nothing, true) => Some((LineTold::There, Note::LineReached)),
+        (LineTold::NotThere, true) => Some((LineTold::There, Note::LineReached)),
+        (LineTold::Lost, true) => Some((LineTold::There, Note::LineReachedAgain)),
+        (LineTold::There, false) => Some((LineTold::Lost, Note::LineLost)),
+        _ => None,
+    }
+}
+
+/// What is told of those who aren't let in.
+#[derive(Clone, Copy, Debug, PartialEq, Eq)]
+pub(crate) struct DoorWatch {
+    /// Of how many it was told.
+    told: u64,
+    limit: Limit,
+}
+
+impl DoorWatch {
+    pub(crate) fn new() -> DoorWatch
+        ensures { result ≡ spec.new_door }
+    {
+        DoorWatch {
+            told: 0,
+            limit: Limit::new(),
+        }
+    }
+
+    /// So many weren't let in.
+    pub(crate) fn see(&mut self, sent_away: SentAway, now: u64) -> Option<Line>
+        ensures { (self.new, result) ≡ spec.door_seen sent_away now self.old }
+    {
+        if sent_away.count <= self.told {
+            return None;
+        }
+        let more = sent_away.count - self.told;
+        let line = changed(Note::SentAway(more, sent_away.last), &mut self.limit, now)?;
+        self.told = sent_away.count;
+        Some(line)
+    }
+}
+
+/// What is told of the connection.
+#[derive(Clone, Copy, Debug, PartialEq, Eq)]
+pub(crate) struct ConnectionWatch {
+    /// How many were opened.
+    count: u64,
+    opened: Limit,
+    started: Limit,
+    stopped: Limit,
+    cut: Limit,
+    closed: Limit,
+}
+
+impl ConnectionWatch {
+    pub(crate) fn new() -> ConnectionWatch
+        ensures { result ≡ spec.new_connection }
+    {
+        ConnectionWatch {
+            count: 0,
+            opened: Limit::new(),
+            started: Limit::new(),
+            stopped: Limit::new(),
+            cut: Limit::new(),
+            closed: Limit::new(),
+        }
+    }
+
+    /// How many were opened.
+    pub(crate) fn count(&self) -> u64
+        ensures { result ≡ self.now.count }
+    {
+        self.count
+    }
+
+    /// One was opened.
+    pub(crate) fn open(&mut self, peer: Option<IpAddr>, now: u64) -> Option<Line>
+        ensures { (self.new, result) ≡ spec.connection_opened peer now self.old }
+    {
+        self.count = self.count.saturating_add(1);
+        happened(Note::Opened(peer), &mut self.opened, now)
+    }
+
+    /// It was cut.
+    pub(crate) fn cut(&mut self, cause: CutCause, now: u64) -> Option<Line>
+        ensures { (self.new, result) ≡ spec.connection_cut cause now self.old }
+    {
+        happened(Note::Cut(cause), &mut self.cut, now)
+    }
+
+    /// An APDU went out.
+    pub(crate) fn send(&mut self, octets: &[u8], now: u64) -> Option<Line>
+        ensures { (self.new, result) ≡ spec.connection_sent octets.now now self.old }
+    {
+        if octets == START_CONFIRMED.as_slice() {
+            happened(Note::Started, &mut self.started, now)
+        } else if octets == STOP_CONFIRMED.as_slice() {
+            happened(Note::Stopped, &mut self.stopped, now)
+        } else {
+            None
+        }
+    }
+
+    /// The gateway closed it.
+    pub(crate) fn close(&mut self, cause: Close, now: u64) -> Option<Line>
+        ensures { (self.new, result) ≡ spec.connection_closed cause now self.old }
+    {
+        happened(Note::Closed(cause), &mut self.closed, now)
+    }
+}

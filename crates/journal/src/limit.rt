@@ -1,0 +1,50 @@
+//! A line a second.
+ghost use Rattle.std.specs.Prelude.{◌≡◌, None};
+ghost use Rattle.journal.specs.Limits.{asked, is_free};
+
+/// How long after a line the next one of its kind may follow, in ms.
+const APART_MS: u64 = 1000;
+
+/// When a line of a kind was told last, in ms, and how many have been left out since.
+#[derive(Clone, Copy, Debug, PartialEq, Eq)]
+pub struct Limit {
+    told: Option<u64>,
+    left_out: u64,
+}
+
+impl Limit {
+    /// That of a kind of which no line was told yet.
+    pub fn new() -> Limit
+        ensures { result ≡ record { told = None; left_out = 0 } }
+    {
+        Limit {
+            told: None,
+            left_out: 0,
+        }
+    }
+
+    /// A line may be told at this moment.
+    pub fn is_free(&self, now: u64) -> bool
+        ensures { result ≡ is_free self.now now }
+    {
+        match self.told {
+            None => true,
+            Some(told) => APART_MS <= now.saturating_sub(told),
+        }
+    }
+
+    /// Asks for a line at this moment. The answer is how many were left out before it, or none
+    /// where it is left out too.
+    pub fn ask(&mut self, now: u64) -> Option<u64>
+        ensures { (self.new, result) ≡ asked self.old now }
+    {
+        if !self.is_free(now) {
+            self.left_out = self.left_out.saturating_add(1);
+            return None;
+        }
+        let left_out = self.left_out;
+        self.told = Some(now);
+        self.left_out = 0;
+        Some(left_out)
+    }
+}

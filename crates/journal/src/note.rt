@@ -1,0 +1,236 @@
+//! What the lines tell, and their words.
+ghost use Rattle.std.specs.Prelude.{◌≡◌, Some};
+ghost use Rattle.std.specs.Fmt.{WritesOnOk};
+ghost use Rattle.journal.specs.Notes.{close_words, counts_words, cut_words, left_out_words, line_text, peer_words, sent_away_words, trouble_words, words};
+
+use gateway::Counts;
+use live::CutCause;
+use session::Close;
+use std::fmt;
+use std::net::{IpAddr, SocketAddr};
+
+/// What was counted since the run began.
+#[derive(Clone, Copy, Debug, PartialEq, Eq)]
+pub struct Tally {
+    /// What the gateway counts.
+    pub counts: Counts,
+    /// How many places of the queue are taken.
+    pub taken: u64,
+    /// How many places it has.
+    pub places: u64,
+    /// How many connections were opened.
+    pub connections: u64,
+}
+
+/// Why a run can't begin.
+#[derive(Clone, Copy, Debug, PartialEq, Eq)]
+pub enum Trouble {
+    /// Nobody listens where the line should be.
+    LineRefused,
+    /// The host or the path of the line isn't known.
+    NameUnknown,
+    /// The line can't be reached for another cause.
+    LineUnreached,
+    /// Somebody listens there already.
+    PortInUse,
+    /// The system doesn't allow to listen there.
+    PortForbidden,
+    /// It can't be listened there for another cause.
+    PortUnusable,
+}
+
+/// What a line tells.
+#[derive(Clone, Copy, Debug, PartialEq, Eq)]
+pub enum Note {
+    LineReached,
+    /// After it was lost.
+    LineReachedAgain,
+    LineLost,
+    /// It hasn't been reached yet.
+    LineNotThere,
+    /// Control centres may connect there.
+    Listening(SocketAddr),
+    /// By whom, if that is known.
+    Opened(Option<IpAddr>),
+    /// STARTDT con went out (IEC 60870-5-104, 5.3).
+    Started,
+    /// STOPDT con went out (IEC 60870-5-104, 5.3).
+    Stopped,
+    Cut(CutCause),
+    /// The gateway closed the connection.
+    Closed(Close),
+    /// How many were not let in since the last such line, and the last of them.
+    SentAway(u64, Option<IpAddr>),
+    /// The station with this link address is asked for the status of its link (IEC 60870-5-2).
+    Asked(u16),
+    /// It gets requests that are counted, so its link was reset.
+    Up(u16),
+    /// The same request has gone out to it more often than the settings' `retries` at first let it.
+    Silent(u16),
+    /// After that another request goes out to it, so it has answered.
+    Again(u16),
+    /// It is asked for the status again.
+    Down(u16),
+    /// Reports of it may be lost.
+    Gap(u16),
+    /// Fewer places of the queue are free than a report may take, so nothing is polled.
+    QueueFull,
+    QueueFree,
+    Counts(Tally),
+    /// The run can't begin.
+    Trouble(Trouble),
+}
+
+/// A line of the log.
+#[derive(Clone, Copy, Debug, PartialEq, Eq)]
+pub struct Line {
+    /// The moment of the run, in ms.
+    pub moment: u64,
+    pub note: Note,
+    /// How many lines of this kind were left out before it.
+    pub left_out: u64,
+}
+
+fn peer_words<W: fmt::Write>(peer: Option<IpAddr>, f: &mut fmt::Formatter<W>) -> fmt::Result
+    ensures { WritesOnOk W.write_str_gives f.old result (peer_words peer) f.new }
+{
+    match peer {
+        Some(address) => write!(f, " by {address}"),
+        None => Ok(()),
+    }
+}
+
+fn close_words(cause: Close) -> &'static str
+    ensures { result.now ≡ close_words cause }
+{
+    match cause {
+        Close::Grammar => "octets that begin no APDU",
+        Close::SendNumber => "an N(S) that isn't the next one",
+        Close::ReceiveNumber => "an N(R) of frames that weren't sent",
+        Close::Stopped => "an I frame while data transfer is stopped",
+        Close::Timeout => "no acknowledgement for t1",
+        Close::OwnAnswers => "an own answer found no place",
+        Close::Replaced => "a new connection takes its place",
+    }
+}
+
+fn cut_words(cause: CutCause) -> &'static str
+    ensures { result.now ≡ cut_words cause }
+{
+    match cause {
+        CutCause::Gone => "its other end has gone",
+        CutCause::NotTaken => "it didn't take what was written",
+        CutCause::Late => "what came would be told too late",
+    }
+}
+
+fn trouble_words(trouble: Trouble) -> &'static str
+    ensures { result.now ≡ trouble_words trouble }
+{
+    match trouble {
+        Trouble::LineRefused => "line refused",
+        Trouble::NameUnknown => "name unknown",
+        Trouble::LineUnreached => "line not reached",
+        Trouble::PortInUse => "port in use",
+        Trouble::PortForbidden => "port not allowed",
+        Trouble::PortUnusable => "port can't be listened at",
+    }
+}
+
+fn write_sent_away<W: fmt::Write>(
+    count: u64,
+    last: Option<IpAddr>,
+    f: &mut fmt::Formatter<W>,
+) -> fmt::Result
+    ensures { WritesOnOk W.write_str_gives f.old result (sent_away_words count last) f.new }
+{
+    write!(f, "{count} sent away")?;
+    match last {
+        Some(address) => write!(f, ", the last at {address}"),
+        None => Ok(()),
+    }
+}
+
+fn write_counts<W: fmt::Write>(tally: &Tally, f: &mut fmt::Formatter<W>) -> fmt::Result
+    ensures { WritesOnOk W.write_str_gives f.old result (counts_words tally.now) f.new }
+{
+    let Counts {
+        skipped,
+        mirrors,
+        lost,
+        spoilt,
+    } = tally.counts;
+    let Tally {
+        taken,
+        places,
+        connections,
+        ..
+    } = *tally;
+    write!(
+        f,
+        "counts skipped {skipped} mirrors {mirrors} lost {lost} spoilt {spoilt}"
+    )?;
+    write!(f, " taken {taken} of {places} connections {connections}")
+}
+
+impl fmt::Display for Note {
+    ghost output = { λ note. Some (words note) };
+
+    fn fmt<W: fmt::Write>(&self, f: &mut fmt::Formatter<W>) -> fmt::Result {
+        match self {
+            Note::LineReached => f.write_str("line reached"),
+            Note::LineReachedAgain => f.write_str("line reached again"),
+            Note::LineLost => f.write_str("line lost"),
+            Note::LineNotThere => f.write_str("line not there"),
+            Note::Listening(address) => write!(f, "listening at {address}"),
+            Note::Opened(peer) => {
+                f.write_str("connection opened")?;
+                peer_words(*peer, f)
+            }
+            Note::Started => f.write_str("connection started"),
+            Note::Stopped => f.write_str("connection stopped"),
+            Note::Cut(cause) => {
+                let cause = cut_words(*cause);
+                write!(f, "connection cut: {cause}")
+            }
+            Note::Closed(cause) => {
+                let cause = close_words(*cause);
+                write!(f, "connection closed: {cause}")
+            }
+            Note::SentAway(count, last) => write_sent_away(*count, *last, f),
+            Note::Asked(address) => write!(f, "station {address} asked for its status"),
+            Note::Up(address) => write!(f, "station {address} up"),
+            Note::Silent(address) => write!(f, "station {address} doesn't answer"),
+            Note::Again(address) => write!(f, "station {address} answers again"),
+            Note::Down(address) => write!(f, "station {address} down"),
+            Note::Gap(address) => write!(f, "station {address} gap: reports of it may be lost"),
+            Note::QueueFull => f.write_str("queue full"),
+            Note::QueueFree => f.write_str("queue free again"),
+            Note::Counts(tally) => write_counts(tally, f),
+            Note::Trouble(trouble) => f.write_str(trouble_words(*trouble)),
+        }
+    }
+}
+
+fn write_left_out<W: fmt::Write>(left_out: u64, f: &mut fmt::Formatter<W>) -> fmt::Result
+    ensures { WritesOnOk W.write_str_gives f.old result (left_out_words left_out) f.new }
+{
+    if left_out == 0 {
+        return Ok(());
+    }
+    write!(f, " ({left_out} left out)")
+}
+
+impl fmt::Display for Line {
+    ghost output = { λ line. Some (line_text line) };
+
+    fn fmt<W: fmt::Write>(&self, f: &mut fmt::Formatter<W>) -> fmt::Result {
+        let Line {
+            moment,
+            note,
+            left_out,
+        } = self;
+        write!(f, "{moment} {note}")?;
+        write_left_out(*left_out, f)
+    }
+}

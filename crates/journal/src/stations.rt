@@ -1,0 +1,251 @@
+//! What is told of the stations, by the requests that go out to them.
+ghost use Rattle.std.specs.Prelude.{◌≡◌, ◌≤◌, map};
+ghost use Rattle.journal.specs.Stations as spec;
+
+use crate::ends::{changed, happened};
+use crate::limit::Limit;
+use crate::note::{Line, Note};
+use ft12::LinkSize;
+
+/// What is asked of a station, or told of it.
+#[derive(Clone, Copy, Debug, PartialEq, Eq)]
+pub(crate) enum Asking {
+    /// The status of its link.
+    Status,
+    /// Something that is counted by the frame count bit, 0 or 1: its link was reset before.
+    Counted(u8),
+    Other,
+    /// Nothing: it is told that reports of it may be lost.
+    Missed,
+}
+
+/// What was told of a station last.
+#[derive(Clone, Copy, Debug, PartialEq, Eq)]
+pub(crate) enum StationTold {
+    Nothing,
+    Asked,
+    Up,
+    /// It doesn't answer any more.
+    Silent,
+    Down,
+}
+
+/// What is told of a station.
+#[derive(Clone, Copy, Debug, PartialEq, Eq)]
+pub(crate) struct StationWatch {
+    /// Its link address.
+    address: u16,
+    /// How often a request goes out before one that isn't answered counts as unanswered.
+    tries: u64,
+    /// The frame count bit of the latest counted request, and how often that went out.
+    bit: u8,
+    sent: u64,
+    told: StationTold,
+    asked: Limit,
+    up: Limit,
+    silent: Limit,
+    again: Limit,
+    down: Limit,
+    gap: Limit,
+}
+
+/// The octet at this place, or 0 where there is none.
+fn octet(octets: &[u8], place: usize) -> u8
+    ensures { result ≡ spec.octet octets.now place }
+{
+    match octets.get(place) {
+        Some(octet) => *octet,
+        None => 0,
+    }
+}
+
+/// Where the control octet of a frame stands.
+fn control_place(octets: &[u8]) -> usize
+    ensures value { result ≡ spec.control_place octets.now }
+    ensures few { result ≤ 4 }
+{
+    if octet(octets, 0) == 0x10 { 1 } else { 4 }
+}
+
+/// The link address of a request.
+fn address_of(size: LinkSize, octets: &[u8]) -> u16
+    ensures { result ≡ spec.address_of size octets.now }
+{
+    let place = control_place(octets);
+    let low = octet(octets, place + 1) as u16;
+    match size {
+        LinkSize::One => low,
+        LinkSize::Two => low + 256 * (octet(octets, place + 2) as u16),
+    }
+}
+
+/// What a request asks of its station.
+fn asking_of(octets: &[u8]) -> Asking
+    ensures { result ≡ spec.asking_of octets.now }
+{
+    let control = octet(octets, control_place(octets));
+    if control / 16 % 2 == 1 {
+        Asking::Counted(control / 32 % 2)
+    } else if control % 16 == 9 {
+        Asking::Status
+    } else {
+        Asking::Other
+    }
+}
+
+impl StationWatch {
+    /// That of the station with this link address, to which a request goes out so often at first.
+    pub(crate) fn new(tries: u64, address: u16) -> StationWatch
+        ensures { result ≡ spec.new_station tries address }
+    {
+        StationWatch {
+            address,
+            tries,
+            bit: 0,
+            sent: 0,
+            told: StationTold::Nothing,
+            asked: Limit::new(),
+            up: Limit::new(),
+            silent: Limit::new(),
+            again: Limit::new(),
+            down: Limit::new(),
+            gap: Limit::new(),
+        }
+    }
+
+    /// A request goes out to the station with this link address.
+    fn hear(&mut self, address: u16, asking: Asking, now: u64)
+        ensures { self.new ≡ spec.after_request address asking now self.old }
+    {
+        if self.address == address {
+            let _line = self.ask(asking, now);
+        }
+    }
+
+    /// How often the latest counted request has gone out.
+    fn count(&mut self, asking: Asking)
+        ensures { self.new ≡ spec.counting asking self.old }
+    {
+        match asking {
+            Asking::Counted(bit) => {
+                self.sent = if self.bit == bit {
+                    self.sent.saturating_add(1)
+                } else {
+                    1
+                };
+                self.bit = bit;
+            }
+            Asking::Status | Asking::Other => self.sent = 0,
+            Asking::Missed => {}
+        }
+    }
+
+    /// It is up, and a counted request goes out to it.
+    fn ask_up(&mut self, now: u64) -> Option<Line>
+        ensures { (self.new, result) ≡ spec.up_by (spec.is_unanswered self.old) now self.old }
+    {
+        if self.sent <= self.tries {
+            return None;
+        }
+        let line = changed(Note::Silent(self.address), &mut self.silent, now)?;
+        self.told = StationTold::Silent;
+        Some(line)
+    }
+
+    /// It didn't answer any more, and a counted request goes out to it.
+    fn ask_silent(&mut self, now: u64) -> Option<Line>
+        ensures { (self.new, result) ≡ spec.silent_by (spec.is_unanswered self.old) now self.old }
+    {
+        if self.sent > self.tries {
+            return None;
+        }
+        let line = changed(Note::Again(self.address), &mut self.again, now)?;
+        self.told = StationTold::Up;
+        Some(line)
+    }
+
+    /// A request goes out to it.
+    fn ask(&mut self, asking: Asking, now: u64) -> Option<Line>
+        ensures { (self.new, result) ≡ spec.station_asked asking now self.old }
+    {
+        self.count(asking);
+        let address = self.address;
+        match (self.told, asking) {
+            (StationTold::Nothing, Asking::Status) => {
+                let line = changed(Note::Asked(address), &mut self.asked, now)?;
+                self.told = StationTold::Asked;
+                Some(line)
+            }
+            (StationTold::Up, Asking::Status) | (StationTold::Silent, Asking::Status) => {
+                let line = changed(Note::Down(address), &mut self.down, now)?;
+                self.told = StationTold::Down;
+                Some(line)
+            }
+            (StationTold::Up, Asking::Counted(_)) => self.ask_up(now),
+            (StationTold::Silent, Asking::Counted(_)) => self.ask_silent(now),
+            (StationTold::Nothing, Asking::Counted(_))
+            | (StationTold::Asked, Asking::Counted(_))
+            | (StationTold::Down, Asking::Counted(_)) => {
+                let line = changed(Note::Up(address), &mut self.up, now)?;
+                self.told = StationTold::Up;
+                Some(line)
+            }
+            (_, Asking::Missed) => happened(Note::Gap(address), &mut self.gap, now),
+            _ => None,
+        }
+    }
+}
+
+/// What a request to the station with this link address has to tell.
+fn line_of(stations: &[StationWatch], address: u16, asking: Asking, now: u64) -> Option<Line>
+    ensures { result ≡ spec.line_in address asking now stations.now }
+{
+    for i in 0..stations.len() {
+        let mut station = stations[i];
+        if station.address == address {
+            return station.ask(asking, now);
+        }
+    }
+    None
+}
+
+/// The request is noted at the station with this link address.
+fn note_asked(stations: &mut [StationWatch], address: u16, asking: Asking, now: u64)
+    ensures { stations.new ≡ map (spec.after_request address asking now) stations.old }
+{
+    for station in stations.iter_mut() {
+        station.hear(address, asking, now);
+    }
+}
+
+/// This is asked of the station with this link address, or told of it.
+fn tell(stations: &mut [StationWatch], address: u16, asking: Asking, now: u64) -> Option<Line>
+    ensures { (stations.new, result) ≡ spec.told address asking now stations.old }
+{
+    let line = line_of(stations, address, asking, now);
+    note_asked(stations, address, asking, now);
+    line
+}
+
+/// A request goes out.
+pub(crate) fn ask(
+    stations: &mut [StationWatch],
+    size: LinkSize,
+    octets: &[u8],
+    now: u64,
+) -> Option<Line>
+    ensures { (stations.new, result) ≡ spec.asked size octets.now now stations.old }
+{
+    tell(stations, address_of(size, octets), asking_of(octets), now)
+}
+
+/// Reports of the station at this place may be lost.
+pub(crate) fn gap(stations: &mut [StationWatch], place: usize, now: u64) -> Option<Line>
+    ensures { (stations.new, result) ≡ spec.gap place now stations.old }
+{
+    let Some(station) = stations.get(place) else {
+        return None;
+    };
+    let address = station.address;
+    tell(stations, address, Asking::Missed, now)
+}

@@ -1,0 +1,117 @@
+-- Nobody but a guest comes in.
+use Rattle.std.proofs.Common.{◌≡◌, ℕ, true, false, Bool, Option, Some, None, IfSome, option_map, refl, sym, ap, subst, ◌⊎◌, inl, inr}
+use Rattle.std.specs.declared.net.ip_addr.IpAddr.{IpAddr}
+use Rattle.gateway.specs.declared.ports.Next.{Next}
+use Rattle.live.specs.Timing.{is_behind, moment_at}
+use Rattle.live.specs.Ends.{Ends, Peer, IsGuest, Answers, Turns, looking, event_at, taken_by, told_at, turn, turn_by, sources_by, round, look, unless_found, next_round, looked_at, found_at, after, nothing_more, let_in, of_visitor, of_open, of_line, read_from}
+use Rattle.live.specs.Law.{IsOfGuest, IsSameOrNone, peer_of, KeepsOut}
+use Rattle.live.specs.declared.found.Found.{Found}
+use Rattle.live.specs.declared.found.Found.TheVariants as found
+use Rattle.live.specs.declared.guests.Guests.{Guests}
+use Rattle.live.specs.declared.source.Source.{Source}
+use Rattle.live.specs.declared.source.Source.TheVariants.{Door, Connection, Line}
+use Rattle.live.specs.declared.wires.Got.{Got}
+use Rattle.live.specs.declared.wires.Got.TheVariants.{Octets, Quiet, Gone}
+
+-- what was found, and the connection after it
+IsKeptOut : Guests → Option IpAddr → Option Found → Option Peer → Type 0
+IsKeptOut guests before None connection = IsSameOrNone before connection
+IsKeptOut guests before (Some found.Open) connection = IsOfGuest guests connection
+IsKeptOut guests before (Some (found.Bytes len)) connection = IsSameOrNone before connection
+IsKeptOut guests before (Some found.Cut) connection = IsSameOrNone before connection
+IsKeptOut guests before (Some (found.Line len)) connection = IsSameOrNone before connection
+IsKeptOut guests before (Some found.Fault) connection = IsSameOrNone before connection
+
+Out : Guests → Option IpAddr → Option Found × Ends → Type 0
+Out guests before p = IsKeptOut guests before p.0 p.1.connection
+
+-- what goes on from ends that kept them out does so
+KeepsOn : Guests → Option IpAddr → (Ends → Option Found × Ends) → Type 0
+KeepsOn guests before others = (e : Ends) → IsSameOrNone before e.connection → Out guests before (others e)
+
+nothing_out : (g : Guests) (b : Option IpAddr) → KeepsOn g b nothing_more
+unfolding KeepsOn Out IsKeptOut
+nothing_out g b e h = h
+
+at_door : (g : Guests) (b : Option IpAddr) (v : Option Peer) (e : Ends) (others : Ends → Option Found × Ends) → KeepsOn g b others → IfSome v (IsGuest g) → IsSameOrNone b e.connection →
+    Out g b (unless_found (of_visitor v) (next_round Door (of_visitor v) (let_in v e)) others)
+unfolding KeepsOn Out IsKeptOut
+at_door g b None e others on guest h = on (let_in None e) h
+at_door g b (Some peer) e others on guest h = guest.lets_in
+
+at_connection : (g : Guests) (b : Option IpAddr) (c : Option Peer) (got : Got) (e : Ends) (others : Ends → Option Found × Ends) → KeepsOn g b others → IsSameOrNone b c →
+    Out g b (unless_found (of_open c got) (next_round Connection (of_open c got) (record e { connection = read_from c got })) others)
+unfolding KeepsOn Out IsKeptOut
+at_connection g b None got e others on h = on (record e { connection = None }) tt
+at_connection g b (Some peer) (Octets len) e others on h = h
+at_connection g b (Some peer) Quiet e others on h = on (record e { connection = read_from (Some peer) Quiet }) h
+at_connection g b (Some peer) Gone e others on h = tt
+
+at_line : (g : Guests) (b : Option IpAddr) (got : Got) (e : Ends) (others : Ends → Option Found × Ends) → KeepsOn g b others → IsSameOrNone b e.connection →
+    Out g b (unless_found (of_line got) (next_round Line (of_line got) e) others)
+unfolding KeepsOn Out IsKeptOut
+at_line g b (Octets len) e others on h = h
+at_line g b Quiet e others on h = on e h
+at_line g b Gone e others on h = h
+
+look_out : (g : Guests) (b : Option IpAddr) (s : Source) (t : ℕ) (a : Answers) (others : Ends → Option Found × Ends) → IfSome a.visitor (IsGuest g) → KeepsOn g b others → KeepsOn g b (λ e. look s t a e others)
+unfolding KeepsOn
+look_out g b Door t a others guest on e h = at_door g b a.visitor e others on guest h
+look_out g b Connection t a others guest on e h = at_connection g b e.connection a.connection e others on h
+look_out g b Line t a others guest on e h = at_line g b a.line (looked_at Line t a e) others on h
+
+round_out : (g : Guests) (b : Option IpAddr) (t : ℕ) (a : Answers) (e : Ends) → IfSome a.visitor (IsGuest g) → IsSameOrNone b e.connection → Out g b (round t a e)
+unfolding KeepsOn
+round_out g b t a e guest h =
+    let third = look_out g b (after (after e.first)) t a nothing_more guest (nothing_out g b) in
+    let second = look_out g b (after e.first) t a (λ x. look (after (after e.first)) t a x nothing_more) guest third in
+    look_out g b e.first t a (λ x. look (after e.first) t a x (λ y. look (after (after e.first)) t a y nothing_more)) guest second e h
+
+sources_out : (g : Guests) (b : Option IpAddr) (is_late : Bool) (t : ℕ) (a : Answers) (e : Ends) → IfSome a.visitor (IsGuest g) → IsSameOrNone b e.connection → Out g b (sources_by is_late t a e)
+unfolding KeepsOn
+sources_out g b true t a e guest h = look_out g b Line t a nothing_more guest (nothing_out g b) e h
+sources_out g b false t a e guest h = round_out g b t a e guest h
+
+turn_out : (g : Guests) (b : Option IpAddr) (is_due : Bool) (t : ℕ) (a : Answers) (e : Ends) → IfSome a.visitor (IsGuest g) → IsSameOrNone b e.connection → Out g b (turn_by is_due t a e)
+unfolding Out IsKeptOut
+turn_out g b true t a e guest h = tt
+turn_out g b false t a e guest h = sources_out g b (is_behind e.timing t) t a e guest h
+
+taken_out : (g : Guests) (b : Option IpAddr) (is_late : Bool) (f : Option Found) (e : Ends) → IsKeptOut g b f e.connection → Out g b (taken_by is_late f e)
+unfolding Out IsKeptOut
+taken_out g b false f e h = h
+taken_out g b true None e h = h
+taken_out g b true (Some found.Open) e h = h
+taken_out g b true (Some (found.Bytes len)) e h = tt
+taken_out g b true (Some found.Cut) e h = h
+taken_out g b true (Some (found.Line len)) e h = h
+taken_out g b true (Some found.Fault) e h = h
+
+told_out : (old new : Ends) (now : ℕ) (f : Option Found) → IsKeptOut old.guests (peer_of old) f new.connection → KeepsOut old (event_at now f) new
+unfolding IsKeptOut
+told_out old new now None h = h
+told_out old new now (Some found.Open) h = h
+told_out old new now (Some (found.Bytes len)) h = h
+told_out old new now (Some found.Cut) h = h
+told_out old new now (Some (found.Line len)) h = h
+told_out old new now (Some found.Fault) h = h
+
+as_it_was : (c : Option Peer) → IsSameOrNone (option_map (λ (p : Peer). p.address) c) c
+as_it_was None = tt
+as_it_was (Some peer) = refl
+
+pub kept_out : (old new : Ends) (event : Next) → Turns old event new → KeepsOut old event new
+unfolding Out
+kept_out old new event (inl t) =
+    let P : Next → Type 0 = λ e. KeepsOut old e new in
+    let Q : Option Peer → Type 0 = λ c. IsSameOrNone (peer_of old) c in
+    let same : new.connection ≡ old.connection = ap (λ (e : Ends). e.connection) t.told.ends in
+    subst P (sym t.told.told) (subst Q (sym same) (as_it_was old.connection))
+kept_out old new event (inr t) =
+    let Q : Option Found × Ends → Type 0 = λ p. Out old.guests (peer_of old) p in
+    let P : Next → Type 0 = λ e. KeepsOut old e new in
+    let turned = turn_out old.guests (peer_of old) old.is_cut_due t.begun t.turn.answers (looking (told_at t.begun old)) t.turn.visitor (as_it_was old.connection) in
+    let found : IsKeptOut old.guests (peer_of old) t.f t.found.connection = subst Q (sym t.turn.turned) turned in
+    let taken = taken_out old.guests (peer_of old) (is_behind t.found.timing t.now) t.f (told_at t.now t.found) found in
+    let told : IsKeptOut old.guests (peer_of old) t.told.taken new.connection = subst Q (sym t.told.ends) taken in
+    subst P (sym t.told.told) (told_out old new (moment_at new.timing t.now) t.told.taken told)

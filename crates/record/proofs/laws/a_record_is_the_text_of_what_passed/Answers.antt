@@ -1,0 +1,14 @@
+use Rattle.record.proofs.Text.{notes_line, gives_text, gives_taken, ends}
+use Rattle.record.proofs.laws.a_record_is_the_text_of_what_passed.Goals as goal
+
+pub returns-clause-notes : goal.returns-clause-notes
+returns-clause-notes c = λ old new line n. notes_line old new line n
+
+pub returns-clause-gives : goal.returns-clause-gives
+returns-clause-gives c = λ old new g. gives_text old new g
+
+pub returns-clause-taken : goal.returns-clause-taken
+returns-clause-taken c = λ old new g goes. gives_taken old new g goes
+
+pub returns-clause-ends : goal.returns-clause-ends
+returns-clause-ends c = λ old new line n over. ends old new line n over

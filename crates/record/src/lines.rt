@@ -1,0 +1,38 @@
+//! The lines of what passes a port.
+ghost use Rattle.std.specs.Prelude.{◌≡◌, IfOk, string_bytes};
+ghost use Rattle.gateway.specs.Ports.{FitsBuffer, output_of, told_by};
+ghost use Rattle.traces.specs.Actions.{line_of};
+ghost use Rattle.traces.specs.Printed.{lines_of_log};
+
+use gateway::{Action, Next, Told};
+use std::alloc::{AllocError, Global};
+use traces::{append_event, append_line, cause_number};
+
+/// The line of an event, or nothing where a port has none. An `Err` is want of memory.
+pub(crate) fn event_line(alloc: Global, next: Next, buf: &[u8; 1024]) -> Result<String, AllocError>
+    requires { FitsBuffer next }
+    ensures { IfOk result (λ line. string_bytes line ≡ lines_of_log (told_by next buf.now)) }
+{
+    let mut line = String::new(alloc);
+    append_event(alloc, &mut line, next, buf)?;
+    Ok(line)
+}
+
+/// The line of an action. An `Err` is want of memory.
+pub(crate) fn action_line(
+    alloc: Global,
+    now: u64,
+    action: &Action<'_>,
+) -> Result<String, AllocError>
+    ensures { IfOk result (λ line. string_bytes line ≡ line_of now (output_of action.now)) }
+{
+    let told = match action {
+        Action::Line(octets) => Told::Line(now, Vec::from_slice(alloc, octets)?),
+        Action::Tcp(octets) => Told::Tcp(now, Vec::from_slice(alloc, octets)?),
+        Action::Close(cause) => Told::Close(now, cause_number(*cause)),
+        Action::Gap { station, session } => Told::Gap(now, *station, *session),
+    };
+    let mut line = String::new(alloc);
+    append_line(alloc, &mut line, &told)?;
+    Ok(line)
+}

@@ -1,0 +1,6 @@
+use Rattle.std.proofs.Common.{map, take}
+use Rattle.telegate.specs.Guests.{AreAddresses}
+use Rattle.telegate.proofs.guests.guests_of.Given as goal
+
+abbrev pub invariant-loop-word : goal.invariant-loop-word
+invariant-loop-word l = AreAddresses (map (λ word. word.now) (take l.word-index l.words)) l.addresses.items

@@ -1,0 +1,448 @@
+-- A printed line is read as the entry that it was printed of.
+use Rattle.std.proofs.Common.{◌≡◌, ℕ, zero, suc, ◌+◌, ◌-◌, ◌*◌, ◌^◌, ◌<◌, ◌≤◌, ◌==◌, nat_le, ◌&&◌, Bool, true, false, List, [], ◌∷◌, ◌++◌, length, reverse, Option, Some, None, Result, Ok, Err, option_map, if◌then◌else◌, is_some, refl, sym, ap, subst, ◌∙◌, arith, append_assoc, codes}
+use Rattle.std.proofs.lemmas.List.{append-nil, reverse-append}
+use Rattle.std.proofs.lemmas.List.Elements.{All-append, All-cons, All-head, All-nil, All-tail}
+use Rattle.std.proofs.lemmas.List.Splits.{slice_split_at, slice_split_none, length-slice_split}
+use Rattle.std.proofs.lemmas.Fmt.{decimal_is_IsNumeral_wide, length-decimal-le_wide}
+use Rattle.std.proofs.lemmas.Str.Parse.{digit_from_value}
+use Rattle.std.proofs.lemmas.Str.{digit_value_digit}
+use Rattle.std.specs.Str.Parse.{IsNumeral, AllDigits, digits_value_after, digits_value}
+use Rattle.std.specs.Char.{digit_value}
+use Rattle.std.specs.List.{All, AllPass, AllByRecursion, slice_split, count_by}
+use Rattle.std.specs.Option.{option_and_then}
+use Rattle.std.specs.Result.{result_ok}
+use Rattle.std.specs.Fmt.{decimal}
+use Rattle.hex.specs.Hex.{IsBytes, encode_upper, decode_of, is_hex_digit, hex_digit_value}
+use Rattle.hex.proofs.HexLemmas.{decode_of-encode_upper, decode_of-ok}
+use Rattle.session.specs.declared.kinds.Close.{Close}
+use Rattle.session.specs.declared.kinds.Close.TheVariants.{Grammar, SendNumber, ReceiveNumber, Stopped, Timeout, OwnAnswers, Replaced}
+use Rattle.gateway.specs.Log.{Log, LogEntry, Came, Went, Input, LineIn, Opened, TcpIn, CutOff, Ticked, WallIs, Output, LineOut, TcpOut, Closed, GapOut, last_moment}
+use Rattle.gateway.specs.Entries.{number_of, event_of as logged}
+use Rattle.gateway.specs.declared.entries.Entry.{Entry}
+use Rattle.gateway.specs.declared.entries.Entry.TheVariants as entries
+use Rattle.traces.specs.Fields.{digits_after, decimal_of, octets_of, some_octets}
+use Rattle.traces.specs.Event.{event_of, event_from, event_in, bare_at, octets_at, wall_at}
+use Rattle.traces.specs.Trace.{lines_of, is_skipped}
+use Rattle.traces.specs.Actions.{line_of, lines_of_actions}
+use Rattle.traces.specs.Printed.{FitsTrace, IsFirstOf, IsPrintable, IsPrintableEvent, IsPrintableAction, line_of_event, line_of_entry, lines_of_log, number_in, octets_in_hex, cause_numbered, gap_at, came_at, went_at, entry_from, entry_in, before_those, entries_of_lines, entries_of_pieces, entries_in, actions_of}
+
+-- Fields without separators
+
+-- a field has neither spaces nor line feeds
+abbrev IsPlain : List ℕ → Type 0
+IsPlain field = All (λ b. 32 < b) field
+
+plain_split : (separator : ℕ) (field : List ℕ) → separator ≤ 32 → IsPlain field
+    → All (λ b. (b == separator) ≡ false) field
+plain_split separator field le plain i x is = other _ (plain i x is)
+  where
+    other : (b : ℕ) → 32 < b → (b == separator) ≡ false
+    other b lt = grind arith
+
+-- fields with a space between each two
+abbrev spaced : List ℕ → List (List ℕ) → List ℕ
+spaced field [] = field
+spaced field (next ∷ fields) = field ++ 32 ∷ spaced next fields
+
+-- a line of such fields is cut into them
+spaced_fields : (field : List ℕ) (fields : List (List ℕ)) → IsPlain field → AllByRecursion IsPlain fields
+    → slice_split (λ b. b == 32) (spaced field fields) ≡ field ∷ fields
+spaced_fields field [] plain all = slice_split_none (λ b. b == 32) field (plain_split 32 field (omega arith) plain)
+spaced_fields field (next ∷ fields) plain all =
+    slice_split_at (λ b. b == 32) field 32 (spaced next fields) (plain_split 32 field (omega arith) plain) refl
+    ∙ ap (λ (l : List (List ℕ)). field ∷ l) (spaced_fields next fields all.0 all.1)
+
+-- and has no line feed
+spaced_line : (field : List ℕ) (fields : List (List ℕ)) → IsPlain field → AllByRecursion IsPlain fields
+    → All (λ b. (b == 10) ≡ false) (spaced field fields)
+spaced_line field [] plain all = plain_split 10 field (omega arith) plain
+spaced_line field (next ∷ fields) plain all =
+    All-append (λ b. (b == 10) ≡ false) field (32 ∷ spaced next fields) (plain_split 10 field (omega arith) plain)
+    (All-cons (λ b. (b == 10) ≡ false) 32 (spaced next fields) refl (spaced_line next fields all.0 all.1))
+
+-- Texts of lines
+
+pieces_read : (line : List ℕ) (pieces : List (List ℕ)) → 0 < length pieces
+    → entries_of_pieces (line ∷ pieces) ≡ before_those (entry_in line) (entries_of_pieces pieces)
+pieces_read line [] some = absurd (omega arith)
+pieces_read line (next ∷ pieces) some = refl
+
+-- the first line, and what follows it
+line_first : (line text : List ℕ) → All (λ b. (b == 10) ≡ false) line
+    → entries_in (line ++ 10 ∷ text) ≡ before_those (entry_in line) (entries_in text)
+line_first line text whole =
+    ap entries_of_pieces (slice_split_at (λ b. b == 10) line 10 text whole refl)
+    ∙ pieces_read line (slice_split (λ b. b == 10) text) (omega (arith, length-slice_split (λ (b : ℕ). b == 10) text))
+
+-- a line of fields
+fields_first : (field : List ℕ) (fields : List (List ℕ)) (text : List ℕ) → IsPlain field
+    → AllByRecursion IsPlain fields →
+    entries_in (spaced field fields ++ 10 ∷ text) ≡ before_those (entry_from (field ∷ fields)) (entries_in text)
+fields_first field fields text plain all =
+    line_first (spaced field fields) text (spaced_line field fields plain all)
+    ∙ ap (λ (l : List (List ℕ)). before_those (entry_from l) (entries_in text)) (spaced_fields field fields plain all)
+
+-- Numbers
+
+digits_plain : (ds : List ℕ) → AllDigits 10 ds → IsPlain ds
+digits_plain [] all = All-nil (λ b. 32 < b)
+digits_plain (d ∷ ds) all = All-cons (λ b. 32 < b) d ds (omega (arith, digit_from_value d all.0))
+    (digits_plain ds all.1)
+
+digits_read : (n : ℕ) (ds : List ℕ) → AllDigits 10 ds → digits_after n ds ≡ Some (digits_value_after 10 n ds)
+digits_read n [] all = refl
+digits_read n (d ∷ ds) all = go (digits_read (n * 10 + digit_value d) ds all.1) (nat_le 48 d && nat_le d 57) refl
+  where
+    k : digit_value d + 48 ≡ d
+    k = digit_value_digit d (digit_from_value d all.0)
+
+    within : (nat_le 48 d && nat_le d 57) ≡ true
+    within =
+        let low : 48 ≤ d = omega (arith, digit_from_value d all.0) in
+        let high : d ≤ 57 = omega (arith, digit_from_value d all.0) in
+        grind arith
+
+    go : digits_after (n * 10 + digit_value d) ds ≡ Some (digits_value_after 10 (n * 10 + digit_value d) ds) →
+        (b : Bool) → (nat_le 48 d && nat_le d 57) ≡ b → digits_after n (d ∷ ds) ≡ Some (digits_value_after 10 n (d ∷ ds))
+    go rest true is =
+        let same : n * 10 + (d - 48) ≡ n * 10 + digit_value d = omega (arith, k) in
+        rw is (ap (λ (m : ℕ). digits_after m ds) same ∙ rest)
+    go rest false is = let never : true ≡ false = sym within ∙ is in cc
+
+wide : (n : ℕ) → n < 2 ^ 64 + 1 → n < 10 ^ 64
+wide n lt = omega arith
+
+number_plain : (n : ℕ) → n < 2 ^ 64 + 1 → IsPlain (decimal n)
+number_plain n lt = digits_plain (decimal n) (decimal_is_IsNumeral_wide n (wide n lt)).0.1
+
+some_number : (ds : List ℕ) → 0 < length ds → AllDigits 10 ds → number_in ds ≡ Some (digits_value 10 ds)
+some_number [] some all = absurd (omega arith)
+some_number (d ∷ ds) some all = digits_read 0 (d ∷ ds) all
+
+number_read : (n : ℕ) → n < 2 ^ 64 + 1 → number_in (decimal n) ≡ Some n
+number_read n lt =
+    let is = decimal_is_IsNumeral_wide n (wide n lt) in
+    some_number (decimal n) is.0.0 is.0.1 ∙ ap (λ (m : ℕ). Some m) is.1
+
+-- Octets
+
+hex_plain : (c : ℕ) → is_hex_digit c ≡ true → 32 < c
+hex_plain c is = go (nat_le 65 c && nat_le c 70) (nat_le 97 c && nat_le c 102) (nat_le 48 c
+    && nat_le c 57) refl refl refl
+  where
+    go : (x y z : Bool) → (nat_le 65 c && nat_le c 70) ≡ x → (nat_le 97 c && nat_le c 102) ≡ y
+        → (nat_le 48 c && nat_le c 57) ≡ z → 32 < c
+    go true y z e f g = grind arith
+    go false true z e f g = grind arith
+    go false false true e f g = grind arith
+    go false false false e f g = let never : is_hex_digit c ≡ false = rw (e, f, g) refl
+        in let no : true ≡ false = sym is ∙ never in cc
+
+octets_plain : (octets : List ℕ) → IsBytes octets → IsPlain (encode_upper octets)
+octets_plain octets bytes i x is =
+    hex_plain _ ((decode_of-ok (encode_upper octets) octets (decode_of-encode_upper octets bytes)).1 i x is)
+
+octets_read : (octets : List ℕ) → IsBytes octets → octets_in_hex (encode_upper octets) ≡ Some octets
+octets_read octets bytes = ap result_ok (decode_of-encode_upper octets bytes)
+
+-- Causes
+
+cause_read : (cause : Close) → option_and_then cause_numbered (Some (number_of cause)) ≡ Some cause
+cause_read Grammar = refl
+cause_read SendNumber = refl
+cause_read ReceiveNumber = refl
+cause_read Stopped = refl
+cause_read Timeout = refl
+cause_read OwnAnswers = refl
+cause_read Replaced = refl
+
+cause_small : (cause : Close) → number_of cause < 2 ^ 64 + 1
+cause_small Grammar = omega arith
+cause_small SendNumber = omega arith
+cause_small ReceiveNumber = omega arith
+cause_small Stopped = omega arith
+cause_small Timeout = omega arith
+cause_small OwnAnswers = omega arith
+cause_small Replaced = omega arith
+
+-- Words
+
+word : (c : ℕ) → 32 < c → IsPlain (c ∷ [])
+word c lt = All-cons (λ b. 32 < b) c [] lt (All-nil (λ b. 32 < b))
+
+-- Entries
+
+-- the parts of a line before its line feed, and a text behind it
+
+lined_two : (a b text : List ℕ) → ((a ++ b) ++ 10 ∷ []) ++ text ≡ (a ++ b) ++ 10 ∷ text
+lined_two a b text = append_assoc (a ++ b) (10 ∷ []) text
+
+lined : (a b c text : List ℕ) → (((a ++ b) ++ c) ++ 10 ∷ []) ++ text ≡ (a ++ (b ++ c)) ++ 10 ∷ text
+lined a b c text = append_assoc ((a ++ b) ++ c) (10 ∷ []) text ∙ ap (λ (l : List ℕ). l ++ 10 ∷ text) (append_assoc a b c)
+
+lined_gap : (a b c d text : List ℕ) → (((((a ++ b) ++ c) ++ 32 ∷ []) ++ d) ++ 10 ∷ []) ++ text ≡ (a ++ (b ++ (c ++ 32 ∷ d))) ++ 10 ∷ text
+lined_gap a b c d text =
+    append_assoc ((((a ++ b) ++ c) ++ 32 ∷ []) ++ d) (10 ∷ []) text
+    ∙ ap (λ (l : List ℕ). l ++ 10 ∷ text) (append_assoc ((a ++ b) ++ c) (32 ∷ []) d ∙ append_assoc (a ++ b) c (32 ∷ d) ∙ append_assoc a b (c ++ 32 ∷ d))
+
+read_as : (line field : List ℕ) (fields : List (List ℕ)) (text : List ℕ) (entry : LogEntry)
+    → line ++ text ≡ spaced field fields ++ 10 ∷ text → IsPlain field → AllByRecursion IsPlain fields →
+    entry_from (field ∷ fields) ≡ Some entry → entries_in (line ++ text) ≡ before_those (Some entry) (entries_in text)
+read_as line field fields text entry same plain all is =
+    ap entries_in same ∙ fields_first field fields text plain all
+    ∙ ap (λ (o : Option LogEntry). before_those o (entries_in text)) is
+
+came : (now : ℕ) (told : Option Input) (event : Input) → now < 2 ^ 64 → told ≡ Some event
+    → came_at (number_in (decimal now)) told ≡ Some (Came now event)
+came now told event lt is = ap (λ (o : Option ℕ). came_at o told) (number_read now (omega arith))
+    ∙ ap (came_at (Some now)) is
+
+went : (now : ℕ) (told : Option Output) (action : Output) → now < 2 ^ 64 → told ≡ Some action
+    → went_at (number_in (decimal now)) told ≡ Some (Went now action)
+went now told action lt is = ap (λ (o : Option ℕ). went_at o told) (number_read now (omega arith))
+    ∙ ap (went_at (Some now)) is
+
+moment_plain : (now : ℕ) → now < 2 ^ 64 → IsPlain (decimal now)
+moment_plain now lt = number_plain now (omega arith)
+
+gap_read : (station session : ℕ) → station < 2 ^ 64 → session < 2 ^ 64
+    → gap_at (number_in (decimal (station + 1))) (number_in (decimal session)) ≡ Some (GapOut station session)
+gap_read station session lt less =
+    ap (λ (o : Option ℕ). gap_at o (number_in (decimal session))) (number_read (station + 1) (omega arith))
+    ∙ ap (gap_at (Some (station + 1))) (number_read session (omega arith))
+    ∙ ap (λ (b : Bool). if b then Some (GapOut ((station + 1) - 1) session) else None) above
+    ∙ ap (λ (n : ℕ). Some (GapOut n session)) same
+  where
+    above : nat_le 1 (station + 1) ≡ true
+    above = grind arith
+
+    same : (station + 1) - 1 ≡ station
+    same = omega arith
+
+-- events
+event_first : (now : ℕ) (event : Input) (text : List ℕ) → now < 2 ^ 64 → IsPrintableEvent event
+    → entries_in (line_of_event now event ++ text) ≡ before_those (Some (Came now event)) (entries_in text)
+event_first now (LineIn octets) text lt ok =
+    read_as (line_of_event now (LineIn octets)) (decimal now) ((83 ∷ []) ∷ encode_upper octets ∷ []) text
+    (Came now (LineIn octets))
+    (lined (decimal now) (32 ∷ 83 ∷ 32 ∷ []) (encode_upper octets) text) (moment_plain now lt) (
+      word 83 (omega arith),
+      (octets_plain octets ok, tt),
+    )
+    (came now (option_map LineIn (octets_in_hex (encode_upper octets))) (LineIn octets) lt
+    (ap (option_map LineIn) (octets_read octets ok)))
+event_first now Opened text lt ok =
+    read_as (line_of_event now Opened) (decimal now) ((79 ∷ []) ∷ []) text (Came now Opened)
+    (lined_two (decimal now) (32 ∷ 79 ∷ []) text) (moment_plain now lt) (word 79 (omega arith), tt)
+    (came now (Some Opened) Opened lt refl)
+event_first now (TcpIn octets) text lt ok =
+    read_as (line_of_event now (TcpIn octets)) (decimal now) ((82 ∷ []) ∷ encode_upper octets ∷ []) text
+    (Came now (TcpIn octets))
+    (lined (decimal now) (32 ∷ 82 ∷ 32 ∷ []) (encode_upper octets) text) (moment_plain now lt) (
+      word 82 (omega arith),
+      (octets_plain octets ok, tt),
+    )
+    (came now (option_map TcpIn (octets_in_hex (encode_upper octets))) (TcpIn octets) lt
+    (ap (option_map TcpIn) (octets_read octets ok)))
+event_first now CutOff text lt ok =
+    read_as (line_of_event now CutOff) (decimal now) ((67 ∷ []) ∷ []) text (Came now CutOff)
+    (lined_two (decimal now) (32 ∷ 67 ∷ []) text) (moment_plain now lt) (word 67 (omega arith), tt)
+    (came now (Some CutOff) CutOff lt refl)
+event_first now Ticked text lt ok =
+    read_as (line_of_event now Ticked) (decimal now) ((84 ∷ []) ∷ []) text (Came now Ticked)
+    (lined_two (decimal now) (32 ∷ 84 ∷ []) text) (moment_plain now lt) (word 84 (omega arith), tt)
+    (came now (Some Ticked) Ticked lt refl)
+event_first now (WallIs number) text lt ok =
+    read_as (line_of_event now (WallIs number)) (decimal now) ((87 ∷ []) ∷ decimal number ∷ []) text
+    (Came now (WallIs number))
+    (lined (decimal now) (32 ∷ 87 ∷ 32 ∷ []) (decimal number) text) (moment_plain now lt) (
+      word 87 (omega arith),
+      (moment_plain number ok, tt),
+    )
+    (came now (option_map WallIs (number_in (decimal number))) (WallIs number) lt
+    (ap (option_map WallIs) (number_read number (omega (arith, ok)))))
+
+-- actions
+action_first : (now : ℕ) (action : Output) (text : List ℕ) → now < 2 ^ 64 → IsPrintableAction action
+    → entries_in (line_of now action ++ text) ≡ before_those (Some (Went now action)) (entries_in text)
+action_first now (LineOut octets) text lt ok =
+    read_as (line_of now (LineOut octets)) (decimal now) ((62 ∷ []) ∷ (83 ∷ []) ∷ encode_upper octets ∷ []) text
+    (Went now (LineOut octets))
+    (lined (decimal now) (32 ∷ 62 ∷ 32 ∷ 83 ∷ 32 ∷ []) (encode_upper octets) text) (moment_plain now lt)
+    (word 62 (omega arith), (word 83 (omega arith), (octets_plain octets ok, tt)))
+    (went now (option_map LineOut (octets_in_hex (encode_upper octets))) (LineOut octets) lt
+    (ap (option_map LineOut) (octets_read octets ok)))
+action_first now (TcpOut octets) text lt ok =
+    read_as (line_of now (TcpOut octets)) (decimal now) ((62 ∷ []) ∷ (84 ∷ []) ∷ encode_upper octets ∷ []) text
+    (Went now (TcpOut octets))
+    (lined (decimal now) (32 ∷ 62 ∷ 32 ∷ 84 ∷ 32 ∷ []) (encode_upper octets) text) (moment_plain now lt)
+    (word 62 (omega arith), (word 84 (omega arith), (octets_plain octets ok, tt)))
+    (went now (option_map TcpOut (octets_in_hex (encode_upper octets))) (TcpOut octets) lt
+    (ap (option_map TcpOut) (octets_read octets ok)))
+action_first now (Closed cause) text lt ok =
+    read_as (line_of now (Closed cause)) (decimal now) ((62 ∷ []) ∷ (88 ∷ []) ∷ decimal (number_of cause) ∷ []) text
+    (Went now (Closed cause))
+    (lined (decimal now) (32 ∷ 62 ∷ 32 ∷ 88 ∷ 32 ∷ []) (decimal (number_of cause)) text) (moment_plain now lt)
+    (word 62 (omega arith), (word 88 (omega arith), (number_plain (number_of cause) (cause_small cause), tt)))
+    (went now (option_map Closed (option_and_then cause_numbered (number_in (decimal (number_of cause)))))
+    (Closed cause) lt
+    (ap (λ (o : Option ℕ). option_map Closed (option_and_then cause_numbered o))
+    (number_read (number_of cause) (cause_small cause)) ∙ ap (option_map Closed) (cause_read cause)))
+action_first now (GapOut station session) text lt ok =
+    read_as (line_of now (GapOut station session)) (decimal now) ((62 ∷ []) ∷ (71 ∷ []) ∷ decimal (station + 1)
+    ∷ decimal session ∷ []) text (Went now (GapOut station session))
+    (lined_gap (decimal now) (32 ∷ 62 ∷ 32 ∷ 71 ∷ 32 ∷ []) (decimal (station + 1)) (decimal session) text)
+    (moment_plain now lt) (
+      word 62 (omega arith),
+      (
+        word 71 (omega arith),
+        (number_plain (station + 1) (omega (arith, ok.0)), (moment_plain session ok.1, tt)),
+      ),
+    )
+    (went now (gap_at (number_in (decimal (station + 1))) (number_in (decimal session))) (GapOut station session) lt
+    (gap_read station session ok.0 ok.1))
+
+pub first_read : (entry : LogEntry) (text : List ℕ) → IsPrintable entry
+    → entries_in (line_of_entry entry ++ text) ≡ before_those (Some entry) (entries_in text)
+first_read (Came now event) text ok = event_first now event text ok.0 ok.1
+first_read (Went now action) text ok = action_first now action text ok.0 ok.1
+
+-- Logs
+
+-- what a log tells, before what follows it
+abbrev told_before : Log → Option (List LogEntry) → Option (List LogEntry)
+told_before [] after = after
+told_before (entry ∷ log) after = told_before log (before_those (Some entry) after)
+
+log_before : (log : Log) (text : List ℕ) → AllByRecursion IsPrintable log
+    → entries_in (lines_of_log log ++ text) ≡ told_before log (entries_in text)
+log_before [] text all = refl
+log_before (entry ∷ log) text all =
+    ap entries_in (append_assoc (lines_of_log log) (line_of_entry entry) text)
+    ∙ log_before log (line_of_entry entry ++ text) all.1
+    ∙ ap (told_before log) (first_read entry text all.0)
+
+told_reversed : (log : Log) (entries : List LogEntry) → told_before log (Some entries) ≡ Some (reverse log ++ entries)
+told_reversed [] entries = refl
+told_reversed (entry ∷ log) entries =
+    told_reversed log (entry ∷ entries)
+    ∙ ap (λ (l : List LogEntry). Some l)
+    (sym (ap (λ (l : List LogEntry). l ++ entries) (reverse-append (entry ∷ []) log)
+    ∙ append_assoc (reverse log) (entry ∷ []) entries))
+
+pub log_read : (log : Log) → AllByRecursion IsPrintable log → entries_in (lines_of_log log) ≡ Some (reverse log)
+log_read log all =
+    ap entries_in (sym (append-nil (lines_of_log log))) ∙ log_before log [] all
+    ∙ told_reversed log [] ∙ ap (λ (l : List LogEntry). Some l) (append-nil (reverse log))
+
+-- its actions alone
+abbrev actions_before : Log → Option (List LogEntry) → Option (List LogEntry)
+actions_before [] after = after
+actions_before (Came now event ∷ log) after = actions_before log after
+actions_before (Went now action ∷ log) after = actions_before log (before_those (Some (Went now action)) after)
+
+lines_before : (log : Log) (text : List ℕ) → AllByRecursion IsPrintable log
+    → entries_in (lines_of_actions log ++ text) ≡ actions_before log (entries_in text)
+lines_before [] text all = refl
+lines_before (Came now event ∷ log) text all = lines_before log text all.1
+lines_before (Went now action ∷ log) text all =
+    ap entries_in (append_assoc (lines_of_actions log) (line_of now action) text)
+    ∙ lines_before log (line_of now action ++ text) all.1
+    ∙ ap (actions_before log) (first_read (Went now action) text all.0)
+
+actions_told : (log : Log) (entries : List LogEntry) → actions_before log (Some entries)
+    ≡ Some (actions_of log ++ entries)
+actions_told [] entries = refl
+actions_told (Came now event ∷ log) entries = actions_told log entries
+actions_told (Went now action ∷ log) entries =
+    actions_told log (Went now action ∷ entries)
+    ∙ ap (λ (l : List LogEntry). Some l) (sym (append_assoc (actions_of log) (Went now action ∷ []) entries))
+
+pub actions_read : (log : Log) → AllByRecursion IsPrintable log
+    → entries_in (lines_of_actions log) ≡ Some (actions_of log)
+actions_read log all =
+    ap entries_in (sym (append-nil (lines_of_actions log))) ∙ lines_before log [] all
+    ∙ actions_told log [] ∙ ap (λ (l : List LogEntry). Some l) (append-nil (actions_of log))
+
+-- Traces
+
+moment_small : (n : ℕ) → n ≤ last_moment → n < 2 ^ 64
+moment_small n le = omega arith
+
+-- a number of 15 digits at most
+decimal_read : (n : ℕ) → n ≤ last_moment → decimal_of (decimal n) ≡ Some n
+decimal_read n le = go (nat_le 1 (length (decimal n)) && nat_le (length (decimal n)) 15) within
+  where
+    is : (IsNumeral 10 (decimal n)) × (digits_value 10 (decimal n) ≡ n)
+    is = decimal_is_IsNumeral_wide n (omega arith)
+
+    within : (nat_le 1 (length (decimal n)) && nat_le (length (decimal n)) 15) ≡ true
+    within =
+        let some : 0 < length (decimal n) = is.0.0 in
+        let most : length (decimal n) ≤ 15 = length-decimal-le_wide 15 n (omega arith) (omega arith) (omega arith) in
+        grind arith
+
+    go : (b : Bool) → b ≡ true → (if b then digits_after 0 (decimal n) else None) ≡ Some n
+    go true e = digits_read 0 (decimal n) is.0.1 ∙ ap (λ (m : ℕ). Some m) is.1
+    go false e = cc
+
+-- octets of an event
+octets_fit : (octets : List ℕ) → IsBytes octets → 1 ≤ length octets → length octets ≤ 1024 → octets_of (encode_upper octets) ≡ Some octets
+octets_fit octets bytes least most =
+    ap some_octets (decode_of-encode_upper octets bytes)
+    ∙ ap (λ (b : Bool). if b then Some octets else None) within
+  where
+    within : (nat_le 1 (length octets) && nat_le (length octets) 1024) ≡ true
+    within = grind arith
+
+-- a line that begins with a number is neither empty nor a comment
+not_skipped : (digits rest : List ℕ) → 0 < length digits → AllDigits 10 digits → is_skipped (digits ++ rest) ≡ false
+not_skipped [] rest some all = absurd (omega arith)
+not_skipped (d ∷ ds) rest some all = let low : 48 ≤ d = omega (arith, digit_from_value d all.0) in other d low
+  where
+    other : (b : ℕ) → 48 ≤ b → (b == 35) ≡ false
+    other b le = grind arith
+
+numbered : (now : ℕ) (rest : List ℕ) → now ≤ last_moment → is_skipped (decimal now ++ rest) ≡ false
+numbered now rest le =
+    let is = decimal_is_IsNumeral_wide now (omega arith) in
+    not_skipped (decimal now) rest is.0.0 is.0.1
+
+first_of : (entry : Entry) (whole text : List ℕ) (now : ℕ) (next : List ℕ) (fields : List (List ℕ)) → now ≤ last_moment → whole ≡ spaced (decimal now) (next ∷ fields) ++ 10 ∷ text →
+    IsPlain next → AllByRecursion IsPlain fields → event_from (decimal now ∷ next ∷ fields) ≡ Some (event_of entry) → IsFirstOf entry whole text
+first_of entry whole text now next fields le same plain all is = record {
+  line = spaced (decimal now) (next ∷ fields);
+  lines =
+      ap lines_of same
+      ∙ slice_split_at (λ b. b == 10) (spaced (decimal now) (next ∷ fields)) 10 text (spaced_line (decimal now) (next ∷ fields) (moment_plain now (moment_small now le)) (plain, all)) refl;
+  told =
+      ap (λ (b : Bool). if b then None else event_in (spaced (decimal now) (next ∷ fields))) (numbered now (32 ∷ spaced next fields) le)
+      ∙ ap event_from (spaced_fields (decimal now) (next ∷ fields) (moment_plain now (moment_small now le)) (plain, all))
+      ∙ is;
+}
+
+pub event_told : (entry : Entry) (text : List ℕ) → FitsTrace entry → IsFirstOf entry (line_of_entry (logged entry) ++ text) text
+event_told (entries.Line now octets) text fits =
+    first_of (entries.Line now octets) (line_of_entry (logged (entries.Line now octets)) ++ text) text now (83 ∷ []) (encode_upper octets.items ∷ []) fits.0
+    (lined (decimal now) (32 ∷ 83 ∷ 32 ∷ []) (encode_upper octets.items) text) (word 83 (omega arith)) (octets_plain octets.items fits.1, tt)
+    (ap (λ (o : Option ℕ). octets_at o (83 ∷ []) (octets_of (encode_upper octets.items))) (decimal_read now fits.0)
+    ∙ ap (octets_at (Some now) (83 ∷ [])) (octets_fit octets.items fits.1 fits.2 fits.3))
+event_told (entries.Bytes now octets) text fits =
+    first_of (entries.Bytes now octets) (line_of_entry (logged (entries.Bytes now octets)) ++ text) text now (82 ∷ []) (encode_upper octets.items ∷ []) fits.0
+    (lined (decimal now) (32 ∷ 82 ∷ 32 ∷ []) (encode_upper octets.items) text) (word 82 (omega arith)) (octets_plain octets.items fits.1, tt)
+    (ap (λ (o : Option ℕ). octets_at o (82 ∷ []) (octets_of (encode_upper octets.items))) (decimal_read now fits.0)
+    ∙ ap (octets_at (Some now) (82 ∷ [])) (octets_fit octets.items fits.1 fits.2 fits.3))
+event_told (entries.Open now) text fits =
+    first_of (entries.Open now) (line_of_entry (logged (entries.Open now)) ++ text) text now (79 ∷ []) [] fits
+    (lined_two (decimal now) (32 ∷ 79 ∷ []) text) (word 79 (omega arith)) tt (ap (λ (o : Option ℕ). bare_at o (79 ∷ [])) (decimal_read now fits))
+event_told (entries.Cut now) text fits =
+    first_of (entries.Cut now) (line_of_entry (logged (entries.Cut now)) ++ text) text now (67 ∷ []) [] fits
+    (lined_two (decimal now) (32 ∷ 67 ∷ []) text) (word 67 (omega arith)) tt (ap (λ (o : Option ℕ). bare_at o (67 ∷ [])) (decimal_read now fits))
+event_told (entries.Tick now) text fits =
+    first_of (entries.Tick now) (line_of_entry (logged (entries.Tick now)) ++ text) text now (84 ∷ []) [] fits
+    (lined_two (decimal now) (32 ∷ 84 ∷ []) text) (word 84 (omega arith)) tt (ap (λ (o : Option ℕ). bare_at o (84 ∷ [])) (decimal_read now fits))
+event_told (entries.Wall now number) text fits =
+    first_of (entries.Wall now number) (line_of_entry (logged (entries.Wall now number)) ++ text) text now (87 ∷ []) (decimal number ∷ []) fits.0
+    (lined (decimal now) (32 ∷ 87 ∷ 32 ∷ []) (decimal number) text) (word 87 (omega arith)) (moment_plain number (moment_small number fits.1), tt)
+    (ap (λ (o : Option ℕ). wall_at o (decimal_of (decimal number))) (decimal_read now fits.0)
+    ∙ ap (wall_at (Some now)) (decimal_read number fits.1))

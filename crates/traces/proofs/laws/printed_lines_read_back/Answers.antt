@@ -1,0 +1,14 @@
+use Rattle.traces.proofs.ReadingBack.{first_read, log_read, actions_read, event_told}
+use Rattle.traces.proofs.laws.printed_lines_read_back.Goals as goal
+
+pub returns-clause-first : goal.returns-clause-first
+returns-clause-first c = λ entry text ok. first_read entry text ok
+
+pub returns-clause-log : goal.returns-clause-log
+returns-clause-log c = λ log all. log_read log all
+
+pub returns-clause-actions : goal.returns-clause-actions
+returns-clause-actions c = λ log all. actions_read log all
+
+pub returns-clause-events : goal.returns-clause-events
+returns-clause-events c = λ entry text fits. event_told entry text fits

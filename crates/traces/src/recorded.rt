@@ -1,0 +1,36 @@
+//! The lines of events, as a recorded run has them.
+ghost use Rattle.std.specs.Prelude.{◌≡◌, ◌++◌, OnOk, string_bytes};
+ghost use Rattle.gateway.specs.Ports.{FitsBuffer, told_by};
+ghost use Rattle.traces.specs.Printed.{lines_of_log};
+
+use gateway::Next;
+use std::alloc::{AllocError, Global};
+
+/// Appends the line of the event that a port answers, as a trace has it; `Done` and `Fault` have
+/// none. The octets of the event are the front of the buffer. An `Err` is want of memory.
+pub fn append_event(
+    alloc: Global,
+    lines: &mut String,
+    next: Next,
+    buf: &[u8; 1024],
+) -> Result<(), AllocError>
+    requires { FitsBuffer next }
+    ensures { OnOk result (string_bytes lines.new
+        ≡ string_bytes lines.old ++ lines_of_log (told_by next buf.now)) }
+{
+    match next {
+        Next::Line(now, len) => {
+            let digits = hex::encode_upper(alloc, &buf[..len])?;
+            writeln!(lines, "{now} S {digits}")
+        }
+        Next::Open(now) => writeln!(lines, "{now} O"),
+        Next::Bytes(now, len) => {
+            let digits = hex::encode_upper(alloc, &buf[..len])?;
+            writeln!(lines, "{now} R {digits}")
+        }
+        Next::Cut(now) => writeln!(lines, "{now} C"),
+        Next::Tick(now) => writeln!(lines, "{now} T"),
+        Next::Wall(now, number) => writeln!(lines, "{now} W {number}"),
+        Next::Done | Next::Fault => Ok(()),
+    }
+}
