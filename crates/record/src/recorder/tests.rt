@@ -9,12 +9,12 @@ use std::test::Fail;
 
 /// A sheet that takes so many texts, and then none.
 #[derive(Drop)]
-struct Sheet {
+struct FewTexts {
     text: String,
     takes: u32,
 }
 
-impl Sheet for Sheet {
+impl Sheet for FewTexts {
     ghost use Rattle.std.specs.Prelude.{None};
 
     ghost taken = { λ _. None };
@@ -62,7 +62,7 @@ impl Port for Ticks {
 
 #[test]
 fn lines_of_a_step_go_out_before_the_next_event(rt: HostRuntime) -> Result<(), Fail> {
-    let sheet = Sheet {
+    let sheet = FewTexts {
         text: String::new(rt.alloc()),
         takes: 2,
     };
