@@ -1,12 +1,18 @@
 -- What the worked examples of the tables speak of: user data of one octet, a station in each state,
--- and a line with two repeats.
-use Rattle.std.specs.Prelude.{ℕ, Bool, List, [], ◌∷◌, Option}
+-- a line with two repeats, and an outstation with what waits there.
+use Rattle.std.specs.Prelude.{ℕ, Bool, true, false, List, [], ◌∷◌, Option, Some}
 use Rattle.ft12.specs.declared.frame.LinkSize.TheVariants.{One}
+use Rattle.link.specs.Answers.{Frame}
 use Rattle.link.specs.Procedure.{Link, LinkSettings}
+use Rattle.link.specs.Requests.{reading_of}
+use Rattle.link.specs.Secondary.{Secondary, fresh_station, heard_reading}
 use Rattle.link.specs.Turns.{StationState, no_session}
 
 abbrev pub octet : List ℕ
 octet = 7 ∷ []
+
+abbrev pub other_octet : List ℕ
+other_octet = 9 ∷ []
 
 abbrev pub in_state : Link → (acd dfc : Bool) → (offered : Option (List ℕ)) → StationState
 in_state link acd dfc offered =
@@ -28,3 +34,20 @@ two_repeats hold =
       hold = hold;
       burst = 2;
     }
+
+-- the outstation 1 before its first reset, and right after a reset, with these reports to give
+abbrev pub unreset_with : (class1 class2 : List (List ℕ)) → Secondary
+unreset_with class1 class2 = record (fresh_station One 1) { class1 = class1; class2 = class2 }
+
+abbrev pub reset_with : (class1 class2 : List (List ℕ)) → Secondary
+reset_with class1 class2 = record (unreset_with class1 class2) { bit = Some false }
+
+-- what it answers to a frame, where memory is granted or isn't
+abbrev pub answer_by : (granted : Bool) → Secondary → Frame → Option Frame
+answer_by granted s frame = (heard_reading granted s (reading_of s.address frame)).turn.answer
+
+-- and what it answers to a frame after another
+abbrev pub answer_behind : Secondary → (first : Frame) → Frame → Option Frame
+answer_behind s first frame =
+    (heard_reading true (heard_reading true s (reading_of s.address first)).state
+    (reading_of s.address frame)).turn.answer

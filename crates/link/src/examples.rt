@@ -6,12 +6,12 @@ ghost use Rattle.link.specs.declared.control.PrimaryFunction.TheVariants as prim
 ghost use Rattle.link.specs.declared.control.SecondaryFunction.TheVariants as secondary;
 ghost use Rattle.link.specs.Control.{is_primary, is_secondary, fcb_bit, fcv_bit, acd_bit, dfc_bit, reserved_bit, function_code, octet_of};
 ghost use Rattle.link.specs.Answers.{Single, Fixed, Status, Reset, Counted, Class1, Class2, Command, Ready, Confirmed, Busy, Report, NoData, Unable, answer_of};
-ghost use Rattle.link.specs.Examples.{octet, in_state, two_repeats};
+ghost use Rattle.link.specs.Examples.{octet, other_octet, in_state, two_repeats, unreset_with, reset_with, answer_by, answer_behind};
 ghost use Rattle.link.specs.Flags.{clear, flags_in};
 ghost use Rattle.link.specs.Procedure.{Down, Available, Next, Held, after_silence, has_repeats};
 ghost use Rattle.link.specs.Requests.{Foreign, Unknown, Asks, request_frame, reading_of};
 ghost use Rattle.link.specs.Secondary.{data_frame, control_of, short_of};
-ghost use Rattle.link.specs.Turns.{Starting, Commanding, Polling, Class1Polling, Over, wants, wanted};
+ghost use Rattle.link.specs.Turns.{Starting, Commanding, Polling, Class1Polling, Over, wants, wanted, place_after};
 ghost use Rattle.link.specs.Primary.{outcome_by, with_gap};
 ghost use Rattle.link.specs.declared.outcome.Outcome.TheVariants as outcome;
 
@@ -141,6 +141,8 @@ pub fn requests_by_example()
         × (reading_of 1 (Fixed 0x59 1) ≡ Unknown)
         × (reading_of 1 (data_frame 0x73 1 []) ≡ Unknown)
         × (reading_of 1 (data_frame 0x44 1 octet) ≡ Unknown)
+        × (reading_of 1 (data_frame 0x43 1 octet) ≡ Unknown)
+        × (reading_of 1 (data_frame 0x63 1 octet) ≡ Unknown)
         × (reading_of 1 (data_frame 0x7A 1 octet) ≡ Unknown) }
 {}
 
@@ -198,4 +200,49 @@ pub fn turns_by_example()
         ≡ Held true Class1 3)
         × (after_silence (two_repeats true) Status true Available ≡ Down)
         × (after_silence (two_repeats true) Reset true Available ≡ Down) }
+    ensures round { (place_after 3 0 ≡ 1) × (place_after 3 1 ≡ 2) × (place_after 3 2 ≡ 0)
+        × (place_after 1 0 ≡ 0) }
+{}
+
+/// What an outstation answers to each frame (IEC 60870-5-2, 5.1: the functions of a secondary
+/// station, and the procedures of unbalanced transmission; where it answers with `E5`, and that DFC
+/// is clear, is its own choice): before its first reset and after, with reports of each class or
+/// none, to an unchanged frame count bit, to what it doesn't know and to what isn't for it.
+pub fn outstations_by_example()
+    ensures starts { (answer_by true (unreset_with [] []) (Fixed 0x49 1) ≡ Some (Fixed 0x0B 1))
+        × (answer_by true (unreset_with (octet ∷ []) []) (Fixed 0x49 1) ≡ Some (Fixed 0x2B 1))
+        × (answer_by true (unreset_with [] (octet ∷ [])) (Fixed 0x49 1) ≡ Some (Fixed 0x0B 1))
+        × (answer_by true (unreset_with [] []) (Fixed 0x40 1) ≡ Some Single)
+        × (answer_by true (unreset_with (octet ∷ []) []) (Fixed 0x40 1) ≡ Some (Fixed 0x20 1))
+        × (answer_by true (unreset_with (octet ∷ []) []) (Fixed 0x7A 1) ≡ None)
+        × (answer_by true (unreset_with [] (octet ∷ [])) (Fixed 0x7B 1) ≡ None)
+        × (answer_by true (unreset_with [] []) (data_frame 0x73 1 octet) ≡ None) }
+    ensures data { (answer_by true (reset_with (octet ∷ []) []) (Fixed 0x7A 1)
+        ≡ Some (data_frame 0x08 1 octet))
+        × (answer_by true (reset_with (octet ∷ other_octet ∷ []) []) (Fixed 0x7A 1)
+        ≡ Some (data_frame 0x28 1 octet))
+        × (answer_by true (reset_with [] (octet ∷ other_octet ∷ [])) (Fixed 0x7B 1)
+        ≡ Some (data_frame 0x08 1 octet))
+        × (answer_by true (reset_with (other_octet ∷ []) (octet ∷ [])) (Fixed 0x7B 1)
+        ≡ Some (data_frame 0x28 1 octet))
+        × (answer_by true (reset_with [] (octet ∷ [])) (Fixed 0x7A 1) ≡ Some Single)
+        × (answer_by true (reset_with [] []) (Fixed 0x7B 1) ≡ Some Single)
+        × (answer_by true (reset_with (octet ∷ []) []) (Fixed 0x7B 1) ≡ Some (Fixed 0x29 1)) }
+    ensures commands { (answer_by true (reset_with [] []) (data_frame 0x73 1 octet) ≡ Some Single)
+        × (answer_by true (reset_with (octet ∷ []) []) (data_frame 0x73 1 octet)
+        ≡ Some (Fixed 0x20 1))
+        × (answer_by false (reset_with [] []) (data_frame 0x73 1 octet) ≡ Some (Fixed 0x01 1)) }
+    ensures counts { (answer_by true (reset_with (octet ∷ []) []) (Fixed 0x5A 1) ≡ None)
+        × (answer_behind (reset_with (octet ∷ other_octet ∷ []) []) (Fixed 0x7A 1) (Fixed 0x7A 1)
+        ≡ Some (data_frame 0x28 1 octet))
+        × (answer_behind (reset_with (octet ∷ other_octet ∷ []) []) (Fixed 0x7A 1) (Fixed 0x5A 1)
+        ≡ Some (data_frame 0x08 1 other_octet))
+        × (answer_behind (reset_with (octet ∷ other_octet ∷ []) []) (Fixed 0x40 1) (Fixed 0x7A 1)
+        ≡ Some (data_frame 0x28 1 octet)) }
+    ensures strangers { (answer_by true (reset_with [] []) (Fixed 0x44 1) ≡ Some (Fixed 0x0F 1))
+        × (answer_by true (reset_with [] []) (Fixed 0x4A 1) ≡ Some (Fixed 0x0F 1))
+        × (answer_by true (reset_with (octet ∷ []) []) (Fixed 0x48 1) ≡ Some (Fixed 0x2F 1))
+        × (answer_by true (reset_with [] []) (Fixed 0x49 2) ≡ None)
+        × (answer_by true (reset_with [] []) (Fixed 0x09 1) ≡ None)
+        × (answer_by true (reset_with [] []) Single ≡ None) }
 {}

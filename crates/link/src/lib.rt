@@ -25,9 +25,9 @@
 //! - a station runs as an outstation that hears each request to it ([`station_is_an_outstation`]),
 //!   and its answers say what waits there ([`station_tells_what_waits`]);
 //! - a control octet is a value ([`Control`], [`controls_are_octets`]);
-//! - the tables of control octets, requests, answers and turns have worked examples
+//! - the tables of control octets, requests, answers, turns and outstations have worked examples
 //!   ([`controls_by_example`], [`answers_by_example`], [`requests_by_example`],
-//!   [`turns_by_example`]);
+//!   [`turns_by_example`], [`outstations_by_example`]);
 //! - and where the frame count bit is kept and an outstation's answers come in their exchange and
 //!   unaltered, each service acts once and its answer is taken once ([`each_service_acts_once`],
 //!   [`sessions_are_known`], [`commands_are_accepted`], [`reports_are_learnt`],
@@ -65,7 +65,8 @@ pub use asdu::Asdu;
 pub use asking::next_changes_nothing;
 pub use control::{Control, PrimaryFunction, SecondaryFunction, controls_are_octets};
 pub use examples::{
-    answers_by_example, controls_by_example, requests_by_example, turns_by_example,
+    answers_by_example, controls_by_example, outstations_by_example, requests_by_example,
+    turns_by_example,
 };
 pub use flags::flags_are_heeded;
 pub use gaps::{gaps_are_ended_sessions, gaps_are_told};

@@ -15,3 +15,6 @@ returns-clause-held c = (refl, refl, refl, refl, refl)
 
 pub returns-clause-repeats : goal.returns-clause-repeats
 returns-clause-repeats c = (refl, refl, refl, refl, refl, refl, refl, refl, refl, refl)
+
+pub returns-clause-round : goal.returns-clause-round
+returns-clause-round c = (refl, refl, refl, refl)
