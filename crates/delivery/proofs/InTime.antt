@@ -35,17 +35,17 @@ pub record IsCalled (p : Setup) (at : ℕ) (r : Run) : Type 0 where
   pub rise : NeverFall made
   pub past : calls.latest made ≤ at
 
-abbrev IsMade : Setup → ℕ → Works → Type 0
+abbrev pub IsMade : Setup → ℕ → Works → Type 0
 IsMade p at w = IsCalled p at (tasks_of w)
 
 later : (p : Setup) (at soon : ℕ) (r : Run) → at ≤ soon → IsCalled p at r → IsCalled p soon r
 later p at soon r h c = record { made = c.made; leave = c.leave; rise = c.rise; past = le_trans c.past h }
 
 -- a call at this moment, or at none
-abbrev IsAt : ℕ → Call → Type 0
+abbrev pub IsAt : ℕ → Call → Type 0
 IsAt at call = (n : ℕ) → n ≤ at → (n ≤ calls.moment_of call n) × (calls.moment_of call n ≤ at)
 
-called_more : (p : Setup) (at : ℕ) (call : Call) (r : Run) → IsAt at call → IsCalled p at r → IsCalled p at (after_call call r)
+pub called_more : (p : Setup) (at : ℕ) (call : Call) (r : Run) → IsAt at call → IsCalled p at r → IsCalled p at (after_call call r)
 called_more p at call r when c = record {
   made = call ∷ c.made;
   leave = ap (after_call call) c.leave;
@@ -105,7 +105,7 @@ module _ (p : Setup) (at : ℕ) (Q : Run → Type 0) (one : (call : Call) (r : R
       let soon : Run = after_call (Judge asdu.items at wall) (tasks_of w) in
       keep (listed (judged asdu.items at wall w.serial.commands).0) soon.state soon.history (one (Judge asdu.items at wall) (tasks_of w) now_is c)
 
-  hear_all : (frames : List Apdu) (wall : Option ℕ) (c : Course) → Q (tasks_of c.works) → Q (tasks_of (with_frames p frames at wall c).works)
+  pub hear_all : (frames : List Apdu) (wall : Option ℕ) (c : Course) → Q (tasks_of c.works) → Q (tasks_of (with_frames p frames at wall c).works)
   hear_all [] wall c made = made
   hear_all (frame ∷ frames) wall c made = hear frame wall (with_frames p frames at wall c).works (hear_all frames wall c made)
 
@@ -116,7 +116,7 @@ module _ (p : Setup) (at : ℕ) (Q : Run → Type 0) (one : (call : Call) (r : R
       so = ap (λ (o : Option (List ℕ)). after_answer o (tasks_of w)) is
           ∙ ap (λ (h : History). let r : Run = record { state = tasks.answered w.serial.commands; history = h } in r) (sym (ap (λ (o : Option (List ℕ)). (after_answer o (tasks_of w)).history) is))
 
-  send : (log : Log) (frame : Apdu) (now : ℕ) (c : Course) → IsNext p log frame c → Q (tasks_of c.works) → Q (tasks_of (with_sent frame now c).works)
+  pub send : (log : Log) (frame : Apdu) (now : ℕ) (c : Course) → IsNext p log frame c → Q (tasks_of c.works) → Q (tasks_of (with_sent frame now c).works)
   send log (S nr) now c next made = made
   send log (U u) now c next made = made
   send log (I ns nr asdu) now c next made = go (has_objects asdu.items) next.own
@@ -127,11 +127,11 @@ module _ (p : Setup) (at : ℕ) (Q : Run → Type 0) (one : (call : Call) (r : R
 
   -- A step is done
 
-  silence : (o : Option ℕ) (w : Works) → Q (tasks_of w) → Q (record { state = (unless_silent o w.serial).commands; history = told_silent o w })
+  pub silence : (o : Option ℕ) (w : Works) → Q (tasks_of w) → Q (record { state = (unless_silent o w.serial).commands; history = told_silent o w })
   silence None w c = c
   silence (Some k) w c = one (Lose k) (tasks_of w) still c
 
-  settle : (w : Works) → Q (tasks_of w) → Q (tasks_of (settled_works at w))
+  pub settle : (w : Works) → Q (tasks_of w) → Q (tasks_of (settled_works at w))
   settle w c = one (Due at) (record { state = (unless_silent w.serial.silent w.serial).commands; history = told_silent w.serial.silent w }) now_is (silence w.serial.silent w c)
 
   finish : (room : Bool) (w : Works) → Q (tasks_of w) → Q (tasks_of (done_works at room w))
@@ -141,7 +141,7 @@ module _ (p : Setup) (at : ℕ) (Q : Run → Type 0) (one : (call : Call) (r : R
       go true = settle w c
       go false = c
 
-  put : (b : Bool) (k : ℕ) (w : Works) → Q (tasks_of w) → Q (record { state = put_on_line b k w.serial.commands; history = told_put b k w })
+  pub put : (b : Bool) (k : ℕ) (w : Works) → Q (tasks_of w) → Q (record { state = put_on_line b k w.serial.commands; history = told_put b k w })
   put false k w c = c
   put true k w c = subst Q (go (oldest_for k w.serial.commands) refl) (one (PutOnLine k) (tasks_of w) still c)
     where
@@ -152,7 +152,7 @@ module _ (p : Setup) (at : ℕ) (Q : Run → Type 0) (one : (call : Call) (r : R
   cut : (w : Works) → Q (tasks_of w) → Q (after_call Cut (tasks_of w))
   cut w c = one Cut (tasks_of w) still c
 
-  close : (cause : Close) (is_open : Bool) (c : Course) → Q (tasks_of c.works) → Q (tasks_of (closed_course p cause is_open at c).works)
+  pub close : (cause : Close) (is_open : Bool) (c : Course) → Q (tasks_of c.works) → Q (tasks_of (closed_course p cause is_open at c).works)
   close Replaced is_open c made = made
   close Timeout is_open c made = cut (settled_works at c.works) (settle c.works made)
   close Grammar is_open c made = cut c.works made
@@ -209,14 +209,14 @@ next_called : (p : Setup) (entry : LogEntry) (log : Log) (r : Run) → IsCalled 
 next_called p (Went now action) log r c = c
 next_called p (Came now event) log r c = later p (latest log) (latest (Came now event ∷ log)) r (le-max_left (latest log) (min now last_moment)) c
 
-all_made : (p : Setup) (log : Log) (c : Course) → Runs p log c → IsMade p (latest log) c.works
+pub all_made : (p : Setup) (log : Log) (c : Course) → Runs p log c → IsMade p (latest log) c.works
 all_made p = all_so p (λ log r. IsCalled p (latest log) r) (λ log call r when c. called_more p (latest log) call r when c) (next_called p) (record { made = []; leave = refl; rise = tt; past = le_refl 0 })
 
-abbrev TimeLaw : Type 0
+abbrev pub TimeLaw : Type 0
 TimeLaw = AfterEachDue (λ stations sizes select_ms max_age_ms now s h. (xs : List ℕ) → AllByRecursion (IsInTime sizes stations select_ms max_age_ms now h xs) s.selections)
 
 -- `due` leaves only selections in time
-due_leaves : (p : Setup) (at : ℕ) → TimeLaw → (r : Run) → IsCalled p at r → (xs : List ℕ) →
+pub due_leaves : (p : Setup) (at : ℕ) → TimeLaw → (r : Run) → IsCalled p at r → (xs : List ℕ) →
     AllByRecursion (IsInTime p.sizes p.stations p.select_ms p.max_age_ms at r.history xs) (tasks.timed at r.state).selections
 due_leaves p at law r c xs = subst (λ (r : Run). AllByRecursion (IsInTime p.sizes p.stations p.select_ms p.max_age_ms at r.history xs) (tasks.timed at r.state).selections) c.leave
     (law p.stations p.sizes p.select_ms p.max_age_ms c.made at (c.past, c.rise) xs)
@@ -248,7 +248,7 @@ tell_more [] e h is t = are_more 0 e h is t
 tell_more (entry ∷ log) e h is t = (e ∷ t.0, t.1, ap (λ (l : History). e ∷ l) t.2, are_more (latest (entry ∷ log)) e t.0 is t.3, t.4)
 
 -- a call at this moment bears it
-moment_is : (at now : ℕ) → (at ≤ now) × (now ≤ at) → now ≡ at
+pub moment_is : (at now : ℕ) → (at ≤ now) × (now ≤ at) → now ≡ at
 moment_is at now h = le_antisymm h.1 h.0
 
 told_call : (log : Log) (call : Call) (r : Run) → IsAt (latest log) call → TellsAtMoments log r.history → TellsAtMoments log (after_call call r).history

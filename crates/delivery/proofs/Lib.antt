@@ -23,4 +23,5 @@ pub mod Centre
 pub mod Settings
 pub mod Confirmed
 pub mod InTime
+pub mod Lasting
 mod Examples

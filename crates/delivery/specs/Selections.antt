@@ -1,11 +1,11 @@
 -- Selections over a log (IEC 60870-5-101, 7.2.6: S/E; how long a selection lasts is this gateway's
 -- own profile).
-use Rattle.std.specs.Prelude.{◌≡◌, ℕ, true, List, [], ◌∷◌, ◌++◌}
+use Rattle.std.specs.Prelude.{◌≡◌, ◌<◌, ℕ, Bool, true, false, List, [], ◌∷◌, ◌++◌}
 use Rattle.std.specs.List.{AllByRecursion}
 use Rattle.command.specs.History.{History, Judged, Mirrored, ExecutesAreSelected}
 use Rattle.command.specs.Selections.{IsInTime}
 use Rattle.gateway.specs.Line.{done_in}
-use Rattle.gateway.specs.Log.{Log, latest}
+use Rattle.gateway.specs.Log.{Log, Came, Went, LineOut, latest}
 use Rattle.gateway.specs.Reports.{Setup}
 use Rattle.gateway.specs.Works.{Works}
 use Rattle.gateway.specs.Course.{Course}
@@ -20,6 +20,18 @@ AreInTime p now w = (xs : List ℕ) →
 -- A step that began leaves only selections in time, by the log's moment.
 abbrev pub EndInTime : Setup → Log → Course → Type 0
 EndInTime p log c = c.works.is_due ≡ true → AreInTime p (latest log) (done_in p log c)
+
+-- the latest step's request has gone out
+abbrev pub is_asked : Log → Bool
+is_asked [] = false
+is_asked (Came now event ∷ log) = false
+is_asked (Went now (LineOut octets) ∷ log) = true
+is_asked (Went now action ∷ log) = is_asked log
+
+-- And so they are from the step's request on, whatever goes out behind it, until the next event
+-- comes.
+abbrev pub StayInTime : Setup → Log → Course → Type 0
+StayInTime p log c = is_asked log ≡ true → 0 < p.select_ms → AreInTime p (latest log) c.works
 
 -- What came from the control centre and what stations answered bears this moment.
 abbrev pub AreAt : ℕ → History → Type 0
@@ -43,5 +55,6 @@ pub record KeepsSelections (p : Setup) (log : Log) (c : Course) : Type 0 where
   -- with the latest confirmation less than select_ms before
   pub selected :
       ExecutesAreSelected p.sizes p.stations p.select_ms p.max_age_ms c.works.history
-  -- and a step leaves no selection that is over
+  -- and a step leaves no selection that is over, before its request and behind it
   pub ended : EndInTime p log c
+  pub stayed : StayInTime p log c

@@ -16,7 +16,7 @@ ghost use Rattle.delivery.specs.Joined.{IsSetUp, IsJoined};
 ghost use Rattle.delivery.specs.Selections.{KeepsSelections};
 
 use apci::one_front;
-use command::{selections_are_selects_that_stand, waiting_commands_stay};
+use command::{selections_are_selects_that_stand, settings_stay, waiting_commands_stay};
 use gateway::courses_keep_commands;
 use link::{
     commands_are_accepted, master_tells_the_log, offers_wait, outcomes_are_answers,
@@ -54,14 +54,16 @@ pub fn the_course_is_the_logs()
 
 /// Selections last no longer than `select_ms`, by the moments of the log: each execute that is
 /// forwarded to a station that asks for selects had its select there, confirmed less than that
-/// before; and once the timers of a step are done, each selection that is kept has a select that
-/// stands, and that, or its latest confirmation, came less than that before. What came from the
-/// control centre and what stations answered is told with the moment of its entry of the log.
+/// before; and once the timers of a step are done, and from its request on until the next event
+/// comes, each selection that is kept has a select that stands, and that, or its latest
+/// confirmation, came less than that before. What came from the control centre and what stations
+/// answered is told with the moment of its entry of the log.
 pub fn selections_end_in_time()
     ensures { (p : Setup) (log : Log) (c : Course) → Runs p log c → KeepsSelections p log c }
 {
     courses_keep_commands();
     selections_are_selects_that_stand();
+    settings_stay();
 }
 
 /// Each command that is put on the line for the first time is the ASDU of one I frame that the

@@ -136,6 +136,7 @@ pub fn requests_by_example()
         × (reading_of 1 Single ≡ Foreign)
         × (reading_of 1 (data_frame 0x33 1 octet) ≡ Foreign) }
     ensures others { (reading_of 1 (Fixed 0x4A 1) ≡ Unknown)
+        × (reading_of 1 (Fixed 0x4B 1) ≡ Unknown)
         × (reading_of 1 (Fixed 0x44 1) ≡ Unknown)
         × (reading_of 1 (Fixed 0x73 1) ≡ Unknown)
         × (reading_of 1 (Fixed 0x59 1) ≡ Unknown)

@@ -11,4 +11,4 @@ pub returns-clause-strangers : goal.returns-clause-strangers
 returns-clause-strangers c = (refl, refl, refl, refl)
 
 pub returns-clause-others : goal.returns-clause-others
-returns-clause-others c = (refl, refl, refl, refl, refl, refl, refl, refl, refl)
+returns-clause-others c = (refl, refl, refl, refl, refl, refl, refl, refl, refl, refl)
