@@ -24,7 +24,7 @@ use Rattle.traces.specs.Fields.{digits_after, decimal_of, octets_of, some_octets
 use Rattle.traces.specs.Event.{event_of, event_from, event_in, bare_at, octets_at, wall_at}
 use Rattle.traces.specs.Trace.{lines_of, is_skipped}
 use Rattle.traces.specs.Actions.{line_of, lines_of_actions}
-use Rattle.traces.specs.Printed.{FitsTrace, IsFirstOf, IsPrintable, IsPrintableEvent, IsPrintableAction, line_of_event, line_of_entry, lines_of_log, number_in, octets_in_hex, cause_numbered, gap_at, came_at, went_at, entry_from, entry_in, before_those, entries_of_lines, entries_of_pieces, entries_in, actions_of}
+use Rattle.traces.specs.Printed.{FitsTrace, IsFirstOf, IsPrintable, IsPrintableEvent, IsPrintableAction, line_of_event, line_of_entry, lines_of_log, number_in, octets_in_hex, cause_numbered, gap_at, came_at, went_at, entry_from, entry_in, before_those, entries_of_lines, entries_of_pieces, entries_in, actions_of, ArePrinted}
 
 -- Fields without separators
 
@@ -341,10 +341,10 @@ actions_before [] after = after
 actions_before (Came now event ∷ log) after = actions_before log after
 actions_before (Went now action ∷ log) after = actions_before log (before_those (Some (Went now action)) after)
 
-lines_before : (log : Log) (text : List ℕ) → AllByRecursion IsPrintable log
+lines_before : (log : Log) (text : List ℕ) → ArePrinted log
     → entries_in (lines_of_actions log ++ text) ≡ actions_before log (entries_in text)
 lines_before [] text all = refl
-lines_before (Came now event ∷ log) text all = lines_before log text all.1
+lines_before (Came now event ∷ log) text all = lines_before log text all
 lines_before (Went now action ∷ log) text all =
     ap entries_in (append_assoc (lines_of_actions log) (line_of now action) text)
     ∙ lines_before log (line_of now action ++ text) all.1
@@ -358,11 +358,19 @@ actions_told (Went now action ∷ log) entries =
     actions_told log (Went now action ∷ entries)
     ∙ ap (λ (l : List LogEntry). Some l) (sym (append_assoc (actions_of log) (Went now action ∷ []) entries))
 
-pub actions_read : (log : Log) → AllByRecursion IsPrintable log
-    → entries_in (lines_of_actions log) ≡ Some (actions_of log)
-actions_read log all =
+pub actions_printed : (log : Log) → ArePrinted log → entries_in (lines_of_actions log) ≡ Some (actions_of log)
+actions_printed log all =
     ap entries_in (sym (append-nil (lines_of_actions log))) ∙ lines_before log [] all
     ∙ actions_told log [] ∙ ap (λ (l : List LogEntry). Some l) (append-nil (actions_of log))
+
+printed : (log : Log) → AllByRecursion IsPrintable log → ArePrinted log
+printed [] all = tt
+printed (Came now event ∷ log) all = printed log all.1
+printed (Went now action ∷ log) all = (all.0, printed log all.1)
+
+pub actions_read : (log : Log) → AllByRecursion IsPrintable log
+    → entries_in (lines_of_actions log) ≡ Some (actions_of log)
+actions_read log all = actions_printed log (printed log all)
 
 -- Traces
 

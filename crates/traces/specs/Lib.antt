@@ -4,3 +4,4 @@ pub mod Trace
 pub mod Actions
 pub mod Traced
 pub mod Printed
+pub mod Progress

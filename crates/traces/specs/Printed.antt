@@ -55,6 +55,12 @@ abbrev pub IsPrintable : LogEntry → Type 0
 IsPrintable (Came now event) = (now < 2 ^ 64) × IsPrintableEvent event
 IsPrintable (Went now action) = (now < 2 ^ 64) × IsPrintableAction action
 
+-- each action of a log is one of these
+abbrev pub ArePrinted : Log → Type 0
+ArePrinted [] = Unit {0}
+ArePrinted (Came now event ∷ log) = ArePrinted log
+ArePrinted (Went now action ∷ log) = IsPrintable (Went now action) × ArePrinted log
+
 -- Traces
 
 -- what a trace can tell: moments and numbers of 15 digits at most, and 1 to 1,024 octets

@@ -19,6 +19,7 @@ mod actions;
 mod decimal;
 mod event;
 mod health;
+mod judging;
 mod laws;
 mod lines;
 mod octets;
@@ -27,12 +28,15 @@ mod reading;
 mod recorded;
 #[cfg(test)]
 mod tests;
+mod text_port;
 
 pub use actions::{append_line, cause_number};
 pub use decimal::decimal as read_decimal;
+pub use judging::judge;
 pub use laws::printed_lines_read_back;
 pub use lines::{is_skipped, pieces};
 pub use octets::read_octets;
 pub use port::{Beginning, Trace, announce};
 pub use reading::{TextFault, read_trace};
 pub use recorded::append_event;
+pub use text_port::TextPort;

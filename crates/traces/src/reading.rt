@@ -11,7 +11,7 @@ use gateway::Entry;
 use std::alloc::{AllocError, AllocFailed, Global};
 use thiserror::Error;
 
-const LINE_FEED: u8 = b'\n';
+pub(crate) const LINE_FEED: u8 = b'\n';
 
 /// Why a text of lines isn't read.
 #[derive(Clone, Copy, Debug, PartialEq, Eq, Error)]

@@ -1,5 +1,5 @@
 //! Traces, good and wrong.
-use crate::{TextFault, Trace, append_event, append_line, read_octets, read_trace};
+use crate::{TextFault, TextPort, Trace, append_event, append_line, judge, read_octets, read_trace};
 use gateway::{Action, Entry, Next, Port, Told};
 use session::Close;
 use std::alloc::Global;
@@ -252,6 +252,54 @@ fn a_trace_gives_its_entries_and_writes_its_actions(rt: HostRuntime) -> Result<(
         port.into_writer().as_slice(),
         b"7 > S 10AB\n9 > T 68\n9 > X 7\n".as_slice()
     );
+    Ok(())
+}
+
+#[test]
+fn a_text_gives_its_events_and_a_page_gets_the_actions(rt: HostRuntime) -> Result<(), Fail> {
+    let alloc = rt.alloc();
+    // The last line lacks its line feed.
+    let text = b"# a comment\n\n7 S E568\n9 O\n12 W 5".as_slice();
+    assert_eq!(rt; judge(alloc, text)?, 3);
+    let mut port = TextPort::new(alloc, text);
+    let mut buf = [0; 1024];
+    assert!(rt; matches!(port.next(&mut buf), Next::Tick(0)));
+    assert!(rt; matches!(port.next(&mut buf), Next::Line(7, 2)));
+    assert_eq!(rt; &buf[..2], &[0xE5, 0x68][..]);
+    assert!(rt; port.put(7, &Action::Line(&[0x10, 0xAB])));
+    assert!(rt; matches!(port.next(&mut buf), Next::Open(9)));
+    assert!(rt; port.put(9, &Action::Tcp(&[0x68])));
+    assert!(rt; port.put(9, &Action::Close(Close::Replaced)));
+    assert!(rt;
+        port.put(
+            9,
+            &Action::Gap {
+                station: 1,
+                session: 3
+            }
+        )
+    );
+    assert!(rt; matches!(port.next(&mut buf), Next::Wall(12, 5)));
+    assert!(rt; matches!(port.next(&mut buf), Next::Done));
+    assert!(rt; matches!(port.next(&mut buf), Next::Done));
+    assert_eq!(rt; port.failures(), 0);
+    assert_eq!(rt;
+        port.into_page().as_slice(),
+        b"7 > S 10AB\n9 > T 68\n9 > X 7\n9 > G 2 3\n".as_slice()
+    );
+    Ok(())
+}
+
+#[test]
+fn a_wrong_line_is_judged_by_its_number(rt: HostRuntime) -> Result<(), Fail> {
+    for (text, number) in [
+        (b"7 T\n\n8 Q\nx\n".as_slice(), 3),
+        (b"7 S 5\n".as_slice(), 1),
+        (b"#\n7 S\n".as_slice(), 2),
+    ] {
+        assert_eq!(rt; judge(rt.alloc(), text).err(), Some(TextFault::Line(number)));
+    }
+    assert_eq!(rt; judge(rt.alloc(), b"")?, 0);
     Ok(())
 }
 
