@@ -25,8 +25,6 @@ mod octets;
 mod port;
 mod reading;
 mod recorded;
-#[cfg(test)]
-mod tests;
 
 pub use actions::{append_line, cause_number};
 pub use decimal::decimal as read_decimal;
