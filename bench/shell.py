@@ -32,6 +32,7 @@ LINES = (
 LEFT = "left 01010300010064000001\n"
 COUNTS = "counts skipped 0 mirrors 0 lost 0 spoilt 0\n"
 STATION = "station 1 reports 0 given 0 accepted 0\n"
+ALLOW = "error: --allow takes the address of a host, as 192.0.2.7\n"
 COMMANDS = ("show101", "show104", "check", "replay", "sim", "run")
 
 # The words, standard output, standard error, the exit status. None stands for any text.
@@ -44,42 +45,84 @@ ROWS = [
     ("show104 68", "truncated\n", "", 1),
     ("check good.toml", "ok\n", "", 0),
     ("check empty", "", "config: line.link\n", 1),
+    ("check none.script", "", "config: not TOML\n", 1),
     ("check nowhere", "", "cannot read nowhere\n", 3),
     ("check .", "", "cannot read .\n", 3),
     ("replay good.toml one.trace", LINES, "", 0),
     ("replay --left good.toml one.trace", LINES + LEFT, "", 0),
+    ("replay good.toml --left one.trace", LINES + LEFT, "", 0),
+    ("replay good.toml one.trace --left", LINES + LEFT, "", 0),
+    ("replay --counts good.toml one.trace", LINES + COUNTS, "", 0),
     ("replay good.toml one.trace --counts", LINES + COUNTS, "", 0),
+    ("replay --left good.toml --counts one.trace", LINES + LEFT + COUNTS, "", 0),
+    ("replay --counts --left good.toml one.trace", LINES + LEFT + COUNTS, "", 0),
     ("replay good.toml --counts one.trace --left", LINES + LEFT + COUNTS, "", 0),
     ("replay one.trace good.toml", "", "config: not TOML\n", 1),
     ("replay good.toml none.script", "", "trace: line 1\n", 1),
+    ("replay empty one.trace", "", "config: line.link\n", 1),
     ("replay nowhere elsewhere", "", "cannot read nowhere\n", 3),
     ("replay good.toml elsewhere", "", "cannot read elsewhere\n", 3),
     ("sim good.toml none.script", STATION, "", 0),
     ("sim none.script good.toml", "", "config: not TOML\n", 1),
     ("sim good.toml one.trace", "", "script: line 1\n", 1),
+    ("sim good.toml nowhere", "", "cannot read nowhere\n", 3),
+    ("run empty", "", "config: line.link\n", 1),
     ("run good.toml", "", "config: live.line\n", 1),
+    ("run no-door.toml", "", "config: live.listen\n", 1),
+    # Each flag of a live run, in front of its file and behind it.
+    ("run --redial good.toml", "", "config: live.line\n", 1),
+    ("run good.toml --redial", "", "config: live.line\n", 1),
+    ("run --log good.toml", "", "config: live.line\n", 1),
+    ("run --allow 192.0.2.7 good.toml", "", "config: live.line\n", 1),
+    ("run --allow 192.0.2.7 good.toml --allow ::1", "", "config: live.line\n", 1),
+    ("run --allow 192.0.2.7 --allow 192.0.2.256 nowhere", "", ALLOW, 2),
     ("run nowhere", "", "cannot read nowhere\n", 3),
     ("run no-line.toml", "", "device failed\n", 3),
-    ("", "", None, 2),
-    ("bogus", "", None, 2),
-    ("--bogus", "", None, 2),
-    ("show101 1112", "", None, 2),
-    ("check", "", None, 2),
-    ("check good.toml good.toml", "", None, 2),
-    ("check --left good.toml", "", None, 2),
-    ("replay good.toml", "", None, 2),
-    ("replay --left --left good.toml one.trace", "", None, 2),
-    ("run", "", None, 2),
+    ("run good.toml --allow", "", None, 2),
     ("--help", None, "", 0),
+    ("-h", None, "", 0),
     ("help", None, "", 0),
+    ("help replay", None, "", 0),
+    ("run -h", None, "", 0),
     ("--version", None, "", 0),
 ] + [(f"{command} --help", None, "", 0) for command in COMMANDS]
+
+# Words that are wrong: how to call the program is told.
+WRONG = [
+    "",
+    "bogus",
+    "--bogus",
+    "show101",
+    "show101 1112",
+    "show101 1112 E5 E5",
+    "show104",
+    "check",
+    "check good.toml good.toml",
+    "check --left good.toml",
+    "replay good.toml",
+    "replay --left --left good.toml one.trace",
+    "sim good.toml",
+    "run",
+]
+
+# Questions, and the constant of crates/telegate/src/help.rt that their answers end with.
+QUESTIONS = {
+    "--help": "PROGRAM",
+    "-h": "PROGRAM",
+    "help": "PROGRAM",
+    "replay --help": "REPLAY",
+    "help replay": "REPLAY",
+    "sim --help": "SIM",
+    "run -h": "RUN",
+    "--version": "VERSION",
+}
 
 FILES = {
     "good.toml": CONFIG,
     "empty": "",
     "one.trace": TRACE,
     "none.script": "turns 0\n",
+    "no-door.toml": CONFIG + '[live]\nline = "unix:nowhere"\n',
     "no-line.toml": CONFIG + '[live]\nline = "unix:nowhere"\nlisten = "127.0.0.1:2404"\n',
 }
 
@@ -116,6 +159,20 @@ def words_and_files(count, program, folder):
         is_right &= out is not None or done.stdout != b""
         is_right &= err is not None or done.stderr != b""
         count.judge(words or "no words", is_right, done)
+    for words in WRONG:
+        done = ran([program, *words.split()], folder)
+        is_right = (done.returncode, done.stdout) == (2, b"") and "Usage: telegate" in text(done.stderr)
+        count.judge(words or "no words", is_right, done)
+    done = ran([program, *"run good.toml --allow".split()], folder)
+    is_right = text(done.stderr).startswith("error: a value is required for '--allow")
+    count.judge("an address is missing", is_right, done)
+    with open(os.path.join(TOP, "crates/telegate/src/help.rt")) as file:
+        source = file.read()
+    for words, name in QUESTIONS.items():
+        end = re.search(rf'{name}: &str = "((?:[^"\\]|\\.|\\\n)*)"', source)[1]
+        end = re.sub(r"\\\n\s*", "", end).replace('\\"', '"') + "\n"
+        done = ran([program, *words.split()], folder)
+        count.judge(f"{words} ends with its text", text(done.stdout).endswith(end), done)
     done = ran([program, "check", b"\xff\xfe"], folder)
     count.judge("words that are no text", done.returncode == 2 and done.stdout == b"", done)
 
@@ -173,7 +230,12 @@ def live_runs(count, program, folder):
     count.judge("a live run asks its line", heard[:5] == request, heard)
     is_right = run.returncode == 3 and out == b"" and err == b"device failed\n"
     count.judge("a live run ends with its line", is_right, (run.returncode, out, err))
-    # The door is another's.
+    # The line can't be reached, though the door could be had; and the door is another's.
+    with open(os.path.join(folder, "far.toml"), "w") as file:
+        file.write(f'{CONFIG}[live]\nline = "unix:nowhere"\nlisten = "{free_place()}"\n')
+    done = ran([program, "run", "far.toml"], folder)
+    is_right = done.returncode == 3 and text(done.stderr) == "device failed\n"
+    count.judge("a live run without its line", is_right, done)
     with socket.create_server(("127.0.0.1", 0)) as line:
         place = "127.0.0.1:%d" % line.getsockname()[1]
         with open(os.path.join(folder, "taken.toml"), "w") as file:

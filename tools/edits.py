@@ -1,7 +1,7 @@
 #!/usr/bin/env python3
 """Tells of each must-fail edit why the prover refuses it.
 
-    tools/edits.py [--log FOLDER] [--slot COMMAND] [CRATE | CRATE/EDIT ..]
+    tools/edits.py [--alike] [--log FOLDER] [--slot COMMAND] [CRATE | CRATE/EDIT ..]
 
 `rt must-fail` says that an edit is refused. That shows something of a contract only where the contract is what refuses it, and not
 the wording of a proof. So each edit is tried in a copy of the repository by `rt check`, and what that says is told in a word:
@@ -13,6 +13,9 @@ the wording of a proof. So each edit is tried in a copy of the repository by `rt
     law      the edit turns a definition together with the body: the bodies are proved, and the laws above them aren't
     PROVED   it isn't refused
 
+With `--alike` the edits in tools/alike/CRATE are tried in place of those of the gate, and by its name one of either. Those are of the
+same form, and the gate leaves them out for what they cost: most turn body and machine alike, and are to be refused by laws.
+
 An edit may have a harmless twin, a file of the same name in tools/twins/CRATE: an edit of the same shape that changes no answer. The
 twin is tried too, and is to be proved. One that is refused by a proof alone needs it.
 The last line is `N passed, M failed`: an edit fails that isn't refused, that is refused for names, that has a twin which isn't
@@ -21,6 +24,7 @@ Beside each edit stand the processor seconds that its check took, and for each c
 each edit pays for loading.
 """
 import argparse
+import glob
 import os
 import re
 import resource
@@ -30,8 +34,8 @@ import sys
 import tempfile
 
 TOP = os.path.dirname(os.path.dirname(os.path.abspath(__file__)))
-# Modules that hold laws and nothing else: public functions with empty bodies.
-LAWS = "laws|refinement|runs|flags|gaps|leave|visits|examples|life|offers|asking"
+# A law: a public function without parameters and result. Its body is empty, or calls other laws.
+LAW = re.compile(r"^pub fn (\w+)\(\)$", re.M)
 
 
 def libraries():
@@ -84,6 +88,19 @@ def pairs_of(path):
     return pairs
 
 
+def chosen(crate, wanted, is_alike):
+    """The paths of the crate's edits that are wanted, by their names."""
+    gate, alike = os.path.join(TOP, "crates", crate, "must-fail"), os.path.join(TOP, "tools", "alike", crate)
+    found = []
+    for folder in (gate, alike):
+        for edit in os.listdir(folder) if os.path.isdir(folder) else []:
+            name, ending = os.path.splitext(edit)
+            is_all = crate in wanted and (folder == alike) == is_alike
+            if ending == ".edit" and (is_all or f"{crate}/{name}" in wanted):
+                found.append(os.path.join(folder, edit))
+    return sorted(found, key=os.path.basename)
+
+
 def tried(edit, here, check):
     """What the check says of the crate with this edit, and whether it proves it. The files are as before then."""
     before = {}
@@ -123,19 +140,28 @@ def reason(said):
     return "other", next((line for line in lines if "error" in line), lines[-1])
 
 
-def laws_refused(said):
-    """The laws that aren't proved, where nothing else isn't: public functions with empty bodies, in modules of their own."""
+def laws_of(here):
+    """The names of the crate's laws."""
+    found = set()
+    for path in glob.glob(os.path.join(here, "src", "**", "*.rt"), recursive=True):
+        with open(path) as file:
+            found.update(LAW.findall(file.read()))
+    return found
+
+
+def laws_refused(said, laws):
+    """The laws that aren't proved, where nothing else isn't."""
     unproved = re.findall(r"^fn (\S+): (?:not proved|no proof)", said, re.M)
-    return unproved if all(re.search(rf"::({LAWS})::", name) for name in unproved) else []
+    return unproved if all(name.split("::")[-1] in laws for name in unproved) else []
 
 
-def judged(edit, twin, attempt):
+def judged(edit, twin, attempt, laws):
     """The word of an edit, that of its twin, whether they are as they should be, and the line that says most."""
     said, is_proved = attempt(edit)
     word, line = ("PROVED", "") if is_proved else reason(said)
     if any(file.startswith("specs/") for file, _, _ in pairs_of(edit)):
-        laws = laws_refused(said)
-        return ("law", "", True, ", ".join(laws)) if laws else (word, "", False, line)
+        refused = laws_refused(said, laws)
+        return ("law", "", True, ", ".join(refused)) if refused else (word, "", False, line)
     if not os.path.isfile(twin):
         return word, "", word in ("values", "goal"), line
     is_harmless = attempt(twin)[1]
@@ -144,6 +170,7 @@ def judged(edit, twin, attempt):
 
 def main():
     words = argparse.ArgumentParser()
+    words.add_argument("--alike", action="store_true")
     words.add_argument("--log")
     words.add_argument("--slot", default="")
     words.add_argument("wanted", nargs="*")
@@ -153,8 +180,8 @@ def main():
     passed = failed = 0
     wanted = given.wanted or list(named)
     for crate in dict.fromkeys(it.split("/")[0] for it in wanted):
-        folder = os.path.join(TOP, "crates", crate, "must-fail")
-        if not os.path.isdir(folder):
+        edits = chosen(crate, wanted, given.alike)
+        if not edits:
             continue
         with tempfile.TemporaryDirectory() as room:
             here = copied(crate, room, named)
@@ -180,14 +207,13 @@ def main():
             before = seconds()
             check()
             print(f"{seconds() - before:4.0f} s {crate} unchanged", flush=True)
-            for edit in sorted(os.listdir(folder)):
-                if edit.endswith(".edit") and (crate in wanted or f"{crate}/{edit[: -len('.edit')]}" in wanted):
-                    twin = os.path.join(TOP, "tools", "twins", crate, edit)
-                    before = seconds()
-                    word, of_twin, is_good, line = judged(os.path.join(folder, edit), twin, attempt)
-                    passed, failed = passed + is_good, failed + (not is_good)
-                    mark = "" if is_good else "FAILED "
-                    print(f"{seconds() - before:4.0f} s {mark}{word:7}{of_twin:13} {crate}/{edit}: {line[:160]}", flush=True)
+            for edit in edits:
+                name = os.path.basename(edit)
+                before = seconds()
+                word, of_twin, is_good, line = judged(edit, os.path.join(TOP, "tools", "twins", crate, name), attempt, laws_of(here))
+                passed, failed = passed + is_good, failed + (not is_good)
+                mark = "" if is_good else "FAILED "
+                print(f"{seconds() - before:4.0f} s {mark}{word:7}{of_twin:13} {crate}/{name}: {line[:160]}", flush=True)
     print(f"{passed} passed, {failed} failed")
     sys.exit(1 if failed else 0)
 

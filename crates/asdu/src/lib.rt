@@ -19,8 +19,6 @@ mod objects;
 mod reading;
 mod sizes;
 mod tagging;
-#[cfg(test)]
-mod tests;
 mod translation;
 mod unit;
 mod writing;

@@ -46,6 +46,3 @@ pub use laws::{
     sent_commands_are_fresh, settings_stay, waiting_commands_stay, worked_examples_hold,
 };
 pub use station::StationInfo;
-
-#[cfg(test)]
-mod tests;

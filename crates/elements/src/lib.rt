@@ -19,8 +19,6 @@ mod laws;
 mod layout;
 mod monitored;
 mod tag;
-#[cfg(test)]
-mod tests;
 mod types;
 
 pub use commands::{Dco, Qoi, Rco, Sco, SeNva, SeSva};

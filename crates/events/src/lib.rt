@@ -175,6 +175,3 @@ impl<'a> Iterator for Kept<'a> {
         Some(piece.as_slice())
     }
 }
-
-#[cfg(test)]
-mod tests;

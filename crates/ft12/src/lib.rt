@@ -32,6 +32,3 @@ pub use laws::{
 };
 pub use reading::{front, front_ref};
 pub use writing::encode;
-
-#[cfg(test)]
-mod tests;

@@ -24,7 +24,7 @@ pub mod Sound
 pub mod Tagged
 pub mod Taken
 pub mod Kept
-pub mod Stored
+pub mod Starting
 pub mod Unique
 pub mod OnePassing
 pub mod OneCourse

@@ -1,7 +1,6 @@
 pub mod Settings
 pub mod Config
 pub mod Entries
-pub mod Recorded
 pub mod Log
 pub mod Walls
 pub mod Ports

@@ -45,8 +45,3 @@ pub use ordering::{moments_never_fall, steps_keep_their_order};
 pub use ports::{Action, Event, Next, Port};
 pub use runs::{End, drive, drive_on};
 pub use settings::{LineSettings, Silence, Station, TcpSettings};
-
-#[cfg(test)]
-mod recording;
-#[cfg(test)]
-mod tests;

@@ -95,6 +95,3 @@ pub use session::SessionState;
 pub use settings::LinkSettings;
 pub use station::Station;
 pub use visits::{no_station_starves, turns_end};
-
-#[cfg(test)]
-mod tests;

@@ -27,6 +27,3 @@ pub use laws::{
     histories_keep_the_rules, reached_is_least, session_keeps_the_standard, timers_are_kept,
     transfer_is_controlled, window_is_kept,
 };
-
-#[cfg(test)]
-mod tests;

@@ -16,8 +16,6 @@ mod line;
 mod live;
 mod stations;
 mod tcp;
-#[cfg(test)]
-mod tests;
 mod unknown;
 
 pub use config::{read_config, read_live_config};

@@ -133,6 +133,3 @@ fn is_port(digits: &[u8]) -> bool
         None => false,
     }
 }
-
-#[cfg(test)]
-mod tests;

@@ -18,8 +18,6 @@ mod objects;
 mod outcome;
 mod sizes;
 mod tcp;
-#[cfg(test)]
-mod tests;
 mod units;
 
 pub use line::show_line;

@@ -52,6 +52,3 @@ pub use sim::Sim;
 pub use simulation::{SimFault, simulate};
 pub use tally::Tally;
 pub use traces::TextFault;
-
-#[cfg(test)]
-mod tests;

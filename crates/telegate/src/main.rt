@@ -29,8 +29,6 @@ mod running;
 mod shell;
 mod showing;
 mod simulating;
-#[cfg(test)]
-mod tests;
 
 use fault::{Fault, USAGE};
 use host::System;

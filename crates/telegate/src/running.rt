@@ -189,6 +189,3 @@ fn port_trouble(fault: &io::Error) -> Trouble {
         _ => Trouble::PortUnusable,
     }
 }
-
-#[cfg(test)]
-mod tests;

@@ -26,8 +26,6 @@ mod octets;
 mod port;
 mod reading;
 mod recorded;
-#[cfg(test)]
-mod tests;
 mod text_port;
 
 pub use actions::{append_line, cause_number};

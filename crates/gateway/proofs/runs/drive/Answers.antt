@@ -1,7 +1,7 @@
 use Rattle.gateway.specs.Order.{KeepsOrder}
 use Rattle.gateway.specs.Traffic.{IsFaithful}
 use Rattle.gateway.specs.Setups.{setup_of}
-use Rattle.gateway.proofs.Stored.{told_follows, nothing_rests, of_told}
+use Rattle.gateway.proofs.Starting.{told_follows, nothing_rests, of_told}
 use Rattle.gateway.proofs.runs.drive.Goals as goal
 
 pub returns-clause-faithful : goal.returns-clause-faithful

@@ -1,5 +1,5 @@
 use Rattle.std.proofs.Common.{Some, [], refl}
-use Rattle.gateway.proofs.Stored.{timely, first_follows}
+use Rattle.gateway.proofs.Starting.{timely, first_follows}
 use Rattle.gateway.proofs.engine.Gateway.new.Goals as goal
 
 pub returns-clause-begins : goal.returns-clause-begins

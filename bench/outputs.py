@@ -1,0 +1,137 @@
+#!/usr/bin/env python3
+"""Runs `telegate` over outputs that fail, at each octet of what it prints, and judges what got out and what it says then.
+
+    bench/outputs.py [--program FILE]
+
+Standard output is a file that takes so many octets and no more (RLIMIT_FSIZE: a write that is cut short, then EFBIG), a device that is
+full, and a pipe whose reader is gone. A library in front of the C library's makes it take one octet a write and no more than so many,
+with a signal before each one or none. Each time a beginning of the whole output got out, as long as it could be, and the run ends with
+`device failed` and status 3, or well where all of it got out. A fault that can't be told keeps its status. The last line is `N passed,
+M failed`; the exit status is 1 where one failed. The program is the one that ./build makes.
+"""
+import argparse
+import os
+import resource
+import signal
+import subprocess
+import sys
+import tempfile
+
+import ends
+
+CONFIG = "[line]\nlink = 1\ncause = 1\nca = 1\nioa = 2\n[[station]]\naddress = 1\nca = 1\n"
+TRACE = "10 S 100B010C16\n20 S E5\n30 O\n40 R 680407000000\n50 S 680909680801010103016400017416\n"
+
+# The words, and what they print.
+COMMANDS = [
+    ("check config.toml", "ok\n"),
+    ("show101 1112 E5", "single\n"),
+    ("sim config.toml none.script", "station 1 reports 0 given 0 accepted 0\n"),
+    (
+        "replay config.toml one.trace --left --counts",
+        "0 > S 1049014A16\n10 > S 1040014116\n20 > S 107B017C16\n40 > T 68040B000000\n50 > S 105B015C16\n"
+        "50 > T 680E0000000001010300010064000001\nleft 01010300010064000001\ncounts skipped 0 mirrors 0 lost 0 spoilt 0\n",
+    ),
+]
+FILES = {"config.toml": CONFIG, "one.trace": TRACE, "none.script": "turns 0\n", "empty": ""}
+
+# Standard output takes one octet a write, TAKES of them, then its reader is gone; with SIGNALS a signal comes before each write.
+LIBRARY = r"""
+#define _GNU_SOURCE
+#include <dlfcn.h>
+#include <errno.h>
+#include <stdlib.h>
+#include <unistd.h>
+#include <sys/uio.h>
+
+static ssize_t (*real)(int, const void *, size_t);
+static long left = -1;
+static int signalled;
+
+ssize_t write(int file, const void *octets, size_t size) {
+    if (!real) real = (ssize_t (*)(int, const void *, size_t))dlsym(RTLD_NEXT, "write");
+    if (file != 1) return real(file, octets, size);
+    if (left < 0) left = atol(getenv("TAKES"));
+    if (getenv("SIGNALS") && !signalled) { signalled = 1; errno = EINTR; return -1; }
+    signalled = 0;
+    if (left == 0) { errno = EPIPE; return -1; }
+    if (size == 0) return 0;
+    left--;
+    return real(file, octets, 1);
+}
+
+ssize_t writev(int file, const struct iovec *parts, int count) {
+    for (int part = 0; part < count; part++)
+        if (parts[part].iov_len) return write(file, parts[part].iov_base, parts[part].iov_len);
+    return 0;
+}
+"""
+
+
+def limited(octets):
+    """What a process does before it runs: its files take so many octets."""
+
+    def limit():
+        signal.signal(signal.SIGXFSZ, signal.SIG_IGN)
+        resource.setrlimit(resource.RLIMIT_FSIZE, (octets, octets))
+
+    return limit
+
+
+def ran(program, words, folder, out, **how):
+    """The exit status, what was printed to a file, and what stands on standard error."""
+    with open(os.path.join(folder, "out"), "w+b") as file:
+        done = subprocess.run(
+            [program, *words.split()], cwd=folder, stdin=subprocess.DEVNULL, stdout=out or file, stderr=subprocess.PIPE, timeout=60, **how
+        )
+        file.seek(0)
+        return done.returncode, file.read().decode(), done.stderr.decode()
+
+
+def wanted(lines, octets):
+    """What is to come of an output that takes so many octets."""
+    return (0, lines, "") if octets >= len(lines) else (3, lines[:octets], "device failed\n")
+
+
+def cases(program, folder, library):
+    """A name, what came, and what is wanted."""
+    for words, lines in COMMANDS:
+        for octets in range(len(lines) + 2):
+            came = ran(program, words, folder, None, preexec_fn=limited(octets))
+            yield f"{words}, a file of {octets} octets", came, wanted(lines, octets)
+            for signals in ({}, {"SIGNALS": "1"}):
+                environment = dict(os.environ, LD_PRELOAD=library, TAKES=str(octets), **signals)
+                came = ran(program, words, folder, None, env=environment)
+                yield f"{words}, {octets} writes of one octet {signals}", came, wanted(lines, octets)
+        with open("/dev/full", "wb") as full:
+            yield f"{words}, a full device", ran(program, words, folder, full), (3, "", "device failed\n")
+        reader, writer = os.pipe()
+        os.close(reader)
+        yield f"{words}, a pipe without a reader", ran(program, words, folder, writer), (3, "", "device failed\n")
+        os.close(writer)
+    # A fault that can't be told.
+    for words, status in (("check empty", 1), ("check nowhere", 3), ("check", 2)):
+        with open("/dev/full", "wb") as full:
+            done = subprocess.run([program, *words.split()], cwd=folder, stdin=subprocess.DEVNULL, stdout=subprocess.PIPE, stderr=full)
+        yield f"{words}, no standard error", (done.returncode, done.stdout), (status, b"")
+
+
+def main():
+    words = argparse.ArgumentParser()
+    words.add_argument("--program", default=ends.PROGRAM)
+    program = os.path.abspath(words.parse_args().program)
+    passed = failed = 0
+    with tempfile.TemporaryDirectory() as folder:
+        for name, text in FILES.items():
+            with open(os.path.join(folder, name), "w") as file:
+                file.write(text)
+        for name, came, want in cases(program, folder, ends.library(folder, "outputs", LIBRARY)):
+            passed, failed = passed + (came == want), failed + (came != want)
+            if came != want:
+                print(f"FAILED, {name}: {came}, and not {want}")
+    print(f"{passed} passed, {failed} failed")
+    sys.exit(1 if failed or not passed else 0)
+
+
+if __name__ == "__main__":
+    main()

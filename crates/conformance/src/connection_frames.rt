@@ -1,0 +1,331 @@
+ghost use Rattle.std.specs.Prelude.{◌≤◌, length};
+
+use apci::{Apdu, ApduRef, Assembler, Front, FrontRef, Heard, Uf, Why, encode, front, front_ref};
+
+/// The measured report of a normalised value: an I format with two objects.
+const REPORT: [u8; 21] = [
+    0x68, 0x13, 0x00, 0x00, 0x00, 0x00, 0x09, 0x82, 0x03, 0x00, 0x01, 0x00, 0x0A, 0x00, 0x00, 0x00,
+    0x80, 0x00, 0xFF, 0xFF, 0x80,
+];
+
+/// The shortest I format: the last one before the counter runs over.
+const LAST_NUMBER: [u8; 15] = [
+    0x68, 0x0D, 0xFE, 0xFF, 0x00, 0x00, 0x64, 0x01, 0x06, 0x00, 0x01, 0x00, 0x00, 0x00, 0x00,
+];
+
+const ACKNOWLEDGE: [u8; 6] = [0x68, 0x04, 0x01, 0x00, 0x02, 0x00];
+
+const FUNCTIONS: [(Uf, u8); 6] = [
+    (Uf::StartAct, 0x07),
+    (Uf::StartCon, 0x0B),
+    (Uf::StopAct, 0x13),
+    (Uf::StopCon, 0x23),
+    (Uf::TestAct, 0x43),
+    (Uf::TestCon, 0x83),
+];
+
+#[test]
+fn apdus_of_each_format(rt: HostRuntime) {
+    for (function, control) in FUNCTIONS {
+        let octets = [0x68, 0x04, control, 0x00, 0x00, 0x00];
+        let apdu = Apdu::U(function);
+        assert!(rt;
+            encode(&apdu).as_slice() == octets.as_slice() && front(&octets) == Front::Whole(apdu, 6)
+        );
+    }
+    let report = ApduRef::I {
+        ns: 0,
+        nr: 0,
+        asdu: &REPORT[6..],
+    };
+    assert!(rt;
+        front_ref(&REPORT) == FrontRef::Whole(report, 21)
+            && encode(&report.to_apdu()).as_slice() == REPORT.as_slice()
+    );
+    let more = [0x68, 0x04, 0x01, 0x00, 0x02, 0x00, 0xE5];
+    assert!(rt;
+        front_ref(&ACKNOWLEDGE[..3]) == FrontRef::More
+            && front_ref(&more) == FrontRef::Whole(ApduRef::S { nr: 1 }, 6)
+            && front(&more) == Front::Whole(Apdu::S { nr: 1 }, 6)
+            && encode(&Apdu::S { nr: 1 }).as_slice() == ACKNOWLEDGE.as_slice()
+    );
+    // Counters run modulo 32768.
+    let asdu = &LAST_NUMBER[6..];
+    let last = ApduRef::I {
+        ns: 32767,
+        nr: 0,
+        asdu,
+    };
+    assert!(rt;
+        front_ref(&LAST_NUMBER) == FrontRef::Whole(last, 15)
+            && encode(&last.to_apdu()).as_slice() == LAST_NUMBER.as_slice()
+    );
+    let next = ApduRef::I {
+        ns: 0,
+        nr: 32767,
+        asdu,
+    };
+    assert!(rt; encode(&next.to_apdu())[2..6] == [0x00, 0x00, 0xFE, 0xFF]);
+}
+
+#[test]
+fn refusals_in_their_order(rt: HostRuntime) {
+    let refused: [(&[u8], usize, Why); 21] = [
+        (&[0x00], 0, Why::Start),
+        (&[0xE5, 0x03, 0x05], 0, Why::Start),
+        (&[0x68, 0x03], 1, Why::Length),
+        (&[0x68, 0xFE], 1, Why::Length),
+        (&[0x68, 0xFE, 0x03], 1, Why::Length),
+        (&[0x68, 0x04, 0x03], 2, Why::Control),
+        (&[0x68, 0x05, 0x03], 2, Why::Control),
+        (&[0x68, 0x0D, 0xFF], 2, Why::Control),
+        (&[0x68, 0x05, 0x07], 1, Why::NotFour),
+        (&[0x68, 0x06, 0x01], 1, Why::NotFour),
+        (&[0x68, 0xFD, 0x01], 1, Why::NotFour),
+        (&[0x68, 0x0C, 0x00], 1, Why::Short),
+        (&[0x68, 0x04, 0x00], 1, Why::Short),
+        (&[0x68, 0x04, 0x01, 0x01], 3, Why::Control),
+        (&[0x68, 0x04, 0x43, 0x01], 3, Why::Control),
+        (&[0x68, 0x04, 0x01, 0x00, 0x01], 4, Why::Control),
+        (&[0x68, 0x04, 0x43, 0x00, 0x02], 4, Why::Control),
+        (&[0x68, 0x0D, 0x00, 0x00, 0x01], 4, Why::Control),
+        (&[0x68, 0x04, 0x43, 0x00, 0x00, 0x01], 5, Why::Control),
+        (&[0x68, 0x04, 0x01, 0x01, 0x01, 0x00], 3, Why::Control),
+        (&[0x68, 0x04, 0x43, 0x01, 0x01, 0x01], 3, Why::Control),
+    ];
+    for (octets, place, why) in refused {
+        let mut assembler = Assembler::new();
+        assert!(rt;
+            front(octets) == Front::Never(place, why)
+                && front_ref(octets) == FrontRef::Never(place, why)
+                && assembler.feed(octets) == (octets.len(), Heard::Never(place, why))
+        );
+    }
+    // A length from 5 to 12 is judged with the octet after it.
+    for len in 4u8..=253 {
+        assert!(rt; front(&[0x68, len]) == Front::More);
+    }
+    assert!(rt; front(&[]) == Front::More);
+}
+
+/// What is heard where `front` answers this.
+fn heard_from(front: Front) -> Heard {
+    match front {
+        Front::Whole(apdu, _) => Heard::Apdu(apdu),
+        Front::More => Heard::More,
+        Front::Never(place, why) => Heard::Never(place, why),
+    }
+}
+
+/// APDUs of a connection with reports, commands and acknowledgements, and four beginnings of none.
+const APDUS: [&[u8]; 30] = [
+    &REPORT,
+    &LAST_NUMBER,
+    &ACKNOWLEDGE,
+    &[
+        0x68, 0x0E, 0x00, 0x00, 0x00, 0x00, 0x01, 0x01, 0x03, 0x00, 0x01, 0x00, 0x64, 0x00, 0x00,
+        0x01,
+    ],
+    &[
+        0x68, 0x0E, 0x18, 0x00, 0x00, 0x00, 0x01, 0x01, 0x03, 0x00, 0x01, 0x00, 0x64, 0x00, 0x00,
+        0x01,
+    ],
+    &[
+        0x68, 0x0E, 0x00, 0x00, 0x00, 0x00, 0x01, 0x01, 0x03, 0x00, 0x01, 0x00, 0x65, 0x00, 0x00,
+        0x01,
+    ],
+    &[
+        0x68, 0x0E, 0x02, 0x00, 0x00, 0x00, 0x01, 0x01, 0x03, 0x00, 0x01, 0x00, 0x65, 0x00, 0x00,
+        0x01,
+    ],
+    &[
+        0x68, 0x0E, 0x00, 0x00, 0x00, 0x00, 0x2D, 0x01, 0x06, 0x00, 0x01, 0x00, 0x0A, 0x00, 0x00,
+        0x81,
+    ],
+    &[
+        0x68, 0x0E, 0x00, 0x00, 0x02, 0x00, 0x2D, 0x01, 0x07, 0x00, 0x01, 0x00, 0x0A, 0x00, 0x00,
+        0x81,
+    ],
+    &[
+        0x68, 0x0E, 0x02, 0x00, 0x02, 0x00, 0x2D, 0x01, 0x06, 0x00, 0x01, 0x00, 0x0A, 0x00, 0x00,
+        0x01,
+    ],
+    &[
+        0x68, 0x0E, 0x00, 0x00, 0x02, 0x00, 0x2D, 0x01, 0x47, 0x00, 0x01, 0x00, 0x0A, 0x00, 0x00,
+        0x01,
+    ],
+    &[
+        0x68, 0x0E, 0x00, 0x00, 0x00, 0x00, 0x64, 0x01, 0x06, 0x00, 0x01, 0x00, 0x00, 0x00, 0x00,
+        0x14,
+    ],
+    &[
+        0x68, 0x0E, 0x00, 0x00, 0x02, 0x00, 0x64, 0x01, 0x47, 0x00, 0x01, 0x00, 0x00, 0x00, 0x00,
+        0x14,
+    ],
+    &[
+        0x68, 0x0E, 0x00, 0x00, 0x82, 0x00, 0x64, 0x01, 0x47, 0x00, 0x01, 0x00, 0x00, 0x00, 0x00,
+        0x14,
+    ],
+    &[
+        0x68, 0x0E, 0x00, 0x00, 0x00, 0x00, 0x64, 0x01, 0x06, 0x00, 0xFF, 0xFF, 0x00, 0x00, 0x00,
+        0x14,
+    ],
+    &[
+        0x68, 0x14, 0x00, 0x00, 0x00, 0x00, 0x67, 0x01, 0x06, 0x00, 0x01, 0x00, 0x00, 0x00, 0x00,
+        0xD5, 0xDD, 0x22, 0x0C, 0x9D, 0x02, 0x18,
+    ],
+    &[
+        0x68, 0x14, 0x00, 0x00, 0x02, 0x00, 0x67, 0x01, 0x6C, 0x00, 0x01, 0x00, 0x00, 0x00, 0x00,
+        0xD5, 0xDD, 0x22, 0x0C, 0x9D, 0x02, 0x18,
+    ],
+    &[
+        0x68, 0x15, 0x00, 0x00, 0x00, 0x00, 0x3A, 0x01, 0x06, 0x00, 0x01, 0x00, 0x0A, 0x00, 0x00,
+        0x01, 0xD5, 0xDD, 0x22, 0x0C, 0x9D, 0x02, 0x18,
+    ],
+    &[
+        0x68, 0x15, 0x00, 0x00, 0x02, 0x00, 0x3A, 0x01, 0x07, 0x00, 0x01, 0x00, 0x0A, 0x00, 0x00,
+        0x01, 0xD5, 0xDD, 0x22, 0x0C, 0x9D, 0x02, 0x18,
+    ],
+    &[
+        0x68, 0x15, 0x00, 0x00, 0x02, 0x00, 0x3A, 0x01, 0x47, 0x00, 0x01, 0x00, 0x0A, 0x00, 0x00,
+        0x01, 0xD5, 0xDD, 0x22, 0x0C, 0x9D, 0x02, 0x18,
+    ],
+    &[
+        0x68, 0x1A, 0x04, 0x00, 0x00, 0x00, 0x01, 0x04, 0x03, 0x00, 0x01, 0x00, 0x79, 0x00, 0x00,
+        0x00, 0x7A, 0x00, 0x00, 0x00, 0x7B, 0x00, 0x00, 0x00, 0x7C, 0x00, 0x00, 0x00,
+    ],
+    &[0x68, 0x04, 0x01, 0x00, 0x00, 0x00],
+    &[0x68, 0x04, 0x01, 0x00, 0x10, 0x00],
+    &[0x68, 0x04, 0x01, 0x00, 0x12, 0x00],
+    &[0x68, 0x04, 0x01, 0x00, 0x22, 0x00],
+    &[0x68, 0x04, 0x01, 0x00, 0x80, 0x00],
+    &[0x68, 0xFE],
+    &[0x68, 0x04, 0x01, 0x01, 0x00, 0x00],
+    &[0x68, 0x05, 0x07],
+    &[0x68, 0x0C, 0x00],
+];
+
+/// The report of 60 single points: objects 1 to 60, each off.
+fn long_report() -> [u8; 252] {
+    let mut octets = [0; 252];
+    octets[..12].copy_from_slice(&[
+        0x68, 0xFA, 0x00, 0x00, 0x00, 0x00, 0x01, 0x3C, 0x03, 0x00, 0x01, 0x00,
+    ]);
+    for object in 1..=60u8 {
+        octets[8 + 4 * usize::from(object)] = object;
+    }
+    octets
+}
+
+/// Whether octets that are cut in two here are heard as `front` finds them, each looked at at most
+/// once.
+fn is_heard_alike(octets: &[u8], cut: usize) -> bool
+    requires { cut ≤ length octets.now }
+{
+    let whole = heard_from(front(octets));
+    let (first, rest) = octets.split_at(cut);
+    let mut assembler = Assembler::new();
+    let (taken, heard) = assembler.feed(first);
+    let alike = if heard == Heard::More {
+        assembler.feed(rest) == (rest.len(), whole)
+    } else {
+        heard == whole && assembler.feed(rest) == (rest.len(), Heard::Deaf)
+    };
+    alike && taken == cut && assembler.looked() <= octets.len() as u64
+}
+
+#[test]
+fn every_cut_is_heard_alike(rt: HostRuntime) {
+    for octets in APDUS {
+        for cut in 0..octets.len() {
+            assert!(rt; is_heard_alike(octets, cut));
+        }
+    }
+    for (_, control) in FUNCTIONS {
+        for cut in 0..6 {
+            assert!(rt; is_heard_alike(&[0x68, 0x04, control, 0x00, 0x00, 0x00], cut));
+        }
+    }
+    let octets = long_report();
+    for cut in 0..octets.len() {
+        assert!(rt; is_heard_alike(&octets, cut));
+    }
+}
+
+/// Whether each octet, one after another, is heard as `front` finds those that came.
+fn is_heard_octet_by_octet(octets: &[u8]) -> bool {
+    let mut assembler = Assembler::new();
+    for (i, octet) in octets.iter().enumerate() {
+        let (taken, heard) = assembler.feed(&[*octet]);
+        let goes_on = heard == Heard::More;
+        if taken != 1 || heard != heard_from(front(&octets[..i + 1])) {
+            return false;
+        }
+        if !goes_on {
+            break;
+        }
+    }
+    true
+}
+
+#[test]
+fn one_pass_hears_what_reading_again_hears(rt: HostRuntime) {
+    for place in 0..REPORT.len() {
+        for octet in 0u8..=255 {
+            let mut octets = REPORT;
+            octets[place] = octet;
+            assert!(rt; is_heard_octet_by_octet(&octets));
+        }
+    }
+}
+
+/// A call of an assembler.
+#[derive(Drop)]
+enum Step<'a> {
+    /// A piece, and what is to be answered.
+    Feed(&'a [u8], (usize, Heard)),
+    Clear,
+    /// How many octets it has looked at by then.
+    Looked(u64),
+}
+
+/// Whether each call, in their order, answers what it is to.
+fn answers(assembler: &mut Assembler, steps: &[Step]) -> bool {
+    steps.iter().all(|step| match step {
+        Step::Feed(piece, expected) => assembler.feed(piece) == *expected,
+        Step::Clear => {
+            assembler.clear();
+            true
+        }
+        Step::Looked(count) => assembler.looked() == *count,
+    })
+}
+
+#[test]
+fn what_is_left_and_what_is_dropped(rt: HostRuntime) {
+    let piece = [0x00, 0x00, 0x00, 0x68, 0x00];
+    let steps = [
+        Step::Feed(&[0x68, 0x04, 0x43], (3, Heard::More)),
+        // Octets after an APDU are left.
+        Step::Feed(&piece, (3, Heard::Apdu(Apdu::U(Uf::TestAct)))),
+        Step::Feed(&piece[3..], (2, Heard::Never(1, Why::Length))),
+        // It is deaf until it is cleared.
+        Step::Feed(&ACKNOWLEDGE, (6, Heard::Deaf)),
+        Step::Clear,
+        Step::Feed(&ACKNOWLEDGE, (6, Heard::Apdu(Apdu::S { nr: 1 }))),
+        Step::Looked(14),
+        // Half an ASDU is forgotten.
+        Step::Feed(&REPORT[..12], (12, Heard::More)),
+        Step::Clear,
+        Step::Feed(&REPORT, (21, heard_from(front(&REPORT)))),
+        Step::Feed(&[0x00], (1, Heard::Never(0, Why::Start))),
+        Step::Looked(48),
+    ];
+    let mut assembler = Assembler::new();
+    assert!(rt; answers(&mut assembler, &steps));
+    // A flood is taken, and not looked at.
+    for _ in 0..10_000u32 {
+        assert!(rt; assembler.feed(&[0x00]) == (1, Heard::Deaf));
+    }
+    assert!(rt; assembler.looked() == 48);
+}

@@ -1,0 +1,67 @@
+//! A primary and a secondary station over a line that loses one request or answer.
+
+use super::bench::settings;
+use ft12::{LinkSize, encode};
+use link::{Master, NoMemory, Outcome, Station};
+
+/// What is lost of the exchange with this number.
+#[derive(Clone, Copy)]
+struct Loss {
+    exchange: usize,
+    request: bool,
+}
+
+/// The first octets of the reports that the master took, as one number in base 16.
+fn taken(master: &mut Master, station: &mut Station, loss: Loss) -> u64 {
+    let mut taken: u64 = 0;
+    let mut now: u64 = 0;
+    for exchange in 0..24 {
+        let Some(request) = master.next(now, true) else {
+            return taken;
+        };
+        let lost = exchange == loss.exchange;
+        let size = station.size();
+        let answer = if lost && loss.request {
+            None
+        } else {
+            station.hear(request.octets.as_slice())
+        };
+        match answer {
+            Some(frame) if !lost => {
+                let octets = encode(size, &frame);
+                if let Outcome::Report(_, asdu) = master.octets(octets.as_slice()) {
+                    if let Some(octet) = asdu.first() {
+                        taken = taken.wrapping_mul(16).wrapping_add(u64::from(*octet));
+                    }
+                }
+            }
+            _ => {
+                now = now.saturating_add(200);
+                let _quiet = master.due(now);
+            }
+        }
+    }
+    taken
+}
+
+#[test]
+fn each_report_comes_once(rt: HostRuntime) -> Result<(), NoMemory> {
+    for exchange in 0..16 {
+        for request in [true, false] {
+            let mut station = Station::new(rt.alloc(), LinkSize::One, 1);
+            station.report2(&[1])?;
+            station.report2(&[2])?;
+            station.report2(&[3])?;
+            station.report2(&[4])?;
+            station.report2(&[5])?;
+            let mut master = Master::new(rt.alloc(), settings(0, true, 8), &[1])?;
+            let loss = Loss { exchange, request };
+            assert!(rt;
+                taken(&mut master, &mut station, loss) == 0x12345,
+                "at {exchange}"
+            );
+            assert!(rt; station.given() == 5);
+        }
+    }
+    Ok(())
+}

@@ -1,0 +1,259 @@
+//! Values from the standard's tables, and tags of known days.
+use elements::{
+    Bcr, Bsi, Coi, Cp56, Dco, Diq, Element, Nva, Qoi, Rco, Sco, SeNva, SeSva, Siq, Sva, TypeId,
+    Verdict, Vti, judge, kind,
+};
+
+/// The octet, the type, the element's octets, whether it is tagged, and whether it goes in monitor
+/// direction.
+const TABLE: [(u8, TypeId, usize, bool, bool); 28] = [
+    (1, TypeId::MSpNa1, 1, false, true),
+    (30, TypeId::MSpTb1, 1, true, true),
+    (3, TypeId::MDpNa1, 1, false, true),
+    (31, TypeId::MDpTb1, 1, true, true),
+    (5, TypeId::MStNa1, 2, false, true),
+    (32, TypeId::MStTb1, 2, true, true),
+    (7, TypeId::MBoNa1, 5, false, true),
+    (33, TypeId::MBoTb1, 5, true, true),
+    (9, TypeId::MMeNa1, 3, false, true),
+    (34, TypeId::MMeTd1, 3, true, true),
+    (11, TypeId::MMeNb1, 3, false, true),
+    (35, TypeId::MMeTe1, 3, true, true),
+    (13, TypeId::MMeNc1, 5, false, true),
+    (36, TypeId::MMeTf1, 5, true, true),
+    (15, TypeId::MItNa1, 5, false, true),
+    (37, TypeId::MItTb1, 5, true, true),
+    (70, TypeId::MEiNa1, 1, false, true),
+    (45, TypeId::CScNa1, 1, false, false),
+    (46, TypeId::CDcNa1, 1, false, false),
+    (47, TypeId::CRcNa1, 1, false, false),
+    (48, TypeId::CSeNa1, 3, false, false),
+    (49, TypeId::CSeNb1, 3, false, false),
+    (100, TypeId::CIcNa1, 1, false, false),
+    (58, TypeId::CScTa1, 1, true, false),
+    (59, TypeId::CDcTa1, 1, true, false),
+    (60, TypeId::CRcTa1, 1, true, false),
+    (61, TypeId::CSeTa1, 3, true, false),
+    (62, TypeId::CSeTb1, 3, true, false),
+];
+
+#[test]
+fn knows_the_types(rt: HostRuntime) {
+    for octet in 0..=255u8 {
+        let row = TABLE.iter().find(|row| row.0 == octet);
+        assert!(rt; kind(octet) == row.map(|row| row.1));
+    }
+    for (_, kind, size, tagged, monitor) in TABLE {
+        assert!(rt; (kind.size(), kind.tagged(), kind.monitor()) == (size, tagged, monitor));
+    }
+}
+
+#[test]
+fn shows_values(rt: HostRuntime) {
+    let rows: [(TypeId, &[u8], i64); 29] = [
+        // Quality and reserved bits show nothing.
+        (TypeId::MSpNa1, &[0xF1], 1),
+        (TypeId::MSpTb1, &[0xFE], 0),
+        (TypeId::MDpNa1, &[0xF2], 2),
+        (TypeId::MDpTb1, &[0x03], 3),
+        (TypeId::MStNa1, &[0x3F, 0xFF], 63),
+        (TypeId::MStTb1, &[0xC0, 0x00], -64),
+        (TypeId::MStNa1, &[0xFF, 0x00], -1),
+        (TypeId::MBoNa1, &[0x78, 0x56, 0x34, 0xF2, 0xFF], 0xF234_5678),
+        (
+            TypeId::MBoTb1,
+            &[0xFF, 0xFF, 0xFF, 0xFF, 0x00],
+            4_294_967_295,
+        ),
+        (TypeId::MMeNa1, &[0x00, 0x80, 0x00], -32_768),
+        (TypeId::MMeTd1, &[0xFF, 0x7F, 0x80], 32_767),
+        (TypeId::MMeNb1, &[0xFF, 0xFF, 0x80], -1),
+        (TypeId::MMeTe1, &[0x02, 0x01, 0x00], 258),
+        // The bits of the short floats 1 and -2.
+        (TypeId::MMeNc1, &[0x00, 0x00, 0x80, 0x3F, 0x00], 0x3F80_0000),
+        (TypeId::MMeTf1, &[0x00, 0x00, 0x00, 0xC0, 0x00], 0xC000_0000),
+        (
+            TypeId::MItNa1,
+            &[0x00, 0x00, 0x00, 0x80, 0x1F],
+            -2_147_483_648,
+        ),
+        (TypeId::MItTb1, &[0xFE, 0xFF, 0xFF, 0xFF, 0x00], -2),
+        (TypeId::MEiNa1, &[0x82], 2),
+        (TypeId::CScNa1, &[0x81], 1),
+        (TypeId::CDcNa1, &[0x82], 2),
+        (TypeId::CRcNa1, &[0x7D], 1),
+        (TypeId::CSeNa1, &[0x00, 0xC0, 0x80], -16_384),
+        (TypeId::CSeNb1, &[0x9C, 0xFF, 0x00], -100),
+        (TypeId::CIcNa1, &[0x14], 20),
+        (TypeId::CScTa1, &[0x81], 1),
+        (TypeId::CDcTa1, &[0x82], 2),
+        (TypeId::CRcTa1, &[0x7D], 1),
+        (TypeId::CSeTa1, &[0x00, 0xC0, 0x80], -16_384),
+        (TypeId::CSeTb1, &[0x9C, 0xFF, 0x00], -100),
+    ];
+    for (kind, octets, value) in rows {
+        assert!(rt; octets.len() == kind.size());
+        if octets.len() == kind.size() {
+            assert!(rt; kind.value(octets) == value);
+        }
+    }
+}
+
+// All bits are carried: reserved ones, quality, and the sign.
+#[test]
+fn carries_elements(rt: HostRuntime) {
+    let mut out = [0xAA; 1];
+    Siq(0xFE).put(&mut out);
+    assert!(rt; out == [0xFE] && Siq::get(&out) == Siq(0xFE));
+    let mut out = [0xAA; 1];
+    Diq(0x8F).put(&mut out);
+    assert!(rt; out == [0x8F] && Diq::get(&out) == Diq(0x8F));
+    let mut out = [0xAA; 2];
+    Vti {
+        vti: 0xC0,
+        quality: 0xFF,
+    }
+    .put(&mut out);
+    assert!(rt;
+        out == [0xC0, 0xFF]
+            && Vti::get(&out)
+                == Vti {
+                    vti: 0xC0,
+                    quality: 0xFF
+                }
+    );
+    let mut out = [0xAA; 5];
+    Bsi {
+        bits: 0xF234_5678,
+        quality: 0x81,
+    }
+    .put(&mut out);
+    assert!(rt;
+        out == [0x78, 0x56, 0x34, 0xF2, 0x81]
+            && Bsi::get(&out)
+                == Bsi {
+                    bits: 0xF234_5678,
+                    quality: 0x81
+                }
+    );
+    let mut out = [0xAA; 3];
+    Nva {
+        value: -32_768,
+        quality: 0x0E,
+    }
+    .put(&mut out);
+    assert!(rt;
+        out == [0x00, 0x80, 0x0E]
+            && Nva::get(&out)
+                == Nva {
+                    value: -32_768,
+                    quality: 0x0E
+                }
+    );
+    let mut out = [0xAA; 3];
+    Sva {
+        value: -2,
+        quality: 0x80,
+    }
+    .put(&mut out);
+    assert!(rt;
+        out == [0xFE, 0xFF, 0x80]
+            && Sva::get(&out)
+                == Sva {
+                    value: -2,
+                    quality: 0x80
+                }
+    );
+    let mut out = [0xAA; 5];
+    Bcr {
+        reading: -2_147_483_648,
+        sequence: 0xFF,
+    }
+    .put(&mut out);
+    assert!(rt;
+        out == [0x00, 0x00, 0x00, 0x80, 0xFF]
+            && Bcr::get(&out)
+                == Bcr {
+                    reading: -2_147_483_648,
+                    sequence: 0xFF
+                }
+    );
+    let mut out = [0xAA; 1];
+    Coi(0x82).put(&mut out);
+    assert!(rt; out == [0x82] && Coi::get(&out) == Coi(0x82));
+    let mut out = [0xAA; 1];
+    Sco(0xFF).put(&mut out);
+    assert!(rt; out == [0xFF] && Sco::get(&out) == Sco(0xFF));
+    let mut out = [0xAA; 1];
+    Dco(0x83).put(&mut out);
+    assert!(rt; out == [0x83] && Dco::get(&out) == Dco(0x83));
+    let mut out = [0xAA; 1];
+    Rco(0x7D).put(&mut out);
+    assert!(rt; out == [0x7D] && Rco::get(&out) == Rco(0x7D));
+    let mut out = [0xAA; 3];
+    SeNva {
+        value: -16_384,
+        qualifier: 0x81,
+    }
+    .put(&mut out);
+    assert!(rt;
+        out == [0x00, 0xC0, 0x81]
+            && SeNva::get(&out)
+                == SeNva {
+                    value: -16_384,
+                    qualifier: 0x81
+                }
+    );
+    let mut out = [0xAA; 3];
+    SeSva {
+        value: 258,
+        qualifier: 0x7F,
+    }
+    .put(&mut out);
+    assert!(rt;
+        out == [0x02, 0x01, 0x7F]
+            && SeSva::get(&out)
+                == SeSva {
+                    value: 258,
+                    qualifier: 0x7F
+                }
+    );
+    let mut out = [0xAA; 1];
+    Qoi(0x14).put(&mut out);
+    assert!(rt; out == [0x14] && Qoi::get(&out) == Qoi(0x14));
+}
+
+#[test]
+fn judges_tags(rt: HostRuntime) {
+    // Thursday 2024-02-29 12:34:56.789.
+    let thursday = [0xD5, 0xDD, 0x22, 0x0C, 0x9D, 0x02, 0x18];
+    let good = Verdict::Good(1_709_210_096_789);
+    let changes = [
+        (6, 0x18, good),
+        (6, 0x17, Verdict::NoSuchDay),
+        (4, 0xBD, Verdict::WrongWeekday),
+        (4, 0x1D, good),
+        (2, 0xA2, Verdict::MarkedInvalid),
+        (3, 0x8C, good),
+        (1, 0xE9, Verdict::Good(1_709_210_099_861)),
+        (1, 0xEA, Verdict::OutOfRange),
+        (2, 0x3C, Verdict::OutOfRange),
+        (3, 0x18, Verdict::OutOfRange),
+        (4, 0x80, Verdict::OutOfRange),
+        (5, 0x00, Verdict::OutOfRange),
+        (5, 0x0D, Verdict::OutOfRange),
+        (6, 0x64, Verdict::OutOfRange),
+    ];
+    for (place, octet, wanted) in changes {
+        let mut tag = thursday;
+        if let Some(changed) = tag.get_mut(place) {
+            *changed = octet;
+        }
+        assert!(rt; judge(&Cp56(tag)) == wanted);
+    }
+    // A day that doesn't exist comes before a wrong day of the week, and that before IV.
+    assert!(rt;
+        judge(&Cp56([0, 0, 0x80, 0, 0x7D, 2, 23])) == Verdict::NoSuchDay
+            && judge(&Cp56([0, 0, 0x80, 0, 0xBD, 2, 24])) == Verdict::WrongWeekday
+    );
+}
