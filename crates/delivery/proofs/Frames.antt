@@ -30,8 +30,8 @@ joined_by b c octets = if b then record {
   is_open = true;
   sent = c.sent;
   received = c.received ++ octets;
-  overfull =
-      c.overfull;
+  lacked_place =
+      c.lacked_place;
 } else c
 
 pub none_received : (log : Log) → (present log).is_open ≡ false → (present log).received ≡ []

@@ -1,16 +1,15 @@
 //! Runs over stored entries, whose log is stored: for tests.
-ghost use Rattle.std.specs.Prelude.{◌≡◌, ℕ, ◌+◌, ◌<◌, ◌≤◌, true, false, List, [], ◌∷◌, ◌++◌, length, take, IfOk, OnOk, OnErr, Option, Some, None, if◌then◌else◌, ◌&&◌};
+ghost use Rattle.std.specs.Prelude.{◌≡◌, ℕ, ◌+◌, ◌<◌, ◌≤◌, true, false, List, [], ◌∷◌, ◌++◌, IfOk, OnOk, OnErr, Option, Some, None, if◌then◌else◌, ◌&&◌};
 ghost use Rattle.std.specs.List.{AllByRecursion};
 ghost use Rattle.gateway.specs.Log.{LogEntry, Came, Went, Ticked, tell, events_of};
-ghost use Rattle.gateway.specs.Ports.{told_by, output_of, FitsBuffer, faults_of};
-ghost use Rattle.gateway.specs.Entries.{FitsPort, event_of, script_of, told_of, log_of, number_of};
+ghost use Rattle.gateway.specs.Ports.{output_of};
+ghost use Rattle.gateway.specs.Entries.{FitsPort, event_of, script_of, told_of, log_of};
 
 use crate::config::Config;
 use crate::engine::NoMemory;
-use crate::entries::{Entry, Told};
+use crate::entries::{Entry, Told, announce, keep};
 use crate::ports::{Action, Next, Port};
 use crate::runs::{End, drive};
-use session::Close;
 use std::alloc::{AllocError, Global};
 use std::marker::Model;
 
@@ -49,39 +48,7 @@ impl<'a> Model for Recording<'a> {
         ≡ script_of a.entries.now) × AllByRecursion FitsPort a.left.now };
 }
 
-/// Copies the octets to the front.
-fn fill(buf: &mut [u8; 1024], octets: &[u8])
-    requires { length octets.now ≤ 1024 }
-    ensures { take (length octets.now) buf.new ≡ octets.now }
-{
-    buf[..octets.len()].copy_from_slice(octets);
-}
-
 impl Entry {
-    /// Copies the octets to the front of the buffer.
-    fn announce(&self, buf: &mut [u8; 1024]) -> Next
-        requires { FitsPort self.now }
-        ensures told { told_by result buf.new ≡ event_of self.now ∷ [] }
-        ensures fits { FitsBuffer result }
-        ensures healthy { faults_of result ≡ 0 }
-        ensures some { result ≡ Next.Done → ⊥ }
-    {
-        match self {
-            Entry::Line(now, octets) => {
-                fill(buf, octets);
-                Next::Line(*now, octets.len())
-            }
-            Entry::Open(now) => Next::Open(*now),
-            Entry::Bytes(now, octets) => {
-                fill(buf, octets);
-                Next::Bytes(*now, octets.len())
-            }
-            Entry::Cut(now) => Next::Cut(*now),
-            Entry::Tick(now) => Next::Tick(*now),
-            Entry::Wall(now, number) => Next::Wall(*now, *number),
-        }
-    }
-
     /// The same entry with octets of its own.
     fn copied(&self, alloc: Global) -> Result<Entry, AllocError>
         ensures { IfOk result (λ entry. event_of entry ≡ event_of self.now) }
@@ -95,34 +62,6 @@ impl Entry {
             Entry::Wall(now, number) => Ok(Entry::Wall(*now, *number)),
         }
     }
-}
-
-/// The number of a cause.
-fn number(cause: Close) -> u8
-    ensures { result ≡ number_of cause }
-{
-    cause as u8
-}
-
-/// An action as it is stored.
-fn stored(alloc: Global, now: u64, action: &Action<'_>) -> Result<Told, AllocError>
-    ensures { IfOk result (λ x. told_of x ≡ Went now (output_of action.now)) }
-{
-    match action {
-        Action::Line(octets) => Ok(Told::Line(now, Vec::from_slice(alloc, octets)?)),
-        Action::Tcp(octets) => Ok(Told::Tcp(now, Vec::from_slice(alloc, octets)?)),
-        Action::Close(cause) => Ok(Told::Close(now, number(*cause))),
-        Action::Gap { station, session } => Ok(Told::Gap(now, *station, *session)),
-    }
-}
-
-/// Adds to the log.
-fn keep(log: &mut Vec<Told>, told: Told) -> Result<(), AllocError>
-    ensures ok { OnOk result (log.new.items ≡ log.old.items ++ told ∷ []) }
-    ensures err { OnErr result (log.new.items ≡ log.old.items) }
-{
-    log.push(told)?;
-    Ok(())
 }
 
 impl<'a> Recording<'a> {
@@ -170,6 +109,7 @@ impl<'a> Recording<'a> {
             ≡ record self.old { log = event_of entry.now ∷ self.old.log; left = left.now }) }
         ensures err { OnErr result (self.new ≡ self.old) }
     {
+        // The log outlives the caller's entries, so it has octets of its own.
         let copy = entry.copied(self.alloc)?;
         keep(&mut self.log, Told::Came(copy))?;
         self.left = left;
@@ -183,7 +123,7 @@ impl<'a> Recording<'a> {
             ≡ record self.old { log = Went now (output_of action.now) ∷ self.old.log }) }
         ensures err { OnErr result (self.new ≡ self.old) }
     {
-        let told = stored(self.alloc, now, action)?;
+        let told = Told::went(self.alloc, now, action)?;
         keep(&mut self.log, told)
     }
 
@@ -236,7 +176,7 @@ impl<'a> Port for Recording<'a> {
             return Next::Done;
         };
         match self.take(entry, left) {
-            Ok(()) => entry.announce(buf),
+            Ok(()) => announce(entry, buf),
             Err(_) => self.fault(),
         }
     }

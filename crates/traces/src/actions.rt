@@ -1,33 +1,9 @@
 //! The lines of actions.
-ghost use Rattle.std.specs.Prelude.{◌≡◌, ◌++◌, ◌∷◌, IfOk, OnOk, string_bytes};
-ghost use Rattle.gateway.specs.Log.{Went};
-ghost use Rattle.gateway.specs.Ports.{output_of};
-ghost use Rattle.gateway.specs.Entries.{told_of, number_of};
-ghost use Rattle.traces.specs.Actions.{line_of, stored_line};
+ghost use Rattle.std.specs.Prelude.{◌≡◌, ◌++◌, OnOk, string_bytes};
+ghost use Rattle.traces.specs.Actions.{stored_line};
 
-use gateway::{Action, Told};
-use session::Close;
+use gateway::{Told, cause_number};
 use std::alloc::{AllocError, Global};
-
-/// The number of a cause, 1 to 7, as it is printed.
-pub fn cause_number(cause: Close) -> u8
-    ensures { result ≡ number_of cause }
-{
-    cause as u8
-}
-
-/// An action as it is stored.
-pub(crate) fn stored(alloc: Global, now: u64, action: &Action<'_>) -> Result<Told, AllocError>
-    ensures told { IfOk result (λ told. told_of told ≡ Went now (output_of action.now)) }
-    ensures line { IfOk result (λ told. stored_line told ≡ line_of now (output_of action.now)) }
-{
-    match action {
-        Action::Line(octets) => Ok(Told::Line(now, Vec::from_slice(alloc, octets)?)),
-        Action::Tcp(octets) => Ok(Told::Tcp(now, Vec::from_slice(alloc, octets)?)),
-        Action::Close(cause) => Ok(Told::Close(now, cause_number(*cause))),
-        Action::Gap { station, session } => Ok(Told::Gap(now, *station, *session)),
-    }
-}
 
 /// Appends the line of an action that is stored; an event has none. An `Err` is want of memory.
 pub fn append_line(alloc: Global, lines: &mut String, told: &Told) -> Result<(), AllocError>
@@ -44,7 +20,10 @@ pub fn append_line(alloc: Global, lines: &mut String, told: &Told) -> Result<(),
             let digits = hex::encode_upper(alloc, octets.as_slice())?;
             writeln!(lines, "{now} > T {digits}")
         }
-        Told::Close(now, number) => writeln!(lines, "{now} > X {number}"),
+        Told::Close(now, cause) => {
+            let number = cause_number(*cause);
+            writeln!(lines, "{now} > X {number}")
+        }
         Told::Gap(now, station, session) => {
             // Wide enough for one past the greatest index.
             let place = u128::from(*station as u64) + 1;

@@ -28,11 +28,11 @@ mod recorded;
 #[cfg(test)]
 mod tests;
 
-pub use actions::{append_line, cause_number};
+pub use actions::append_line;
 pub use decimal::decimal as read_decimal;
 pub use laws::printed_lines_read_back;
 pub use lines::{is_skipped, pieces};
 pub use octets::read_octets;
-pub use port::{Beginning, Trace, announce};
+pub use port::{Beginning, Trace};
 pub use reading::{TextFault, read_trace};
 pub use recorded::append_event;
