@@ -8,8 +8,7 @@ prints (standard output, then standard error), then `(status N)` where its exit 
 docs/ARCHITECTURE.md are those of crates.txt, each below the crates that it stands on. Lines of README.md and of the documents have at most
 100 columns, README.md has at most 900 words and no sentence of 30 words or more, and each file that they name is there. The repository
 stands alone: no line of a document, of an example or of a crate cites a demand by a letter and a number. Lines of src/ and specs/ have at
-most 100 columns, but for imports and attributes, in each crate that isn't named in WIDE. Printed is a line for each case that failed, then `N passed, M
-failed`; the exit status is 1 where one failed. The program is the one that ./build makes.
+most 100 columns, but for imports and attributes. Printed is a line for each case that failed, then `N passed, M failed`; the exit status is 1 where one failed. The program is the one that ./build makes.
 """
 import argparse
 import glob
@@ -28,8 +27,6 @@ NAMED = re.compile(r"`?(?<![\w/])((?:bench|crates|docs|examples|packaging|tools|
 
 # What cites a demand of another paper: a capital letter with a number (R32 is a type of the standard), or a section or row of a paper that isn't here.
 CITED = re.compile(r"\b(?!R32)[DTRWPQ]\d{1,2}\b|\b(?:our|the|this) papers?\b|\brow \d+\b|\b0[1-4]-[a-z]+\.md\b")
-# Crates with lines of src/ or specs/ that are still too long.
-WIDE = {"apci", "command", "ft12", "gateway", "live", "sim", "traces"}
 
 
 def read(name):
@@ -127,7 +124,7 @@ def judge_sources(judge):
             text = read(name)
             judge_alone(judge, name, text)
             wide += [f"{name}:{number}" for number, line in enumerate(text.splitlines(), 1) if len(line) > COLUMNS and not is_one_line(line)]
-        judge.case(not wide or crate in WIDE, f"{crate}: more than {COLUMNS} columns in {len(wide)} lines, the first {wide[:1]}")
+        judge.case(not wide, f"{crate}: more than {COLUMNS} columns in {len(wide)} lines, the first {wide[:1]}")
 
 
 def judge_names(judge, name, text):

@@ -225,7 +225,7 @@ fn is_row(alloc: Global, told: &Told, row: &Row<'_>) -> Result<bool, AllocError>
         Told::Tcp(now, out) => row.1 == 'T' && *now == row.0 && *out == octets,
         Told::Close(now, cause) => row.1 == 'X'
             && *now == row.0
-            && row.2.as_bytes() == [b'0'.wrapping_add(*cause)].as_slice(),
+            && row.2.as_bytes() == [b'0'.wrapping_add(*cause as u8)].as_slice(),
         Told::Gap(now, station, session) => row.1 == 'G'
             && *now == row.0
             && match octets.as_slice() {

@@ -58,9 +58,8 @@ fn the_wall_clock_is_read(rt: HostRuntime) -> Result<(), Fail> {
 #[test]
 fn an_opening_is_read(rt: HostRuntime) -> Result<(), Fail> {
     // The last line lacks its line feed; moments may go back.
-    let text =
-        b"10 S 100B010C16\n20 S E5\n30 O\n40 R 680407000000\n0050 S 680909680801010103016400017416\n\
-        7 T";
+    let text = b"10 S 100B010C16\n20 S E5\n30 O\n40 R 680407000000\n\
+        0050 S 680909680801010103016400017416\n7 T";
     let entries = read_trace(rt.alloc(), text)?;
     assert_eq!(rt; entries.len(), 6);
     assert!(rt; is_line(&entries[1], 20, &[0xE5]));
@@ -203,7 +202,7 @@ fn faults_are_printed(rt: HostRuntime) -> Result<(), Fail> {
 fn a_stored_action_has_a_line(rt: HostRuntime) -> Result<(), Fail> {
     let mut lines = String::new(rt.alloc());
     append_line(rt.alloc(), &mut lines, &Told::Came(Entry::Tick(5)))?;
-    append_line(rt.alloc(), &mut lines, &Told::Close(70, 5))?;
+    append_line(rt.alloc(), &mut lines, &Told::Close(70, Close::Timeout))?;
     assert_eq!(rt; lines.as_str(), "70 > X 5\n");
     Ok(())
 }

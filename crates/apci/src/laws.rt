@@ -37,8 +37,9 @@ pub fn formats_are_told_apart()
     ensures { TellFormats }
 {}
 
-/// An assembler that is fed the octets of an APDU, with anything behind them, hears that APDU, takes
-/// its octets and no more, and listens on: so it hears the APDUs of a stream one after another.
+/// An assembler that is fed the octets of an APDU, with anything behind them, hears that APDU,
+/// takes its octets and no more, and listens on: so it hears the APDUs of a stream one after
+/// another.
 pub fn apdus_are_heard_one_after_another()
     ensures { (a : Apdu) (more : List ℕ) (n : ℕ) (heard : Heard) (after : Option (List ℕ)) →
         Fits a → Hears [] (spelling a ++ more) n heard after → IsHeardWhole a n heard after }

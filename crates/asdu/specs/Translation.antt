@@ -36,8 +36,8 @@ pub record IsPiece (v : AsduValue) (xs : List ℕ) : Type 0 where
   pub fits : length xs ≤ 249
 
 -- a piece as large as can be
-abbrev pub IsFull : AsduValue → List ℕ → Type 0
-IsFull v xs = number_at xs ≡ piece_size v.kind v.sequence
+abbrev pub IsLargest : AsduValue → List ℕ → Type 0
+IsLargest v xs = number_at xs ≡ piece_size v.kind v.sequence
 
 -- all but the last
 abbrev pub AllButLast : {X : Type 0} → (X → Type 0) → List X → Type 0

@@ -5,7 +5,7 @@ ghost use Rattle.arrayvec.specs.ArrayVec.{array_vec_len};
 ghost use Rattle.asdu.specs.Sizes.{tcp};
 ghost use Rattle.asdu.specs.InformationObjects.{objects_of, monitor_objects_of, is_passed_on};
 ghost use Rattle.asdu.specs.Reading.{value_of};
-ghost use Rattle.asdu.specs.Translation.{AllButLast, IsFull, IsPiece, parts, piece_size};
+ghost use Rattle.asdu.specs.Translation.{AllButLast, IsLargest, IsPiece, parts, piece_size};
 
 use crate::objects::content_octets;
 use crate::writing::spell;
@@ -39,7 +39,7 @@ pub fn translate(asdu: &Asdu) -> Pieces
     ensures lengths { AllByRecursion (λ p.
         (9 ≤ length p.items) × (length p.items ≤ 249)) result.items }
     // All but the last are as large as can be.
-    ensures full { AllButLast (λ p. IsFull (value_of asdu.now) p.items) result.items }
+    ensures full { AllButLast (λ p. IsLargest (value_of asdu.now) p.items) result.items }
     ensures number { array_vec_len result ≡ parts asdu.now.sizes asdu.now.octets.now }
     ensures few { array_vec_len result ≤ 3 }
 {

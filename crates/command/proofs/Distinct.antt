@@ -16,7 +16,7 @@ use Rattle.command.specs.declared.selection.Sign.{Sign}
 use Rattle.command.specs.declared.selection.Sign.TheVariants as sign
 use Rattle.command.specs.Octets.{negative}
 use Rattle.command.specs.Command.{command_at}
-use Rattle.command.specs.Selection.{advanced, target_of, same_target, same_element, is_accepted, runs_from, after_sending, after_acceptance, after_loss}
+use Rattle.command.specs.Selection.{advanced, target_of, same_target, same_element, is_accepted, lasts_from, after_sending, after_acceptance, after_loss}
 use Rattle.command.specs.Selections.{HaveTwoTargets, AreDistinct}
 use Rattle.command.specs.State as state
 use Rattle.command.specs.State.{State, oldest, has_room, first_answer, told}
@@ -66,7 +66,7 @@ advanced_keeps ms (sign.Loss k) z = pick (HasCommand z.command) (z.station == k)
 advanced_keeps ms (sign.Over t) z = pick (HasCommand z.command) (same_target (target_of z.command) t) _ _ tt refl
 advanced_keeps ms (sign.Con t e now) z = pick (HasCommand z.command) (same_target (target_of z.command) t
     && same_element z.command.element e && is_accepted z.stage && nat_lt (now - z.came) ms) _ _ refl refl
-advanced_keeps ms (sign.Time now) z = pick (HasCommand z.command) (nat_le ms (now - runs_from z z.stage)) _ _ tt refl
+advanced_keeps ms (sign.Time now) z = pick (HasCommand z.command) (nat_le ms (now - lasts_from z z.stage)) _ _ tt refl
 
 -- ---- lists
 

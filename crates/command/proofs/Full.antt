@@ -469,7 +469,8 @@ module _ (s : State) (h : History) (before : ℕ) (full : Full s.sizes s.station
         came = old.came;
         target = old.target;
         found =
-            lost_found s.sizes s.stations s.select_ms s.max_age_ms h before s.selections k (state.is_used (line_of k s)) z
+            lost_found s.sizes s.stations s.select_ms s.max_age_ms h before s.selections k
+            (state.is_used (line_of k s)) z
             (selection_at z == k) refl old.found;
       }
   stepping (Mirror v now) l = mirrored v now l

@@ -12,7 +12,7 @@ use Rattle.command.specs.declared.selection.Stage.{Stage}
 use Rattle.command.specs.declared.selection.Stage.TheVariants as stage
 use Rattle.command.specs.declared.selection.Sign.{Sign}
 use Rattle.command.specs.declared.selection.Sign.TheVariants as sign
-use Rattle.command.specs.Selection.{advanced, runs_from, is_accepted}
+use Rattle.command.specs.Selection.{advanced, lasts_from, is_accepted}
 use Rattle.command.specs.History.{Judged, Sent, Accepted, Refused, GivenUp, Mirrored, Offered, Answered, Ended, History, sent_count, place_on_line, is_accepted_at, is_place}
 use Rattle.command.proofs.Machine.{Select, confirmed_at, station_of, confirms}
 use Rattle.command.proofs.Sendings.{same}
@@ -324,15 +324,15 @@ module _ (sizes : Sizes) (stations : List StationInfo) (select_ms max_age_ms : �
   -- ---- time
 
   in_time : (z : Select) (now : ℕ) (st : Stage) (zs : List Selection) → Kept (at z st) zs
-      → nat_le select_ms (now - runs_from (at z st) st) ≡ false → Kept (at z st) (After (sign.Time now) zs)
+      → nat_le select_ms (now - lasts_from (at z st) st) ≡ false → Kept (at z st) (After (sign.Time now) zs)
   in_time z now st zs k e = kept_mapped (advanced select_ms (sign.Time now)) (at z st) (at z st) (rw e refl) zs k
 
   timed_out : (h : History) (zs : List Selection) (now : ℕ) (z : Select) (st : Stage) (b : Bool)
-      → nat_le select_ms (now - runs_from (at z st) st) ≡ b → Kept (at z st) zs →
+      → nat_le select_ms (now - lasts_from (at z st) st) ≡ b → Kept (at z st) zs →
       (Kept (at z st) (After (sign.Time now) zs) → Found h now (After (sign.Time now) zs) z)
-      → (select_ms ≤ now - runs_from (at z st) st → Found h now (After (sign.Time now) zs) z)
+      → (select_ms ≤ now - lasts_from (at z st) st → Found h now (After (sign.Time now) zs) z)
       → Found h now (After (sign.Time now) zs) z
-  timed_out h zs now z st true e k stays over = over (leb-true select_ms (now - runs_from (at z st) st) e)
+  timed_out h zs now z st true e k stays over = over (leb-true select_ms (now - lasts_from (at z st) st) e)
   timed_out h zs now z st false e k stays over = stays (in_time z now st zs k e)
 
   pub timed_found : (h : History) (latest : ℕ) (zs : List Selection) (now : ℕ) (z : Select) → latest ≤ now

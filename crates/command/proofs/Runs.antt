@@ -204,7 +204,8 @@ module _ (s : State) (h : History) (ks : Keeps s.sizes s.stations s.select_ms s.
       executes = ks.executes;
       rightly = (
         line_answer (line_of k s)
-            ∙ ap (λ (o : Option (List ℕ)). option_map (λ (xs : List ℕ). answer (negative xs) xs) o) (ks.on_lines.held k),
+            ∙ ap (λ (o : Option (List ℕ)). option_map (λ (xs : List ℕ). answer (negative xs) xs) o)
+            (ks.on_lines.held k),
         ks.rightly,
       );
     },

@@ -16,7 +16,7 @@ use Rattle.command.specs.declared.selection.Sign.TheVariants as sign
 use Rattle.command.specs.Standard.{plain_type, common_address, object_address}
 use Rattle.command.specs.Standard as standard
 use Rattle.command.specs.Command.{line_kind, command_at}
-use Rattle.command.specs.Selection.{advanced, target_of, runs_from}
+use Rattle.command.specs.Selection.{advanced, target_of, lasts_from}
 use Rattle.command.specs.Stations.{station_number}
 use Rattle.command.specs.Selections.{is_of, HasCome, IsSelect, IsStanding, IsInTime}
 use Rattle.command.specs.History.{History, Select, sent_count, place_on_line, is_accepted_at, standing, confirmed_at}
@@ -112,14 +112,14 @@ run_stands stations sizes ms age calls xs = all_mapped
 -- ---- after `due`
 
 abbrev IsYoung : ℕ → ℕ → Selection → Type 0
-IsYoung ms now y = nat_le ms (now - runs_from y y.stage) ≡ false
+IsYoung ms now y = nat_le ms (now - lasts_from y y.stage) ≡ false
 
 young_left : (ms now : ℕ) (zs : List Selection) → AllByRecursion (IsYoung ms now)
     (filter_map (advanced ms (sign.Time now)) zs)
 young_left ms now zs = all_kept (advanced ms (sign.Time now)) (λ z. Unit {0}) (IsYoung ms now)
-    (λ z u. by z (nat_le ms (now - runs_from z z.stage)) refl) zs (all zs)
+    (λ z u. by z (nat_le ms (now - lasts_from z z.stage)) refl) zs (all zs)
   where
-    by : (z : Selection) (b : Bool) → nat_le ms (now - runs_from z z.stage) ≡ b
+    by : (z : Selection) (b : Bool) → nat_le ms (now - lasts_from z z.stage) ≡ b
         → Perhaps (IsYoung ms now) (if b then None else Some z)
     by z true e = tt
     by z false e = e
@@ -149,7 +149,7 @@ module _ (sizes : Sizes) (stations : List StationInfo) (ms age now : ℕ) (h : H
     (later : (z : Select) (m : ℕ) (xs : List ℕ) → standing sizes stations ms age xs h ≡ Some z
     → confirmed_at sizes stations ms age z h ≡ Some m → z.came ≤ m) where
   young : (y : Selection) (z : Select) → IsSelect sizes stations ms age h y z → IsYoung ms now y
-      → now - runs_from y y.stage < ms
+      → now - lasts_from y y.stage < ms
   young y z is e = grind (arith, e)
 
   since_came : (z : Select) (xs : List ℕ) → standing sizes stations ms age xs h ≡ Some z → now - z.came < ms
@@ -158,7 +158,7 @@ module _ (sizes : Sizes) (stations : List StationInfo) (ms age now : ℕ) (h : H
   since_came z xs e quick (Some m) c = (let came : z.came ≤ m = later z m xs e c in omega (arith, came, quick))
 
   by_stage : (y : Selection) (z : Select) (xs : List ℕ) → standing sizes stations ms age xs h ≡ Some z
-      → y.came ≡ z.came → (st : Stage) → HasCome sizes stations ms age st z h → now - runs_from y st < ms
+      → y.came ≡ z.came → (st : Stage) → HasCome sizes stations ms age st z h → now - lasts_from y st < ms
       → now - unwrap_or (confirmed_at sizes stations ms age z h) z.came < ms
   by_stage y z xs e same (stage.Queued n) a quick = since_came z xs e
       (subst (λ (x : ℕ). now - x < ms) same quick) _ refl

@@ -61,12 +61,12 @@ is_accepted Sent = false
 is_accepted Accepted = true
 is_accepted (Live since) = true
 
--- the moment from which its time runs: when its select came, and then when the con came
-abbrev pub runs_from : Selection → Stage → ℕ
-runs_from z (Queued ahead) = z.came
-runs_from z Sent = z.came
-runs_from z Accepted = z.came
-runs_from z (Live since) = since
+-- the moment from which it lasts: when its select came, and then when the con came
+abbrev pub lasts_from : Selection → Stage → ℕ
+lasts_from z (Queued ahead) = z.came
+lasts_from z Sent = z.came
+lasts_from z Accepted = z.came
+lasts_from z (Live since) = since
 
 -- what a sign leaves of a selection
 abbrev pub advanced : ℕ → Sign → Selection → Option Selection
@@ -84,7 +84,7 @@ advanced select_ms (sign.Con target element now) z =
     then Some (with_stage (Live now) z)
     else Some z
 advanced select_ms (sign.Time now) z =
-    if nat_le select_ms (now - runs_from z z.stage) then None else Some z
+    if nat_le select_ms (now - lasts_from z z.stage) then None else Some z
 
 -- it is confirmed, less than select_ms ago
 abbrev pub is_live : ℕ → ℕ → Stage → Bool

@@ -1,6 +1,6 @@
 //! Selections.
 ghost use Rattle.std.specs.Prelude.{◌≡◌, ◌&&◌};
-ghost use Rattle.command.specs.Selection.{same_target as are_same_targets, same_element as are_same_elements, with_stage as staged, after_sending as sending, after_acceptance as acceptance, after_loss as loss, is_accepted as accepted, is_live as live, runs_from as running_from, advanced as next_of, lets_through as through, target_of};
+ghost use Rattle.command.specs.Selection.{same_target as are_same_targets, same_element as are_same_elements, with_stage as staged, after_sending as sending, after_acceptance as acceptance, after_loss as loss, is_accepted as accepted, is_live as live, lasts_from as running_from, advanced as next_of, lets_through as through, target_of};
 ghost use Rattle.command.specs.declared.selection.Sign.TheVariants.{Con as ConSign, Time as TimeSign};
 
 use crate::content::{Command, Element, Target};
@@ -117,8 +117,8 @@ impl Selection {
         }
     }
 
-    /// The moment from which its time runs.
-    fn runs_from(self) -> u64
+    /// The moment from which it lasts.
+    fn lasts_from(self) -> u64
         ensures { result ≡ running_from self self.stage }
     {
         match self.stage {
@@ -189,7 +189,7 @@ impl Selection {
     fn after_time(self, select_ms: u64, now: u64) -> Option<Selection>
         ensures { result ≡ next_of select_ms (TimeSign now) self }
     {
-        if now.saturating_sub(self.runs_from()) >= select_ms {
+        if now.saturating_sub(self.lasts_from()) >= select_ms {
             None
         } else {
             Some(self)

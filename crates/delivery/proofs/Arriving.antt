@@ -25,16 +25,21 @@ HaveOneFront = (x : List ℕ) (a b : Front) → IsFront x a → IsFront x b → 
 
 module _ (one : HaveOneFront) where
   -- no frame stands in what may still become one
-  not_within : (frame : Apdu) (begun octets rest : List ℕ) → Fits frame → IsMore begun → begun ++ octets ≡ spelling frame ++ rest → length (spelling frame) ≤ length begun → ⊥
+  not_within : (frame : Apdu) (begun octets rest : List ℕ) → Fits frame → IsMore begun
+      → begun ++ octets ≡ spelling frame ++ rest → length (spelling frame) ≤ length begun → ⊥
   not_within frame begun octets rest fits more joined within =
       let front : take (length (spelling frame)) begun ≡ spelling frame =
-      sym (take-append-le (length (spelling frame)) begun octets within) ∙ ap (λ (l : List ℕ). take (length (spelling frame)) l) joined ∙ take-append_seam (spelling frame) rest in
+      sym (take-append-le (length (spelling frame)) begun octets within)
+      ∙ ap (λ (l : List ℕ). take (length (spelling frame)) l) joined ∙ take-append_seam (spelling frame) rest in
       let line : IsApdu frame (take (length (spelling frame)) begun) = record { fits = fits; spelled = front } in
-      let same : More ≡ Whole frame (length (spelling frame)) = one begun More (Whole frame (length (spelling frame))) more (line, within) in
+      let same : More ≡ Whole frame (length (spelling frame)) =
+      one begun More (Whole frame (length (spelling frame))) more (line, within) in
       cc
 
-  pub ends_behind : (frame : Apdu) (begun octets rest : List ℕ) → Fits frame → IsMore begun → begun ++ octets ≡ spelling frame ++ rest → length begun < length (spelling frame)
-  ends_behind frame begun octets rest fits more joined = omega (arith, not_within frame begun octets rest fits more joined)
+  pub ends_behind : (frame : Apdu) (begun octets rest : List ℕ) → Fits frame → IsMore begun
+      → begun ++ octets ≡ spelling frame ++ rest → length begun < length (spelling frame)
+  ends_behind frame begun octets rest fits more joined =
+      omega (arith, not_within frame begun octets rest fits more joined)
 
 -- ---- The logs of octets
 
@@ -56,8 +61,16 @@ logs_as_octets (Came now (TcpIn octets) ∷ log) = go (present log).is_open refl
     each = map (λ (octet : ℕ). let l : Log = Came now (TcpIn octets) ∷ log in l) octets
 
     go : (b : Bool) → (present log).is_open ≡ b → length (present_logs log) ≡ length (present log).received →
-        length (if b then present_logs log ++ each else present_logs log) ≡ length (joined_by b (present log) octets).received
-    go true is ih = omega (arith, ih, length-append (present_logs log) each, length-append (present log).received octets, length_of_map (λ (octet : ℕ). let l : Log = Came now (TcpIn octets) ∷ log in l) octets)
+        length (if b then present_logs log ++ each else present_logs log)
+        ≡ length (joined_by b (present log) octets).received
+    go true is ih = omega (
+      arith,
+      ih,
+      length-append (present_logs log) each,
+      length-append (present log).received octets,
+      length_of_map
+          (λ (octet : ℕ). let l : Log = Came now (TcpIn octets) ∷ log in l) octets,
+    )
     go false is ih = ih
 logs_as_octets (Came now (LineIn octets) ∷ log) = logs_as_octets log
 logs_as_octets (Came now Ticked ∷ log) = logs_as_octets log
@@ -83,7 +96,8 @@ in_constant l (x ∷ octets) zero h = refl
 in_constant l (x ∷ octets) (suc n) h = in_constant l octets n (omega (arith, h))
 
 -- An octet that came with the latest event came when the wall clock showed what it shows now.
-pub came_now : (log : Log) (n : ℕ) → length (received_before log) ≤ n → n < length (present log).received → wall_in (get_or (present_logs log) n []) ≡ wall_in log
+pub came_now : (log : Log) (n : ℕ) → length (received_before log) ≤ n → n < length (present log).received
+    → wall_in (get_or (present_logs log) n []) ≡ wall_in log
 came_now [] n low high = absurd (omega (arith, high))
 came_now (Came now Opened ∷ log) n low high = absurd (omega (arith, high))
 came_now (Came now CutOff ∷ log) n low high = absurd (omega (arith, high))
@@ -100,9 +114,11 @@ came_now (Came now (TcpIn octets) ∷ log) n low high = go (present log).is_open
     go true is h =
         let count = logs_as_octets log in
         let place : ℕ = n - length (present_logs log) in
-        let at : get_or (present_logs log ++ each) (length (present_logs log) + place) [] ≡ get_or each place [] = get_or-append-add (present_logs log) each place [] in
+        let at : get_or (present_logs log ++ each) (length (present_logs log) + place) [] ≡ get_or each place [] =
+        get_or-append-add (present_logs log) each place [] in
         let index : length (present_logs log) + place ≡ n = omega (arith, low, count) in
-        ap wall_in (ap (λ (m : ℕ). get_or (present_logs log ++ each) m []) (sym index) ∙ at ∙ in_constant here octets place (omega (arith, low, h, count, length-append (present log).received octets)))
+        ap wall_in (ap (λ (m : ℕ). get_or (present_logs log ++ each) m []) (sym index) ∙ at
+        ∙ in_constant here octets place (omega (arith, low, h, count, length-append (present log).received octets)))
     go false is h = absurd (omega (arith, low, h))
 came_now (Came now (LineIn octets) ∷ log) n low high = absurd (omega (arith, low, high))
 came_now (Came now Ticked ∷ log) n low high = absurd (omega (arith, low, high))
@@ -124,19 +140,27 @@ pub spelled_grows : (frame : Apdu) (older : List Apdu) → length (spelled older
 spelled_grows frame older = omega (arith, length-append (spelled older) (spelling frame))
 
 -- octets that come later change nothing of the frames that have come
-pub arrivals_stay : (frames : List Apdu) (logs more : List Log) → length (spelled frames) ≤ length logs → arrivals_in frames (logs ++ more) ≡ arrivals_in frames logs
+pub arrivals_stay : (frames : List Apdu) (logs more : List Log) → length (spelled frames) ≤ length logs
+    → arrivals_in frames (logs ++ more) ≡ arrivals_in frames logs
 arrivals_stay [] logs more h = refl
 arrivals_stay (I ns nr asdu ∷ older) logs more h =
     let longer = spelled_grows (I ns nr asdu) older in
-    ap (λ (l : List Arrival). l ++ record { asdu = asdu.items; log = get_or (logs ++ more) (length (spelled (I ns nr asdu ∷ older)) - 1) [] } ∷ []) (arrivals_stay older logs more (omega (arith, h, longer)))
-    ∙ ap (λ (l : Log). arrivals_in older logs ++ record { asdu = asdu.items; log = l } ∷ []) (get_or_append_left logs more [] (length (spelled (I ns nr asdu ∷ older)) - 1) (omega (arith, h, longer)))
+    ap (λ (l : List Arrival). l ++ record {
+      asdu = asdu.items;
+      log =
+          get_or (logs ++ more) (length (spelled (I ns nr asdu ∷ older)) - 1) [];
+    } ∷ [])
+    (arrivals_stay older logs more (omega (arith, h, longer)))
+    ∙ ap (λ (l : Log). arrivals_in older logs ++ record { asdu = asdu.items; log = l } ∷ [])
+    (get_or_append_left logs more [] (length (spelled (I ns nr asdu ∷ older)) - 1) (omega (arith, h, longer)))
 arrivals_stay (S nr ∷ older) logs more h = arrivals_stay older logs more (omega (arith, h, spelled_grows (S nr) older))
 arrivals_stay (U u ∷ older) logs more h = arrivals_stay older logs more (omega (arith, h, spelled_grows (U u) older))
 
 -- ---- The wall clock
 
 -- an entry that tells no wall clock changes nothing
-further : (entry : LogEntry) (log : Log) (at clock : ℕ) → ((l : Log) → TellsNoWall l → TellsNoWall (entry ∷ l)) → ShowsAt log at clock → ShowsAt (entry ∷ log) at clock
+further : (entry : LogEntry) (log : Log) (at clock : ℕ) → ((l : Log) → TellsNoWall l → TellsNoWall (entry ∷ l))
+    → ShowsAt log at clock → ShowsAt (entry ∷ log) at clock
 further entry log at clock none s = record {
   since = entry ∷ s.since;
   now = s.now;
@@ -156,11 +180,18 @@ shown (Came now (WallIs number) ∷ log) at clock h = record {
   before = log;
   told = refl;
   latest_told = tt;
-  shows = let is : min (number + (at - latest (Came now (WallIs number) ∷ log))) 18446744073709551615 ≡ clock = cc in sym is;
+  shows = let is : min (number + (at - latest (Came now (WallIs number) ∷ log))) 18446744073709551615 ≡ clock = cc in
+      sym is;
 }
-shown (Came now Opened ∷ log) at clock h = further (Came now Opened) log at clock (λ (l : Log) (t : TellsNoWall l). t) (shown log at clock h)
-shown (Came now CutOff ∷ log) at clock h = further (Came now CutOff) log at clock (λ (l : Log) (t : TellsNoWall l). t) (shown log at clock h)
-shown (Came now (TcpIn octets) ∷ log) at clock h = further (Came now (TcpIn octets)) log at clock (λ (l : Log) (t : TellsNoWall l). t) (shown log at clock h)
-shown (Came now (LineIn octets) ∷ log) at clock h = further (Came now (LineIn octets)) log at clock (λ (l : Log) (t : TellsNoWall l). t) (shown log at clock h)
-shown (Came now Ticked ∷ log) at clock h = further (Came now Ticked) log at clock (λ (l : Log) (t : TellsNoWall l). t) (shown log at clock h)
-shown (Went now action ∷ log) at clock h = further (Went now action) log at clock (λ (l : Log) (t : TellsNoWall l). t) (shown log at clock h)
+shown (Came now Opened ∷ log) at clock h = further (Came now Opened) log at clock (λ (l : Log) (t : TellsNoWall l). t)
+    (shown log at clock h)
+shown (Came now CutOff ∷ log) at clock h = further (Came now CutOff) log at clock (λ (l : Log) (t : TellsNoWall l). t)
+    (shown log at clock h)
+shown (Came now (TcpIn octets) ∷ log) at clock h = further (Came now (TcpIn octets)) log at clock
+    (λ (l : Log) (t : TellsNoWall l). t) (shown log at clock h)
+shown (Came now (LineIn octets) ∷ log) at clock h = further (Came now (LineIn octets)) log at clock
+    (λ (l : Log) (t : TellsNoWall l). t) (shown log at clock h)
+shown (Came now Ticked ∷ log) at clock h = further (Came now Ticked) log at clock (λ (l : Log) (t : TellsNoWall l). t)
+    (shown log at clock h)
+shown (Went now action ∷ log) at clock h = further (Went now action) log at clock (λ (l : Log) (t : TellsNoWall l). t)
+    (shown log at clock h)

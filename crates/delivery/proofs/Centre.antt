@@ -27,7 +27,8 @@ module _ (p : Setup) (i : ℕ) where
     fresh = fresh_command p.sizes p.stations p.max_age_ms x.log x.asdu h.faultless;
   }
 
-  are_commands : (xs : List Arrival) → AllByRecursion (λ (x : Timed). IsForwarded p i x) (map as_judged xs) → AllByRecursion (λ (x : Arrival). IsCommandTo p i x) xs
+  are_commands : (xs : List Arrival) → AllByRecursion (λ (x : Timed). IsForwarded p i x) (map as_judged xs)
+      → AllByRecursion (λ (x : Arrival). IsCommandTo p i x) xs
   are_commands [] h = tt
   are_commands (x ∷ xs) h = (is_command x h.0, are_commands xs h.1)
 
@@ -35,30 +36,45 @@ module _ (p : Setup) (i : ℕ) where
   same_line : (x : Arrival) → IsForwarded p i (as_judged x) → sent_form p i x.asdu ≡ on_line_of p i x.asdu
   same_line x h = go (slice_get p.stations i)
     where
-      go : (o : Option StationInfo) → option_map_or (line_octets p.sizes x.asdu) o [] ≡ option_map_or (line_form p.sizes x.asdu) o []
+      go : (o : Option StationInfo) → option_map_or (line_octets p.sizes x.asdu) o []
+          ≡ option_map_or (line_form p.sizes x.asdu) o []
       go None = refl
-      go (Some station) = plain_line p.sizes p.stations p.max_age_ms (wall_on x.log (latest x.log)) x.asdu station h.faultless
+      go (Some station) = plain_line p.sizes p.stations p.max_age_ms
+          (wall_on x.log (latest x.log)) x.asdu station h.faultless
 
-  same_lines : (xs : List Arrival) → AllByRecursion (λ (x : Timed). IsForwarded p i x) (map as_judged xs) → map (λ (x : Timed). sent_form p i x.0) (map as_judged xs) ≡ map (λ (x : Arrival). on_line_of p i x.asdu) xs
+  same_lines : (xs : List Arrival) → AllByRecursion (λ (x : Timed). IsForwarded p i x) (map as_judged xs)
+      → map (λ (x : Timed). sent_form p i x.0) (map as_judged xs) ≡ map (λ (x : Arrival). on_line_of p i x.asdu) xs
   same_lines [] h = refl
-  same_lines (x ∷ xs) h = ap (λ (l : List (List ℕ)). sent_form p i x.asdu ∷ l) (same_lines xs h.1) ∙ ap (λ (l : List ℕ). l ∷ map (λ (x : Arrival). on_line_of p i x.asdu) xs) (same_line x h.0)
+  same_lines (x ∷ xs) h = ap (λ (l : List (List ℕ)). sent_form p i x.asdu ∷ l) (same_lines xs h.1)
+      ∙ ap (λ (l : List ℕ). l ∷ map (λ (x : Arrival). on_line_of p i x.asdu) xs) (same_line x h.0)
 
 pub of_the_centre : (p : Setup) (log : Log) (i : ℕ) (f : IsFaithful p log) → IsJoined p log f.course →
-    ForwardsCommands p.sizes p.stations p.select_ms p.max_age_ms f.course.works.history → GivesOwnAnswers p.sizes p.stations p.select_ms p.max_age_ms f.course.works.history →
-    (done : List (List ℕ)) → IsSublist done (first_sendings (address_at p.addresses i) None (exchanges_with p i log)) → AreCommandsOf p i (arrivals log (here_of f.course ∷ f.course.earlier)) done
+    ForwardsCommands p.sizes p.stations p.select_ms p.max_age_ms f.course.works.history
+    → GivesOwnAnswers p.sizes p.stations p.select_ms p.max_age_ms f.course.works.history →
+    (done : List (List ℕ)) → IsSublist done (first_sendings (address_at p.addresses i) None (exchanges_with p i log))
+    → AreCommandsOf p i (arrivals log (here_of f.course ∷ f.course.earlier)) done
 of_the_centre p log i f joined forwards gives done some =
     let h : History = f.course.works.history in
     let all : List Arrival = arrivals log (here_of f.course ∷ f.course.earlier) in
     let sent : AreGiven p i h = sent_are_given p i h forwards in
-    let image : IsImage (λ (x : Timed). sent_form p i x.0) done sent.given = sub_of_map (λ (x : Timed). sent_form p i x.0) done sent.given (subst (IsSublist done) (sym (joined.sent i) ∙ sent.is) some) in
-    let part : IsSublist image.left (forwarded_in p i h) = sub_of_sub image.left sent.given (forwarded_in p i h) image.part sent.some in
-    let judged : IsSublist image.left (map as_judged all) = subst (IsSublist image.left) joined.judged (sub_of_sub image.left (forwarded_in p i h) (judged_in h) part (given_judged p i h)) in
+    let image : IsImage (λ (x : Timed). sent_form p i x.0) done sent.given =
+    sub_of_map (λ (x : Timed). sent_form p i x.0) done sent.given
+    (subst (IsSublist done) (sym (joined.sent i) ∙ sent.is) some) in
+    let part : IsSublist image.left (forwarded_in p i h) =
+    sub_of_sub image.left sent.given (forwarded_in p i h) image.part sent.some in
+    let judged : IsSublist image.left (map as_judged all) =
+    subst (IsSublist image.left) joined.judged
+    (sub_of_sub image.left (forwarded_in p i h) (judged_in h) part (given_judged p i h)) in
     let came : IsImage as_judged image.left all = sub_of_map as_judged image.left all judged in
-    let each : AllByRecursion (λ (x : Timed). IsForwarded p i x) image.left = all_of_sub (λ (x : Timed). IsForwarded p i x) image.left (forwarded_in p i h) part (given_commands p i h gives) in
-    let right : AllByRecursion (λ (x : Timed). IsForwarded p i x) (map as_judged came.left) = subst (λ (xs : List Timed). AllByRecursion (λ (x : Timed). IsForwarded p i x) xs) came.is each in
+    let each : AllByRecursion (λ (x : Timed). IsForwarded p i x) image.left =
+    all_of_sub (λ (x : Timed). IsForwarded p i x) image.left (forwarded_in p i h) part
+    (given_commands p i h gives) in
+    let right : AllByRecursion (λ (x : Timed). IsForwarded p i x) (map as_judged came.left) =
+    subst (λ (xs : List Timed). AllByRecursion (λ (x : Timed). IsForwarded p i x) xs) came.is each in
     record {
       given = came.left;
       received = came.part;
       each = are_commands p i came.left right;
-      whole = image.is ∙ ap (λ (xs : List Timed). map (λ (x : Timed). sent_form p i x.0) xs) came.is ∙ same_lines p i came.left right;
+      whole = image.is ∙ ap (λ (xs : List Timed). map (λ (x : Timed). sent_form p i x.0) xs) came.is
+          ∙ same_lines p i came.left right;
     }

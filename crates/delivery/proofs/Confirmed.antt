@@ -55,7 +55,8 @@ none_lost : (b : Bool) → confirmed_by (if b then Lost ∷ [] else []) ≡ []
 none_lost true = refl
 none_lost false = refl
 
-pub confirmed_learnt : (s : LinkSettings) (a missed : ℕ) (pending : Option Service) (xs : List Exchange) → confirmed_by (steps_in s a missed pending xs) ≡ commands (learnt a xs)
+pub confirmed_learnt : (s : LinkSettings) (a missed : ℕ) (pending : Option Service) (xs : List Exchange)
+    → confirmed_by (steps_in s a missed pending xs) ≡ commands (learnt a xs)
 confirmed_learnt s a missed pending [] = refl
 confirmed_learnt s a missed pending (x ∷ xs) =
     let later : Option Service = pending_by x.request (answer_to a x) pending in
@@ -66,18 +67,24 @@ confirmed_learnt s a missed pending (x ∷ xs) =
     let lost : List LineStep = if down then Lost ∷ [] else [] in
     confirmed-append (steps_at s a missed pending x) (steps_in s a more later xs)
     ∙ ap (λ (l : List (List ℕ)). l ++ confirmed_by (steps_in s a more later xs))
-    (confirmed-append begun (said ++ lost) ∙ ap (λ (l : List (List ℕ)). l ++ confirmed_by (said ++ lost)) (none_begun (first_sending pending x.request))
-    ∙ confirmed-append said lost ∙ ap (λ (l : List (List ℕ)). confirmed_by said ++ l) (none_lost down) ∙ append-nil (confirmed_by said) ∙ said_learnt x.request (answer_to a x))
-    ∙ ap (λ (l : List (List ℕ)). commands (learnt_by x.request (answer_to a x)) ++ l) (confirmed_learnt s a more later xs)
+    (confirmed-append begun (said ++ lost) ∙ ap (λ (l : List (List ℕ)). l ++ confirmed_by (said ++ lost))
+    (none_begun (first_sending pending x.request))
+    ∙ confirmed-append said lost ∙ ap (λ (l : List (List ℕ)). confirmed_by said ++ l) (none_lost down)
+    ∙ append-nil (confirmed_by said) ∙ said_learnt x.request (answer_to a x))
+    ∙ ap (λ (l : List (List ℕ)). commands (learnt_by x.request (answer_to a x)) ++ l)
+    (confirmed_learnt s a more later xs)
     ∙ sym (commands-append (learnt_by x.request (answer_to a x)) (learnt a xs))
 
 -- what is still to be told confirms nothing, and sends nothing
-pub confirmed_alike : (k : ℕ) (o : Option ℕ) (w : Works) → confirmed_by (steps_told k w.history) ≡ confirmed_by (steps_told k (told_silent o w))
+pub confirmed_alike : (k : ℕ) (o : Option ℕ) (w : Works)
+    → confirmed_by (steps_told k w.history) ≡ confirmed_by (steps_told k (told_silent o w))
 confirmed_alike k None w = refl
 confirmed_alike k (Some j) w = go (k == j)
   where
-    go : (b : Bool) → confirmed_by (steps_told k w.history) ≡ confirmed_by (if b then steps_told k w.history ++ Lost ∷ [] else steps_told k w.history)
-    go true = sym (confirmed-append (steps_told k w.history) (Lost ∷ []) ∙ append-nil (confirmed_by (steps_told k w.history)))
+    go : (b : Bool) → confirmed_by (steps_told k w.history)
+        ≡ confirmed_by (if b then steps_told k w.history ++ Lost ∷ [] else steps_told k w.history)
+    go true = sym (confirmed-append (steps_told k w.history) (Lost ∷ [])
+        ∙ append-nil (confirmed_by (steps_told k w.history)))
     go false = refl
 
 pub sent_alike : (k : ℕ) (o : Option ℕ) (w : Works) → sent_to k w.history ≡ sent_to k (told_silent o w)

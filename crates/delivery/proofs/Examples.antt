@@ -1,4 +1,5 @@
--- The definitions, computed on a line with one station: link address 1, common address 1, one octet each for link address, cause and
+-- The definitions, computed on a line with one station: link address 1, common address 1, one octet each for
+-- link address, cause and
 -- common address, two for object addresses. All octets are written by hand.
 use Rattle.std.proofs.Common.{◌≡◌, ℕ, true, false, List, [], ◌∷◌, map, inl, inr, Some, None, refl, arith, ◌++◌, sym, subst}
 use Rattle.ft12.specs.declared.frame.LinkSize.TheVariants as sizes_of_link
@@ -34,7 +35,8 @@ example = record {
   max_age_ms = 10000;
 }
 
--- A single command on (type 45, activation) to object 10 of station 1: as it comes from the control centre, and as it goes to the line
+-- A single command on (type 45, activation) to object 10 of station 1: as it comes from the control centre,
+-- and as it goes to the line
 
 abbrev from_centre : List ℕ
 from_centre = 45 ∷ 1 ∷ 6 ∷ 0 ∷ 1 ∷ 0 ∷ 10 ∷ 0 ∷ 0 ∷ 1 ∷ []
@@ -46,15 +48,18 @@ in_line_sizes : on_line_of example 0 from_centre ≡ to_line
 in_line_sizes = refl
 
 -- the same with a time tag (type 58) goes to the line without it
-without_tag : on_line_of example 0 (58 ∷ 1 ∷ 6 ∷ 0 ∷ 1 ∷ 0 ∷ 10 ∷ 0 ∷ 0 ∷ 1 ∷ 0 ∷ 0 ∷ 30 ∷ 12 ∷ 24 ∷ 11 ∷ 25 ∷ []) ≡ to_line
+without_tag : on_line_of example 0 (58 ∷ 1 ∷ 6 ∷ 0 ∷ 1 ∷ 0 ∷ 10 ∷ 0 ∷ 0 ∷ 1 ∷ 0 ∷ 0 ∷ 30 ∷ 12 ∷ 24 ∷ 11 ∷ 25 ∷ [])
+    ≡ to_line
 without_tag = refl
 
 -- and a set point (type 48) with its three octets
-set_point : on_line_of example 0 (61 ∷ 1 ∷ 6 ∷ 0 ∷ 1 ∷ 0 ∷ 10 ∷ 0 ∷ 0 ∷ 7 ∷ 8 ∷ 9 ∷ 0 ∷ 0 ∷ 30 ∷ 12 ∷ 24 ∷ 11 ∷ 25 ∷ []) ≡ 48 ∷ 1 ∷ 6 ∷ 1 ∷ 10 ∷ 0 ∷ 7 ∷ 8 ∷ 9 ∷ []
+set_point : on_line_of example 0 (61 ∷ 1 ∷ 6 ∷ 0 ∷ 1 ∷ 0 ∷ 10 ∷ 0 ∷ 0 ∷ 7 ∷ 8 ∷ 9 ∷ 0 ∷ 0 ∷ 30 ∷ 12 ∷ 24 ∷ 11 ∷ 25
+    ∷ []) ≡ 48 ∷ 1 ∷ 6 ∷ 1 ∷ 10 ∷ 0 ∷ 7 ∷ 8 ∷ 9 ∷ []
 set_point = refl
 
 -- an interrogation to the global address goes to the line with the station's own
-own_address : on_line_of example 0 (100 ∷ 1 ∷ 6 ∷ 0 ∷ 255 ∷ 255 ∷ 0 ∷ 0 ∷ 0 ∷ 20 ∷ []) ≡ 100 ∷ 1 ∷ 6 ∷ 1 ∷ 0 ∷ 0 ∷ 20 ∷ []
+own_address : on_line_of example 0 (100 ∷ 1 ∷ 6 ∷ 0 ∷ 255 ∷ 255 ∷ 0 ∷ 0 ∷ 0 ∷ 20 ∷ []) ≡ 100 ∷ 1 ∷ 6 ∷ 1 ∷ 0 ∷ 0 ∷ 20
+    ∷ []
 own_address = refl
 
 -- The line: status, reset, and the command with FCB 1
@@ -75,7 +80,8 @@ abbrev command : List ℕ
 command = 0x68 ∷ 0x09 ∷ 0x09 ∷ 0x68 ∷ 0x73 ∷ 0x01 ∷ 0x2D ∷ 0x01 ∷ 0x06 ∷ 0x01 ∷ 0x0A ∷ 0x00 ∷ 0x01 ∷ 0xB4 ∷ 0x16 ∷ []
 
 abbrev started : Log
-started = Came 20 (LineIn confirm) ∷ Went 10 (LineOut reset) ∷ Came 10 (LineIn ready) ∷ Went 0 (LineOut status) ∷ Came 0 Ticked ∷ []
+started = Came 20 (LineIn confirm) ∷ Went 10 (LineOut reset) ∷ Came 10 (LineIn ready) ∷ Went 0 (LineOut status)
+    ∷ Came 0 Ticked ∷ []
 
 abbrev put : Log
 put = Went 20 (LineOut command) ∷ started
@@ -98,7 +104,8 @@ unfolding front_of
 confirmed_shortly = refl
 
 -- function 0 does, in two pieces, and function 1 says that the link is busy
-confirmed_in_pieces : steps (Came 40 (LineIn (0x01 ∷ 0x01 ∷ 0x16 ∷ [])) ∷ Came 30 (LineIn (0x10 ∷ 0x00 ∷ [])) ∷ put) ≡ Begun to_line ∷ Confirmed to_line ∷ []
+confirmed_in_pieces : steps (Came 40 (LineIn (0x01 ∷ 0x01 ∷ 0x16 ∷ [])) ∷ Came 30 (LineIn (0x10 ∷ 0x00 ∷ [])) ∷ put)
+    ≡ Begun to_line ∷ Confirmed to_line ∷ []
 unfolding front_of
 confirmed_in_pieces = refl
 
@@ -120,15 +127,18 @@ unfolding front_of
 too_late = refl
 
 -- the repeat of an unanswered command is no first sending
-one_command : steps (Came 130 (LineIn confirm) ∷ Went 120 (LineOut command) ∷ Came 120 Ticked ∷ put) ≡ Begun to_line ∷ Confirmed to_line ∷ []
+one_command : steps (Came 130 (LineIn confirm) ∷ Went 120 (LineOut command) ∷ Came 120 Ticked ∷ put) ≡ Begun to_line
+    ∷ Confirmed to_line ∷ []
 unfolding front_of
 one_command = refl
 
 -- but after a new start of the link (the station answered 14) the same octets are another command
 abbrev started_again : Log
-started_again = Came 50 (LineIn confirm) ∷ Went 40 (LineOut reset) ∷ Came 40 (LineIn ready) ∷ Went 30 (LineOut status) ∷ Came 30 (LineIn (0x10 ∷ 0x0E ∷ 0x01 ∷ 0x0F ∷ 0x16 ∷ [])) ∷ put
+started_again = Came 50 (LineIn confirm) ∷ Went 40 (LineOut reset) ∷ Came 40 (LineIn ready) ∷ Went 30 (LineOut status)
+    ∷ Came 30 (LineIn (0x10 ∷ 0x0E ∷ 0x01 ∷ 0x0F ∷ 0x16 ∷ [])) ∷ put
 
-two_commands : first_sendings 1 None (exchanges_with example 0 (Went 50 (LineOut command) ∷ started_again)) ≡ to_line ∷ to_line ∷ []
+two_commands : first_sendings 1 None (exchanges_with example 0 (Went 50 (LineOut command) ∷ started_again)) ≡ to_line
+    ∷ to_line ∷ []
 unfolding front_of
 two_commands = refl
 
@@ -147,7 +157,9 @@ answered_9 = refl
 
 -- one sending without an answer is none too many with one repeat, two are, at their last moment and not before
 abbrev steps_of_reset : Log → List LineStep
-steps_of_reset log = steps_in (record { size = sizes_of_link.One; answer_ms = 100; retries = 1; hold = false; burst = 3 }) 1 0 None (exchanges_with example 0 log)
+steps_of_reset log =
+    steps_in (record { size = sizes_of_link.One; answer_ms = 100; retries = 1; hold = false; burst = 3 }) 1 0 None
+    (exchanges_with example 0 log)
 
 abbrev sent_again : Log
 sent_again = Went 120 (LineOut command) ∷ Came 120 Ticked ∷ put
@@ -161,7 +173,8 @@ unfolding front_of
 silent_twice = refl
 
 -- an answer between them counts anew
-answered_between : steps_of_reset (Came 330 Ticked ∷ Went 230 (LineOut command) ∷ Came 230 (LineIn (0xE5 ∷ [])) ∷ sent_again) ≡ Begun to_line ∷ Confirmed to_line ∷ Begun to_line ∷ []
+answered_between : steps_of_reset (Came 330 Ticked ∷ Went 230 (LineOut command) ∷ Came 230 (LineIn (0xE5 ∷ []))
+    ∷ sent_again) ≡ Begun to_line ∷ Confirmed to_line ∷ Begun to_line ∷ []
 unfolding front_of
 answered_between = refl
 
@@ -173,14 +186,17 @@ held_back = refl
 -- Sessions: the status alone is before the first one
 
 abbrev turns : List Turn
-turns = record { answer = Some (Fixed 0x0B 1); done = [] } ∷ record { answer = Some (Fixed 0x00 1); done = [] } ∷ record { answer = Some Single; done = Done to_line ∷ [] } ∷ []
+turns = record { answer = Some (Fixed 0x0B 1); done = [] } ∷ record { answer = Some (Fixed 0x00 1); done = [] }
+    ∷ record { answer = Some Single; done = Done to_line ∷ [] } ∷ []
 
-before_is : (before_sessions example (Came 30 (LineIn (0xE5 ∷ [])) ∷ put) 0 turns).exchanges ≡ record { request = Status; front = Some (Fixed 0x0B 1); closed = false } ∷ []
+before_is : (before_sessions example (Came 30 (LineIn (0xE5 ∷ [])) ∷ put) 0 turns).exchanges
+    ≡ record { request = Status; front = Some (Fixed 0x0B 1); closed = false } ∷ []
 unfolding front_of
 before_is = refl
 
 session_is : map (λ (s : Session). s.turns) (sessions_of example (Came 30 (LineIn (0xE5 ∷ [])) ∷ put) 0 turns)
-    ≡ (record { answer = Some (Fixed 0x00 1); done = [] } ∷ record { answer = Some Single; done = Done to_line ∷ [] } ∷ []) ∷ []
+    ≡ (record { answer = Some (Fixed 0x00 1); done = [] } ∷ record { answer = Some Single; done = Done to_line ∷ [] }
+    ∷ []) ∷ []
 unfolding front_of
 session_is = refl
 
@@ -201,13 +217,20 @@ told_of_second = refl
 
 -- An ASDU is told with the moment of its entry of the log, and with no other.
 at_its_moment : TellsAtMoments (Came 9 Ticked ∷ Came 5 (TcpIn []) ∷ []) (Judged 5 None from_centre None ∷ [])
-at_its_moment = ([], Judged 5 None from_centre None ∷ [], refl, tt, (Judged 5 None from_centre None ∷ [], [], refl, (refl, tt), tt))
+at_its_moment = (
+  [],
+  Judged 5 None from_centre None ∷ [],
+  refl,
+  tt,
+  (Judged 5 None from_centre None ∷ [], [], refl, (refl, tt), tt),
+)
 
 not_before_it : TellsAtMoments (Came 9 Ticked ∷ []) (Judged 5 None from_centre None ∷ []) → ⊥
 not_before_it h = go h.0 h.1 h.2 h.3 h.4
   where
     go : (new older : History) → Judged 5 None from_centre None ∷ [] ≡ new ++ older → AreAt 9 new → AreAt 0 older → ⊥
-    go [] older e is all = let then_0 : AreAt 0 (Judged 5 None from_centre None ∷ []) = subst (AreAt 0) (sym e) all in let no : 5 ≡ 0 = then_0.0 in cc
+    go [] older e is all = let then_0 : AreAt 0 (Judged 5 None from_centre None ∷ []) = subst (AreAt 0) (sym e) all in
+        let no : 5 ≡ 0 = then_0.0 in cc
     go (x ∷ new) older e is all =
         let same : x ≡ Judged 5 None from_centre None = cc in
         let then_9 : AreAt 9 (Judged 5 None from_centre None ∷ new) = subst (λ (y : Told). AreAt 9 (y ∷ new)) same is in
@@ -217,7 +240,8 @@ sent_to_first : sent_to 0 told ≡ (1 ∷ []) ∷ (2 ∷ []) ∷ []
 sent_to_first = refl
 
 -- what is answered isn't forwarded, nor what is for another station
-forwarded_alone : forwarded_in example 0 (Judged 3 None (45 ∷ 1 ∷ 6 ∷ 0 ∷ 2 ∷ 0 ∷ 10 ∷ 0 ∷ 0 ∷ 1 ∷ []) None ∷ Judged 2 None from_centre None ∷ Judged 1 None from_centre (Some []) ∷ []) ≡ (from_centre, None) ∷ []
+forwarded_alone : forwarded_in example 0 (Judged 3 None (45 ∷ 1 ∷ 6 ∷ 0 ∷ 2 ∷ 0 ∷ 10 ∷ 0 ∷ 0 ∷ 1 ∷ []) None
+    ∷ Judged 2 None from_centre None ∷ Judged 1 None from_centre (Some []) ∷ []) ≡ (from_centre, None) ∷ []
 forwarded_alone = refl
 
 -- From the control centre: the ASDUs of all connections, the oldest first
@@ -226,15 +250,22 @@ abbrev first_connection : Connection
 first_connection = record { sent_frames = []; received_frames = I 0 0 (record { items = 1 ∷ [] }) ∷ U StartAct ∷ [] }
 
 abbrev second_connection : Connection
-second_connection = record { sent_frames = []; received_frames = I 1 0 (record { items = 3 ∷ [] }) ∷ S 0 ∷ I 0 0 (record { items = 2 ∷ [] }) ∷ U StartAct ∷ [] }
+second_connection = record {
+  sent_frames = [];
+  received_frames =
+      I 1 0 (record { items = 3 ∷ [] }) ∷ S 0 ∷ I 0 0 (record { items = 2 ∷ [] }) ∷ U StartAct ∷ [];
+}
 
-received_in_order : map (λ (x : Arrival). x.asdu) (arrivals_by (second_connection ∷ first_connection ∷ []) ([] ∷ [] ∷ [])) ≡ (1 ∷ []) ∷ (2 ∷ []) ∷ (3 ∷ []) ∷ []
+received_in_order : map (λ (x : Arrival). x.asdu) (arrivals_by (second_connection ∷ first_connection ∷ []) ([] ∷ []
+    ∷ [])) ≡ (1 ∷ []) ∷ (2 ∷ []) ∷ (3 ∷ []) ∷ []
 received_in_order = refl
 
--- A frame comes in two pieces, the wall clock is told between them, and again: the frame came with its last octet, and the ASDU after that wall moment.
+-- A frame comes in two pieces, the wall clock is told between them, and again: the frame came with its last
+-- octet, and the ASDU after that wall moment.
 
 abbrev in_pieces : Log
-in_pieces = Came 3 (TcpIn (0 ∷ 1 ∷ [])) ∷ Came 2 (WallIs 500) ∷ Came 1 (TcpIn (0x68 ∷ 5 ∷ 0 ∷ 0 ∷ 0 ∷ [])) ∷ Came 0 Opened ∷ []
+in_pieces = Came 3 (TcpIn (0 ∷ 1 ∷ [])) ∷ Came 2 (WallIs 500) ∷ Came 1 (TcpIn (0x68 ∷ 5 ∷ 0 ∷ 0 ∷ 0 ∷ []))
+    ∷ Came 0 Opened ∷ []
 
 abbrev with_one : Connection
 with_one = record { sent_frames = []; received_frames = I 0 0 (record { items = 1 ∷ [] }) ∷ [] }
@@ -246,12 +277,22 @@ came_then : map as_judged (arrivals (Came 9 (WallIs 7) ∷ in_pieces) (with_one 
 came_then = refl
 
 -- on a connection that is over now, too
-came_before : arrivals (Came 5 CutOff ∷ in_pieces) (new_connection ∷ with_one ∷ []) ≡ record { asdu = 1 ∷ []; log = in_pieces } ∷ []
+came_before : arrivals (Came 5 CutOff ∷ in_pieces) (new_connection ∷ with_one ∷ [])
+    ≡ record { asdu = 1 ∷ []; log = in_pieces } ∷ []
 came_before = refl
 
 -- the wall clock stands where the latest event says, and not where one before it said
 shows_latest : ShowsAt (Came 4 (WallIs 9) ∷ in_pieces) 5 10
-shows_latest = record { since = []; now = 4; number = 9; before = in_pieces; told = refl; latest_told = tt; shows = refl }
+shows_latest = record {
+  since = [];
+  now = 4;
+  number = 9;
+  before = in_pieces;
+  told = refl;
+  latest_told = tt;
+  shows =
+      refl;
+}
 
 -- one of two is some of them, but neither one twice nor two in another order
 one_of_two : IsSublist {A = ℕ} (2 ∷ []) (1 ∷ 2 ∷ [])
@@ -270,7 +311,8 @@ not_turned (inr (inr h)) = h
 not_invented : AreCommandsOf example 0 [] (to_line ∷ []) → ⊥
 not_invented h = go h.given h.received h.whole
   where
-    go : (given : List Arrival) → IsSublist given [] → to_line ∷ [] ≡ map (λ (x : Arrival). on_line_of example 0 x.asdu) given → ⊥
+    go : (given : List Arrival) → IsSublist given [] → to_line ∷ []
+        ≡ map (λ (x : Arrival). on_line_of example 0 x.asdu) given → ⊥
     go [] part whole = cc
     go (x ∷ given) part whole = part
 
@@ -278,12 +320,19 @@ abbrev one_came : Arrival
 one_came = record { asdu = from_centre; log = in_pieces }
 
 is_given : AreCommandsOf example 0 (one_came ∷ []) (to_line ∷ [])
-is_given = record { given = one_came ∷ []; received = inl (refl, tt); each = (record { addressed = refl; faultless = refl; fresh = λ tagged active. cc }, tt); whole = refl }
+is_given = record {
+  given = one_came ∷ [];
+  received = inl (refl, tt);
+  each =
+      (record { addressed = refl; faultless = refl; fresh = λ tagged active. cc }, tt);
+  whole = refl;
+}
 
 not_given_twice : AreCommandsOf example 0 (one_came ∷ []) (to_line ∷ to_line ∷ []) → ⊥
 not_given_twice h = go h.given h.received h.whole
   where
-    go : (given : List Arrival) → IsSublist given (one_came ∷ []) → to_line ∷ to_line ∷ [] ≡ map (λ (x : Arrival). on_line_of example 0 x.asdu) given → ⊥
+    go : (given : List Arrival) → IsSublist given (one_came ∷ [])
+        → to_line ∷ to_line ∷ [] ≡ map (λ (x : Arrival). on_line_of example 0 x.asdu) given → ⊥
     go [] part whole = cc
     go (x ∷ []) part whole = cc
     go (x ∷ (y ∷ given)) (inl h) whole = h.1

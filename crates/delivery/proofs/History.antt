@@ -35,7 +35,8 @@ mirrors_ignore = record { kept = λ octets is_kept h. refl; answered = λ octets
 pub judged_ignore : Ignores judged_in
 judged_ignore = record { kept = λ octets is_kept h. refl; answered = λ octets h. refl; ended = λ h. refl }
 
-pub keeping : {X : Type 0} (F : History → X) → Ignores F → (xs : List (List ℕ)) (s : State) (h : History) → F (told_kept xs s h) ≡ F h
+pub keeping : {X : Type 0} (F : History → X) → Ignores F → (xs : List (List ℕ)) (s : State) (h : History)
+    → F (told_kept xs s h) ≡ F h
 keeping {X} F i [] s h = refl
 keeping {X} F i (x ∷ xs) s h = go (has_room s) (keeping F i xs (offered x s) (Offered x (has_room s) ∷ h))
   where
@@ -54,24 +55,29 @@ sending_own {X} F i w = go (first_answer w.serial.commands.answers)
     go None = refl
     go (Some octets) = i.answered octets w.history
 
-pub judging : {X : Type 0} (F : History → X) → Ignores F → (xs : List ℕ) (now : ℕ) (wall : Option ℕ) (w : Works) → F (told_judged xs now wall w) ≡ F (Judged now wall xs (judged xs now wall w.serial.commands).0 ∷ w.history)
-judging {X} F i xs now wall w = keeping F i (listed (judged xs now wall w.serial.commands).0) (judged xs now wall w.serial.commands).1 (told (Judge xs now wall) w)
+pub judging : {X : Type 0} (F : History → X) → Ignores F → (xs : List ℕ) (now : ℕ) (wall : Option ℕ) (w : Works)
+    → F (told_judged xs now wall w) ≡ F (Judged now wall xs (judged xs now wall w.serial.commands).0 ∷ w.history)
+judging {X} F i xs now wall w = keeping F i (listed (judged xs now wall w.serial.commands).0)
+    (judged xs now wall w.serial.commands).1 (told (Judge xs now wall) w)
 
 -- What waits fits the line.
 
 abbrev pub WaitsFit : Setup → State → Type 0
 WaitsFit p s = AllFitLine p.link.size s.waiting
 
-pub one_fits : (stay : AnswersStay) (p : Setup) (call : Call) (r : Run) → IsFitCall call → WaitsFit p r.state → WaitsFit p (after_call call r).state
+pub one_fits : (stay : AnswersStay) (p : Setup) (call : Call) (r : Run) → IsFitCall call → WaitsFit p r.state
+    → WaitsFit p (after_call call r).state
 one_fits stay p call r h k = call_fits stay p.link.size call r h k
 
-pub kept_fit : (stay : AnswersStay) (p : Setup) (xs : List (List ℕ)) (s : State) → WaitsFit p s → WaitsFit p (kept_until xs s)
+pub kept_fit : (stay : AnswersStay) (p : Setup) (xs : List (List ℕ)) (s : State) → WaitsFit p s
+    → WaitsFit p (kept_until xs s)
 kept_fit stay p [] s h = h
 kept_fit stay p (x ∷ xs) s h = go (has_room s) (kept_fit stay p xs (offered x s) one)
   where
     one : WaitsFit p (offered x s)
     one = one_fits stay p (Own x) (record { state = s; history = [] }) tt h
 
-    go : (b : Bool) → WaitsFit p (kept_until xs (offered x s)) → WaitsFit p (if b then kept_until xs (offered x s) else offered x s)
+    go : (b : Bool) → WaitsFit p (kept_until xs (offered x s))
+        → WaitsFit p (if b then kept_until xs (offered x s) else offered x s)
     go true ih = ih
     go false ih = one

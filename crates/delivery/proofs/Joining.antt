@@ -40,137 +40,207 @@ pub record Joins (p : Setup) (e : Exchanges) (w : Works) : Type 0 where
   pub tells : Tells p.link p.addresses w.serial.line e
   pub told : (k : ℕ) → IsTold p.link (address_at p.addresses k) (exchanges_at (front_of p.link.size) k e) k (all_told w)
   pub left : IsAllTold w
-  pub mirrors : AreValues p.sizes (mirrored_in w.history) (command_reports p.sizes (reports_of_exchanges (front_of p.link.size) (address_at p.addresses) e))
+  pub mirrors : AreValues p.sizes (mirrored_in w.history)
+      (command_reports p.sizes (reports_of_exchanges (front_of p.link.size) (address_at p.addresses) e))
   pub fits : WaitsFit p w.serial.commands
-  pub skips : w.serial.counts.skipped ≡ saturated (skipped_among p.sizes (reports_of_exchanges (front_of p.link.size) (address_at p.addresses) e))
+  pub skips : w.serial.counts.skipped
+      ≡ saturated (skipped_among p.sizes (reports_of_exchanges (front_of p.link.size) (address_at p.addresses) e))
 
 module _ (laws : LinkLaws) (stay : AnswersStay) (p : Setup) where
   abbrev reports_by : Exchanges → List (ℕ × List ℕ)
   reports_by e = reports_of_exchanges (front_of p.link.size) (address_at p.addresses) e
 
-  quiet_joins : (e : Exchanges) (w z : Works) → Tells p.link p.addresses z.serial.line e → IsQuiet p w z → Joins p e w → Joins p e z
+  quiet_joins : (e : Exchanges) (w z : Works) → Tells p.link p.addresses z.serial.line e → IsQuiet p w z → Joins p e w
+      → Joins p e z
   quiet_joins e w z tells q j = record {
     tells = tells;
-    told = λ k. stays_told p.link (address_at p.addresses k) (exchanges_at (front_of p.link.size) k e) k (all_told w) (all_told z) (q.told k) (j.told k);
+    told = λ k. stays_told p.link (address_at p.addresses k) (exchanges_at (front_of p.link.size) k e) k (all_told w)
+        (all_told z) (q.told k) (j.told k);
     left = q.left j.left;
-    mirrors = subst (λ (vs : List AsduValue). AreValues p.sizes vs (command_reports p.sizes (reports_by e))) (sym q.mirrors) j.mirrors;
+    mirrors = subst (λ (vs : List AsduValue). AreValues p.sizes vs (command_reports p.sizes (reports_by e)))
+        (sym q.mirrors) j.mirrors;
     fits = q.fits j.fits;
     skips = q.skips ∙ j.skips;
   }
 
   -- Frames
 
-  frames_join : (frames : List Apdu) (now : ℕ) (wall : Option ℕ) (e : Exchanges) (c : Course) → AllFit frames → Joins p e c.works → Joins p e (with_frames p frames now wall c).works
+  frames_join : (frames : List Apdu) (now : ℕ) (wall : Option ℕ) (e : Exchanges) (c : Course) → AllFit frames
+      → Joins p e c.works → Joins p e (with_frames p frames now wall c).works
   frames_join [] now wall e c fit j = j
   frames_join (frame ∷ frames) now wall e c fit j =
       let before : Joins p e (with_frames p frames now wall c).works = frames_join frames now wall e c fit.1 j in
       quiet_joins e (with_frames p frames now wall c).works (with_frames p (frame ∷ frames) now wall c).works
-      (subst (λ (q : Primary). Tells p.link p.addresses q e) (sym (heard_line frame now wall (with_frames p frames now wall c).works)) before.tells)
+      (subst (λ (q : Primary). Tells p.link p.addresses q e)
+      (sym (heard_line frame now wall (with_frames p frames now wall c).works)) before.tells)
       (heard_quiet stay p frame now wall (with_frames p frames now wall c).works fit.0) before
 
-  sent_joins : (frame : Apdu) (now : ℕ) (e : Exchanges) (c : Course) → Joins p e c.works → Joins p e (with_sent frame now c).works
+  sent_joins : (frame : Apdu) (now : ℕ) (e : Exchanges) (c : Course) → Joins p e c.works
+      → Joins p e (with_sent frame now c).works
   sent_joins frame now e c j = quiet_joins e c.works (with_sent frame now c).works
-      (subst (λ (q : Primary). Tells p.link p.addresses q e) (sym (sent_line frame c.works)) j.tells) (sent_quiet stay p frame c.works) j
+      (subst (λ (q : Primary). Tells p.link p.addresses q e) (sym (sent_line frame c.works)) j.tells)
+      (sent_quiet stay p frame c.works) j
 
   cut_joins : (e : Exchanges) (w : Works) → Joins p e w → Joins p e (cut_works w)
   cut_joins e w j = quiet_joins e w (cut_works w) (laws.withdraw p.link p.addresses w.serial.line e j.tells)
-      (record { told = λ k. told_alike k w.serial.silent w (cut_works w) refl; left = λ h. h; mirrors = refl; fits = λ f. one_fits stay p Cut (tasks_of w) tt f; skips = refl }) j
+      (record {
+        told = λ k. told_alike k w.serial.silent w (cut_works w) refl;
+        left = λ h. h;
+        mirrors = refl;
+        fits =
+            λ f. one_fits stay p Cut (tasks_of w) tt f;
+        skips = refl;
+      }) j
 
   settled_joins : (at : ℕ) (e : Exchanges) (w : Works) → Joins p e w → Joins p e (settled_works at w)
-  settled_joins at e w j = quiet_joins e w (settled_works at w) (subst (λ (q : Primary). Tells p.link p.addresses q e) (sym (settled_line at w)) j.tells) (settled_quiet stay p at w) j
+  settled_joins at e w j = quiet_joins e w (settled_works at w)
+      (subst (λ (q : Primary). Tells p.link p.addresses q e) (sym (settled_line at w)) j.tells)
+      (settled_quiet stay p at w) j
 
   ready_joins : (at : ℕ) (e : Exchanges) (w : Works) → Joins p e w → Joins p e (ready_works at w)
   ready_joins at e w j =
       let s : Joins p e (settled_works at w) = settled_joins at e w j in
       quiet_joins e (settled_works at w) (ready_works at w)
-      (offers_tell laws p.link p.addresses e (settled_works at w).serial.commands.waiting (settled_works at w).serial.line s.fits s.tells)
+      (offers_tell laws p.link p.addresses e (settled_works at w).serial.commands.waiting
+      (settled_works at w).serial.line s.fits s.tells)
       (record { told = λ k. refl; left = λ h due. refl; mirrors = refl; fits = λ f. f; skips = refl }) s
 
   -- An event's moment and octets
 
-  timed_joins : (at : ℕ) (e : Exchanges) (w : Works) → w.serial.silent ≡ None → Joins p e w → Joins p (record { ended = e.ended; current = timed_current p.link.answer_ms at e.current }) (begun_works at w)
+  timed_joins : (at : ℕ) (e : Exchanges) (w : Works) → w.serial.silent ≡ None → Joins p e w
+      → Joins p (record { ended = e.ended; current = timed_current p.link.answer_ms at e.current }) (begun_works at w)
   timed_joins at e w none j = record {
     tells = laws.due p.link p.addresses w.serial.line e at j.tells;
-    told = λ k. timed_told laws p w.serial.line e j.tells at k w.history (all_told (begun_works at w)) (silent_told k (due_outcome w.serial.line at) (begun_works at w))
-        (subst (λ (o : Option ℕ). IsTold p.link (address_at p.addresses k) (exchanges_at (front_of p.link.size) k e) k (told_silent o w)) none (j.told k));
+    told = λ k. timed_told laws p w.serial.line e j.tells at k w.history (all_told (begun_works at w))
+        (silent_told k (due_outcome w.serial.line at) (begun_works at w))
+        (subst (λ (o : Option ℕ). IsTold p.link (address_at p.addresses k) (exchanges_at (front_of p.link.size) k e) k
+        (told_silent o w)) none (j.told k));
     left = λ due. cc;
-    mirrors = subst (λ (l : List (ℕ × List ℕ)). AreValues p.sizes (mirrored_in w.history) (command_reports p.sizes l)) (sym (laws.due_reports p.link.size (address_at p.addresses) p.link.answer_ms at e)) j.mirrors;
+    mirrors = subst (λ (l : List (ℕ × List ℕ)). AreValues p.sizes (mirrored_in w.history) (command_reports p.sizes l))
+        (sym (laws.due_reports p.link.size (address_at p.addresses) p.link.answer_ms at e)) j.mirrors;
     fits = j.fits;
-    skips = j.skips ∙ ap (λ (l : List (ℕ × List ℕ)). saturated (skipped_among p.sizes l)) (sym (laws.due_reports p.link.size (address_at p.addresses) p.link.answer_ms at e));
+    skips = j.skips ∙ ap (λ (l : List (ℕ × List ℕ)). saturated (skipped_among p.sizes l))
+        (sym (laws.due_reports p.link.size (address_at p.addresses) p.link.answer_ms at e));
   }
 
-  heard_joins : (octets : List ℕ) (at : ℕ) (running : Bool) (e : Exchanges) (w z : Works) → LearnsOf p at running (heard_outcome octets w.serial) (octets_works octets w) z → w.serial.silent ≡ None → Joins p e w →
+  heard_joins : (octets : List ℕ) (at : ℕ) (running : Bool) (e : Exchanges) (w z : Works)
+      → LearnsOf p at running (heard_outcome octets w.serial) (octets_works octets w) z → w.serial.silent ≡ None
+      → Joins p e w →
       (z.serial.silent ≡ None) × Joins p (record { ended = e.ended; current = heard_current octets e.current }) z
   heard_joins octets at running e w z learns none j =
-      let learnt : IsLearnt p (heard_outcome octets w.serial) (octets_works octets w) z = learnt_of stay p at running (heard_outcome octets w.serial) (octets_works octets w) z learns in
+      let learnt : IsLearnt p (heard_outcome octets w.serial) (octets_works octets w) z =
+      learnt_of stay p at running (heard_outcome octets w.serial) (octets_works octets w) z learns in
       let quiet : z.serial.silent ≡ None = learnt.silent ∙ none in (
         quiet,
         record {
-          tells = subst (λ (q : Primary). Tells p.link p.addresses q (record { ended = e.ended; current = heard_current octets e.current })) (sym learnt.line) (laws.octets p.link p.addresses w.serial.line e octets j.tells);
-          told = λ k. heard_told laws p w.serial.line e j.tells octets k w.history (all_told z) (ap (λ (o : Option ℕ). line_told k (told_silent o z)) quiet ∙ learnt.told k)
-              (subst (λ (o : Option ℕ). IsTold p.link (address_at p.addresses k) (exchanges_at (front_of p.link.size) k e) k (told_silent o w)) none (j.told k));
+          tells = subst (λ (q : Primary). Tells p.link p.addresses q
+              (record { ended = e.ended; current = heard_current octets e.current })) (sym learnt.line)
+              (laws.octets p.link p.addresses w.serial.line e octets j.tells);
+          told = λ k. heard_told laws p w.serial.line e j.tells octets k w.history (all_told z)
+              (ap (λ (o : Option ℕ). line_told k (told_silent o z)) quiet ∙ learnt.told k)
+              (subst (λ (o : Option ℕ). IsTold p.link (address_at p.addresses k)
+              (exchanges_at (front_of p.link.size) k e) k (told_silent o w)) none (j.told k));
           left = λ due. quiet;
-          mirrors = subst (λ (l : List (ℕ × List ℕ)). AreValues p.sizes (mirrored_in z.history) (command_reports p.sizes l)) (sym (laws.octets_report p.link p.addresses w.serial.line e octets j.tells)) (learnt.mirrors (reports_by e) j.mirrors);
+          mirrors = subst (λ (l : List (ℕ × List ℕ)). AreValues p.sizes (mirrored_in z.history)
+              (command_reports p.sizes l)) (sym (laws.octets_report p.link p.addresses w.serial.line e octets j.tells))
+              (learnt.mirrors (reports_by e) j.mirrors);
           fits = learnt.fits j.fits;
-          skips = learnt.skips (reports_by e) j.skips ∙ ap (λ (l : List (ℕ × List ℕ)). saturated (skipped_among p.sizes l)) (sym (laws.octets_report p.link p.addresses w.serial.line e octets j.tells));
+          skips = learnt.skips (reports_by e) j.skips ∙ ap
+              (λ (l : List (ℕ × List ℕ)). saturated (skipped_among p.sizes l))
+              (sym (laws.octets_report p.link p.addresses w.serial.line e octets j.tells));
         },
       )
 
   -- The step before is done
 
-  done_joins : (at : ℕ) (room : Bool) (e : Exchanges) (w : Works) → (w.is_due ≡ true → sending (ready_works at w).serial.line room ≡ None) → Joins p e w → ((done_works at room w).serial.silent ≡ None) × Joins p e (done_works at room w)
+  done_joins : (at : ℕ) (room : Bool) (e : Exchanges) (w : Works)
+      → (w.is_due ≡ true → sending (ready_works at w).serial.line room ≡ None) → Joins p e w
+      → ((done_works at room w).serial.silent ≡ None) × Joins p e (done_works at room w)
   done_joins at room e w none j = go w.is_due refl
     where
-      unasked : sending (ready_works at w).serial.line room ≡ None → Joins p e (unasked_works at room (ready_works at w))
+      unasked : sending (ready_works at w).serial.line room ≡ None
+          → Joins p e (unasked_works at room (ready_works at w))
       unasked is =
           let r : Joins p e (ready_works at w) = ready_joins at e w j in
           quiet_joins e (ready_works at w) (unasked_works at room (ready_works at w))
-          (subst (λ (o : Option Sending). Tells p.link p.addresses (asked (ready_works at w).serial.line at room) (begun_by at o e)) is (laws.next p.link p.addresses (ready_works at w).serial.line e at room r.tells))
+          (subst (λ (o : Option Sending). Tells p.link p.addresses (asked (ready_works at w).serial.line at room)
+          (begun_by at o e)) is (laws.next p.link p.addresses (ready_works at w).serial.line e at room r.tells))
           (record { told = λ k. refl; left = λ h due. refl; mirrors = refl; fits = λ f. f; skips = refl }) r
 
-      go : (b : Bool) → w.is_due ≡ b → ((if b then unasked_works at room (ready_works at w) else w).serial.silent ≡ None) × Joins p e (if b then unasked_works at room (ready_works at w) else w)
+      go : (b : Bool) → w.is_due ≡ b → ((if b then unasked_works at room (ready_works at w) else w).serial.silent
+          ≡ None) × Joins p e (if b then unasked_works at room (ready_works at w) else w)
       go true is = (refl, unasked (none is))
       go false is = (j.left is, j)
 
-  left_joins : (log : Log) (before after : Course) (e : Exchanges) → IsLeft p log before after → Joins p e before.works → (after.works.serial.silent ≡ None) × Joins p e after.works
-  left_joins log before after e left j = subst (λ (c : Course). (c.works.serial.silent ≡ None) × Joins p e c.works) (sym left.is) (done_joins (latest log) (room_in p log before) e before.works left.none j)
+  left_joins : (log : Log) (before after : Course) (e : Exchanges) → IsLeft p log before after → Joins p e before.works
+      → (after.works.serial.silent ≡ None) × Joins p e after.works
+  left_joins log before after e left j = subst (λ (c : Course). (c.works.serial.silent ≡ None) × Joins p e c.works)
+      (sym left.is) (done_joins (latest log) (room_in p log before) e before.works left.none j)
 
   -- A request goes out
 
-  back : (q : Primary) (e : Exchanges) (may : Bool) (s : Sending) → IsSetUp p → Tells p.link p.addresses q e → sending q may ≡ Some s → sending_in p (line.spelling p.link.size (request_frame (address_at p.addresses s.station) s.request)) ≡ Some s
+  back : (q : Primary) (e : Exchanges) (may : Bool) (s : Sending) → IsSetUp p → Tells p.link p.addresses q e
+      → sending q may ≡ Some s
+      → sending_in p (line.spelling p.link.size (request_frame (address_at p.addresses s.station) s.request)) ≡ Some s
   back q e may s set h is =
       let fits = laws.fit p.link p.addresses q e may s h is in
-      let reads : request_in p.link.size (line.spelling p.link.size (request_frame (address_at p.addresses s.station) s.request)) ≡ Some (address_at p.addresses s.station, s.request) = laws.back p.link.size (address_at p.addresses s.station) s.request fits.address fits.request in
-      ap (option_and_then (sent_to p.addresses)) reads ∙ ap (option_map (λ (i : ℕ). let made : Sending = record { station = i; request = s.request } in made)) (set.found s.station fits.station)
+      let reads : request_in p.link.size (line.spelling p.link.size
+      (request_frame (address_at p.addresses s.station) s.request))
+      ≡ Some (address_at p.addresses s.station, s.request) =
+      laws.back p.link.size (address_at p.addresses s.station) s.request fits.address fits.request in
+      ap (option_and_then (sent_to p.addresses)) reads
+      ∙ ap (option_map (λ (i : ℕ). let made : Sending = record { station = i; request = s.request } in made))
+      (set.found s.station fits.station)
 
   asked_joins : (at : ℕ) (room : Bool) (s : Sending) (e : Exchanges) (w : Works) → sending w.serial.line room ≡ Some s →
-      ((fcb : Bool) (asdu : List ℕ) → s.request ≡ Counted fcb (Command asdu) → is_first_command w.serial.line s ≡ true → octets_waiting s.station w.serial.commands ≡ Some asdu) →
+      ((fcb : Bool) (asdu : List ℕ) → s.request ≡ Counted fcb (Command asdu) → is_first_command w.serial.line s ≡ true
+      → octets_waiting s.station w.serial.commands ≡ Some asdu) →
       w.serial.silent ≡ None → Joins p e w → Joins p (begun_by at (Some s) e) (asked_works at room s w)
   asked_joins at room s e w is waits none j = record {
-    tells = subst (λ (o : Option Sending). Tells p.link p.addresses (asked w.serial.line at room) (begun_by at o e)) is (laws.next p.link p.addresses w.serial.line e at room j.tells);
-    told = λ k. subst (λ (o : Option ℕ). IsTold p.link (address_at p.addresses k) (exchanges_at (front_of p.link.size) k (begun_by at (Some s) e)) k (told_silent o (asked_works at room s w))) (sym none)
-        (asked_told laws p w.serial.line e j.tells room s at k w.history (told_put (is_first_command w.serial.line s) s.station w) is
-        (put_told (is_first_command w.serial.line s) s.station s.request w k (λ first. (and_parts (is_command s.request) (not (is_held (station_at w.serial.line.stations s.station).link)) first).0) waits)
-        (subst (λ (o : Option ℕ). IsTold p.link (address_at p.addresses k) (exchanges_at (front_of p.link.size) k e) k (told_silent o w)) none (j.told k)));
+    tells = subst (λ (o : Option Sending). Tells p.link p.addresses (asked w.serial.line at room) (begun_by at o e)) is
+        (laws.next p.link p.addresses w.serial.line e at room j.tells);
+    told = λ k. subst (λ (o : Option ℕ). IsTold p.link (address_at p.addresses k)
+        (exchanges_at (front_of p.link.size) k (begun_by at (Some s) e)) k (told_silent o (asked_works at room s w)))
+        (sym none)
+        (asked_told laws p w.serial.line e j.tells room s at k w.history
+        (told_put (is_first_command w.serial.line s) s.station w) is
+        (put_told (is_first_command w.serial.line s) s.station s.request w k
+        (λ first. (and_parts (is_command s.request)
+        (not (is_held (station_at w.serial.line.stations s.station).link)) first).0) waits)
+        (subst (λ (o : Option ℕ). IsTold p.link (address_at p.addresses k) (exchanges_at (front_of p.link.size) k e) k
+        (told_silent o w)) none (j.told k)));
     left = λ due. none;
-    mirrors = subst (λ (vs : List AsduValue). AreValues p.sizes vs (command_reports p.sizes (reports_by (begun_by at (Some s) e)))) (sym (put_mirrors (is_first_command w.serial.line s) s.station w))
-        (subst (λ (l : List (ℕ × List ℕ)). AreValues p.sizes (mirrored_in w.history) (command_reports p.sizes l)) (sym (laws.next_reports p.link.size (address_at p.addresses) at (Some s) e)) j.mirrors);
+    mirrors = subst (λ (vs : List AsduValue). AreValues p.sizes vs
+        (command_reports p.sizes (reports_by (begun_by at (Some s) e))))
+        (sym (put_mirrors (is_first_command w.serial.line s) s.station w))
+        (subst (λ (l : List (ℕ × List ℕ)). AreValues p.sizes (mirrored_in w.history) (command_reports p.sizes l))
+        (sym (laws.next_reports p.link.size (address_at p.addresses) at (Some s) e)) j.mirrors);
     fits = put_fits stay p (is_first_command w.serial.line s) s.station w j.fits;
-    skips = j.skips ∙ ap (λ (l : List (ℕ × List ℕ)). saturated (skipped_among p.sizes l)) (sym (laws.next_reports p.link.size (address_at p.addresses) at (Some s) e));
+    skips = j.skips ∙ ap (λ (l : List (ℕ × List ℕ)). saturated (skipped_among p.sizes l))
+        (sym (laws.next_reports p.link.size (address_at p.addresses) at (Some s) e));
   }
 
-  sends_joins : (set : IsSetUp p) (log : Log) (now : ℕ) (octets : List ℕ) (before after : Course) → now ≡ latest log → SendsNext p log octets before after →
+  sends_joins : (set : IsSetUp p) (log : Log) (now : ℕ) (octets : List ℕ) (before after : Course) → now ≡ latest log
+      → SendsNext p log octets before after →
       Joins p (exchanges_of p log) before.works → Joins p (exchanges_of p (Went now (LineOut octets) ∷ log)) after.works
   sends_joins set log now octets before after moment sends j =
-      let ready : Joins p (exchanges_of p log) (ready_works (latest log) before.works) = ready_joins (latest log) (exchanges_of p log) before.works j in
-      let read : sending_in p octets ≡ Some sends.request = ap (λ (xs : List ℕ). sending_in p xs) sends.spelled_so ∙ back (ready_works (latest log) before.works).serial.line (exchanges_of p log) (room_in p log before) sends.request set ready.tells sends.next in
-      let made : Joins p (begun_by (latest log) (Some sends.request) (exchanges_of p log)) (asked_works (latest log) (room_in p log before) sends.request (ready_works (latest log) before.works)) =
-      asked_joins (latest log) (room_in p log before) sends.request (exchanges_of p log) (ready_works (latest log) before.works) sends.next sends.waits refl ready in
+      let ready : Joins p (exchanges_of p log) (ready_works (latest log) before.works) =
+      ready_joins (latest log) (exchanges_of p log) before.works j in
+      let read : sending_in p octets ≡ Some sends.request = ap (λ (xs : List ℕ). sending_in p xs) sends.spelled_so
+      ∙ back (ready_works (latest log) before.works).serial.line (exchanges_of p log)
+      (room_in p log before) sends.request set ready.tells sends.next in
+      let made : Joins p (begun_by (latest log) (Some sends.request) (exchanges_of p log))
+      (asked_works (latest log) (room_in p log before) sends.request (ready_works (latest log) before.works)) =
+      asked_joins (latest log) (room_in p log before) sends.request (exchanges_of p log)
+      (ready_works (latest log) before.works) sends.next sends.waits refl ready in
       subst (λ (c : Course). Joins p (exchanges_of p (Went now (LineOut octets) ∷ log)) c.works) (sym sends.is)
-      (subst (λ (e : Exchanges). Joins p e (asked_works (latest log) (room_in p log before) sends.request (ready_works (latest log) before.works)))
-      (sym (ap (λ (o : Option Sending). begun_by now o (exchanges_of p log)) read ∙ ap (λ (n : ℕ). begun_by n (Some sends.request) (exchanges_of p log)) moment)) made)
+      (subst (λ (e : Exchanges). Joins p e (asked_works (latest log) (room_in p log before) sends.request
+      (ready_works (latest log) before.works)))
+      (sym (ap (λ (o : Option Sending). begun_by now o (exchanges_of p log)) read
+      ∙ ap (λ (n : ℕ). begun_by n (Some sends.request) (exchanges_of p log)) moment)) made)
 
-  closed_joins : (cause : Close) (is_open : Bool) (at : ℕ) (e : Exchanges) (c : Course) → Joins p e c.works → Joins p e (closed_course p cause is_open at c).works
+  closed_joins : (cause : Close) (is_open : Bool) (at : ℕ) (e : Exchanges) (c : Course) → Joins p e c.works
+      → Joins p e (closed_course p cause is_open at c).works
   closed_joins Grammar is_open at e c j = cut_joins e c.works j
   closed_joins SendNumber is_open at e c j = cut_joins e c.works j
   closed_joins ReceiveNumber is_open at e c j = cut_joins e c.works j
@@ -181,10 +251,12 @@ module _ (laws : LinkLaws) (stay : AnswersStay) (p : Setup) where
 
   -- Each log
 
-  moment_of : (log : Log) (now : ℕ) (octets : List ℕ) → ActsRightly p (Went now (LineOut octets) ∷ log) → now ≡ latest log
+  moment_of : (log : Log) (now : ℕ) (octets : List ℕ) → ActsRightly p (Went now (LineOut octets) ∷ log)
+      → now ≡ latest log
   moment_of log now octets acts = acts.0.moment
 
-  pub joins : (set : IsSetUp p) (log : Log) (c : Course) → Runs p log c → ActsRightly p log → Joins p (exchanges_of p log) c.works
+  pub joins : (set : IsSetUp p) (log : Log) (c : Course) → Runs p log c → ActsRightly p log
+      → Joins p (exchanges_of p log) c.works
   joins set [] c r acts = subst (λ (x : Course). Joins p (exchanges_of p []) x.works) (sym r) (record {
     tells = laws.begins p.link p.addresses set.some set.fit;
     told = λ k. record { steps = refl; last = λ asdu e. cc; sent = refl };
@@ -195,43 +267,76 @@ module _ (laws : LinkLaws) (stay : AnswersStay) (p : Setup) where
   })
   joins set (Came now (LineIn octets) ∷ log) c r acts =
       let at : ℕ = latest (Came now (LineIn octets) ∷ log) in
-      let left : (r.1.works.serial.silent ≡ None) × Joins p (exchanges_of p log) r.1.works = left_joins log r.0 r.1 (exchanges_of p log) r.4 (joins set log r.0 r.2 acts) in
+      let left : (r.1.works.serial.silent ≡ None) × Joins p (exchanges_of p log) r.1.works =
+      left_joins log r.0 r.1 (exchanges_of p log) r.4 (joins set log r.0 r.2 acts) in
       subst (λ (x : Course). Joins p (exchanges_of p (Came now (LineIn octets) ∷ log)) x.works) (sym r.5.2)
-      (timed_joins at (record { ended = (exchanges_of p log).ended; current = heard_current octets (exchanges_of p log).current }) r.5.0
-      (heard_joins octets at _ (exchanges_of p log) r.1.works r.5.0 r.5.1 left.0 left.1).0 (heard_joins octets at _ (exchanges_of p log) r.1.works r.5.0 r.5.1 left.0 left.1).1)
+      (timed_joins at (record {
+        ended = (exchanges_of p log).ended;
+        current =
+            heard_current octets (exchanges_of p log).current;
+      }) r.5.0
+      (heard_joins octets at _ (exchanges_of p log) r.1.works r.5.0 r.5.1 left.0 left.1).0
+      (heard_joins octets at _ (exchanges_of p log) r.1.works r.5.0 r.5.1 left.0 left.1).1)
   joins set (Came now (TcpIn octets) ∷ log) c r acts =
       let at : ℕ = latest (Came now (TcpIn octets) ∷ log) in
-      let left : (r.1.works.serial.silent ≡ None) × Joins p (exchanges_of p log) r.1.works = left_joins log r.0 r.1 (exchanges_of p log) r.4 (joins set log r.0 r.2 acts) in
+      let left : (r.1.works.serial.silent ≡ None) × Joins p (exchanges_of p log) r.1.works =
+      left_joins log r.0 r.1 (exchanges_of p log) r.4 (joins set log r.0 r.2 acts) in
       subst (λ (x : Course). Joins p (exchanges_of p (Came now (TcpIn octets) ∷ log)) x.works) (sym r.5.taken)
-      (frames_join r.5.frames at _ (exchanges_of p (Came now (TcpIn octets) ∷ log)) (with_works (begun_works at r.1.works) r.1)
+      (frames_join r.5.frames at _ (exchanges_of p (Came now (TcpIn octets) ∷ log))
+      (with_works (begun_works at r.1.works) r.1)
       (taken_fit p (Came at (TcpIn octets) ∷ log) at r.5.frames (with_works (begun_works at r.1.works) r.1) r.5.each)
       (timed_joins at (exchanges_of p log) r.1.works left.0 left.1))
   joins set (Came now Ticked ∷ log) c r acts =
       let at : ℕ = latest (Came now Ticked ∷ log) in
-      let left : (r.1.works.serial.silent ≡ None) × Joins p (exchanges_of p log) r.1.works = left_joins log r.0 r.1 (exchanges_of p log) r.4 (joins set log r.0 r.2 acts) in
-      subst (λ (x : Course). Joins p (exchanges_of p (Came now Ticked ∷ log)) x.works) (sym r.5) (timed_joins at (exchanges_of p log) r.1.works left.0 left.1)
+      let left : (r.1.works.serial.silent ≡ None) × Joins p (exchanges_of p log) r.1.works =
+      left_joins log r.0 r.1 (exchanges_of p log) r.4 (joins set log r.0 r.2 acts) in
+      subst (λ (x : Course). Joins p (exchanges_of p (Came now Ticked ∷ log)) x.works) (sym r.5)
+      (timed_joins at (exchanges_of p log) r.1.works left.0 left.1)
   joins set (Came now (WallIs number) ∷ log) c r acts =
       let at : ℕ = latest (Came now (WallIs number) ∷ log) in
-      let left : (r.1.works.serial.silent ≡ None) × Joins p (exchanges_of p log) r.1.works = left_joins log r.0 r.1 (exchanges_of p log) r.4 (joins set log r.0 r.2 acts) in
-      subst (λ (x : Course). Joins p (exchanges_of p (Came now (WallIs number) ∷ log)) x.works) (sym r.5) (timed_joins at (exchanges_of p log) r.1.works left.0 left.1)
+      let left : (r.1.works.serial.silent ≡ None) × Joins p (exchanges_of p log) r.1.works =
+      left_joins log r.0 r.1 (exchanges_of p log) r.4 (joins set log r.0 r.2 acts) in
+      subst (λ (x : Course). Joins p (exchanges_of p (Came now (WallIs number) ∷ log)) x.works) (sym r.5)
+      (timed_joins at (exchanges_of p log) r.1.works left.0 left.1)
   joins set (Came now Opened ∷ log) c r acts =
       let at : ℕ = latest (Came now Opened ∷ log) in
-      let left : (r.1.works.serial.silent ≡ None) × Joins p (exchanges_of p log) r.1.works = left_joins log r.0 r.1 (exchanges_of p log) r.4 (joins set log r.0 r.2 acts) in
+      let left : (r.1.works.serial.silent ≡ None) × Joins p (exchanges_of p log) r.1.works =
+      left_joins log r.0 r.1 (exchanges_of p log) r.4 (joins set log r.0 r.2 acts) in
       subst (λ (x : Course). Joins p (exchanges_of p (Came now Opened ∷ log)) x.works) (sym r.5)
-      (cut_joins (exchanges_of p (Came now Opened ∷ log)) (begun_works at r.1.works) (timed_joins at (exchanges_of p log) r.1.works left.0 left.1))
+      (cut_joins (exchanges_of p (Came now Opened ∷ log)) (begun_works at r.1.works)
+      (timed_joins at (exchanges_of p log) r.1.works left.0 left.1))
   joins set (Came now CutOff ∷ log) c r acts =
       let at : ℕ = latest (Came now CutOff ∷ log) in
-      let left : (r.1.works.serial.silent ≡ None) × Joins p (exchanges_of p log) r.1.works = left_joins log r.0 r.1 (exchanges_of p log) r.4 (joins set log r.0 r.2 acts) in
+      let left : (r.1.works.serial.silent ≡ None) × Joins p (exchanges_of p log) r.1.works =
+      left_joins log r.0 r.1 (exchanges_of p log) r.4 (joins set log r.0 r.2 acts) in
       subst (λ (x : Course). Joins p (exchanges_of p (Came now CutOff ∷ log)) x.works) (sym r.5)
-      (cut_joins (exchanges_of p (Came now CutOff ∷ log)) (begun_works at r.1.works) (timed_joins at (exchanges_of p log) r.1.works left.0 left.1))
+      (cut_joins (exchanges_of p (Came now CutOff ∷ log)) (begun_works at r.1.works)
+      (timed_joins at (exchanges_of p log) r.1.works left.0 left.1))
   joins set (Went now (LineOut octets) ∷ log) c r acts =
       sends_joins set log now octets r.0 c (moment_of log now octets acts) r.2 (joins set log r.0 r.1 acts.1)
   joins set (Went now (GapOut station session) ∷ log) c r acts =
       let before : Joins p (exchanges_of p log) r.0.works = joins set log r.0 r.1 acts.1 in
-      subst (λ (x : Course). Joins p (exchanges_of p log) x.works) (sym r.2.is) (record { tells = before.tells; told = λ k. stays_told p.link (address_at p.addresses k) (exchanges_at (front_of p.link.size) k (exchanges_of p log)) k (all_told r.0.works) (all_told (gapless_works r.0.works)) (told_alike k r.0.works.serial.silent r.0.works (gapless_works r.0.works) refl) (before.told k); left = before.left; mirrors = before.mirrors; fits = before.fits; skips = before.skips })
+      subst (λ (x : Course). Joins p (exchanges_of p log) x.works) (sym r.2.is)
+      (record {
+        tells = before.tells;
+        told = λ k. stays_told p.link (address_at p.addresses k)
+            (exchanges_at (front_of p.link.size) k (exchanges_of p log)) k (all_told r.0.works)
+            (all_told (gapless_works r.0.works)) (told_alike k r.0.works.serial.silent r.0.works
+            (gapless_works r.0.works) refl) (before.told k);
+        left = before.left;
+        mirrors = before.mirrors;
+        fits =
+            before.fits;
+        skips = before.skips;
+      })
   joins set (Went now (TcpOut octets) ∷ log) c r acts =
-      let sent : Joins p (exchanges_of p log) r.1.works = subst (λ (x : Course). Joins p (exchanges_of p log) x.works) (sym r.3.put) (sent_joins r.3.frame (latest log) (exchanges_of p log) r.0 (joins set log r.0 r.2 acts.1)) in
+      let sent : Joins p (exchanges_of p log) r.1.works =
+      subst (λ (x : Course). Joins p (exchanges_of p log) x.works) (sym r.3.put)
+      (sent_joins r.3.frame (latest log) (exchanges_of p log) r.0 (joins set log r.0 r.2 acts.1)) in
       subst (λ (x : Course). Joins p (exchanges_of p log) x.works) (sym r.4.taken)
-      (frames_join r.4.frames (latest log) _ (exchanges_of p log) r.1 (taken_fit p (Went now (TcpOut octets) ∷ log) (latest log) r.4.frames r.1 r.4.each) sent)
+      (frames_join r.4.frames (latest log) _ (exchanges_of p log) r.1
+      (taken_fit p (Went now (TcpOut octets) ∷ log) (latest log) r.4.frames r.1 r.4.each) sent)
   joins set (Went now (Closed cause) ∷ log) c r acts =
-      subst (λ (x : Course). Joins p (exchanges_of p log) x.works) (sym r.2) (closed_joins cause (present log).is_open (latest log) (exchanges_of p log) r.0 (joins set log r.0 r.1 acts.1))
+      subst (λ (x : Course). Joins p (exchanges_of p log) x.works) (sym r.2)
+      (closed_joins cause (present log).is_open (latest log) (exchanges_of p log) r.0
+      (joins set log r.0 r.1 acts.1))

@@ -13,10 +13,12 @@ use Rattle.gateway.specs.Traffic.{HasRested}
 use Rattle.delivery.specs.Sessions.{ended, gaps_in, given_in, taken_in, LosesNone, LosesLastAtMost, LoseAsTold}
 
 -- each that ended is told where it has a gap
-as_told : (station number : ℕ) (ss : List Session) → AllByRecursion (λ s. HasReports station s) ss → LoseAsTold station number ss (ended_with_gap station number ss)
+as_told : (station number : ℕ) (ss : List Session) → AllByRecursion (λ s. HasReports station s) ss
+    → LoseAsTold station number ss (ended_with_gap station number ss)
 as_told station number [] all = refl
 as_told station number (s ∷ []) all = refl
-as_told station number (s ∷ (next ∷ later)) all = go (is_gap (pending_after station None s.exchanges)) refl (as_told station (suc number) (next ∷ later) all.1)
+as_told station number (s ∷ (next ∷ later)) all = go (is_gap (pending_after station None s.exchanges)) refl
+    (as_told station (suc number) (next ∷ later) all.1)
   where
     rest : List ℕ
     rest = ended_with_gap station (suc number) (next ∷ later)
@@ -24,13 +26,17 @@ as_told station number (s ∷ (next ∷ later)) all = go (is_gap (pending_after 
     numbers : Bool → List ℕ
     numbers b = as_numbers (if b then Some (saturated number) else None) ++ rest
 
-    go : (b : Bool) → is_gap (pending_after station None s.exchanges) ≡ b → LoseAsTold station (suc number) (next ∷ later) rest →
-        (LosesNone station s × LoseAsTold station (suc number) (next ∷ later) (as_numbers (if b then Some (saturated number) else None) ++ rest))
-        ⊎ ((others : List ℕ) × (as_numbers (if b then Some (saturated number) else None) ++ rest ≡ saturated number ∷ others) × LosesLastAtMost station s × LoseAsTold station (suc number) (next ∷ later) others)
+    go : (b : Bool) → is_gap (pending_after station None s.exchanges) ≡ b
+        → LoseAsTold station (suc number) (next ∷ later) rest →
+        (LosesNone station s × LoseAsTold station (suc number) (next ∷ later)
+        (as_numbers (if b then Some (saturated number) else None) ++ rest))
+        ⊎ ((others : List ℕ) × (as_numbers (if b then Some (saturated number) else None) ++ rest ≡ saturated number
+        ∷ others) × LosesLastAtMost station s × LoseAsTold station (suc number) (next ∷ later) others)
     go true e ih = inr (rest, refl, all.0.most, ih)
     go false e ih = inl (all.0.all e, ih)
 
-pub told_so : (station : ℕ) (ss : List Session) (told : List ℕ) → AllByRecursion (λ s. HasReports station s) ss → told ≡ ended_with_gap station 1 ss → LoseAsTold station 1 ss told
+pub told_so : (station : ℕ) (ss : List Session) (told : List ℕ) → AllByRecursion (λ s. HasReports station s) ss
+    → told ≡ ended_with_gap station 1 ss → LoseAsTold station 1 ss told
 told_so station ss told all is = subst (LoseAsTold station 1 ss) (sym is) (as_told station 1 ss all)
 
 -- once a step is over each gap is told
@@ -39,7 +45,8 @@ gaps_rested p [] i rests = refl
 gaps_rested p (entry ∷ log) i rests = rests.gaps i
 
 -- at most one fewer
-within_one : (all some : List (List ℕ)) → IsAllOrButLast all some → (length some ≤ length all) × (length all ≤ length some + 1)
+within_one : (all some : List (List ℕ)) → IsAllOrButLast all some
+    → (length some ≤ length all) × (length all ≤ length some + 1)
 within_one all some (inl same) = let even : length some ≡ length all = ap length same in (omega arith, omega arith)
 within_one all some (inr more) =
     let whole : length (some ++ more.0 ∷ []) ≡ length all = ap length more.1 in
@@ -51,7 +58,8 @@ pub record AreWithin (station : ℕ) (ss : List Session) : Type 0 where
   pub taken : taken_in station ss ≤ given_in ss
   pub lost : given_in ss ≤ taken_in station ss + gaps_in station ss
 
-within_more : (station : ℕ) (s : Session) (ss : List Session) → HasReports station s → AreWithin station ss → AreWithin station (s ∷ ss)
+within_more : (station : ℕ) (s : Session) (ss : List Session) → HasReports station s → AreWithin station ss
+    → AreWithin station (s ∷ ss)
 within_more station s ss has h = go (is_gap (pending_after station None s.exchanges)) refl
   where
     gave : ℕ
@@ -73,7 +81,9 @@ within_more station s ss has h = go (is_gap (pending_after station None s.exchan
       lost = let even : took ≡ gave = ap length (has.all e) in rw e (omega (arith, even, h.lost));
     }
 
-pub within_ended : (station : ℕ) (ss : List Session) → AllByRecursion (λ s. HasReports station s) ss → AreWithin station (ended ss)
+pub within_ended : (station : ℕ) (ss : List Session) → AllByRecursion (λ s. HasReports station s) ss
+    → AreWithin station (ended ss)
 within_ended station [] all = record { taken = omega arith; lost = omega arith }
 within_ended station (s ∷ []) all = record { taken = omega arith; lost = omega arith }
-within_ended station (s ∷ (next ∷ later)) all = within_more station s (ended (next ∷ later)) all.0 (within_ended station (next ∷ later) all.1)
+within_ended station (s ∷ (next ∷ later)) all = within_more station s (ended (next ∷ later)) all.0
+    (within_ended station (next ∷ later) all.1)

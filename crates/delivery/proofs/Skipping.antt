@@ -32,24 +32,30 @@ some_object n = go (suc n == 0) refl
     go false e = refl
 
 by_first : (answers passed : Bool) (c : Tally) (o : InformationObject) (os : List InformationObject) → answers ≡ false →
-    (if answers then c else (if passed then c else one_skipped c)).skipped ≡ skips_if (length (only_if passed (o ∷ os)) == 0) c.skipped
+    (if answers then c else (if passed then c else one_skipped c)).skipped
+    ≡ skips_if (length (only_if passed (o ∷ os)) == 0) c.skipped
 by_first true passed c o os h = cc
 by_first false true c o os h = ap (λ (b : Bool). skips_if b c.skipped) (sym (some_object (length os)))
 by_first false false c o os h = refl
 
 by_infos : (v : AsduValue) (infos : List Info) (c : Tally) → is_command_by (map (object_in v) infos) ≡ false →
-    (counted_by (map (object_in v) infos) c).skipped ≡ skips_if (length (only_if (is_passed_on v.kind v.cause) (map (object_in v) infos)) == 0) c.skipped
+    (counted_by (map (object_in v) infos) c).skipped ≡ skips_if
+    (length (only_if (is_passed_on v.kind v.cause) (map (object_in v) infos)) == 0) c.skipped
 by_infos v [] c h = no_objects (is_passed_on v.kind v.cause) c.skipped
-by_infos v (i ∷ infos) c h = by_first (is_answer_type v.kind) (is_passed_on v.kind v.cause) c (object_in v i) (map (object_in v) infos) h
+by_infos v (i ∷ infos) c h = by_first (is_answer_type v.kind) (is_passed_on v.kind v.cause) c (object_in v i)
+    (map (object_in v) infos) h
 
-by_parts : (sizes : Sizes) (xs : List ℕ) (reads : Bool) (t : Option TypeId) (c : Tally) → is_command_by (if reads then typed_objects sizes t xs else []) ≡ false →
+by_parts : (sizes : Sizes) (xs : List ℕ) (reads : Bool) (t : Option TypeId) (c : Tally)
+    → is_command_by (if reads then typed_objects sizes t xs else []) ≡ false →
     (counted_by (if reads then typed_objects sizes t xs else []) c).skipped
-    ≡ skips_if (length (only_if (is_typed_passed_on t (slice_index xs 2)) (if reads then typed_objects sizes t xs else [])) == 0) c.skipped
+    ≡ skips_if (length (only_if (is_typed_passed_on t (slice_index xs 2))
+    (if reads then typed_objects sizes t xs else [])) == 0) c.skipped
 by_parts sizes xs false t c h = no_objects (is_typed_passed_on t (slice_index xs 2)) c.skipped
 by_parts sizes xs true None c h = refl
 by_parts sizes xs true (Some t) c h = by_infos (value_at sizes t xs) (value_at sizes t xs).infos c h
 
-counting : (sizes : Sizes) (xs : List ℕ) (c : Tally) → is_command_report sizes xs ≡ false → (counted sizes xs c).skipped ≡ skips_if (length (monitor_objects sizes xs) == 0) c.skipped
+counting : (sizes : Sizes) (xs : List ℕ) (c : Tally) → is_command_report sizes xs ≡ false
+    → (counted sizes xs c).skipped ≡ skips_if (length (monitor_objects sizes xs) == 0) c.skipped
 unfolding objects_of monitor_objects_of
 counting sizes xs c h = by_parts sizes xs (is_read sizes xs) (type_of (slice_index xs 0)) c h
 
@@ -59,7 +65,8 @@ abbrev skipped_by : (skips : Bool) → ℕ → ℕ
 skipped_by true n = suc n
 skipped_by false n = n
 
-skipped_more : (sizes : Sizes) (rs : List (ℕ × List ℕ)) (r : ℕ × List ℕ) → skipped_among sizes (rs ++ r ∷ []) ≡ skipped_by (is_skipped sizes r.1) (skipped_among sizes rs)
+skipped_more : (sizes : Sizes) (rs : List (ℕ × List ℕ)) (r : ℕ × List ℕ)
+    → skipped_among sizes (rs ++ r ∷ []) ≡ skipped_by (is_skipped sizes r.1) (skipped_among sizes rs)
 skipped_more sizes [] r = go (is_skipped sizes r.1)
   where
     go : (b : Bool) → (if b then suc 0 else 0) ≡ skipped_by b 0
@@ -68,7 +75,8 @@ skipped_more sizes [] r = go (is_skipped sizes r.1)
 skipped_more sizes (x ∷ rs) r = go (is_skipped sizes x.1) (is_skipped sizes r.1) (skipped_more sizes rs r)
   where
     go : (b c : Bool) → skipped_among sizes (rs ++ r ∷ []) ≡ skipped_by c (skipped_among sizes rs) →
-        (if b then suc (skipped_among sizes (rs ++ r ∷ [])) else skipped_among sizes (rs ++ r ∷ [])) ≡ skipped_by c (if b then suc (skipped_among sizes rs) else skipped_among sizes rs)
+        (if b then suc (skipped_among sizes (rs ++ r ∷ [])) else skipped_among sizes (rs ++ r ∷ []))
+        ≡ skipped_by c (if b then suc (skipped_among sizes rs) else skipped_among sizes rs)
     go true true ih = ap suc ih
     go true false ih = ap suc ih
     go false true ih = ih
@@ -78,21 +86,31 @@ one_saturated : (n : ℕ) → one_more (saturated n) ≡ saturated (suc n)
 one_saturated n = omega arith
 
 -- a report that is no answer to a command
-pub skip_one : (sizes : Sizes) (station : ℕ) (report : List ℕ) (c : Tally) (rs : List (ℕ × List ℕ)) → is_command_report sizes report ≡ false → c.skipped ≡ saturated (skipped_among sizes rs) →
+pub skip_one : (sizes : Sizes) (station : ℕ) (report : List ℕ) (c : Tally) (rs : List (ℕ × List ℕ))
+    → is_command_report sizes report ≡ false → c.skipped ≡ saturated (skipped_among sizes rs) →
     (counted sizes report c).skipped ≡ saturated (skipped_among sizes (rs ++ (station, report) ∷ []))
-skip_one sizes station report c rs plain h = go (length (monitor_objects sizes report) == 0) (is_command_report sizes report) plain (counting sizes report c plain) (skipped_more sizes rs (station, report))
+skip_one sizes station report c rs plain h = go (length (monitor_objects sizes report) == 0)
+    (is_command_report sizes report) plain (counting sizes report c plain) (skipped_more sizes rs (station, report))
   where
-    go : (none command : Bool) → command ≡ false → (counted sizes report c).skipped ≡ skips_if none c.skipped → skipped_among sizes (rs ++ (station, report) ∷ []) ≡ skipped_by (none && not command) (skipped_among sizes rs) →
+    go : (none command : Bool) → command ≡ false → (counted sizes report c).skipped ≡ skips_if none c.skipped
+        → skipped_among sizes (rs ++ (station, report) ∷ [])
+        ≡ skipped_by (none && not command) (skipped_among sizes rs) →
         (counted sizes report c).skipped ≡ saturated (skipped_among sizes (rs ++ (station, report) ∷ []))
     go none true is count more = cc
-    go true false is count more = count ∙ ap one_more h ∙ one_saturated (skipped_among sizes rs) ∙ ap saturated (sym more)
+    go true false is count more = count ∙ ap one_more h ∙ one_saturated (skipped_among sizes rs)
+        ∙ ap saturated (sym more)
     go false false is count more = count ∙ h ∙ ap saturated (sym more)
 
 -- one that is
-pub skip_none : (sizes : Sizes) (station : ℕ) (report : List ℕ) (rs : List (ℕ × List ℕ)) → is_command_report sizes report ≡ true → skipped_among sizes (rs ++ (station, report) ∷ []) ≡ skipped_among sizes rs
-skip_none sizes station report rs command = go (length (monitor_objects sizes report) == 0) (is_command_report sizes report) command (skipped_more sizes rs (station, report))
+pub skip_none : (sizes : Sizes) (station : ℕ) (report : List ℕ) (rs : List (ℕ × List ℕ))
+    → is_command_report sizes report ≡ true → skipped_among sizes (rs ++ (station, report) ∷ [])
+    ≡ skipped_among sizes rs
+skip_none sizes station report rs command = go (length (monitor_objects sizes report) == 0)
+    (is_command_report sizes report) command (skipped_more sizes rs (station, report))
   where
-    go : (none command : Bool) → command ≡ true → skipped_among sizes (rs ++ (station, report) ∷ []) ≡ skipped_by (none && not command) (skipped_among sizes rs) → skipped_among sizes (rs ++ (station, report) ∷ []) ≡ skipped_among sizes rs
+    go : (none command : Bool) → command ≡ true → skipped_among sizes (rs ++ (station, report) ∷ [])
+        ≡ skipped_by (none && not command) (skipped_among sizes rs)
+        → skipped_among sizes (rs ++ (station, report) ∷ []) ≡ skipped_among sizes rs
     go true true is more = more
     go false true is more = more
     go none false is more = cc

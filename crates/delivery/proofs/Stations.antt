@@ -14,9 +14,11 @@ use Rattle.gateway.specs.Reports.{Setup, address_at, index_of, sent_to, sending_
 
 index_within : (address : ℕ) (addresses : List ℕ) (i : ℕ) → index_of address addresses ≡ Some i → i < length addresses
 index_within address [] i h = cc
-index_within address (a ∷ addresses) i h = go (a == address) (index_of address addresses) (λ j. index_within address addresses j) h
+index_within address (a ∷ addresses) i h = go (a == address) (index_of address addresses)
+    (λ j. index_within address addresses j) h
   where
-    go : (b : Bool) (m : Option ℕ) → ((j : ℕ) → m ≡ Some j → j < length addresses) → (if b then Some 0 else option_map suc m) ≡ Some i → i < suc (length addresses)
+    go : (b : Bool) (m : Option ℕ) → ((j : ℕ) → m ≡ Some j → j < length addresses)
+        → (if b then Some 0 else option_map suc m) ≡ Some i → i < suc (length addresses)
     go true m ih e = let z : 0 ≡ i = cc in subst (λ n. n < suc (length addresses)) z (omega arith)
     go false None ih e = cc
     go false (Some j) ih e = let k : suc j ≡ i = cc in let below : j < length addresses = ih j refl in
@@ -39,19 +41,22 @@ below_timed : (n at ms : ℕ) (x : Option OpenExchange) → IsBelow n x → IsBe
 below_timed n at ms None h = tt
 below_timed n at ms (Some x) h = h
 
-all_append : (n : ℕ) (xs ys : List OpenExchange) → AllByRecursion (λ (x : OpenExchange). x.station < n) xs → AllByRecursion (λ (x : OpenExchange). x.station < n) ys →
+all_append : (n : ℕ) (xs ys : List OpenExchange) → AllByRecursion (λ (x : OpenExchange). x.station < n) xs
+    → AllByRecursion (λ (x : OpenExchange). x.station < n) ys →
     AllByRecursion (λ (x : OpenExchange). x.station < n) (xs ++ ys)
 all_append n [] ys h k = k
 all_append n (x ∷ xs) ys h k = (h.0, all_append n xs ys h.1 k)
 
-below_list : (n : ℕ) (x : Option OpenExchange) → IsBelow n x → AllByRecursion (λ (x : OpenExchange). x.station < n) (as_list x)
+below_list : (n : ℕ) (x : Option OpenExchange) → IsBelow n x
+    → AllByRecursion (λ (x : OpenExchange). x.station < n) (as_list x)
 below_list n None h = tt
 below_list n (Some x) h = (h, tt)
 
 below_sent : (p : Setup) (octets : List ℕ) (s : Sending) → sending_in p octets ≡ Some s → s.station < length p.addresses
 below_sent p octets s h = go (request_in p.link.size octets) h
   where
-    found : (request : Asked) (m : Option ℕ) (address : ℕ) → index_of address p.addresses ≡ m → option_map (λ (i : ℕ). record { station = i; request = request }) m ≡ Some s → s.station < length p.addresses
+    found : (request : Asked) (m : Option ℕ) (address : ℕ) → index_of address p.addresses ≡ m
+        → option_map (λ (i : ℕ). record { station = i; request = request }) m ≡ Some s → s.station < length p.addresses
     found request None address same e = cc
     found request (Some i) address same e =
         let k : record { station = i; request = request } ≡ s = cc in
@@ -61,37 +66,57 @@ below_sent p octets s h = go (request_in p.link.size octets) h
     go None e = cc
     go (Some request) e = found request.1 (index_of request.0 p.addresses) request.0 refl e
 
-below_begun : (p : Setup) (now : ℕ) (m : Option Sending) (octets : List ℕ) (e : Exchanges) → sending_in p octets ≡ m → AreBelow (length p.addresses) e → AreBelow (length p.addresses) (begun_by now m e)
+below_begun : (p : Setup) (now : ℕ) (m : Option Sending) (octets : List ℕ) (e : Exchanges) → sending_in p octets ≡ m
+    → AreBelow (length p.addresses) e → AreBelow (length p.addresses) (begun_by now m e)
 below_begun p now None octets e same h = h
 below_begun p now (Some s) octets e same h = record {
-  ended = all_append (length p.addresses) e.ended (as_list e.current) h.ended (below_list (length p.addresses) e.current h.current);
+  ended = all_append (length p.addresses) e.ended (as_list e.current) h.ended
+      (below_list (length p.addresses) e.current h.current);
   current = below_sent p octets s same;
 }
 
-timed_below : (p : Setup) (at : ℕ) (e : Exchanges) → AreBelow (length p.addresses) e → AreBelow (length p.addresses) (record { ended = e.ended; current = timed_current p.link.answer_ms at e.current })
-timed_below p at e h = record { ended = h.ended; current = below_timed (length p.addresses) at p.link.answer_ms e.current h.current }
+timed_below : (p : Setup) (at : ℕ) (e : Exchanges) → AreBelow (length p.addresses) e
+    → AreBelow (length p.addresses) (record { ended = e.ended; current = timed_current p.link.answer_ms at e.current })
+timed_below p at e h = record {
+  ended = h.ended;
+  current =
+      below_timed (length p.addresses) at p.link.answer_ms e.current h.current;
+}
 
 heard_below : (p : Setup) (octets : List ℕ) (at : ℕ) (e : Exchanges) → AreBelow (length p.addresses) e →
-    AreBelow (length p.addresses) (record { ended = e.ended; current = timed_current p.link.answer_ms at (heard_current octets e.current) })
+    AreBelow (length p.addresses) (record {
+      ended = e.ended;
+      current =
+          timed_current p.link.answer_ms at (heard_current octets e.current);
+    })
 heard_below p octets at e h = record {
   ended = h.ended;
-  current = below_timed (length p.addresses) at p.link.answer_ms (heard_current octets e.current) (below_heard (length p.addresses) octets e.current h.current);
+  current = below_timed (length p.addresses) at p.link.answer_ms (heard_current octets e.current)
+      (below_heard (length p.addresses) octets e.current h.current);
 }
 
 are_below : (p : Setup) (log : Log) → AreBelow (length p.addresses) (exchanges_of p log)
 are_below p [] = record { ended = tt; current = tt }
-are_below p (Came now (LineIn octets) ∷ log) = heard_below p octets (latest (Came now (LineIn octets) ∷ log)) (exchanges_of p log) (are_below p log)
-are_below p (Came now Opened ∷ log) = timed_below p (latest (Came now Opened ∷ log)) (exchanges_of p log) (are_below p log)
-are_below p (Came now (TcpIn octets) ∷ log) = timed_below p (latest (Came now (TcpIn octets) ∷ log)) (exchanges_of p log) (are_below p log)
-are_below p (Came now CutOff ∷ log) = timed_below p (latest (Came now CutOff ∷ log)) (exchanges_of p log) (are_below p log)
-are_below p (Came now Ticked ∷ log) = timed_below p (latest (Came now Ticked ∷ log)) (exchanges_of p log) (are_below p log)
-are_below p (Came now (WallIs number) ∷ log) = timed_below p (latest (Came now (WallIs number) ∷ log)) (exchanges_of p log) (are_below p log)
-are_below p (Went now (LineOut octets) ∷ log) = below_begun p now (sending_in p octets) octets (exchanges_of p log) refl (are_below p log)
+are_below p (Came now (LineIn octets) ∷ log) = heard_below p octets (latest (Came now (LineIn octets) ∷ log))
+    (exchanges_of p log) (are_below p log)
+are_below p (Came now Opened ∷ log) = timed_below p (latest (Came now Opened ∷ log)) (exchanges_of p log)
+    (are_below p log)
+are_below p (Came now (TcpIn octets) ∷ log) = timed_below p (latest (Came now (TcpIn octets) ∷ log))
+    (exchanges_of p log) (are_below p log)
+are_below p (Came now CutOff ∷ log) = timed_below p (latest (Came now CutOff ∷ log)) (exchanges_of p log)
+    (are_below p log)
+are_below p (Came now Ticked ∷ log) = timed_below p (latest (Came now Ticked ∷ log)) (exchanges_of p log)
+    (are_below p log)
+are_below p (Came now (WallIs number) ∷ log) = timed_below p (latest (Came now (WallIs number) ∷ log))
+    (exchanges_of p log) (are_below p log)
+are_below p (Went now (LineOut octets) ∷ log) = below_begun p now (sending_in p octets) octets
+    (exchanges_of p log) refl (are_below p log)
 are_below p (Went now (TcpOut octets) ∷ log) = are_below p log
 are_below p (Went now (Closed cause) ∷ log) = are_below p log
 are_below p (Went now (GapOut station session) ∷ log) = are_below p log
 
-report_below : (n station : ℕ) (m : Option Answer) (rest : List (ℕ × List ℕ)) → station < n → AllByRecursion (λ (r : ℕ × List ℕ). r.0 < n) rest →
+report_below : (n station : ℕ) (m : Option Answer) (rest : List (ℕ × List ℕ)) → station < n
+    → AllByRecursion (λ (r : ℕ × List ℕ). r.0 < n) rest →
     AllByRecursion (λ (r : ℕ × List ℕ). r.0 < n) (report_by station m ++ rest)
 report_below n station None rest h k = k
 report_below n station (Some Ready) rest h k = k
@@ -101,16 +126,20 @@ report_below n station (Some (Report asdu)) rest h k = (h, k)
 report_below n station (Some NoData) rest h k = k
 report_below n station (Some Unable) rest h k = k
 
-reports_below : (n : ℕ) (front : List ℕ → Front) (address : ℕ → ℕ) (xs : List OpenExchange) → AllByRecursion (λ (x : OpenExchange). x.station < n) xs →
+reports_below : (n : ℕ) (front : List ℕ → Front) (address : ℕ → ℕ) (xs : List OpenExchange)
+    → AllByRecursion (λ (x : OpenExchange). x.station < n) xs →
     AllByRecursion (λ (r : ℕ × List ℕ). r.0 < n) (reports_of address (views front xs))
 reports_below n front address [] h = tt
 reports_below n front address (x ∷ xs) h =
-    report_below n x.station (answer_to (address x.station) (view front x).exchange) (reports_of address (views front xs)) h.0 (reports_below n front address xs h.1)
+    report_below n x.station (answer_to (address x.station) (view front x).exchange)
+    (reports_of address (views front xs)) h.0 (reports_below n front address xs h.1)
 
 -- each report is from one of the stations
-pub reporters : (p : Setup) (log : Log) → AllByRecursion (λ (r : ℕ × List ℕ). r.0 < length p.addresses) (reports_in p log)
+pub reporters : (p : Setup) (log : Log) → AllByRecursion (λ (r : ℕ × List ℕ). r.0 < length p.addresses)
+    (reports_in p log)
 reporters p log =
     let h = are_below p log in
     let e = exchanges_of p log in
     reports_below (length p.addresses) (front_of p.link.size) (address_at p.addresses) (all_of e)
-    (all_append (length p.addresses) e.ended (as_list e.current) h.ended (below_list (length p.addresses) e.current h.current))
+    (all_append (length p.addresses) e.ended (as_list e.current) h.ended
+    (below_list (length p.addresses) e.current h.current))

@@ -32,20 +32,27 @@ missed_after a missed [] = missed
 missed_after a missed (x ∷ xs) = missed_after a (missed_by x.request x.closed (answer_to a x) missed) xs
 
 pub steps_more : (s : LinkSettings) (a missed : ℕ) (pending : Option Service) (xs : List Exchange) (x : Exchange) →
-    steps_in s a missed pending (xs ++ x ∷ []) ≡ steps_in s a missed pending xs ++ steps_at s a (missed_after a missed xs) (pending_after a pending xs) x
+    steps_in s a missed pending (xs ++ x ∷ []) ≡ steps_in s a missed pending xs
+    ++ steps_at s a (missed_after a missed xs) (pending_after a pending xs) x
 steps_more s a missed pending [] x = append-nil (steps_at s a missed pending x)
 steps_more s a missed pending (y ∷ xs) x =
     let missed_then : ℕ = missed_by y.request y.closed (answer_to a y) missed in
-    ap (λ (l : List LineStep). steps_at s a missed pending y ++ l) (steps_more s a missed_then (pending_by y.request (answer_to a y) pending) xs x)
-    ∙ sym (append_assoc (steps_at s a missed pending y) (steps_in s a missed_then (pending_by y.request (answer_to a y) pending) xs)
+    ap (λ (l : List LineStep). steps_at s a missed pending y ++ l)
+    (steps_more s a missed_then (pending_by y.request (answer_to a y) pending) xs x)
+    ∙ sym (append_assoc (steps_at s a missed pending y)
+    (steps_in s a missed_then (pending_by y.request (answer_to a y) pending) xs)
     (steps_at s a (missed_after a missed (y ∷ xs)) (pending_after a pending (y ∷ xs)) x))
 
 pub sendings_more : (a : ℕ) (pending : Option Service) (xs : List Exchange) (x : Exchange) →
-    first_sendings a pending (xs ++ x ∷ []) ≡ first_sendings a pending xs ++ first_sending (pending_after a pending xs) x.request
+    first_sendings a pending (xs ++ x ∷ []) ≡ first_sendings a pending xs
+    ++ first_sending (pending_after a pending xs) x.request
 sendings_more a pending [] x = append-nil (first_sending pending x.request)
 sendings_more a pending (y ∷ xs) x =
-    ap (λ (l : List (List ℕ)). first_sending pending y.request ++ l) (sendings_more a (pending_by y.request (answer_to a y) pending) xs x)
-    ∙ sym (append_assoc (first_sending pending y.request) (first_sendings a (pending_by y.request (answer_to a y) pending) xs) (first_sending (pending_after a pending (y ∷ xs)) x.request))
+    ap (λ (l : List (List ℕ)). first_sending pending y.request ++ l)
+    (sendings_more a (pending_by y.request (answer_to a y) pending) xs x)
+    ∙ sym (append_assoc (first_sending pending y.request)
+    (first_sendings a (pending_by y.request (answer_to a y) pending) xs)
+    (first_sending (pending_after a pending (y ∷ xs)) x.request))
 
 pub last_may : (settings : LinkSettings) (a : ℕ) (link : Link) (xs : List Exchange) (x : Exchange) →
     KeepsFrameCountBit settings a link (xs ++ x ∷ []) → MaySend (link_after settings a link xs) x.request
@@ -65,20 +72,26 @@ Pends Available pending = Unit {0}
 Pends (Next fcb) pending = pending ≡ None
 Pends (Held fcb service missed) pending = pending ≡ Some service
 
-held_pends : (settings : LinkSettings) (fcb : Bool) (service : Service) (missed : ℕ) → Pends (held settings fcb service missed) (Some service)
+held_pends : (settings : LinkSettings) (fcb : Bool) (service : Service) (missed : ℕ)
+    → Pends (held settings fcb service missed) (Some service)
 held_pends settings fcb service missed = by_repeats (nat_lt settings.retries missed) settings.hold
   where
-    by_repeats : (b c : Bool) → Pends (if b then (if c then Held fcb service (suc settings.retries) else Down) else Held fcb service missed) (Some service)
+    by_repeats : (b c : Bool)
+        → Pends (if b then (if c then Held fcb service (suc settings.retries) else Down) else Held fcb service missed)
+        (Some service)
     by_repeats true true = refl
     by_repeats true false = tt
     by_repeats false c = refl
 
-silent_pends : (settings : LinkSettings) (fcb : Bool) (service : Service) (closed : Bool) (link : Link) → Pends (after_silence settings (Counted fcb service) closed link) (Some service)
+silent_pends : (settings : LinkSettings) (fcb : Bool) (service : Service) (closed : Bool) (link : Link)
+    → Pends (after_silence settings (Counted fcb service) closed link) (Some service)
 silent_pends settings fcb service true link = held_pends settings fcb service (suc (missed_so_far link))
 silent_pends settings fcb service false link = refl
 
-counted_pends : (settings : LinkSettings) (fcb : Bool) (service : Service) (m : Option Answer) (front : Option Frame) (closed : Bool) (link : Link) (pending : Option Service) →
-    Pends (after_outcome settings m (record { request = Counted fcb service; front = front; closed = closed }) link) (pending_by (Counted fcb service) m pending)
+counted_pends : (settings : LinkSettings) (fcb : Bool) (service : Service) (m : Option Answer) (front : Option Frame)
+    (closed : Bool) (link : Link) (pending : Option Service) →
+    Pends (after_outcome settings m (record { request = Counted fcb service; front = front; closed = closed }) link)
+    (pending_by (Counted fcb service) m pending)
 counted_pends settings fcb service None front closed link pending = silent_pends settings fcb service closed link
 counted_pends settings fcb service (Some Ready) front closed link pending = refl
 counted_pends settings fcb service (Some Confirmed) front closed link pending = refl
@@ -100,8 +113,10 @@ down_pends Available pending h = tt
 down_pends (Next fcb) pending h = absurd h
 down_pends (Held fcb service missed) pending h = absurd h
 
-status_pends : (settings : LinkSettings) (m : Option Answer) (front : Option Frame) (closed : Bool) (link : Link) (pending : Option Service) → IsDown link →
-    Pends (after_outcome settings m (record { request = Status; front = front; closed = closed }) link) (pending_by Status m pending)
+status_pends : (settings : LinkSettings) (m : Option Answer) (front : Option Frame) (closed : Bool) (link : Link)
+    (pending : Option Service) → IsDown link →
+    Pends (after_outcome settings m (record { request = Status; front = front; closed = closed }) link)
+    (pending_by Status m pending)
 status_pends settings None front closed link pending h = tt
 status_pends settings (Some Ready) front closed link pending h = tt
 status_pends settings (Some Confirmed) front closed link pending h = down_pends link pending h
@@ -110,8 +125,10 @@ status_pends settings (Some (Report asdu)) front closed link pending h = down_pe
 status_pends settings (Some NoData) front closed link pending h = down_pends link pending h
 status_pends settings (Some Unable) front closed link pending h = tt
 
-reset_pends : (settings : LinkSettings) (m : Option Answer) (front : Option Frame) (closed : Bool) (link : Link) (pending : Option Service) → IsDown link →
-    Pends (after_outcome settings m (record { request = Reset; front = front; closed = closed }) link) (pending_by Reset m pending)
+reset_pends : (settings : LinkSettings) (m : Option Answer) (front : Option Frame) (closed : Bool) (link : Link)
+    (pending : Option Service) → IsDown link →
+    Pends (after_outcome settings m (record { request = Reset; front = front; closed = closed }) link)
+    (pending_by Reset m pending)
 reset_pends settings None front closed link pending h = tt
 reset_pends settings (Some Ready) front closed link pending h = down_pends link pending h
 reset_pends settings (Some Confirmed) front closed link pending h = refl
@@ -132,13 +149,19 @@ may_reset Available h = tt
 may_reset (Next fcb) h = h
 may_reset (Held fcb service missed) h = h
 
-one_pends : (settings : LinkSettings) (request : Asked) (m : Option Answer) (front : Option Frame) (closed : Bool) (link : Link) (pending : Option Service) → MaySend link request →
-    Pends (after_outcome settings m (record { request = request; front = front; closed = closed }) link) (pending_by request m pending)
-one_pends settings Status m front closed link pending h = status_pends settings m front closed link pending (may_status link h)
-one_pends settings Reset m front closed link pending h = reset_pends settings m front closed link pending (may_reset link h)
-one_pends settings (Counted fcb service) m front closed link pending h = counted_pends settings fcb service m front closed link pending
+one_pends : (settings : LinkSettings) (request : Asked) (m : Option Answer) (front : Option Frame) (closed : Bool)
+    (link : Link) (pending : Option Service) → MaySend link request →
+    Pends (after_outcome settings m (record { request = request; front = front; closed = closed }) link)
+    (pending_by request m pending)
+one_pends settings Status m front closed link pending h =
+    status_pends settings m front closed link pending (may_status link h)
+one_pends settings Reset m front closed link pending h =
+    reset_pends settings m front closed link pending (may_reset link h)
+one_pends settings (Counted fcb service) m front closed link pending h =
+    counted_pends settings fcb service m front closed link pending
 
-pub pends : (settings : LinkSettings) (a : ℕ) (link : Link) (pending : Option Service) (xs : List Exchange) → KeepsFrameCountBit settings a link xs → Pends link pending →
+pub pends : (settings : LinkSettings) (a : ℕ) (link : Link) (pending : Option Service) (xs : List Exchange)
+    → KeepsFrameCountBit settings a link xs → Pends link pending →
     Pends (link_after settings a link xs) (pending_after a pending xs)
 pends settings a link pending [] h p = p
 pends settings a link pending (x ∷ xs) h p =
@@ -167,7 +190,8 @@ abbrev pub AreProper : Asked → Option Answer → Type 0
 AreProper request None = Unit {0}
 AreProper request (Some answer) = IsProper request answer
 
-either : (request : Asked) (b : Bool) (m n : Option Answer) → AreProper request m → AreProper request n → AreProper request (if b then m else n)
+either : (request : Asked) (b : Bool) (m n : Option Answer) → AreProper request m → AreProper request n
+    → AreProper request (if b then m else n)
 either request true m n h k = h
 either request false m n h k = k
 
@@ -177,11 +201,15 @@ unable_proper request code h = either request ((code == 14) || (code == 15)) (So
 code_proper : (request : Asked) (code : ℕ) → AreProper request (code_answer request code)
 code_proper Status code = either Status (code == 11) (Some Ready) (unable_answer code) tt (unable_proper Status code tt)
 code_proper Reset code = either Reset (code == 0) (Some Confirmed) None tt tt
-code_proper (Counted fcb Class1) code = either (Counted fcb Class1) (code == 9) (Some NoData) (unable_answer code) tt (unable_proper (Counted fcb Class1) code tt)
-code_proper (Counted fcb Class2) code = either (Counted fcb Class2) (code == 9) (Some NoData) (unable_answer code) tt (unable_proper (Counted fcb Class2) code tt)
+code_proper (Counted fcb Class1) code = either (Counted fcb Class1) (code == 9) (Some NoData) (unable_answer code) tt
+    (unable_proper (Counted fcb Class1) code tt)
+code_proper (Counted fcb Class2) code = either (Counted fcb Class2) (code == 9) (Some NoData) (unable_answer code) tt
+    (unable_proper (Counted fcb Class2) code tt)
 code_proper (Counted fcb (Command asdu)) code =
-    either (Counted fcb (Command asdu)) (code == 0) (Some Confirmed) (if code == 1 then Some Busy else unable_answer code) tt
-    (either (Counted fcb (Command asdu)) (code == 1) (Some Busy) (unable_answer code) tt (unable_proper (Counted fcb (Command asdu)) code tt))
+    either (Counted fcb (Command asdu)) (code == 0) (Some Confirmed)
+    (if code == 1 then Some Busy else unable_answer code) tt
+    (either (Counted fcb (Command asdu)) (code == 1) (Some Busy) (unable_answer code) tt
+    (unable_proper (Counted fcb (Command asdu)) code tt))
 
 single_proper : (request : Asked) → AreProper request (single_answer request)
 single_proper Status = tt
@@ -199,11 +227,14 @@ data_proper (Counted fcb (Command command)) asdu = tt
 
 frame_proper : (a : ℕ) (request : Asked) (frame : Frame) → AreProper request (answer_of a request frame)
 frame_proper a request Single = single_proper request
-frame_proper a request (Fixed control address) = either request (comes_from a control address) (code_answer request (control % 16)) None (code_proper request (control % 16)) tt
+frame_proper a request (Fixed control address) = either request (comes_from a control address)
+    (code_answer request (control % 16)) None (code_proper request (control % 16)) tt
 frame_proper a request (Data control address body) =
-    either request (comes_from a control address && (control % 16 == 8)) (data_answer request body.items) None (data_proper request body.items) tt
+    either request (comes_from a control address && (control % 16 == 8)) (data_answer request body.items) None
+    (data_proper request body.items) tt
 
-pub answers_proper : (a : ℕ) (request : Asked) (front : Option Frame) → AreProper request (option_and_then (answer_of a request) front)
+pub answers_proper : (a : ℕ) (request : Asked) (front : Option Frame)
+    → AreProper request (option_and_then (answer_of a request) front)
 answers_proper a request None = tt
 answers_proper a request (Some frame) = frame_proper a request frame
 
@@ -216,7 +247,8 @@ none_said (Counted fcb Class2) = refl
 none_said (Counted fcb (Command asdu)) = refl
 
 -- and only a command is sent for the first time
-pub no_first : (pending : Option Service) (request : Asked) → ((fcb : Bool) (asdu : List ℕ) → request ≡ Counted fcb (Command asdu) → ⊥) → first_sending pending request ≡ []
+pub no_first : (pending : Option Service) (request : Asked)
+    → ((fcb : Bool) (asdu : List ℕ) → request ≡ Counted fcb (Command asdu) → ⊥) → first_sending pending request ≡ []
 no_first None Status h = refl
 no_first None Reset h = refl
 no_first None (Counted fcb Class1) h = refl
@@ -224,7 +256,8 @@ no_first None (Counted fcb Class2) h = refl
 no_first None (Counted fcb (Command asdu)) h = absurd (h fcb asdu refl)
 no_first (Some service) request h = refl
 
--- How often a service was unanswered in a row is what the link counts, as long as it is up, and may be reset by silence.
+-- How often a service was unanswered in a row is what the link counts, as long as it is up, and may be reset
+-- by silence.
 
 abbrev pub Counts : LinkSettings → Link → ℕ → Type 0
 Counts s Down n = Unit {0}
@@ -233,16 +266,19 @@ Counts s (Next fcb) n = n ≡ 0
 Counts s (Held fcb service missed) n = s.hold ≡ false → n ≡ missed
 
 -- before another sending of a counted request
-pub so_far : (s : LinkSettings) (link : Link) (fcb : Bool) (service : Service) (n : ℕ) → MaySend link (Counted fcb service) → Counts s link n → s.hold ≡ false → n ≡ missed_so_far link
+pub so_far : (s : LinkSettings) (link : Link) (fcb : Bool) (service : Service) (n : ℕ)
+    → MaySend link (Counted fcb service) → Counts s link n → s.hold ≡ false → n ≡ missed_so_far link
 so_far s Down fcb service n may c h = absurd may
 so_far s Available fcb service n may c h = absurd may
 so_far s (Next due) fcb service n may c h = c
 so_far s (Held due held missed) fcb service n may c h = c h
 
-held_counts : (s : LinkSettings) (fcb : Bool) (service : Service) (n missed : ℕ) → (s.hold ≡ false → n ≡ missed) → Counts s (held s fcb service missed) n
+held_counts : (s : LinkSettings) (fcb : Bool) (service : Service) (n missed : ℕ) → (s.hold ≡ false → n ≡ missed)
+    → Counts s (held s fcb service missed) n
 held_counts s fcb service n missed same = by_repeats (nat_lt s.retries missed) s.hold refl
   where
-    by_repeats : (b c : Bool) → s.hold ≡ c → Counts s (if b then (if c then Held fcb service (suc s.retries) else Down) else Held fcb service missed) n
+    by_repeats : (b c : Bool) → s.hold ≡ c
+        → Counts s (if b then (if c then Held fcb service (suc s.retries) else Down) else Held fcb service missed) n
     by_repeats true true is = λ no. let e : true ≡ false = sym is ∙ no in cc
     by_repeats true false is = tt
     by_repeats false c is = same
@@ -253,8 +289,10 @@ down_counts s Available n h = tt
 down_counts s (Next fcb) n h = absurd h
 down_counts s (Held fcb service missed) n h = absurd h
 
-one_counts : (s : LinkSettings) (request : Asked) (m : Option Answer) (front : Option Frame) (closed : Bool) (link : Link) (n : ℕ) → MaySend link request → Counts s link n →
-    Counts s (after_outcome s m (record { request = request; front = front; closed = closed }) link) (missed_by request closed m n)
+one_counts : (s : LinkSettings) (request : Asked) (m : Option Answer) (front : Option Frame) (closed : Bool)
+    (link : Link) (n : ℕ) → MaySend link request → Counts s link n →
+    Counts s (after_outcome s m (record { request = request; front = front; closed = closed }) link)
+    (missed_by request closed m n)
 one_counts s Status None front closed link n may c = tt
 one_counts s Status (Some Ready) front closed link n may c = tt
 one_counts s Status (Some Confirmed) front closed link n may c = down_counts s link 0 (may_status link may)
@@ -269,7 +307,8 @@ one_counts s Reset (Some Busy) front closed link n may c = down_counts s link 0 
 one_counts s Reset (Some (Report asdu)) front closed link n may c = down_counts s link 0 (may_reset link may)
 one_counts s Reset (Some NoData) front closed link n may c = down_counts s link 0 (may_reset link may)
 one_counts s Reset (Some Unable) front closed link n may c = down_counts s link 0 (may_reset link may)
-one_counts s (Counted fcb service) None front true link n may c = held_counts s fcb service (suc n) (suc (missed_so_far link)) (λ h. ap suc (so_far s link fcb service n may c h))
+one_counts s (Counted fcb service) None front true link n may c =
+    held_counts s fcb service (suc n) (suc (missed_so_far link)) (λ h. ap suc (so_far s link fcb service n may c h))
 one_counts s (Counted fcb service) None front false link n may c = so_far s link fcb service n may c
 one_counts s (Counted fcb service) (Some Ready) front closed link n may c = refl
 one_counts s (Counted fcb service) (Some Confirmed) front closed link n may c = refl
@@ -278,9 +317,11 @@ one_counts s (Counted fcb service) (Some (Report asdu)) front closed link n may 
 one_counts s (Counted fcb service) (Some NoData) front closed link n may c = refl
 one_counts s (Counted fcb service) (Some Unable) front closed link n may c = tt
 
-pub counts : (s : LinkSettings) (a : ℕ) (link : Link) (n : ℕ) (xs : List Exchange) → KeepsFrameCountBit s a link xs → Counts s link n → Counts s (link_after s a link xs) (missed_after a n xs)
+pub counts : (s : LinkSettings) (a : ℕ) (link : Link) (n : ℕ) (xs : List Exchange) → KeepsFrameCountBit s a link xs
+    → Counts s link n → Counts s (link_after s a link xs) (missed_after a n xs)
 counts s a link n [] h c = c
-counts s a link n (x ∷ xs) h c = counts s a (after s a x link) (missed_by x.request x.closed (answer_to a x) n) xs h.1 (one_counts s x.request (answer_to a x) x.front x.closed link n h.0 c)
+counts s a link n (x ∷ xs) h c = counts s a (after s a x link) (missed_by x.request x.closed (answer_to a x) n) xs h.1
+    (one_counts s x.request (answer_to a x) x.front x.closed link n h.0 c)
 
 -- No link goes down where an answer is still awaited.
 pub still_up : (s : LinkSettings) (missed : ℕ) (request : Asked) → goes_down s missed request false None ≡ false
@@ -289,7 +330,8 @@ still_up s missed Reset = refl
 still_up s missed (Counted fcb service) = refl
 
 -- that an answered exchange is over changes nothing
-pub answered_alike : (s : LinkSettings) (missed : ℕ) (request : Asked) (closed over : Bool) (m : Answer) → goes_down s missed request closed (Some m) ≡ goes_down s missed request over (Some m)
+pub answered_alike : (s : LinkSettings) (missed : ℕ) (request : Asked) (closed over : Bool) (m : Answer)
+    → goes_down s missed request closed (Some m) ≡ goes_down s missed request over (Some m)
 answered_alike s missed request closed over Ready = refl
 answered_alike s missed request closed over Confirmed = refl
 answered_alike s missed request closed over Busy = refl

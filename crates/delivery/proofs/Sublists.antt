@@ -24,7 +24,8 @@ pub sub_front : {A : Type 0} (front xs ys : List A) → IsSublist xs ys → IsSu
 sub_front {A} [] xs ys h = h
 sub_front {A} (y ∷ front) xs ys h = sub_skip xs (front ++ ys) y (sub_front front xs ys h)
 
-pub sub_append : {A : Type 0} (ws bs cs ds : List A) → IsSublist ws bs → IsSublist cs ds → IsSublist (ws ++ cs) (bs ++ ds)
+pub sub_append : {A : Type 0} (ws bs cs ds : List A) → IsSublist ws bs → IsSublist cs ds
+    → IsSublist (ws ++ cs) (bs ++ ds)
 sub_append {A} [] bs cs ds h k = sub_front bs cs ds k
 sub_append {A} (x ∷ ws) [] cs ds h k = absurd h
 sub_append {A} (x ∷ ws) (b ∷ bs) cs ds (inl h) k = inl (h.0, sub_append ws bs cs ds h.1 k)
@@ -39,7 +40,8 @@ pub sub_prefix : {A : Type 0} (xs more : List A) → IsSublist xs (xs ++ more)
 sub_prefix {A} [] more = tt
 sub_prefix {A} (x ∷ xs) more = inl (refl, sub_prefix xs more)
 
-pub all_of_sub : {A : Type 0} (P : A → Type 0) (xs ys : List A) → IsSublist xs ys → AllByRecursion P ys → AllByRecursion P xs
+pub all_of_sub : {A : Type 0} (P : A → Type 0) (xs ys : List A) → IsSublist xs ys → AllByRecursion P ys
+    → AllByRecursion P xs
 all_of_sub {A} P [] ys h k = tt
 all_of_sub {A} P (x ∷ xs) [] h k = absurd h
 all_of_sub {A} P (x ∷ xs) (y ∷ ys) (inl h) k = (subst_back h.0 k.0, all_of_sub P xs ys h.1 k.1)
@@ -59,11 +61,17 @@ sub_of_map {A} {B} f [] ys h = record { left = []; part = tt; is = refl }
 sub_of_map {A} {B} f (x ∷ xs) [] h = absurd h
 sub_of_map {A} {B} f (x ∷ xs) (y ∷ ys) (inl h) =
     let rest : IsImage f xs ys = sub_of_map f xs ys h.1 in
-    record { left = y ∷ rest.left; part = inl (refl, rest.part); is = ap (λ (b : B). b ∷ xs) h.0 ∙ ap (λ (l : List B). f y ∷ l) rest.is }
+    record {
+      left = y ∷ rest.left;
+      part = inl (refl, rest.part);
+      is = ap (λ (b : B). b ∷ xs) h.0
+          ∙ ap (λ (l : List B). f y ∷ l) rest.is;
+    }
 sub_of_map {A} {B} f (x ∷ xs) (y ∷ ys) (inr h) =
     let rest : IsImage f (x ∷ xs) ys = sub_of_map f (x ∷ xs) ys h in
     record { left = rest.left; part = sub_skip rest.left ys y rest.part; is = rest.is }
 
-pub all_append : {X : Type 0} (P : X → Type 0) (xs ys : List X) → AllByRecursion P xs → AllByRecursion P ys → AllByRecursion P (xs ++ ys)
+pub all_append : {X : Type 0} (P : X → Type 0) (xs ys : List X) → AllByRecursion P xs → AllByRecursion P ys
+    → AllByRecursion P (xs ++ ys)
 all_append {X} P [] ys h k = k
 all_append {X} P (x ∷ xs) ys h k = (h.0, all_append P xs ys h.1 k)

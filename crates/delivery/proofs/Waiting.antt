@@ -51,7 +51,8 @@ byte_is (suc i) n = let m = n / 256 ^ suc i in omega arith
 
 bytes_are : (i k n : ℕ) → All IsOctet (bytes_low_first i k n)
 bytes_are i zero n = All-nil IsOctet
-bytes_are i (suc k) n = All-cons IsOctet (byte_at i n) (bytes_low_first (suc i) k n) (byte_is i n) (bytes_are (suc i) k n)
+bytes_are i (suc k) n = All-cons IsOctet (byte_at i n) (bytes_low_first (suc i) k n) (byte_is i n)
+    (bytes_are (suc i) k n)
 
 bytes_count : (i k n : ℕ) → length (bytes_low_first i k n) ≡ k
 bytes_count i zero n = refl
@@ -78,8 +79,10 @@ address_most : (size : LinkSize) → address_len size ≤ 2
 address_most sizes_of_link.One = omega arith
 address_most sizes_of_link.Two = omega arith
 
-element_are : (b : Bool) (x y z : ℕ) → IsOctet x → IsOctet y → IsOctet z → All IsOctet (element_octets (if b then SetPoint x y z else Octet x))
-element_are true x y z h k l = All-cons IsOctet x (y ∷ z ∷ []) h (All-cons IsOctet y (z ∷ []) k (All-cons IsOctet z [] l (All-nil IsOctet)))
+element_are : (b : Bool) (x y z : ℕ) → IsOctet x → IsOctet y → IsOctet z
+    → All IsOctet (element_octets (if b then SetPoint x y z else Octet x))
+element_are true x y z h k l = All-cons IsOctet x (y ∷ z ∷ []) h
+    (All-cons IsOctet y (z ∷ []) k (All-cons IsOctet z [] l (All-nil IsOctet)))
 element_are false x y z h k l = All-cons IsOctet x [] h (All-nil IsOctet)
 
 element_count : (e : Element) → length (element_octets e) ≤ 3
@@ -97,12 +100,22 @@ command_are s ca xs h =
     let c : Command = command_at xs in
     let code : ℕ = line_kind (slice_index xs 0) in
     let rest : List ℕ = drop 9 xs in
-    let element = element_are (is_set_point code) (slice_index rest 0) (slice_index rest 1) (slice_index rest 2) (octet_at rest 0 (octets_drop 9 xs h)) (octet_at rest 1 (octets_drop 9 xs h)) (octet_at rest 2 (octets_drop 9 xs h)) in
-    let addressed = All-append IsOctet (bytes_low_first 0 (ioa_len s.ioa) c.address) (element_octets c.element) (bytes_are 0 (ioa_len s.ioa) c.address) element in
-    let common = All-append IsOctet (bytes_low_first 0 (ca_len s.ca) ca) (bytes_low_first 0 (ioa_len s.ioa) c.address ++ element_octets c.element) (bytes_are 0 (ca_len s.ca) ca) addressed in
-    let behind : List ℕ = originator_octets s.cause c.originator ++ (bytes_low_first 0 (ca_len s.ca) ca ++ (bytes_low_first 0 (ioa_len s.ioa) c.address ++ element_octets c.element)) in
-    let all = All-append IsOctet (originator_octets s.cause c.originator) (bytes_low_first 0 (ca_len s.ca) ca ++ (bytes_low_first 0 (ioa_len s.ioa) c.address ++ element_octets c.element)) (originator_are s.cause c.originator (octet_at xs 3 h)) common in
-    All-cons IsOctet code (1 ∷ c.cause ∷ behind) (kind_is (is_tagged (slice_index xs 0)) (slice_index xs 0) (octet_at xs 0 h)) (All-cons IsOctet 1 (c.cause ∷ behind) (omega arith) (All-cons IsOctet c.cause behind (octet_at xs 2 h) all))
+    let element = element_are (is_set_point code) (slice_index rest 0) (slice_index rest 1) (slice_index rest 2)
+    (octet_at rest 0 (octets_drop 9 xs h)) (octet_at rest 1 (octets_drop 9 xs h))
+    (octet_at rest 2 (octets_drop 9 xs h)) in
+    let addressed = All-append IsOctet (bytes_low_first 0 (ioa_len s.ioa) c.address) (element_octets c.element)
+    (bytes_are 0 (ioa_len s.ioa) c.address) element in
+    let common = All-append IsOctet (bytes_low_first 0 (ca_len s.ca) ca) (bytes_low_first 0 (ioa_len s.ioa) c.address
+    ++ element_octets c.element) (bytes_are 0 (ca_len s.ca) ca) addressed in
+    let behind : List ℕ = originator_octets s.cause c.originator
+    ++ (bytes_low_first 0 (ca_len s.ca) ca ++ (bytes_low_first 0 (ioa_len s.ioa) c.address
+    ++ element_octets c.element)) in
+    let all = All-append IsOctet (originator_octets s.cause c.originator) (bytes_low_first 0 (ca_len s.ca) ca
+    ++ (bytes_low_first 0 (ioa_len s.ioa) c.address ++ element_octets c.element))
+    (originator_are s.cause c.originator (octet_at xs 3 h)) common in
+    All-cons IsOctet code (1 ∷ c.cause ∷ behind) (kind_is (is_tagged (slice_index xs 0)) (slice_index xs 0)
+    (octet_at xs 0 h)) (All-cons IsOctet 1 (c.cause ∷ behind) (omega arith)
+    (All-cons IsOctet c.cause behind (octet_at xs 2 h) all))
 
 command_count : (s : Sizes) (ca : ℕ) (c : Command) → length (command_octets s ca c) ≤ 12
 command_count s ca c =
@@ -118,7 +131,8 @@ command_count s ca c =
     let most2 = ioa_most s.ioa in
     omega (arith, length-append o (a ++ (b ++ e)), length-append a (b ++ e), length-append b e)
 
-command_fits : (size : LinkSize) (s : Sizes) (ca : ℕ) (xs : List ℕ) → All IsOctet xs → IsUserData size (command_octets s ca (command_at xs))
+command_fits : (size : LinkSize) (s : Sizes) (ca : ℕ) (xs : List ℕ) → All IsOctet xs
+    → IsUserData size (command_octets s ca (command_at xs))
 command_fits size s ca xs h = record {
   some = omega arith;
   fits = omega (arith, command_count s ca (command_at xs), address_most size);
@@ -130,58 +144,75 @@ command_fits size s ca xs h = record {
 abbrev pub AllFitLine : LinkSize → List Waiting → Type 0
 AllFitLine size ws = AllByRecursion (λ (w : Waiting). IsUserData size w.octets) ws
 
-copies_fit : (size : LinkSize) (s : Sizes) (xs : List ℕ) (i : ℕ) (stations : List StationInfo) → All IsOctet xs → AllFitLine size (copies s xs i stations)
+copies_fit : (size : LinkSize) (s : Sizes) (xs : List ℕ) (i : ℕ) (stations : List StationInfo) → All IsOctet xs
+    → AllFitLine size (copies s xs i stations)
 copies_fit size s xs i [] h = tt
-copies_fit size s xs i (station ∷ stations) h = go (is_addressed (command_at xs) station) (copies_fit size s xs (i + 1) stations h)
+copies_fit size s xs i (station ∷ stations) h = go (is_addressed (command_at xs) station)
+    (copies_fit size s xs (i + 1) stations h)
   where
     go : (b : Bool) → AllFitLine size (copies s xs (i + 1) stations) →
-        AllFitLine size (if b then record { station = i; received = xs; octets = command_octets s station.ca (command_at xs) } ∷ copies s xs (i + 1) stations else copies s xs (i + 1) stations)
+        AllFitLine size (if b then record {
+          station = i;
+          received = xs;
+          octets =
+              command_octets s station.ca (command_at xs);
+        }
+        ∷ copies s xs (i + 1) stations else copies s xs (i + 1) stations)
     go true ih = (command_fits size s station.ca xs h, ih)
     go false ih = ih
 
 abbrev Fit : LinkSize → State → Type 0
 Fit size s = AllFitLine size s.waiting
 
-forwarded_fit : (size : LinkSize) (xs : List ℕ) (c : Command) (now : ℕ) (s : State) → All IsOctet xs → Fit size s → Fit size (forwarded xs c now s)
+forwarded_fit : (size : LinkSize) (xs : List ℕ) (c : Command) (now : ℕ) (s : State) → All IsOctet xs → Fit size s
+    → Fit size (forwarded xs c now s)
 forwarded_fit size xs c now s h k = go (makes_selection s.stations c)
   where
     both : (t : State) → Fit size t → Fit size (queued xs t)
-    both t f = all_append (λ (w : Waiting). IsUserData size w.octets) t.waiting (copies t.sizes xs 0 t.stations) f (copies_fit size t.sizes xs 0 t.stations h)
+    both t f = all_append (λ (w : Waiting). IsUserData size w.octets) t.waiting (copies t.sizes xs 0 t.stations) f
+        (copies_fit size t.sizes xs 0 t.stations h)
 
     go : (b : Bool) → Fit size (queued xs (if b then selected c now s else s))
     go true = both (selected c now s) k
     go false = both s k
 
-placed_fit : (size : LinkSize) (xs : List ℕ) (c : Command) (now : ℕ) (s : State) → All IsOctet xs → Fit size s → Fit size (placed xs c now s).1
+placed_fit : (size : LinkSize) (xs : List ℕ) (c : Command) (now : ℕ) (s : State) → All IsOctet xs → Fit size s
+    → Fit size (placed xs c now s).1
 placed_fit size xs c now s h k = go (lacks_place c s)
   where
     go : (b : Bool) → Fit size (if b then refused (negative xs) xs s else (None, forwarded xs c now s)).1
     go true = k
     go false = forwarded_fit size xs c now s h k
 
-admitted_fit : (size : LinkSize) (xs : List ℕ) (c : Command) (now : ℕ) (s : State) → All IsOctet xs → Fit size s → Fit size (admitted xs c now s).1
+admitted_fit : (size : LinkSize) (xs : List ℕ) (c : Command) (now : ℕ) (s : State) → All IsOctet xs → Fit size s
+    → Fit size (admitted xs c now s).1
 admitted_fit size xs c now s h k = go (lacks_selection c now s) (ends_selection c)
   where
     ending : (b : Bool) → Fit size (if b then without_selection c s else s)
     ending true = k
     ending false = k
 
-    go : (b d : Bool) → Fit size (if b then refused (negative xs) xs (without_selection c s) else placed xs c now (if d then without_selection c s else s)).1
+    go : (b d : Bool)
+        → Fit size (if b then refused (negative xs) xs (without_selection c s) else placed xs c now
+        (if d then without_selection c s else s)).1
     go true d = k
     go false d = placed_fit size xs c now (if d then without_selection c s else s) h (ending d)
 
-judged_fit : (size : LinkSize) (xs : List ℕ) (now : ℕ) (wall : Option ℕ) (s : State) → All IsOctet xs → Fit size s → Fit size (judged xs now wall s).1
+judged_fit : (size : LinkSize) (xs : List ℕ) (now : ℕ) (wall : Option ℕ) (s : State) → All IsOctet xs → Fit size s
+    → Fit size (judged xs now wall s).1
 judged_fit size xs now wall s h k = go (fault s.sizes s.stations s.max_age_ms wall xs)
   where
     go : (m : Option ℕ) → Fit size (by_fault m xs now s).1
     go (Some cause) = k
     go None = admitted_fit size xs (command_at xs) now s h k
 
-without_fit : (size : LinkSize) (station : ℕ) (ws : List Waiting) → AllFitLine size ws → AllFitLine size (without_oldest station ws)
+without_fit : (size : LinkSize) (station : ℕ) (ws : List Waiting) → AllFitLine size ws
+    → AllFitLine size (without_oldest station ws)
 without_fit size station [] h = tt
 without_fit size station (w ∷ ws) h = go (w.station == station) (without_fit size station ws h.1)
   where
-    go : (b : Bool) → AllFitLine size (without_oldest station ws) → AllFitLine size (if b then ws else w ∷ without_oldest station ws)
+    go : (b : Bool) → AllFitLine size (without_oldest station ws)
+        → AllFitLine size (if b then ws else w ∷ without_oldest station ws)
     go true ih = h.1
     go false ih = (h.0, ih)
 
@@ -198,7 +229,8 @@ IsFitCall call = Unit {0}
 abbrev pub AnswersStay : Type 0
 AnswersStay = (v : AsduValue) (now : ℕ) (s : State) → (mirrored v now s).waiting ≡ s.waiting
 
-pub call_fits : (stay : AnswersStay) (size : LinkSize) (call : Call) (r : Run) → IsFitCall call → AllFitLine size r.state.waiting → AllFitLine size (after_call call r).state.waiting
+pub call_fits : (stay : AnswersStay) (size : LinkSize) (call : Call) (r : Run) → IsFitCall call
+    → AllFitLine size r.state.waiting → AllFitLine size (after_call call r).state.waiting
 call_fits stay size (Judge xs now wall) r h k = judged_fit size xs now wall r.state h k
 call_fits stay size (PutOnLine i) r h k = go (oldest_for i r.state)
   where
@@ -222,10 +254,12 @@ call_fits stay size SendOwn r h k = go (first_answer r.state.answers)
 call_fits stay size Cut r h k = tt
 call_fits stay size (Due now) r h k = k
 
-pub oldest_fits : (size : LinkSize) (station : ℕ) (ws : List Waiting) (w : Waiting) → AllFitLine size ws → oldest station ws ≡ Some w → IsUserData size w.octets
+pub oldest_fits : (size : LinkSize) (station : ℕ) (ws : List Waiting) (w : Waiting) → AllFitLine size ws
+    → oldest station ws ≡ Some w → IsUserData size w.octets
 oldest_fits size station [] w h e = cc
 oldest_fits size station (v ∷ ws) w h e = go (v.station == station) (λ f. oldest_fits size station ws w h.1 f) e
   where
-    go : (b : Bool) → (oldest station ws ≡ Some w → IsUserData size w.octets) → (if b then Some v else oldest station ws) ≡ Some w → IsUserData size w.octets
+    go : (b : Bool) → (oldest station ws ≡ Some w → IsUserData size w.octets)
+        → (if b then Some v else oldest station ws) ≡ Some w → IsUserData size w.octets
     go true ih e = let same : v ≡ w = cc in subst (λ (x : Waiting). IsUserData size x.octets) same h.0
     go false ih e = ih e

@@ -47,12 +47,21 @@ abbrev pub IsAllTold : Works → Type 0
 IsAllTold w = w.is_due ≡ false → w.serial.silent ≡ None
 
 -- what is still to be told makes no difference
-pub told_alike : (k : ℕ) (o : Option ℕ) (w z : Works) → line_told k z.history ≡ line_told k w.history → line_told k (told_silent o z) ≡ line_told k (told_silent o w)
+pub told_alike : (k : ℕ) (o : Option ℕ) (w z : Works) → line_told k z.history ≡ line_told k w.history
+    → line_told k (told_silent o z) ≡ line_told k (told_silent o w)
 told_alike k None w z same = same
-told_alike k (Some j) w z same = ap (λ (l : LineTold). let r : LineTold = record { steps = if k == j then l.steps ++ Lost ∷ [] else l.steps; last = l.last; sent = l.sent } in r) same
+told_alike k (Some j) w z same =
+    ap (λ (l : LineTold).
+    let r : LineTold = record {
+      steps = if k == j then l.steps ++ Lost ∷ [] else l.steps;
+      last = l.last;
+      sent =
+          l.sent;
+    } in r) same
 
 -- what the line's silence tells
-pub silent_told : (k : ℕ) (o : Outcome) (w : Works) → line_told k (told_silent (silent_by o) w) ≡ line_told k (told_due o w.history)
+pub silent_told : (k : ℕ) (o : Outcome) (w : Works) → line_told k (told_silent (silent_by o) w)
+    ≡ line_told k (told_due o w.history)
 silent_told k outcome.None w = refl
 silent_told k (outcome.Started station) w = refl
 silent_told k (outcome.StartedGap station session) w = refl
@@ -64,17 +73,22 @@ silent_told k (outcome.Report station asdu) w = refl
 
 -- Reports of command types
 
-reports_more : (sizes : Sizes) (rs : List (ℕ × List ℕ)) (r : ℕ × List ℕ) → command_reports sizes (rs ++ r ∷ []) ≡ command_reports sizes rs ++ (if is_command_report sizes r.1 then r.1 ∷ [] else [])
+reports_more : (sizes : Sizes) (rs : List (ℕ × List ℕ)) (r : ℕ × List ℕ)
+    → command_reports sizes (rs ++ r ∷ []) ≡ command_reports sizes rs
+    ++ (if is_command_report sizes r.1 then r.1 ∷ [] else [])
 reports_more sizes [] r = refl
 reports_more sizes (x ∷ rs) r = go (is_command_report sizes x.1) (reports_more sizes rs r)
   where
-    go : (b : Bool) → command_reports sizes (rs ++ r ∷ []) ≡ command_reports sizes rs ++ (if is_command_report sizes r.1 then r.1 ∷ [] else []) →
+    go : (b : Bool) → command_reports sizes (rs ++ r ∷ []) ≡ command_reports sizes rs
+        ++ (if is_command_report sizes r.1 then r.1 ∷ [] else []) →
         (if b then x.1 ∷ command_reports sizes (rs ++ r ∷ []) else command_reports sizes (rs ++ r ∷ []))
-        ≡ (if b then x.1 ∷ command_reports sizes rs else command_reports sizes rs) ++ (if is_command_report sizes r.1 then r.1 ∷ [] else [])
+        ≡ (if b then x.1 ∷ command_reports sizes rs else command_reports sizes rs)
+        ++ (if is_command_report sizes r.1 then r.1 ∷ [] else [])
     go true ih = ap (λ (l : List (List ℕ)). x.1 ∷ l) ih
     go false ih = ih
 
-values_more : (sizes : Sizes) (vs : List AsduValue) (rs : List (List ℕ)) (v : AsduValue) (r : List ℕ) → AreValues sizes vs rs → IsAsdu sizes v r → AreValues sizes (vs ++ v ∷ []) (rs ++ r ∷ [])
+values_more : (sizes : Sizes) (vs : List AsduValue) (rs : List (List ℕ)) (v : AsduValue) (r : List ℕ)
+    → AreValues sizes vs rs → IsAsdu sizes v r → AreValues sizes (vs ++ v ∷ []) (rs ++ r ∷ [])
 values_more sizes [] [] v r h k = (k, tt)
 values_more sizes [] (y ∷ rs) v r h k = absurd h
 values_more sizes (x ∷ vs) [] v r h k = absurd h
@@ -87,30 +101,43 @@ pub record IsLearnt (p : Setup) (o : Outcome) (w z : Works) : Type 0 where
   pub silent : z.serial.silent ≡ w.serial.silent
   pub told : (k : ℕ) → line_told k z.history ≡ line_told k (told_by o w.history)
   pub fits : WaitsFit p w.serial.commands → WaitsFit p z.serial.commands
-  pub mirrors : (rs : List (ℕ × List ℕ)) → AreValues p.sizes (mirrored_in w.history) (command_reports p.sizes rs) → AreValues p.sizes (mirrored_in z.history) (command_reports p.sizes (rs ++ report_in o))
+  pub mirrors : (rs : List (ℕ × List ℕ)) → AreValues p.sizes (mirrored_in w.history) (command_reports p.sizes rs)
+      → AreValues p.sizes (mirrored_in z.history) (command_reports p.sizes (rs ++ report_in o))
   pub judged : judged_in z.history ≡ judged_in w.history
-  pub skips : (rs : List (ℕ × List ℕ)) → w.serial.counts.skipped ≡ saturated (skipped_among p.sizes rs) → z.serial.counts.skipped ≡ saturated (skipped_among p.sizes (rs ++ report_in o))
+  pub skips : (rs : List (ℕ × List ℕ)) → w.serial.counts.skipped ≡ saturated (skipped_among p.sizes rs)
+      → z.serial.counts.skipped ≡ saturated (skipped_among p.sizes (rs ++ report_in o))
 
 -- without a report
-same_skips : (sizes : Sizes) (n m : ℕ) (rs : List (ℕ × List ℕ)) → n ≡ m → m ≡ saturated (skipped_among sizes rs) → n ≡ saturated (skipped_among sizes (rs ++ []))
-same_skips sizes n m rs same h = same ∙ h ∙ ap (λ (l : List (ℕ × List ℕ)). saturated (skipped_among sizes l)) (sym (append-nil rs))
+same_skips : (sizes : Sizes) (n m : ℕ) (rs : List (ℕ × List ℕ)) → n ≡ m → m ≡ saturated (skipped_among sizes rs)
+    → n ≡ saturated (skipped_among sizes (rs ++ []))
+same_skips sizes n m rs same h = same ∙ h ∙ ap (λ (l : List (ℕ × List ℕ)). saturated (skipped_among sizes l))
+    (sym (append-nil rs))
 
-no_report : (sizes : Sizes) (vs : List AsduValue) (rs : List (ℕ × List ℕ)) → AreValues sizes vs (command_reports sizes rs) → AreValues sizes vs (command_reports sizes (rs ++ []))
-no_report sizes vs rs h = subst (λ (l : List (ℕ × List ℕ)). AreValues sizes vs (command_reports sizes l)) (sym (append-nil rs)) h
+no_report : (sizes : Sizes) (vs : List AsduValue) (rs : List (ℕ × List ℕ))
+    → AreValues sizes vs (command_reports sizes rs) → AreValues sizes vs (command_reports sizes (rs ++ []))
+no_report sizes vs rs h = subst (λ (l : List (ℕ × List ℕ)). AreValues sizes vs (command_reports sizes l))
+    (sym (append-nil rs)) h
 
-same_learnt : (p : Setup) (o : Outcome) (w z : Works) → report_in o ≡ [] → ((h : History) → told_by o h ≡ h) → z ≡ w → IsLearnt p o w z
+same_learnt : (p : Setup) (o : Outcome) (w z : Works) → report_in o ≡ [] → ((h : History) → told_by o h ≡ h) → z ≡ w
+    → IsLearnt p o w z
 same_learnt p o w z none quiet is = record {
   line = ap (λ (x : Works). x.serial.line) is;
   silent = ap (λ (x : Works). x.serial.silent) is;
-  told = λ k. ap (λ (x : Works). line_told k x.history) is ∙ ap (λ (h : History). line_told k h) (sym (quiet w.history));
+  told = λ k. ap (λ (x : Works). line_told k x.history) is
+      ∙ ap (λ (h : History). line_told k h) (sym (quiet w.history));
   fits = λ f. subst (λ (x : Works). WaitsFit p x.serial.commands) (sym is) f;
-  mirrors = λ rs h. subst (λ (x : Works). AreValues p.sizes (mirrored_in x.history) (command_reports p.sizes (rs ++ report_in o))) (sym is)
-      (subst (λ (l : List (ℕ × List ℕ)). AreValues p.sizes (mirrored_in w.history) (command_reports p.sizes (rs ++ l))) (sym none) (no_report p.sizes (mirrored_in w.history) rs h));
+  mirrors = λ rs h. subst (λ (x : Works). AreValues p.sizes (mirrored_in x.history)
+      (command_reports p.sizes (rs ++ report_in o))) (sym is)
+      (subst (λ (l : List (ℕ × List ℕ)). AreValues p.sizes (mirrored_in w.history) (command_reports p.sizes (rs ++ l)))
+      (sym none) (no_report p.sizes (mirrored_in w.history) rs h));
   judged = ap (λ (x : Works). judged_in x.history) is;
-  skips = λ rs h. same_skips p.sizes z.serial.counts.skipped w.serial.counts.skipped rs (ap (λ (x : Works). x.serial.counts.skipped) is) h ∙ ap (λ (l : List (ℕ × List ℕ)). saturated (skipped_among p.sizes (rs ++ l))) (sym none);
+  skips = λ rs h. same_skips p.sizes z.serial.counts.skipped w.serial.counts.skipped rs
+      (ap (λ (x : Works). x.serial.counts.skipped) is) h
+      ∙ ap (λ (l : List (ℕ × List ℕ)). saturated (skipped_among p.sizes (rs ++ l))) (sym none);
 }
 
-gap_learnt : (p : Setup) (station session : ℕ) (w : Works) → IsLearnt p (outcome.StartedGap station session) w (record w { serial = with_gap station session w.serial })
+gap_learnt : (p : Setup) (station session : ℕ) (w : Works)
+    → IsLearnt p (outcome.StartedGap station session) w (record w { serial = with_gap station session w.serial })
 gap_learnt p station session w = record {
   line = refl;
   silent = refl;
@@ -121,7 +148,8 @@ gap_learnt p station session w = record {
   skips = λ rs h. same_skips p.sizes w.serial.counts.skipped w.serial.counts.skipped rs refl h;
 }
 
-accepted_learnt : (stay : AnswersStay) (p : Setup) (station : ℕ) (w : Works) → IsLearnt p (outcome.Accepted station) w (accepted_works station w)
+accepted_learnt : (stay : AnswersStay) (p : Setup) (station : ℕ) (w : Works)
+    → IsLearnt p (outcome.Accepted station) w (accepted_works station w)
 accepted_learnt stay p station w = record {
   line = refl;
   silent = refl;
@@ -132,7 +160,8 @@ accepted_learnt stay p station w = record {
   skips = λ rs h. same_skips p.sizes w.serial.counts.skipped w.serial.counts.skipped rs refl h;
 }
 
-busy_learnt : (stay : AnswersStay) (p : Setup) (station : ℕ) (w : Works) → IsLearnt p (outcome.Busy station) w (refused_works station w)
+busy_learnt : (stay : AnswersStay) (p : Setup) (station : ℕ) (w : Works)
+    → IsLearnt p (outcome.Busy station) w (refused_works station w)
 busy_learnt stay p station w =
     let s : State = given_up station w.serial.commands in
     let own : List (List ℕ) = refusals station w.serial in
@@ -142,13 +171,15 @@ busy_learnt stay p station w =
       silent = refl;
       told = λ k. keeping (line_told k) (line_ignores k) own s tells;
       fits = λ f. kept_fit stay p own s (one_fits stay p (Busy station) (tasks_of w) tt f);
-      mirrors = λ rs h. subst (λ (vs : List AsduValue). AreValues p.sizes vs (command_reports p.sizes (rs ++ []))) (sym (keeping mirrored_in mirrors_ignore own s tells))
+      mirrors = λ rs h. subst (λ (vs : List AsduValue). AreValues p.sizes vs (command_reports p.sizes (rs ++ [])))
+          (sym (keeping mirrored_in mirrors_ignore own s tells))
           (no_report p.sizes (mirrored_in w.history) rs h);
       judged = keeping judged_in judged_ignore own s tells;
       skips = λ rs h. same_skips p.sizes w.serial.counts.skipped w.serial.counts.skipped rs refl h;
     }
 
-down_learnt : (stay : AnswersStay) (p : Setup) (station : ℕ) (w : Works) → IsLearnt p (outcome.Down station) w (given_up_works station w)
+down_learnt : (stay : AnswersStay) (p : Setup) (station : ℕ) (w : Works)
+    → IsLearnt p (outcome.Down station) w (given_up_works station w)
 down_learnt stay p station w = record {
   line = refl;
   silent = refl;
@@ -156,32 +187,43 @@ down_learnt stay p station w = record {
   fits = λ f. one_fits stay p (Lose station) (tasks_of w) tt f;
   mirrors = λ rs h. no_report p.sizes (mirrored_in w.history) rs h;
   judged = refl;
-  skips = λ rs h. same_skips p.sizes (given_up_works station w).serial.counts.skipped w.serial.counts.skipped rs (lost_skips (is_used (line_of station w.serial.commands)) w.serial.counts) h;
+  skips = λ rs h. same_skips p.sizes (given_up_works station w).serial.counts.skipped w.serial.counts.skipped rs
+      (lost_skips (is_used (line_of station w.serial.commands)) w.serial.counts) h;
 }
 
 module _ (stay : AnswersStay) (p : Setup) (at : ℕ) (station : ℕ) (asdu : ArrayVec ℕ) (w : Works) where
   abbrev said : Outcome
   said = outcome.Report station asdu
 
-  plain_report : is_command_report p.sizes asdu.items ≡ false → IsLearnt p said w (record w { serial = reported p.sizes asdu.items w.serial })
+  plain_report : is_command_report p.sizes asdu.items ≡ false
+      → IsLearnt p said w (record w { serial = reported p.sizes asdu.items w.serial })
   plain_report other = record {
     line = refl;
     silent = refl;
     told = λ k. refl;
     fits = λ f. f;
     mirrors = λ rs h. subst (λ (l : List (List ℕ)). AreValues p.sizes (mirrored_in w.history) l)
-        (sym (reports_more p.sizes rs (station, asdu.items) ∙ ap (λ (b : Bool). command_reports p.sizes rs ++ (if b then asdu.items ∷ [] else [])) other ∙ append-nil (command_reports p.sizes rs))) h;
+        (sym (reports_more p.sizes rs (station, asdu.items)
+        ∙ ap (λ (b : Bool). command_reports p.sizes rs ++ (if b then asdu.items ∷ [] else [])) other
+        ∙ append-nil (command_reports p.sizes rs))) h;
     judged = refl;
     skips = λ rs h. skip_one p.sizes station asdu.items w.serial.counts rs other h;
   }
 
-  more_mirrored : (v : AsduValue) (rs : List (ℕ × List ℕ)) → is_command_report p.sizes asdu.items ≡ true → IsAsdu p.sizes v asdu.items →
-      AreValues p.sizes (mirrored_in w.history) (command_reports p.sizes rs) → AreValues p.sizes (mirrored_in (told (Mirror v at) w)) (command_reports p.sizes (rs ++ (station, asdu.items) ∷ []))
-  more_mirrored v rs command value h = subst (λ (l : List (List ℕ)). AreValues p.sizes (mirrored_in w.history ++ v ∷ []) l)
-      (sym (reports_more p.sizes rs (station, asdu.items) ∙ ap (λ (b : Bool). command_reports p.sizes rs ++ (if b then asdu.items ∷ [] else [])) command))
+  more_mirrored : (v : AsduValue) (rs : List (ℕ × List ℕ)) → is_command_report p.sizes asdu.items ≡ true
+      → IsAsdu p.sizes v asdu.items →
+      AreValues p.sizes (mirrored_in w.history) (command_reports p.sizes rs)
+      → AreValues p.sizes (mirrored_in (told (Mirror v at) w))
+      (command_reports p.sizes (rs ++ (station, asdu.items) ∷ []))
+  more_mirrored v rs command value h =
+      subst (λ (l : List (List ℕ)). AreValues p.sizes (mirrored_in w.history ++ v ∷ []) l)
+      (sym (reports_more p.sizes rs (station, asdu.items)
+      ∙ ap (λ (b : Bool). command_reports p.sizes rs ++ (if b then asdu.items ∷ [] else [])) command))
       (values_more p.sizes (mirrored_in w.history) (command_reports p.sizes rs) v asdu.items h value)
 
-  command_report : (running : Bool) (v : AsduValue) (pieces : List (List ℕ)) → is_command_report p.sizes asdu.items ≡ true → IsAsdu p.sizes v asdu.items → IsLearnt p said w (mirrored_works at running v pieces w)
+  command_report : (running : Bool) (v : AsduValue) (pieces : List (List ℕ))
+      → is_command_report p.sizes asdu.items ≡ true → IsAsdu p.sizes v asdu.items
+      → IsLearnt p said w (mirrored_works at running v pieces w)
   command_report true v pieces command value =
       let s : State = mirrored v at w.serial.commands in
       let tells : History = told (Mirror v at) w in
@@ -190,7 +232,9 @@ module _ (stay : AnswersStay) (p : Setup) (at : ℕ) (station : ℕ) (asdu : Arr
         silent = refl;
         told = λ k. keeping (line_told k) (line_ignores k) pieces s tells;
         fits = λ f. kept_fit stay p pieces s (one_fits stay p (Mirror v at) (tasks_of w) tt f);
-        mirrors = λ rs h. subst (λ (vs : List AsduValue). AreValues p.sizes vs (command_reports p.sizes (rs ++ (station, asdu.items) ∷ []))) (sym (keeping mirrored_in mirrors_ignore pieces s tells)) (more_mirrored v rs command value h);
+        mirrors = λ rs h. subst (λ (vs : List AsduValue). AreValues p.sizes vs
+            (command_reports p.sizes (rs ++ (station, asdu.items) ∷ [])))
+            (sym (keeping mirrored_in mirrors_ignore pieces s tells)) (more_mirrored v rs command value h);
         judged = keeping judged_in judged_ignore pieces s tells;
         skips = λ rs h. h ∙ ap saturated (sym (skip_none p.sizes station asdu.items rs command));
       }
@@ -204,20 +248,28 @@ module _ (stay : AnswersStay) (p : Setup) (at : ℕ) (station : ℕ) (asdu : Arr
     skips = λ rs h. h ∙ ap saturated (sym (skip_none p.sizes station asdu.items rs command));
   }
 
-  report_learnt : (running b : Bool) (z : Works) → is_command_report p.sizes asdu.items ≡ b → LearnsReport p at running b asdu.items w z → IsLearnt p said w z
-  report_learnt running true z is h = subst (λ (x : Works). IsLearnt p said w x) (sym h.5) (command_report running h.0 h.2 is h.3.value)
+  report_learnt : (running b : Bool) (z : Works) → is_command_report p.sizes asdu.items ≡ b
+      → LearnsReport p at running b asdu.items w z → IsLearnt p said w z
+  report_learnt running true z is h = subst (λ (x : Works). IsLearnt p said w x) (sym h.5)
+      (command_report running h.0 h.2 is h.3.value)
   report_learnt running false z is h = subst (λ (x : Works). IsLearnt p said w x) (sym h) (plain_report is)
 
-pub learnt_of : (stay : AnswersStay) (p : Setup) (at : ℕ) (running : Bool) (o : Outcome) (w z : Works) → LearnsOf p at running o w z → IsLearnt p o w z
+pub learnt_of : (stay : AnswersStay) (p : Setup) (at : ℕ) (running : Bool) (o : Outcome) (w z : Works)
+    → LearnsOf p at running o w z → IsLearnt p o w z
 learnt_of stay p at running outcome.None w z h = same_learnt p outcome.None w z refl (λ h. refl) h
-learnt_of stay p at running (outcome.Started station) w z h = same_learnt p (outcome.Started station) w z refl (λ h. refl) h
+learnt_of stay p at running (outcome.Started station) w z h =
+    same_learnt p (outcome.Started station) w z refl (λ h. refl) h
 learnt_of stay p at running (outcome.StartedGap station session) w z h =
     subst (λ (x : Works). IsLearnt p (outcome.StartedGap station session) w x) (sym h) (gap_learnt p station session w)
 learnt_of stay p at running (outcome.Empty station) w z h = same_learnt p (outcome.Empty station) w z refl (λ h. refl) h
-learnt_of stay p at running (outcome.Accepted station) w z h = subst (λ (x : Works). IsLearnt p (outcome.Accepted station) w x) (sym h) (accepted_learnt stay p station w)
-learnt_of stay p at running (outcome.Busy station) w z h = subst (λ (x : Works). IsLearnt p (outcome.Busy station) w x) (sym h) (busy_learnt stay p station w)
-learnt_of stay p at running (outcome.Down station) w z h = subst (λ (x : Works). IsLearnt p (outcome.Down station) w x) (sym h) (down_learnt stay p station w)
-learnt_of stay p at running (outcome.Report station asdu) w z h = report_learnt stay p at station asdu w running (is_command_report p.sizes asdu.items) z refl h
+learnt_of stay p at running (outcome.Accepted station) w z h =
+    subst (λ (x : Works). IsLearnt p (outcome.Accepted station) w x) (sym h) (accepted_learnt stay p station w)
+learnt_of stay p at running (outcome.Busy station) w z h =
+    subst (λ (x : Works). IsLearnt p (outcome.Busy station) w x) (sym h) (busy_learnt stay p station w)
+learnt_of stay p at running (outcome.Down station) w z h =
+    subst (λ (x : Works). IsLearnt p (outcome.Down station) w x) (sym h) (down_learnt stay p station w)
+learnt_of stay p at running (outcome.Report station asdu) w z h =
+    report_learnt stay p at station asdu w running (is_command_report p.sizes asdu.items) z refl h
 
 -- What changes nothing of the line
 
@@ -229,20 +281,38 @@ pub record IsQuiet (p : Setup) (w z : Works) : Type 0 where
   pub fits : WaitsFit p w.serial.commands → WaitsFit p z.serial.commands
   pub skips : z.serial.counts.skipped ≡ w.serial.counts.skipped
 
-pub heard_quiet : (stay : AnswersStay) (p : Setup) (frame : Apdu) (now : ℕ) (wall : Option ℕ) (w : Works) → Fits frame → IsQuiet p w (heard_works frame now wall w)
+pub heard_quiet : (stay : AnswersStay) (p : Setup) (frame : Apdu) (now : ℕ) (wall : Option ℕ) (w : Works) → Fits frame
+    → IsQuiet p w (heard_works frame now wall w)
 heard_quiet stay p (I ns nr asdu) now wall w fits =
     let s : State = w.serial.commands in
     record {
-      told = λ k. told_alike k w.serial.silent w (heard_works (I ns nr asdu) now wall w) (judging (line_told k) (line_ignores k) asdu.items now wall w);
+      told = λ k. told_alike k w.serial.silent w (heard_works (I ns nr asdu) now wall w)
+          (judging (line_told k) (line_ignores k) asdu.items now wall w);
       left = λ h. h;
       mirrors = judging mirrored_in mirrors_ignore asdu.items now wall w;
-      fits = λ f. kept_fit stay p (listed (judged asdu.items now wall s).0) (judged asdu.items now wall s).1 (one_fits stay p (Judge asdu.items now wall) (tasks_of w) fits.2 f);
+      fits = λ f. kept_fit stay p (listed (judged asdu.items now wall s).0) (judged asdu.items now wall s).1
+          (one_fits stay p (Judge asdu.items now wall) (tasks_of w) fits.2 f);
       skips = refl;
     }
-heard_quiet stay p (S nr) now wall w fits = record { told = λ k. refl; left = λ h. h; mirrors = refl; fits = λ f. f; skips = refl }
-heard_quiet stay p (U u) now wall w fits = record { told = λ k. refl; left = λ h. h; mirrors = refl; fits = λ f. f; skips = refl }
+heard_quiet stay p (S nr) now wall w fits = record {
+  told = λ k. refl;
+  left = λ h. h;
+  mirrors = refl;
+  fits =
+      λ f. f;
+  skips = refl;
+}
+heard_quiet stay p (U u) now wall w fits = record {
+  told = λ k. refl;
+  left = λ h. h;
+  mirrors = refl;
+  fits =
+      λ f. f;
+  skips = refl;
+}
 
-pub heard_line : (frame : Apdu) (now : ℕ) (wall : Option ℕ) (w : Works) → (heard_works frame now wall w).serial.line ≡ w.serial.line
+pub heard_line : (frame : Apdu) (now : ℕ) (wall : Option ℕ) (w : Works)
+    → (heard_works frame now wall w).serial.line ≡ w.serial.line
 heard_line frame now wall w = refl
 
 -- the ASDU of an I frame, and what the wall clock shows
@@ -250,7 +320,8 @@ abbrev pub judged_by : Apdu → Option ℕ → List (List ℕ × Option ℕ)
 judged_by (I ns nr asdu) wall = (asdu.items, wall) ∷ []
 judged_by frame wall = []
 
-pub heard_judged : (frame : Apdu) (now : ℕ) (wall : Option ℕ) (w : Works) → judged_in (heard_works frame now wall w).history ≡ judged_in w.history ++ judged_by frame wall
+pub heard_judged : (frame : Apdu) (now : ℕ) (wall : Option ℕ) (w : Works)
+    → judged_in (heard_works frame now wall w).history ≡ judged_in w.history ++ judged_by frame wall
 heard_judged (I ns nr asdu) now wall w = judging judged_in judged_ignore asdu.items now wall w
 heard_judged (S nr) now wall w = sym (append-nil (judged_in w.history))
 heard_judged (U u) now wall w = sym (append-nil (judged_in w.history))
@@ -260,7 +331,15 @@ sent_quiet stay p (I ns nr asdu) w = go (has_objects asdu.items)
   where
     go : (b : Bool) → IsQuiet p w (if b then w else answered_works w)
     go true = record { told = λ k. refl; left = λ h. h; mirrors = refl; fits = λ f. f; skips = refl }
-    go false = record { told = λ k. told_alike k w.serial.silent w (answered_works w) (sending_own (line_told k) (line_ignores k) w); left = λ h. h; mirrors = sending_own mirrored_in mirrors_ignore w; fits = λ f. f; skips = refl }
+    go false = record {
+      told = λ k. told_alike k w.serial.silent w (answered_works w)
+          (sending_own (line_told k) (line_ignores k) w);
+      left = λ h. h;
+      mirrors =
+          sending_own mirrored_in mirrors_ignore w;
+      fits = λ f. f;
+      skips = refl;
+    }
 sent_quiet stay p (S nr) w = record { told = λ k. refl; left = λ h. h; mirrors = refl; fits = λ f. f; skips = refl }
 sent_quiet stay p (U u) w = record { told = λ k. refl; left = λ h. h; mirrors = refl; fits = λ f. f; skips = refl }
 
@@ -283,7 +362,14 @@ sent_judged (S nr) w = refl
 sent_judged (U u) w = refl
 
 pub settled_quiet : (stay : AnswersStay) (p : Setup) (at : ℕ) (w : Works) → IsQuiet p w (settled_works at w)
-settled_quiet stay p at w = record { told = λ k. refl; left = λ h due. refl; mirrors = answers w.serial.silent; fits = fit w.serial.silent; skips = count w.serial.silent }
+settled_quiet stay p at w = record {
+  told = λ k. refl;
+  left = λ h due. refl;
+  mirrors = answers w.serial.silent;
+  fits =
+      fit w.serial.silent;
+  skips = count w.serial.silent;
+}
   where
     answers : (o : Option ℕ) → mirrored_in (told_silent o w) ≡ mirrored_in w.history
     answers None = refl
@@ -318,39 +404,54 @@ module _ (laws : LinkLaws) (settings : LinkSettings) (addresses : List ℕ) (e :
   count_upto zero ws q = refl
   count_upto (suc k) ws q = by_oldest (count_upto k ws q) (oldest k ws)
     where
-      by_oldest : length (offered_upto k ws q).stations ≡ length q.stations → (o : Option Waiting) → length (offered_by o k (offered_upto k ws q)).stations ≡ length q.stations
+      by_oldest : length (offered_upto k ws q).stations ≡ length q.stations → (o : Option Waiting)
+          → length (offered_by o k (offered_upto k ws q)).stations ≡ length q.stations
       by_oldest h None = h
       by_oldest h (Some w) = laws.count (offered_upto k ws q) k w.octets ∙ h
 
-  offers_upto : (n : ℕ) (ws : List Waiting) (q : Primary) → n ≤ length q.stations → AllFitLine settings.size ws → Tells settings addresses q e → Tells settings addresses (offered_upto n ws q) e
+  offers_upto : (n : ℕ) (ws : List Waiting) (q : Primary) → n ≤ length q.stations → AllFitLine settings.size ws
+      → Tells settings addresses q e → Tells settings addresses (offered_upto n ws q) e
   offers_upto zero ws q within fits t = t
-  offers_upto (suc k) ws q within fits t = by_oldest (oldest k ws) refl (offers_upto k ws q (omega (arith, within)) fits t)
+  offers_upto (suc k) ws q within fits t = by_oldest (oldest k ws) refl
+      (offers_upto k ws q (omega (arith, within)) fits t)
     where
-      by_oldest : (o : Option Waiting) → oldest k ws ≡ o → Tells settings addresses (offered_upto k ws q) e → Tells settings addresses (offered_by o k (offered_upto k ws q)) e
+      by_oldest : (o : Option Waiting) → oldest k ws ≡ o → Tells settings addresses (offered_upto k ws q) e
+          → Tells settings addresses (offered_by o k (offered_upto k ws q)) e
       by_oldest None is t = t
-      by_oldest (Some w) is t = laws.offer settings addresses (offered_upto k ws q) e k w.octets (omega (arith, within, count_upto k ws q))
-          (subst (λ (s : LinkSettings). IsUserData s.size w.octets) (sym t.settings_are) (oldest_fits settings.size k ws w fits is)) t
+      by_oldest (Some w) is t = laws.offer settings addresses (offered_upto k ws q) e k w.octets
+          (omega (arith, within, count_upto k ws q))
+          (subst (λ (s : LinkSettings). IsUserData s.size w.octets) (sym t.settings_are)
+          (oldest_fits settings.size k ws w fits is)) t
 
-  pub offers_tell : (ws : List Waiting) (q : Primary) → AllFitLine settings.size ws → Tells settings addresses q e → Tells settings addresses (offered_upto (length q.stations) ws q) e
+  pub offers_tell : (ws : List Waiting) (q : Primary) → AllFitLine settings.size ws → Tells settings addresses q e
+      → Tells settings addresses (offered_upto (length q.stations) ws q) e
   offers_tell ws q fits t = offers_upto (length q.stations) ws q (omega arith) fits t
 
 -- A command goes out
 
-pub put_told : (first : Bool) (station : ℕ) (request : Asked) (w : Works) (k : ℕ) → (first ≡ true → is_command request ≡ true) →
-    ((fcb : Bool) (asdu : List ℕ) → request ≡ Counted fcb (Command asdu) → first ≡ true → octets_waiting station w.serial.commands ≡ Some asdu) →
+pub put_told : (first : Bool) (station : ℕ) (request : Asked) (w : Works) (k : ℕ)
+    → (first ≡ true → is_command request ≡ true) →
+    ((fcb : Bool) (asdu : List ℕ) → request ≡ Counted fcb (Command asdu) → first ≡ true
+    → octets_waiting station w.serial.commands ≡ Some asdu) →
     line_told k (told_put first station w) ≡ line_told k (told_asked first station request w.history)
 put_told false station request w k command waits = refl
 put_told true station Status w k command waits = let no : is_command Status ≡ true = command refl in cc
 put_told true station Reset w k command waits = let no : is_command Reset ≡ true = command refl in cc
-put_told true station (Counted fcb Class1) w k command waits = let no : is_command (Counted fcb Class1) ≡ true = command refl in cc
-put_told true station (Counted fcb Class2) w k command waits = let no : is_command (Counted fcb Class2) ≡ true = command refl in cc
-put_told true station (Counted fcb (Command asdu)) w k command waits = go (oldest_for station w.serial.commands) (waits fcb asdu refl refl)
+put_told true station (Counted fcb Class1) w k command waits =
+    let no : is_command (Counted fcb Class1) ≡ true = command refl in cc
+put_told true station (Counted fcb Class2) w k command waits =
+    let no : is_command (Counted fcb Class2) ≡ true = command refl in cc
+put_told true station (Counted fcb (Command asdu)) w k command waits =
+    go (oldest_for station w.serial.commands) (waits fcb asdu refl refl)
   where
-    go : (o : Option Waiting) → option_map (λ (w : Waiting). w.octets) o ≡ Some asdu → line_told k (after_sending o station (tasks_of w)).history ≡ line_told k (Sent station asdu ∷ w.history)
+    go : (o : Option Waiting) → option_map (λ (w : Waiting). w.octets) o ≡ Some asdu
+        → line_told k (after_sending o station (tasks_of w)).history ≡ line_told k (Sent station asdu ∷ w.history)
     go None e = cc
-    go (Some x) e = let same : x.octets ≡ asdu = cc in ap (λ (l : List ℕ). line_told k (Sent station l ∷ w.history)) same
+    go (Some x) e = let same : x.octets ≡ asdu = cc in
+        ap (λ (l : List ℕ). line_told k (Sent station l ∷ w.history)) same
 
-pub put_mirrors : (first : Bool) (station : ℕ) (w : Works) → mirrored_in (told_put first station w) ≡ mirrored_in w.history
+pub put_mirrors : (first : Bool) (station : ℕ) (w : Works)
+    → mirrored_in (told_put first station w) ≡ mirrored_in w.history
 put_mirrors false station w = refl
 put_mirrors true station w = go (oldest_for station w.serial.commands)
   where
@@ -366,10 +467,13 @@ put_judged true station w = go (oldest_for station w.serial.commands)
     go None = refl
     go (Some x) = refl
 
-pub put_fits : (stay : AnswersStay) (p : Setup) (first : Bool) (station : ℕ) (w : Works) → WaitsFit p w.serial.commands → WaitsFit p (put_on_line first station w.serial.commands)
+pub put_fits : (stay : AnswersStay) (p : Setup) (first : Bool) (station : ℕ) (w : Works) → WaitsFit p w.serial.commands
+    → WaitsFit p (put_on_line first station w.serial.commands)
 put_fits stay p false station w f = f
-put_fits stay p true station w f = go (oldest_for station w.serial.commands) refl (one_fits stay p (PutOnLine station) (tasks_of w) tt f)
+put_fits stay p true station w f = go (oldest_for station w.serial.commands) refl
+    (one_fits stay p (PutOnLine station) (tasks_of w) tt f)
   where
-    go : (o : Option Waiting) → oldest_for station w.serial.commands ≡ o → WaitsFit p (after_sending o station (tasks_of w)).state → WaitsFit p (put_out o station w.serial.commands)
+    go : (o : Option Waiting) → oldest_for station w.serial.commands ≡ o
+        → WaitsFit p (after_sending o station (tasks_of w)).state → WaitsFit p (put_out o station w.serial.commands)
     go None e h = h
     go (Some x) e h = subst (λ (o : Option Waiting). WaitsFit p (put_out o station w.serial.commands)) e h

@@ -29,7 +29,7 @@ use Rattle.gateway.specs.Serial as serial
 use Rattle.gateway.specs.Serial.{Serial}
 use Rattle.gateway.specs.Centre.{Centre, next_frame}
 use Rattle.gateway.specs.State.{State, with_session, piece_sent, own_sent}
-use Rattle.gateway.specs.Works.{is_overfull, Works, answered_works}
+use Rattle.gateway.specs.Works.{has_lacked_place, Works, answered_works}
 use Rattle.command.specs.State.{oldest}
 use Rattle.command.specs.History as happened
 use Rattle.gateway.specs.Course.{Course, here_of, came_frames, room_by, room_in, kind_of, told_sent, with_sent, HasSentAll, IsFlushed, IsUntouched, HasBegun, IsNextData}
@@ -171,7 +171,7 @@ left_out Asked log now octets so_far unjudged h = h
 
 -- what found a place before found one still
 pub placed_on : (phase : Phase) (log new : Log) (h g : happened.History)
-    → ((present new).is_open ≡ true → (present log).is_open ≡ true) → is_overfull g ≡ is_overfull h
+    → ((present new).is_open ≡ true → (present log).is_open ≡ true) → has_lacked_place g ≡ has_lacked_place h
     → IsPlaced phase log h → IsPlaced phase new g
 placed_on Crowded log new h g on same k = tt
 placed_on Judged log new h g on same k = λ o. same ∙ k (on o)
@@ -183,7 +183,7 @@ placed_on Asked log new h g on same k = λ o. same ∙ k (on o)
 
 -- where a frame may go out each own answer found a place
 placed_in : (phase : Phase) (log : Log) (h : happened.History) → IsFlushing phase → IsPlaced phase log h
-    → (present log).is_open ≡ true → is_overfull h ≡ false
+    → (present log).is_open ≡ true → has_lacked_place h ≡ false
 placed_in Fresh log h flushing placed on = placed on
 placed_in Taking log h flushing placed on = absurd flushing
 placed_in Judged log h flushing placed on = placed on
@@ -192,7 +192,7 @@ placed_in Crowded log h flushing placed on = absurd flushing
 placed_in Timed log h flushing placed on = placed on
 placed_in Asked log h flushing placed on = placed on
 
--- where a connection has just ended nothing is overfull
+-- where a connection has just ended nothing is lacked_place
 pub placed_cut : (phase : Phase) (log : Log) (h : happened.History) → IsPlaced phase log (happened.Ended ∷ h)
 placed_cut Crowded log h = tt
 placed_cut Judged log h = λ o. refl
@@ -207,7 +207,8 @@ acknowledged_within : (p : Setup) (s : State) (log : Log) (unjudged : List ℕ) 
 acknowledged_within p s log unjudged phase a = omega (arith, a.here.tied.unconfirmed.count)
 
 -- where nothing can be sent any more, all has gone out
-pub sent_all : (p : Setup) (s : State) (log : Log) (unjudged : List ℕ) (phase : Phase) (a : Agrees p s log unjudged phase)
+pub sent_all : (p : Setup) (s : State) (log : Log) (unjudged : List ℕ) (phase : Phase)
+    (a : Agrees p s log unjudged phase)
     → (s.centre.queue.unsent ≡ []) × (s.serial.commands.answers ≡ []) → HasSentAll p log a.course
 sent_all p s log unjudged phase a all = record {
   objects = omega (
@@ -264,7 +265,8 @@ begun_by p s log unjudged phase a flushing = by_phase phase flushing a.left
     by_phase Asked f h = none_left h
 
 -- none is taken yet, or nothing else is due
-pub undue_by : (p : Setup) (s : State) (log : Log) (unjudged : List ℕ) (phase : Phase) (a : Agrees p s log unjudged phase)
+pub undue_by : (p : Setup) (s : State) (log : Log) (unjudged : List ℕ) (phase : Phase)
+    (a : Agrees p s log unjudged phase)
     → IsUndue s log unjudged → IsUntouched log a.course
     ⊎ (frame_due p.session.w p.session.t2 p.session.t3 (latest log) a.course.talk ≡ None)
 undue_by p s log unjudged phase a (inl h) =
@@ -362,7 +364,7 @@ module _ (p : Setup) (s t : State) (log : Log) (unjudged asdu : List ℕ) (kind 
       (came_frames a.course.talk) a.course.sent _ a.course.earlier (acknowledged_within p s log unjudged phase a)
 
   data_talk : may_send s.centre.session ≡ true → kind_of asdu ≡ kind → IsNextData p log asdu a.course
-      → is_overfull a.course.works.history ≡ false → Fits (next_frame s.centre.session asdu)
+      → has_lacked_place a.course.works.history ≡ false → Fits (next_frame s.centre.session asdu)
       → with_sent (next_frame s.centre.session asdu) s.moment a.course ≡ after_data
       → Talks p (session.sent kind s.moment s.centre.session) data_log after_data
   data_talk may is next placed fits same =

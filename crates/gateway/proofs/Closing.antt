@@ -13,7 +13,7 @@ use Rattle.link.specs.Primary as primary
 use Rattle.session.specs.declared.kinds.Close.{Close}
 use Rattle.session.specs.declared.kinds.Close.TheVariants.{Grammar, SendNumber, ReceiveNumber, Stopped, Timeout, OwnAnswers, Replaced}
 use Rattle.session.specs.Session as session
-use Rattle.session.specs.Session.{is_running, is_from_queue}
+use Rattle.session.specs.Session.{is_transferring, is_from_queue}
 use Rattle.events.specs.Queue as queue
 use Rattle.gateway.specs.Log.{Log, Went, Closed, latest}
 use Rattle.gateway.specs.Streams.{IsRefused}
@@ -59,7 +59,8 @@ use Rattle.gateway.proofs.Agreement.{in_order, is_full, same_room, placed_cut, s
 
 -- what stands on the connection
 stands : (p : Setup) (s : State) (log : Log) (unjudged : List ℕ) (phase : Phase) (a : Agrees p s log unjudged phase)
-    (fault : Option Close) → IsBehind (present log).overfull (length a.course.sent) (came_frames a.course.talk) fault
+    (fault : Option Close) → IsBehind (present log).lacked_place (length a.course.sent)
+    (came_frames a.course.talk) fault
     (a.here.so_far ++ unjudged) → IsConnection (present log) (here_of a.course) fault
 stands p s log unjudged phase a fault behind = record {
   put = a.here.put;
@@ -185,7 +186,7 @@ ended p s log unjudged phase a octets fault as_now stands = by_case octets.is_op
 -- the state of a connection that has just begun, or of none
 pub fresh : (s : Centre) (octets : Channel) → s.session.k < 32768 → session.is_open s.session ≡ octets.is_open
     → (octets.is_open ≡ false → octets ≡ no_channel) → octets.sent ≡ [] → octets.received ≡ []
-    → is_running s.session ≡ false → s.session.next_received ≡ 0 → s.session.next_sent ≡ 0
+    → is_transferring s.session ≡ false → s.session.next_received ≡ 0 → s.session.next_sent ≡ 0
     → s.session.unacknowledged ≡ [] → s.queue.sent ≡ [] → s.so_far ≡ Some [] →
     Presently s octets [] new_connection
 fresh s octets small link none sent received stopped first next us queued so = record {
@@ -201,7 +202,7 @@ fresh s octets small link none sent received stopped first next us queued so = r
   fit = tt;
   pass = tt;
   tied = record {
-    running = stopped;
+    transferring = stopped;
     received = first;
     next = next;
     small = small;
@@ -440,7 +441,7 @@ rested laws p s log a spent quiet = record {
   settled = a.settled;
   placed = a.stands.placed;
   eager = λ on started room. sent_all p s log [] Asked a
-      (spent (can (is_running s.centre.session) (a.here.tied.running
+      (spent (can (is_transferring s.centre.session) (a.here.tied.transferring
       ∙ started) (omega (arith, room, a.here.tied.unconfirmed.count, a.k))));
   gaps = λ i. sym (append-nil (gaps_told i log)) ∙ ap (λ g. gaps_told i log ++ gap_for i g) (sym all_told) ∙ a.gaps i;
   line = line_rests laws p s.serial.line log a.course (room_in p log a.course) a.line

@@ -14,20 +14,20 @@ use Rattle.link.specs.Primary.{Primary, timed_out}
 use Rattle.link.specs.declared.outcome.Outcome.{Outcome}
 use Rattle.link.specs.declared.outcome.Outcome.TheVariants as outcome
 use Rattle.link.specs.Telling.{Tells, report_in, gap_in_outcome}
-use Rattle.session.specs.Session.{is_running as is_running_of}
+use Rattle.session.specs.Session.{is_transferring as is_transferring_of}
 use Rattle.command.specs.Calls.{Busy}
 use Rattle.events.specs.Queue as queue
 use Rattle.gateway.specs.Objects.{objects, has_objects, monitor_objects, parts_of}
 use Rattle.gateway.specs.Log.{Log, Input, LineIn, Opened, TcpIn, CutOff, Ticked, WallIs, Came, latest, last_moment}
 use Rattle.gateway.specs.Gaps.{gaps_told}
-use Rattle.gateway.specs.Frames.{runs}
+use Rattle.gateway.specs.Frames.{transfers}
 use Rattle.gateway.specs.Connections.{present}
 use Rattle.gateway.specs.Reports.{Setup, exchanges_of, taken_objects, reports_in, parts_of_all}
 use Rattle.gateway.specs.Serial as serial
 use Rattle.gateway.specs.Serial.{Serial, mirrored, heard, heard_outcome}
 use Rattle.gateway.specs.Centre.{Centre, pushed}
 use Rattle.gateway.specs.State.{State, with_serial, at_moment, line_timed}
-use Rattle.gateway.specs.Works.{Works, is_overfull, is_command_report, LearnsReport, LearnsOf, octets_works, begun_works}
+use Rattle.gateway.specs.Works.{Works, has_lacked_place, is_command_report, LearnsReport, LearnsOf, octets_works, begun_works}
 use Rattle.gateway.specs.Course.{Course, came_frames, room_in}
 use Rattle.gateway.specs.Phases.{resting, IsPlaced}
 use Rattle.link.specs.LineLaws.{LineLaws}
@@ -77,8 +77,8 @@ kept_nothing p s t x line is = subst (λ y. Kept p s y []) (sym is)
       whole = refl;
     })
 
-mirrored_line : (at : ℕ) (runs : Bool) (v : AsduValue) (pieces : List (List ℕ)) (s : Serial)
-    → (mirrored at runs v pieces s).line ≡ s.line
+mirrored_line : (at : ℕ) (transferring : Bool) (v : AsduValue) (pieces : List (List ℕ)) (s : Serial)
+    → (mirrored at transferring v pieces s).line ≡ s.line
 mirrored_line at true v pieces s = refl
 mirrored_line at false v pieces s = refl
 
@@ -121,7 +121,7 @@ kept_of : (p : Setup) (s t : State) (station : ℕ) (report : List ℕ) (fits b 
     → is_command_report p.sizes report ≡ b → steps.LearnsReport b s report fits t → Kept p s t ((station, report) ∷ [])
 kept_of p s t station report fits true same of h =
     mirrored_kept p s t station report (ap (λ (x : Serial). x.line) h.0.after
-    ∙ mirrored_line s.moment (is_running_of s.centre.session) h.0.v h.0.pieces s.serial)
+    ∙ mirrored_line s.moment (is_transferring_of s.centre.session) h.0.v h.0.pieces s.serial)
     (sym (ap (λ z. monitor_objects z report) same) ∙ h.0.none) h.1
 kept_of p s t station report fits false same of h = kept_report p s t station report same h.0
 
@@ -141,7 +141,7 @@ kept p s t (outcome.Empty i) fits same h = kept_nothing p s t s.serial refl h.0
 -- what the line's part of an event makes of the works
 abbrev pub Worked : Setup → Log → (at : ℕ) → Input → Course → Works → Type 0
 Worked p log at (LineIn octets) c z =
-    (y : Works) × LearnsOf p at (runs (came_frames c.talk)) (heard_outcome octets c.works.serial)
+    (y : Works) × LearnsOf p at (transfers (came_frames c.talk)) (heard_outcome octets c.works.serial)
     (octets_works octets c.works) y × (z ≡ begun_works at y)
 Worked p log at event c z = z ≡ begun_works at c.works
 
@@ -158,8 +158,8 @@ pub record Heard (p : Setup) (s t : State) (old : Log) (now : ℕ) (event : Inpu
   pub worked : Worked p old (latest (Came now event ∷ old)) event left z
   pub does : t.serial ≡ z.serial
   pub due : z.is_due ≡ true
-  pub full : fits ≡ false → is_overfull z.history ≡ true
-  pub placed : fits ≡ true → is_overfull z.history ≡ is_overfull left.works.history
+  pub full : fits ≡ false → has_lacked_place z.history ≡ true
+  pub placed : fits ≡ true → has_lacked_place z.history ≡ has_lacked_place left.works.history
   pub gaps : GapsTold p (Came now event ∷ old) t.serial.gap
   pub offers : OffersWait t.serial.line t.serial.commands
   pub plain : ArePlain t.serial.commands.answers
@@ -200,16 +200,17 @@ heard_line laws p s t log now octets fits a b =
     let clock : first.moment ≡ at = moments s log now a.clock in
     let left : Course = left_of p log a.course in
     let does : s.serial ≡ left.works.serial = at_rest_works p s log a in
-    let running : Bool = runs (came_frames left.talk) in
+    let transferring : Bool = transfers (came_frames left.talk) in
     let k : Kept p first b.middle (report_in o) = kept p first b.middle o fits a.sizes b.hears in
     let reached : IsReached p (beside first left.works.history left.works.is_due) =
     subst (λ (x : Serial). IsReached p (record left.works { serial = heard octets x })) (sym does)
     (left_reached p log a.course left a.talk.course_runs (is_left p s log a)) in
-    let l : Learnt p at running o first b.middle fits left.works.history left.works.is_due =
+    let l : Learnt p at transferring o first b.middle fits left.works.history left.works.is_due =
     learnt p at first left.works.history left.works.is_due a.talk.command_laws clock a.sizes reached
-    (none_left p s log a) a.plain running o b.middle fits a.here.tied.running b.hears in
-    let learns : LearnsOf p at running (heard_outcome octets left.works.serial) (octets_works octets left.works) l.z =
-    subst (λ (x : Serial). LearnsOf p at running (heard_outcome octets x)
+    (none_left p s log a) a.plain transferring o b.middle fits a.here.tied.transferring b.hears in
+    let learns : LearnsOf p at transferring (heard_outcome octets left.works.serial)
+    (octets_works octets left.works) l.z =
+    subst (λ (x : Serial). LearnsOf p at transferring (heard_outcome octets x)
     (record left.works { serial = heard octets x }) l.z) does l.learns in
     let on = subst (λ m. LineGoesOn p (timed_out q m) log new (report_in o)) (sym clock)
     (after_octets laws p s.serial.line log now octets a.line) in
@@ -318,11 +319,11 @@ heard_event laws p s t log now Ticked fits a b = only_time laws p s t log now Ti
 
 -- what found a place before the event
 pub placed_before : (p : Setup) (s : State) (log : Log) (a : Agrees p s log [] (resting log))
-    → (present log).is_open ≡ true → is_overfull (left_of p log a.course).works.history ≡ false
+    → (present log).is_open ≡ true → has_lacked_place (left_of p log a.course).works.history ≡ false
 placed_before p s log a on = done_placed (latest log) (room_in p log a.course) a.course.works
     ∙ at_rest log on a.stands.placed
   where
     at_rest : (log : Log) → (present log).is_open ≡ true → IsPlaced (resting log) log a.course.works.history
-        → is_overfull a.course.works.history ≡ false
+        → has_lacked_place a.course.works.history ≡ false
     at_rest [] on h = h on
     at_rest (entry ∷ log) on h = h on

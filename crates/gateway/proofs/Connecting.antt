@@ -11,7 +11,7 @@ use Rattle.command.specs.State as tasks
 use Rattle.events.specs.Queue as queue
 use Rattle.gateway.specs.Log.{Log, Input, Opened, TcpIn, CutOff, Came, Went, Closed, latest}
 use Rattle.gateway.specs.Streams.{spelled}
-use Rattle.gateway.specs.Frames.{Sent, Connection, new_connection, runs, AreInOrder}
+use Rattle.gateway.specs.Frames.{Sent, Connection, new_connection, transfers, AreInOrder}
 use Rattle.gateway.specs.Connections.{is_replaced, Channel, no_channel, new_channel, receiving, present, past, AreConnections}
 use Rattle.gateway.specs.Reports.{Setup, exchanges_of, taken_objects, reports_in, parts_of_all}
 use Rattle.gateway.specs.Traffic.{HasRested, IsFaithful}
@@ -20,7 +20,7 @@ use Rattle.gateway.specs.Walls.{wall_told}
 use Rattle.gateway.specs.Serial as serial
 use Rattle.gateway.specs.Centre.{Centre}
 use Rattle.gateway.specs.State.{State, disconnected, connected}
-use Rattle.gateway.specs.Works.{Works, is_overfull, begun_works}
+use Rattle.gateway.specs.Works.{Works, has_lacked_place, begun_works}
 use Rattle.gateway.specs.Course.{Course, came_frames, here_of, TakesFrames, HasTakenAll, ended_course, opened_course, with_works, Comes, Runs}
 use Rattle.gateway.specs.Phases.{Idle, Taking, resting, IsLeftIn, after_line}
 use Rattle.link.specs.LineLaws.{LineLaws}
@@ -85,7 +85,7 @@ GoesOn now event log = (p : Setup) (c : Course) (z : Works) → Worked p log (la
 
 -- the works after such an event, by whether what it brought of own answers found places
 other_stands : (p : Setup) (t : State) (new : Log) (d : Course) (kept : Bool) → t.serial ≡ d.works.serial
-    → d.works.is_due ≡ true → (kept ≡ true → (present new).is_open ≡ true → is_overfull d.works.history ≡ false)
+    → d.works.is_due ≡ true → (kept ≡ true → (present new).is_open ≡ true → has_lacked_place d.works.history ≡ false)
     → IsAt p new (after_line kept) t d
 other_stands p t new d true does due placed = record { does = does; asks = due; phase_is = tt; placed = placed refl }
 other_stands p t new d false does due placed = record { does = does; asks = due; phase_is = tt; placed = tt }
@@ -473,27 +473,33 @@ come_bytes p s t log now octets fits settled_fits rest a h =
           sent = c.sent;
           received =
               c.received ++ (if b then octets else []);
-          overfull = c.overfull;
+          lacked_place = c.lacked_place;
         }
     bytes_at true c h =
         ap (λ b. if b then record {
           is_open = true;
           sent = c.sent;
           received = c.received ++ octets;
-          overfull =
-              c.overfull;
+          lacked_place =
+              c.lacked_place;
         } else c) h
-        ∙ ap (λ b. record { is_open = b; sent = c.sent; received = c.received ++ octets; overfull = c.overfull })
+        ∙ ap (λ b. record {
+          is_open = b;
+          sent = c.sent;
+          received = c.received ++ octets;
+          lacked_place =
+              c.lacked_place;
+        })
         (sym h)
     bytes_at false c h =
         ap (λ b. if b then record {
           is_open = true;
           sent = c.sent;
           received = c.received ++ octets;
-          overfull =
-              c.overfull;
+          lacked_place =
+              c.lacked_place;
         } else c) h
-        ∙ ap (λ l. record { is_open = c.is_open; sent = c.sent; received = l; overfull = c.overfull })
+        ∙ ap (λ l. record { is_open = c.is_open; sent = c.sent; received = l; lacked_place = c.lacked_place })
         (sym (append-nil c.received))
 
     opens : (c : Channel) → (receiving c octets).is_open ≡ c.is_open
@@ -505,16 +511,16 @@ come_bytes p s t log now octets fits settled_fits rest a h =
               is_open = true;
               sent = c.sent;
               received = c.received ++ octets;
-              overfull =
-                  c.overfull;
+              lacked_place =
+                  c.lacked_place;
             } else c).is_open) e ∙ sym e
         by_open false e =
             ap (λ b. (if b then record {
               is_open = true;
               sent = c.sent;
               received = c.received ++ octets;
-              overfull =
-                  c.overfull;
+              lacked_place =
+                  c.lacked_place;
             } else c).is_open) e
 
     closed : (b : Bool) → b ≡ false → present log ≡ no_channel
@@ -523,7 +529,7 @@ come_bytes p s t log now octets fits settled_fits rest a h =
           sent = (present log).sent;
           received =
               (present log).received ++ (if b then octets else []);
-          overfull = (present log).overfull;
+          lacked_place = (present log).lacked_place;
         } ≡ no_channel
     closed true h none = cc
     closed false h none =
@@ -531,8 +537,8 @@ come_bytes p s t log now octets fits settled_fits rest a h =
           is_open = c.is_open;
           sent = c.sent;
           received = c.received ++ [];
-          overfull =
-              c.overfull;
+          lacked_place =
+              c.lacked_place;
         }) none
 
     joined_now : (present log).received ++ more ≡ spelled (came_frames a.course.talk) ++ (w.so_far ++ more)

@@ -31,7 +31,7 @@ use Rattle.gateway.specs.Polls.{has_room}
 use Rattle.gateway.specs.Serial as serial
 use Rattle.gateway.specs.Serial.{Serial, is_first_command, put_on_line}
 use Rattle.gateway.specs.Centre.{Centre}
-use Rattle.gateway.specs.Works.{Works, is_overfull, ready_works, gapless_works, unasked_works, asked_works}
+use Rattle.gateway.specs.Works.{Works, has_lacked_place, ready_works, gapless_works, unasked_works, asked_works}
 use Rattle.gateway.specs.Course.{Course, first_course, room_in, with_works, Comes, Runs}
 use Rattle.gateway.specs.Phases.{Phase, Fresh, Taking, Idle, Crowded, Timed, Asked, IsOut}
 use Rattle.link.specs.LineLaws.{LineLaws}
@@ -532,7 +532,7 @@ told_overfull p (Some log) s t now octets fits laws off on b h =
       agrees = a;
       fault = Some OwnAnswers;
       stands = stands_overfull p t (Came now (LineIn octets) ∷ h.before) [] Crowded a;
-      why = subst (λ (c : Course). is_overfull c.works.history ≡ true)
+      why = subst (λ (c : Course). has_lacked_place c.works.history ≡ true)
           (sym (come_course p s t h.before now (LineIn octets) fits false t.wall (heard.wall
           ∙ h.agrees.wall) none (refl, refl, refl) (on_line h.before now octets) h.rested h.agrees heard))
           (heard.full off);
@@ -607,7 +607,7 @@ received_by true c octets e =
       sent = c.sent;
       received =
           c.received ++ octets;
-      overfull = c.overfull;
+      lacked_place = c.lacked_place;
     } else c).received) e ∙ length-append c.received octets
 received_by false c octets e =
     ap (λ (x : Bool). length (if x then record {
@@ -615,7 +615,7 @@ received_by false c octets e =
       sent = c.sent;
       received =
           c.received ++ octets;
-      overfull = c.overfull;
+      lacked_place = c.lacked_place;
     } else c).received) e ∙ omega arith
 
 pub told_bytes : (b : Bool) (p : Setup) (told : Option Log) (s t : State) (now : ℕ) (octets : List ℕ) (fits : Bool)

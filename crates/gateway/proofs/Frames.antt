@@ -12,7 +12,7 @@ use Rattle.session.specs.Session as session
 use Rattle.session.specs.Session.{Session, after_frame, newly_by, refuses, taken}
 use Rattle.session.specs.History.{reached}
 use Rattle.session.proofs.States.{turned_opens}
-use Rattle.gateway.specs.Frames.{runs, i_frames, acknowledged_count, fault_of}
+use Rattle.gateway.specs.Frames.{transfers, i_frames, acknowledged_count, fault_of}
 use Rattle.gateway.specs.Connections.{Passes}
 
 less_test : (n m r : ℕ) → n ≤ m → nat_lt n r ≡ false → nat_lt m r ≡ false
@@ -35,7 +35,7 @@ all_none false false few many f h = f h
 
 -- a frame without fault stays so as more is sent
 fault_grows : (n m : ℕ) → n ≤ m → (older : List Apdu) (f : Apdu) → fault_of n older f ≡ None → fault_of m older f ≡ None
-fault_grows n m le older (I ns nr asdu) h = all_none (not (runs older)) (not (ns == i_frames older % 32768)) _ _
+fault_grows n m le older (I ns nr asdu) h = all_none (not (transfers older)) (not (ns == i_frames older % 32768)) _ _
     (last_none n m (reached (acknowledged_count older) nr) le) h
 fault_grows n m le older (S nr) h = last_none n m (reached (acknowledged_count older) nr) le h
 fault_grows n m le older (U u) h = refl

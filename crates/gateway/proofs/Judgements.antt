@@ -25,7 +25,7 @@ use Rattle.gateway.specs.Serial.{Serial, has_place}
 use Rattle.gateway.specs.Centre.{Centre}
 use Rattle.gateway.specs.Walls.{wall_of, wall_on}
 use Rattle.gateway.specs.State.{State, wall_now, with_centre, with_octets, disconnected, received, framed}
-use Rattle.gateway.specs.Works.{is_overfull}
+use Rattle.gateway.specs.Works.{has_lacked_place}
 use Rattle.gateway.specs.Course.{Course, here_of, came_frames, with_frame, StandsNext, IsCause}
 use Rattle.gateway.specs.Phases as phases
 use Rattle.gateway.specs.Phases.{Taking, Idle, Crowded, after_frame, IsPast}
@@ -163,7 +163,7 @@ overfull_closes p log s t f rest on fits so j ready undue past a =
       agrees = b;
       fault = Some OwnAnswers;
       stands = stands_overfull p (framed f s) log rest Crowded b;
-      why = subst (λ (c : Course). is_overfull c.works.history ≡ true)
+      why = subst (λ (c : Course). has_lacked_place c.works.history ≡ true)
           (sym (taken_course p s log rest f a on ready undue past fits so j.passes false j.place))
           (heard_overfull f s.moment (wall_on log s.moment) a.course.works
           (ap (λ w. has_place f s.moment (wall_of w s.moment) a.course.works.serial.commands) (sym a.wall)

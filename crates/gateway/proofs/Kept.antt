@@ -7,7 +7,7 @@ use Rattle.arrayvec.specs.ArrayVec.{ArrayVec}
 use Rattle.asdu.specs.declared.sizes.Sizes.{Sizes}
 use Rattle.asdu.specs.Sizes.{tcp}
 use Rattle.asdu.specs.InformationObjects.{InformationObject, object_in, value_objects, objects_of, monitor_objects_of, is_passed_on}
-use Rattle.asdu.specs.Translation.{parts, IsPiece, IsFull, AllButLast}
+use Rattle.asdu.specs.Translation.{parts, IsPiece, IsLargest, AllButLast}
 use Rattle.events.specs.Queue.{octets_of}
 use Rattle.gateway.specs.Objects.{objects, has_objects, monitor_objects, parts_of}
 use Rattle.asdu.specs.Asdu.{AsduValue, Info, IsAsdu}
@@ -19,7 +19,7 @@ use Rattle.gateway.proofs.Tagged.{MonitorLaw, tagged_unmonitored}
 use Rattle.gateway.specs.Serial.{Serial, mirrored, mirror_fits, reported}
 use Rattle.gateway.specs.Centre.{pushed}
 use Rattle.gateway.specs.State.{State, with_serial, with_centre}
-use Rattle.session.specs.Session.{is_running}
+use Rattle.session.specs.Session.{is_transferring}
 use Rattle.gateway.specs.Steps.{Keeps, Mirrors, LearnsReport}
 use Rattle.gateway.specs.Works.{is_command_by, is_command_report, IsPassedOn}
 
@@ -159,15 +159,15 @@ joined_map : (ps : List (ArrayVec ℕ)) → flat_map (λ piece. objects_of tcp p
 joined_map [] = refl
 joined_map (p ∷ ps) = ap (λ xs. objects_of tcp p.items ++ xs) (joined_map ps)
 
-full_map : (v : AsduValue) (ps : List (ArrayVec ℕ)) → AllButLast (λ p. IsFull v p.items) ps
-    → AllButLast (λ piece. IsFull v piece) (octets_of ps)
+full_map : (v : AsduValue) (ps : List (ArrayVec ℕ)) → AllButLast (λ p. IsLargest v p.items) ps
+    → AllButLast (λ piece. IsLargest v piece) (octets_of ps)
 full_map v [] h = tt
 full_map v (p ∷ []) h = tt
 full_map v (p ∷ q ∷ ps) h = (h.0, full_map v (q ∷ ps) h.1)
 
 pub passed_on : (sizes : Sizes) (v : AsduValue) (report : List ℕ) (ps : List (ArrayVec ℕ)) → IsAsdu sizes v report
     → flat_map (λ p. objects_of tcp p.items) ps ≡ objects_of sizes report → AllByRecursion (λ p. IsPiece v p.items) ps
-    → AllButLast (λ p. IsFull v p.items) ps →
+    → AllButLast (λ p. IsLargest v p.items) ps →
     length ps ≡ parts sizes report → IsPassedOn sizes v report (octets_of ps)
 passed_on sizes v report ps found joined each full number = record {
   value = found;
@@ -196,13 +196,13 @@ plain_map (p ∷ ps) none =
       plain_map ps (rest_none (objects p.items) others none),
     )
 
-pub mirrors : (s t : Serial) (at : ℕ) (runs : Bool) (sizes : Sizes) (v : AsduValue) (report : List ℕ)
+pub mirrors : (s t : Serial) (at : ℕ) (transferring : Bool) (sizes : Sizes) (v : AsduValue) (report : List ℕ)
     (ps : List (ArrayVec ℕ)) (pieces : List (List ℕ)) (fits : Bool) → MonitorLaw
     → IsPassedOn sizes v report (octets_of ps) → AreTagged (tag_for v v.infos s.commands) (octets_of ps) pieces →
     flat_map (λ p. monitor_objects_of tcp p.items) ps ≡ monitor_objects_of sizes report
-    → monitor_objects_of sizes report ≡ [] → t ≡ mirrored at runs v pieces s
-    → fits ≡ mirror_fits at runs v pieces s → Mirrors sizes at runs s report fits t
-mirrors s t at runs sizes v report ps pieces fits law passed tagged monitored none after all = record {
+    → monitor_objects_of sizes report ≡ [] → t ≡ mirrored at transferring v pieces s
+    → fits ≡ mirror_fits at transferring v pieces s → Mirrors sizes at transferring s report fits t
+mirrors s t at transferring sizes v report ps pieces fits law passed tagged monitored none after all = record {
   v = v;
   plain = octets_of ps;
   pieces = pieces;
@@ -216,14 +216,15 @@ mirrors s t at runs sizes v report ps pieces fits law passed tagged monitored no
 }
 
 -- the same of the whole gateway, in its own sizes
-pub learns_mirrored : (s t : State) (runs : Bool) (sizes : Sizes) (report octets : List ℕ) (fits : Bool)
-    → is_command_report s.sizes report ≡ true → sizes ≡ s.sizes → octets ≡ report → runs ≡ is_running s.centre.session
-    → Mirrors sizes s.moment runs s.serial octets fits t.serial → t ≡ with_serial t.serial s
+pub learns_mirrored : (s t : State) (transferring : Bool) (sizes : Sizes) (report octets : List ℕ) (fits : Bool)
+    → is_command_report s.sizes report ≡ true → sizes ≡ s.sizes → octets ≡ report
+    → transferring ≡ is_transferring s.centre.session
+    → Mirrors sizes s.moment transferring s.serial octets fits t.serial → t ≡ with_serial t.serial s
     → LearnsReport (is_command_report s.sizes report) s report fits t
-learns_mirrored s t runs sizes report octets fits of same is running m only =
+learns_mirrored s t transferring sizes report octets fits of same is same_transfer m only =
     subst (λ b. LearnsReport b s report fits t) (sym of) (
-      subst (λ z. Mirrors z s.moment (is_running s.centre.session) s.serial report fits t.serial) same
-          (subst (λ x. Mirrors sizes s.moment (is_running s.centre.session) s.serial x fits t.serial) is
-          (subst (λ r. Mirrors sizes s.moment r s.serial octets fits t.serial) running m)),
+      subst (λ z. Mirrors z s.moment (is_transferring s.centre.session) s.serial report fits t.serial) same
+          (subst (λ x. Mirrors sizes s.moment (is_transferring s.centre.session) s.serial x fits t.serial) is
+          (subst (λ r. Mirrors sizes s.moment r s.serial octets fits t.serial) same_transfer m)),
       only,
     )

@@ -8,7 +8,7 @@ use Rattle.asdu.specs.InformationObjects.{monitor_objects_of}
 use Rattle.link.specs.declared.outcome.Outcome.{Outcome}
 use Rattle.link.specs.declared.outcome.Outcome.TheVariants as outcome
 use Rattle.link.specs.Telling.{gap_in_outcome}
-use Rattle.session.specs.Session.{is_running as is_running_of}
+use Rattle.session.specs.Session.{is_transferring as is_transferring_of}
 use Rattle.command.specs.State as tasks
 use Rattle.command.specs.State.{line_of, refusal_of}
 use Rattle.command.specs.History.{History}
@@ -16,12 +16,12 @@ use Rattle.command.specs.Mirrors as mirrors
 use Rattle.command.specs.Calls.{Run, Busy, Mirror}
 use Rattle.gateway.specs.Log.{Log, latest}
 use Rattle.gateway.specs.Gaps.{gaps_of, gaps_told, gap_for}
-use Rattle.gateway.specs.Frames.{runs}
+use Rattle.gateway.specs.Frames.{transfers}
 use Rattle.gateway.specs.Reports.{Setup}
 use Rattle.gateway.specs.Serial as serial
 use Rattle.gateway.specs.Serial.{Serial, refusals, mirrored}
 use Rattle.gateway.specs.State.{State, with_serial}
-use Rattle.gateway.specs.Works.{Works, is_overfull, told, is_command_report, mirrored_works, LearnsReport, accepted_works, given_up_works, refused_works, LearnsOf, ready_works, unasked_works, done_works}
+use Rattle.gateway.specs.Works.{Works, has_lacked_place, told, is_command_report, mirrored_works, LearnsReport, accepted_works, given_up_works, refused_works, LearnsOf, ready_works, unasked_works, done_works}
 use Rattle.gateway.specs.Course.{Course, room_in, IsLeft}
 use Rattle.gateway.specs.Phases.{Asked, resting}
 use Rattle.command.specs.CommandLaws.{CommandLaws}
@@ -75,14 +75,14 @@ all_told p s log a i = sym (append-nil (gaps_told i log))
 abbrev pub beside : State → History → (is_due : Bool) → Works
 beside s h due = record { serial = s.serial; history = h; is_due = due }
 
-pub record Learnt (p : Setup) (at : ℕ) (is_running : Bool) (o : Outcome) (s t : State) (fits : Bool) (h : History)
+pub record Learnt (p : Setup) (at : ℕ) (is_transferring : Bool) (o : Outcome) (s t : State) (fits : Bool) (h : History)
     (is_due : Bool) : Type 0 where
   pub z : Works
-  pub learns : LearnsOf p at is_running o (beside s h is_due) z
+  pub learns : LearnsOf p at is_transferring o (beside s h is_due) z
   pub serial : t.serial ≡ z.serial
   pub due : z.is_due ≡ is_due
-  pub full : fits ≡ false → is_overfull z.history ≡ true
-  pub placed : fits ≡ true → is_overfull z.history ≡ is_overfull h
+  pub full : fits ≡ false → has_lacked_place z.history ≡ true
+  pub placed : fits ≡ true → has_lacked_place z.history ≡ has_lacked_place h
   pub gap : (i : ℕ) → gap_for i t.serial.gap ≡ gap_in_outcome i o
   pub waiting : t.serial.commands.waiting ≡ s.serial.commands.waiting
   pub plain : ArePlain t.serial.commands.answers
@@ -94,14 +94,15 @@ module _ (p : Setup) (at : ℕ) (s : State) (h : History) (is_due : Bool) (laws 
   w = beside s h is_due
 
   abbrev IsLearnt : Bool → Outcome → State → Bool → Type 0
-  IsLearnt is_running o t fits = Learnt p at is_running o s t fits h is_due
+  IsLearnt is_transferring o t fits = Learnt p at is_transferring o s t fits h is_due
 
   -- where all own answers, if any, found places
-  learnt_all : (is_running : Bool) (o : Outcome) (t : State) (fits : Bool) (z : Works) → LearnsOf p at is_running o w z
-      → t ≡ with_serial z.serial s → fits ≡ true → z.is_due ≡ is_due → is_overfull z.history ≡ is_overfull h →
+  learnt_all : (is_transferring : Bool) (o : Outcome) (t : State) (fits : Bool) (z : Works)
+      → LearnsOf p at is_transferring o w z
+      → t ≡ with_serial z.serial s → fits ≡ true → z.is_due ≡ is_due → has_lacked_place z.history ≡ has_lacked_place h →
       z.serial.commands.waiting ≡ s.serial.commands.waiting → z.serial.commands.answers ≡ s.serial.commands.answers
-      → ((i : ℕ) → gap_for i z.serial.gap ≡ gap_in_outcome i o) → IsLearnt is_running o t fits
-  learnt_all is_running o t fits z learns is all due placed waiting answers gap = record {
+      → ((i : ℕ) → gap_for i z.serial.gap ≡ gap_in_outcome i o) → IsLearnt is_transferring o t fits
+  learnt_all is_transferring o t fits z learns is all due placed waiting answers gap = record {
     z = z;
     learns = learns;
     serial = ap (λ (x : State). x.serial) is;
@@ -122,10 +123,10 @@ module _ (p : Setup) (at : ℕ) (s : State) (h : History) (is_due : Bool) (laws 
       (λ a is. laws.busy_plain p.stations p.sizes p.select_ms p.max_age_ms reached.0 i a is) in
       (no_monitor a (none a e), tt)
 
-  learnt_busy : (is_running : Bool) (i : ℕ) (t : State) (fits : Bool)
+  learnt_busy : (is_transferring : Bool) (i : ℕ) (t : State) (fits : Bool)
       → (t ≡ with_serial (serial.refused i s.serial) s) × (fits ≡ serial.refusal_fits i s.serial)
-      → IsLearnt is_running (outcome.Busy i) t fits
-  learnt_busy is_running i t fits e =
+      → IsLearnt is_transferring (outcome.Busy i) t fits
+  learnt_busy is_transferring i t fits e =
       let own : List (List ℕ) = refusals i s.serial in
       let c : tasks.State = tasks.given_up i s.serial.commands in
       record {
@@ -141,10 +142,10 @@ module _ (p : Setup) (at : ℕ) (s : State) (h : History) (is_due : Bool) (laws 
             (kept_plain own c (refusal_plain i (refusal_of (line_of i s.serial.commands)) refl) plain);
       }
 
-  learnt_mirror : (is_running : Bool) (station : ℕ) (report : ArrayVec ℕ) (t : State) (fits : Bool)
+  learnt_mirror : (is_transferring : Bool) (station : ℕ) (report : ArrayVec ℕ) (t : State) (fits : Bool)
       → is_command_report p.sizes report.items ≡ true
-      → Mirrors p.sizes at is_running s.serial report.items fits t.serial
-      → IsLearnt is_running (outcome.Report station report) t fits
+      → Mirrors p.sizes at is_transferring s.serial report.items fits t.serial
+      → IsLearnt is_transferring (outcome.Report station report) t fits
   learnt_mirror true station report t fits of m =
       let c : tasks.State = mirrors.mirrored m.v at s.serial.commands in
       record {
@@ -176,16 +177,16 @@ module _ (p : Setup) (at : ℕ) (s : State) (h : History) (is_due : Bool) (laws 
         (subst ArePlain (sym (laws.mirrored_answers m.v at s.serial.commands)) plain);
   }
 
-  learnt_report : (is_running : Bool) (station : ℕ) (report : ArrayVec ℕ) (t : State) (fits : Bool)
+  learnt_report : (is_transferring : Bool) (station : ℕ) (report : ArrayVec ℕ) (t : State) (fits : Bool)
       → is_command_report p.sizes report.items ≡ false → Keeps s report.items t × (fits ≡ true)
-      → IsLearnt is_running (outcome.Report station report) t fits
-  learnt_report is_running station report t fits of e =
+      → IsLearnt is_transferring (outcome.Report station report) t fits
+  learnt_report is_transferring station report t fits of e =
       let z : Works = record w { serial = serial.reported p.sizes report.items w.serial } in
       let same : t.serial ≡ z.serial = ap (λ (x : State). x.serial) e.0.after
       ∙ ap (λ sizes. serial.reported sizes report.items s.serial) sizes in
       record {
         z = z;
-        learns = subst (λ b. LearnsReport p at is_running b report.items w z) (sym of) refl;
+        learns = subst (λ b. LearnsReport p at is_transferring b report.items w z) (sym of) refl;
         serial = same;
         due = refl;
         full = λ off. let no : false ≡ true = sym off ∙ e.1 in cc;
@@ -195,33 +196,36 @@ module _ (p : Setup) (at : ℕ) (s : State) (h : History) (is_due : Bool) (laws 
         plain = subst ArePlain (sym (ap (λ (x : Serial). x.commands.answers) same)) plain;
       }
 
-  learnt_of : (is_running : Bool) (station : ℕ) (report : ArrayVec ℕ) (t : State) (fits b : Bool)
-      → is_running_of s.centre.session ≡ is_running → is_command_report p.sizes report.items ≡ b
-      → steps.LearnsReport b s report.items fits t → IsLearnt is_running (outcome.Report station report) t fits
-  learnt_of is_running station report t fits true runs of e =
-      learnt_mirror is_running station report t fits of
+  learnt_of : (is_transferring : Bool) (station : ℕ) (report : ArrayVec ℕ) (t : State) (fits b : Bool)
+      → is_transferring_of s.centre.session ≡ is_transferring → is_command_report p.sizes report.items ≡ b
+      → steps.LearnsReport b s report.items fits t → IsLearnt is_transferring (outcome.Report station report) t fits
+  learnt_of is_transferring station report t fits true runs of e =
+      learnt_mirror is_transferring station report t fits of
       (subst (λ r. Mirrors p.sizes at r s.serial report.items fits t.serial) runs
-      (subst (λ m. Mirrors p.sizes m (is_running_of s.centre.session) s.serial report.items fits t.serial) clock
-      (subst (λ z. Mirrors z s.moment (is_running_of s.centre.session) s.serial report.items fits t.serial) sizes e.0)))
-  learnt_of is_running station report t fits false runs of e = learnt_report is_running station report t fits of e
+      (subst (λ m. Mirrors p.sizes m (is_transferring_of s.centre.session) s.serial report.items fits t.serial) clock
+      (subst (λ z. Mirrors z s.moment (is_transferring_of s.centre.session) s.serial report.items fits t.serial) sizes
+      e.0)))
+  learnt_of is_transferring station report t fits false runs of e =
+      learnt_report is_transferring station report t fits of e
 
-  pub learnt : (is_running : Bool) (o : Outcome) (t : State) (fits : Bool)
-      → is_running_of s.centre.session ≡ is_running → Learns s o fits t → IsLearnt is_running o t fits
-  learnt is_running (outcome.Report station report) t fits runs e =
-      learnt_of is_running station report t fits (is_command_report p.sizes report.items) runs refl
+  pub learnt : (is_transferring : Bool) (o : Outcome) (t : State) (fits : Bool)
+      → is_transferring_of s.centre.session ≡ is_transferring → Learns s o fits t → IsLearnt is_transferring o t fits
+  learnt is_transferring (outcome.Report station report) t fits runs e =
+      learnt_of is_transferring station report t fits (is_command_report p.sizes report.items) runs refl
       (subst (λ z. steps.LearnsReport (is_command_report z report.items) s report.items fits t) sizes e)
-  learnt is_running (outcome.Accepted i) t fits runs e =
-      learnt_all is_running (outcome.Accepted i) t fits (accepted_works i w) refl e.0 e.1 refl refl refl refl
+  learnt is_transferring (outcome.Accepted i) t fits runs e =
+      learnt_all is_transferring (outcome.Accepted i) t fits (accepted_works i w) refl e.0 e.1 refl refl refl refl
       (λ k. ap (gap_for k) no_gap)
-  learnt is_running (outcome.Busy i) t fits runs e = learnt_busy is_running i t fits e
-  learnt is_running (outcome.Down i) t fits runs e = learnt_all is_running (outcome.Down i) t fits
+  learnt is_transferring (outcome.Busy i) t fits runs e = learnt_busy is_transferring i t fits e
+  learnt is_transferring (outcome.Down i) t fits runs e = learnt_all is_transferring (outcome.Down i) t fits
       (given_up_works i w) refl e.0 e.1 refl refl refl refl (λ k. ap (gap_for k) no_gap)
-  learnt is_running outcome.None t fits runs e =
-      learnt_all is_running outcome.None t fits w refl e.0 e.1 refl refl refl refl (λ k. ap (gap_for k) no_gap)
-  learnt is_running (outcome.Started i) t fits runs e =
-      learnt_all is_running (outcome.Started i) t fits w refl e.0 e.1 refl refl refl refl (λ k. ap (gap_for k) no_gap)
-  learnt is_running (outcome.StartedGap i k) t fits runs e =
-      learnt_all is_running (outcome.StartedGap i k) t fits
+  learnt is_transferring outcome.None t fits runs e =
+      learnt_all is_transferring outcome.None t fits w refl e.0 e.1 refl refl refl refl (λ k. ap (gap_for k) no_gap)
+  learnt is_transferring (outcome.Started i) t fits runs e =
+      learnt_all is_transferring (outcome.Started i) t fits w refl e.0 e.1 refl refl refl refl
+      (λ k. ap (gap_for k) no_gap)
+  learnt is_transferring (outcome.StartedGap i k) t fits runs e =
+      learnt_all is_transferring (outcome.StartedGap i k) t fits
       (record w { serial = serial.with_gap i k w.serial }) refl e.0 e.1 refl refl refl refl (λ j. refl)
-  learnt is_running (outcome.Empty i) t fits runs e = learnt_all is_running
+  learnt is_transferring (outcome.Empty i) t fits runs e = learnt_all is_transferring
       (outcome.Empty i) t fits w refl e.0 e.1 refl refl refl refl (λ k. ap (gap_for k) no_gap)

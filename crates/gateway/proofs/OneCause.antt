@@ -14,11 +14,11 @@ use Rattle.session.specs.Session.{is_close}
 use Rattle.session.specs.History as talk
 use Rattle.session.specs.History.{History, reached, sent_frames, received_count, is_started, is_valid_receive_number, verdict_on}
 use Rattle.gateway.specs.Log.{Log, Input, LineIn, Opened, TcpIn, CutOff, Ticked, WallIs, Came, Went, LineOut, TcpOut, Closed, GapOut, latest}
-use Rattle.gateway.specs.Frames.{runs, i_frames, acknowledged_count, fault_of}
+use Rattle.gateway.specs.Frames.{transfers, i_frames, acknowledged_count, fault_of}
 use Rattle.gateway.specs.Streams.{spelled, IsRefused}
 use Rattle.gateway.specs.Connections.{present, ends, IsConnection, BeginsWithFault}
 use Rattle.gateway.specs.Reports.{Setup}
-use Rattle.gateway.specs.Works.{is_overfull}
+use Rattle.gateway.specs.Works.{has_lacked_place}
 use Rattle.gateway.specs.Course.{Course, here_of, came_frames, with_frames, kind_of, with_sent, closed_course, MayTake, StandsNext, IsLate, IsCause, Comes, Runs}
 use Rattle.gateway.specs.One.{AreOne}
 use Rattle.gateway.specs.Traffic.{HasCause}
@@ -28,20 +28,20 @@ use Rattle.gateway.proofs.OneCourse.{Laws, may_front, none_whole, replaced_none,
 
 -- The frames that came say what the history says.
 
-came_runs : (h : History) → runs (came_frames h) ≡ is_started h
-came_runs [] = refl
-came_runs (talk.Opened now ∷ h) = came_runs h
-came_runs (talk.Came (I ns nr asdu) now ∷ h) = came_runs h
-came_runs (talk.Came (S nr) now ∷ h) = came_runs h
-came_runs (talk.Came (U StartAct) now ∷ h) = refl
-came_runs (talk.Came (U StartCon) now ∷ h) = came_runs h
-came_runs (talk.Came (U StopAct) now ∷ h) = refl
-came_runs (talk.Came (U StopCon) now ∷ h) = came_runs h
-came_runs (talk.Came (U TestAct) now ∷ h) = came_runs h
-came_runs (talk.Came (U TestCon) now ∷ h) = came_runs h
-came_runs (talk.Refused now ∷ h) = came_runs h
-came_runs (talk.Sent ns nr kind now ∷ h) = came_runs h
-came_runs (talk.Went f now ∷ h) = came_runs h
+came_transfers : (h : History) → transfers (came_frames h) ≡ is_started h
+came_transfers [] = refl
+came_transfers (talk.Opened now ∷ h) = came_transfers h
+came_transfers (talk.Came (I ns nr asdu) now ∷ h) = came_transfers h
+came_transfers (talk.Came (S nr) now ∷ h) = came_transfers h
+came_transfers (talk.Came (U StartAct) now ∷ h) = refl
+came_transfers (talk.Came (U StartCon) now ∷ h) = came_transfers h
+came_transfers (talk.Came (U StopAct) now ∷ h) = refl
+came_transfers (talk.Came (U StopCon) now ∷ h) = came_transfers h
+came_transfers (talk.Came (U TestAct) now ∷ h) = came_transfers h
+came_transfers (talk.Came (U TestCon) now ∷ h) = came_transfers h
+came_transfers (talk.Refused now ∷ h) = came_transfers h
+came_transfers (talk.Sent ns nr kind now ∷ h) = came_transfers h
+came_transfers (talk.Went f now ∷ h) = came_transfers h
 
 came_count : (h : History) → i_frames (came_frames h) ≡ received_count h
 came_count [] = refl
@@ -133,11 +133,11 @@ same_fault : (n : ℕ) (f : Apdu) (h : History) → n ≡ length (sent_frames h)
 same_fault n (I ns nr asdu) h e = sym (
     three_faults (not (is_started h)) (not (ns == received_count h % 32768)) (not (is_valid_receive_number nr h))
     ∙ ap (λ r. cond (not r) (Some Stopped) (cond (not (ns == received_count h % 32768)) (Some SendNumber)
-    (cond (not (is_valid_receive_number nr h)) (Some ReceiveNumber) None))) (sym (came_runs h))
-    ∙ ap (λ m. cond (not (runs (came_frames h))) (Some Stopped)
+    (cond (not (is_valid_receive_number nr h)) (Some ReceiveNumber) None))) (sym (came_transfers h))
+    ∙ ap (λ m. cond (not (transfers (came_frames h))) (Some Stopped)
     (cond (not (ns == m % 32768)) (Some SendNumber)
     (cond (not (is_valid_receive_number nr h)) (Some ReceiveNumber) None))) (sym (came_count h))
-    ∙ ap (λ v. cond (not (runs (came_frames h))) (Some Stopped)
+    ∙ ap (λ v. cond (not (transfers (came_frames h))) (Some Stopped)
     (cond (not (ns == i_frames (came_frames h) % 32768)) (Some SendNumber) (cond v (Some ReceiveNumber) None)))
     (sym (valid_as n nr h e)))
 same_fault n (S nr) h e = ap (λ v. cond v (Some ReceiveNumber) None) (valid_as n nr h e)
@@ -192,7 +192,7 @@ both_at u p log a b c d r s h k (inr g) = stays p log d c g (cause_none u p log 
 
 -- what a cause is
 abbrev Kinds : Setup → Log → Close → Course → Type 0
-Kinds p log a c = ((a ≡ OwnAnswers) × (is_overfull c.works.history ≡ true))
+Kinds p log a c = ((a ≡ OwnAnswers) × (has_lacked_place c.works.history ≡ true))
     ⊎ (((a ≡ Timeout) × IsLate p log c) ⊎ StandsNext p log a c)
 
 kinds : (p : Setup) (log : Log) (a : Close) (c : Course) → ends a ≡ true → IsCause p log a c → Kinds p log a c
@@ -204,7 +204,8 @@ kinds p log Timeout c e h = inr (inl (refl, h))
 kinds p log OwnAnswers c e h = inl (refl, h)
 kinds p log Replaced c e h = cc
 
-placed_so : (p : Setup) (c : Course) → is_overfull c.works.history ≡ true → is_overfull c.works.history ≡ false → ⊥
+placed_so : (p : Setup) (c : Course) → has_lacked_place c.works.history ≡ true
+    → has_lacked_place c.works.history ≡ false → ⊥
 placed_so p c full placed = let no : true ≡ false = sym full ∙ placed in cc
 
 late_and_next : AreUnique → (p : Setup) (log : Log) (b : Close) (c : Course) → IsLate p log c → StandsNext p log b c → ⊥

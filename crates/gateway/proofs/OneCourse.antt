@@ -20,7 +20,7 @@ use Rattle.gateway.specs.Frames.{Connection}
 use Rattle.gateway.specs.Connections.{no_channel, present, is_replaced, ends, IsConnection}
 use Rattle.gateway.specs.Walls.{wall_on}
 use Rattle.gateway.specs.Reports.{Setup, taken_objects}
-use Rattle.gateway.specs.Works.{is_overfull, begun_works, gapless_works, ready_works, done_works, asked_works}
+use Rattle.gateway.specs.Works.{has_lacked_place, begun_works, gapless_works, ready_works, done_works, asked_works}
 use Rattle.gateway.specs.Course.{Course, here_of, came_frames, with_frame, with_frames, with_works, told_sent, with_sent, room_in, closed_course, sent_objects, IsFlushed, IsUntouched, HasBegun, HasTakenAll, MayTake, AreTaken, TakesFrames, IsNext, HandsOver, IsCause, IsLeft, Comes, SendsNext, Runs}
 use Rattle.gateway.specs.One.{GoesOn, AreOne}
 use Rattle.link.specs.LineLaws.{LineLaws}
@@ -209,7 +209,7 @@ hands_none u p log c (U function) f rules next may = by_due u p log c f (U funct
 -- The cause of a close stands at one place
 
 -- the open connection isn't one that was closed
-pub present_plain : (log : Log) → (present log).overfull ≡ false
+pub present_plain : (log : Log) → (present log).lacked_place ≡ false
 present_plain [] = refl
 present_plain (Came now (LineIn octets) ∷ log) = present_plain log
 present_plain (Came now Opened ∷ log) = refl
@@ -221,9 +221,9 @@ present_plain (Came now (TcpIn octets) ∷ log) = by_open (present log).is_open 
           sent = (present log).sent;
           received =
               (present log).received ++ octets;
-          overfull = (present log).overfull;
-        } else present log).overfull
-        ≡ (present log).overfull
+          lacked_place = (present log).lacked_place;
+        } else present log).lacked_place
+        ≡ (present log).lacked_place
     by_open true = refl
     by_open false = refl
 present_plain (Came now CutOff ∷ log) = refl
@@ -234,7 +234,8 @@ present_plain (Went now (GapOut station session) ∷ log) = present_plain log
 present_plain (Went now (TcpOut octets) ∷ log) = present_plain log
 present_plain (Went now (Closed cause) ∷ log) = by_cause (ends cause) (present_plain log)
   where
-    by_cause : (b : Bool) → (present log).overfull ≡ false → (if b then no_channel else present log).overfull ≡ false
+    by_cause : (b : Bool) → (present log).lacked_place ≡ false
+        → (if b then no_channel else present log).lacked_place ≡ false
     by_cause true h = refl
     by_cause false h = h
 
@@ -282,10 +283,10 @@ cause_one u p log c d SendNumber h k one = next_one u p log c d SendNumber h.nex
 cause_one u p log c d ReceiveNumber h k one = next_one u p log c d ReceiveNumber h.next k.next one
 cause_one u p log c d Stopped h k one = next_one u p log c d Stopped h.next k.next one
 cause_one u p log c d Timeout h k one = all_one u p log c d h.all k.all one
-cause_one u p log c d OwnAnswers h k one = settled_one p log c d (λ x. is_overfull x.works.history ≡ true)
+cause_one u p log c d OwnAnswers h k one = settled_one p log c d (λ x. has_lacked_place x.works.history ≡ true)
     (λ x full f may. clash x full may.placed) h k one
   where
-    clash : (x : Course) → is_overfull x.works.history ≡ true → is_overfull x.works.history ≡ false → ⊥
+    clash : (x : Course) → has_lacked_place x.works.history ≡ true → has_lacked_place x.works.history ≡ false → ⊥
     clash x full placed = let no : true ≡ false = sym full ∙ placed in cc
 cause_one u p log c d Replaced h k one = settled_one p log c d (λ x. is_replaced log ≡ true)
     (λ x e f may. replaced_none p log (latest log) f x e may) h k one

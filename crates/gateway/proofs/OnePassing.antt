@@ -9,7 +9,7 @@ use Rattle.asdu.specs.Asdu.{AsduValue, Info, IsAsdu, vsq}
 use Rattle.asdu.specs.Fields.{number_at}
 use Rattle.asdu.specs.InformationObjects.{InformationObject, object_in, value_objects, objects_of}
 use Rattle.asdu.specs.Writing.{with_infos}
-use Rattle.asdu.specs.Translation.{piece_size, IsPiece, IsFull, AllButLast}
+use Rattle.asdu.specs.Translation.{piece_size, IsPiece, IsLargest, AllButLast}
 use Rattle.gateway.specs.Reports.{Setup}
 use Rattle.elements.specs.declared.tag.Cp56.{Cp56}
 use Rattle.asdu.specs.Tagging.{tagged}
@@ -63,7 +63,8 @@ module _ (laws : AsduLaws) (v : AsduValue) where
       (subst (λ is. IsAsdu tcp (with_infos v is) xs) infos h.spells) k.spells
 
   -- as many as a piece takes
-  full_length : (xs : List ℕ) → IsPiece v xs → IsFull v xs → length (objects_of tcp xs) ≡ piece_size v.kind v.sequence
+  full_length : (xs : List ℕ) → IsPiece v xs → IsLargest v xs
+      → length (objects_of tcp xs) ≡ piece_size v.kind v.sequence
   full_length xs h full = ap length (objects_are xs h) ∙ length-map h.infos (object_in v)
       ∙ sym (number_is v h.infos xs h.spells) ∙ full
 
@@ -71,8 +72,8 @@ module _ (laws : AsduLaws) (v : AsduValue) where
   all_objects pieces = flat_map (λ piece. objects_of tcp piece) pieces
 
   same_pieces : (xs ys : List (List ℕ)) → AllByRecursion (λ piece. IsPiece v piece) xs
-      → AllByRecursion (λ piece. IsPiece v piece) ys → AllButLast (λ piece. IsFull v piece) xs
-      → AllButLast (λ piece. IsFull v piece) ys →
+      → AllByRecursion (λ piece. IsPiece v piece) ys → AllButLast (λ piece. IsLargest v piece) xs
+      → AllButLast (λ piece. IsLargest v piece) ys →
       length xs ≡ length ys → all_objects xs ≡ all_objects ys → xs ≡ ys
   same_pieces [] [] h k full filled number e = refl
   same_pieces [] (y ∷ ys) h k full filled number e = absurd (omega (arith, number))
@@ -124,27 +125,28 @@ one_tagging laws (Some tag) (x ∷ []) xs ys h k = h.1 ∙ ap (λ y. y ∷ []) (
     ∙ sym k.1
 one_tagging laws (Some tag) (x ∷ y ∷ plain) xs ys h k = h ∙ sym k
 
-report_one : AsduLaws → (p : Setup) (at : ℕ) (running b : Bool) (report : List ℕ) (w z y : Works)
-    → LearnsReport p at running b report w z → LearnsReport p at running b report w y → z ≡ y
-report_one laws p at running true report w z y h k =
+report_one : AsduLaws → (p : Setup) (at : ℕ) (transferring b : Bool) (report : List ℕ) (w z y : Works)
+    → LearnsReport p at transferring b report w z → LearnsReport p at transferring b report w y → z ≡ y
+report_one laws p at transferring true report w z y h k =
     let one = one_passing laws p.sizes h.0 k.0 report h.1 k.1 h.3 k.3 in
     let tagged_so : AreTagged (tag_for k.0 k.0.infos w.serial.commands) k.1 h.2 =
     subst (λ plain. AreTagged (tag_for k.0 k.0.infos w.serial.commands) plain h.2) one.1
     (subst (λ v. AreTagged (tag_for v v.infos w.serial.commands) h.1 h.2) one.0 h.4) in
     let pieces : h.2 ≡ k.2 = one_tagging laws (tag_for k.0 k.0.infos w.serial.commands) k.1 h.2 k.2 tagged_so k.4 in
-    h.5 ∙ ap (λ v. mirrored_works at running v h.2 w) one.0 ∙ ap (λ ps. mirrored_works at running k.0 ps w) pieces
+    h.5 ∙ ap (λ v. mirrored_works at transferring v h.2 w) one.0
+    ∙ ap (λ ps. mirrored_works at transferring k.0 ps w) pieces
     ∙ sym k.5
-report_one laws p at running false report w z y h k = h ∙ sym k
+report_one laws p at transferring false report w z y h k = h ∙ sym k
 
 -- and so what came of an exchange is learnt in one way
-pub learns_one : AsduLaws → (p : Setup) (at : ℕ) (running : Bool) (o : Outcome) (w z y : Works)
-    → LearnsOf p at running o w z → LearnsOf p at running o w y → z ≡ y
-learns_one laws p at running (outcome.Report station asdu) w z y h k =
-    report_one laws p at running (is_command_report p.sizes asdu.items) asdu.items w z y h k
-learns_one laws p at running (outcome.Accepted station) w z y h k = h ∙ sym k
-learns_one laws p at running (outcome.Busy station) w z y h k = h ∙ sym k
-learns_one laws p at running (outcome.Down station) w z y h k = h ∙ sym k
-learns_one laws p at running outcome.None w z y h k = h ∙ sym k
-learns_one laws p at running (outcome.Started station) w z y h k = h ∙ sym k
-learns_one laws p at running (outcome.StartedGap station session) w z y h k = h ∙ sym k
-learns_one laws p at running (outcome.Empty station) w z y h k = h ∙ sym k
+pub learns_one : AsduLaws → (p : Setup) (at : ℕ) (transferring : Bool) (o : Outcome) (w z y : Works)
+    → LearnsOf p at transferring o w z → LearnsOf p at transferring o w y → z ≡ y
+learns_one laws p at transferring (outcome.Report station asdu) w z y h k =
+    report_one laws p at transferring (is_command_report p.sizes asdu.items) asdu.items w z y h k
+learns_one laws p at transferring (outcome.Accepted station) w z y h k = h ∙ sym k
+learns_one laws p at transferring (outcome.Busy station) w z y h k = h ∙ sym k
+learns_one laws p at transferring (outcome.Down station) w z y h k = h ∙ sym k
+learns_one laws p at transferring outcome.None w z y h k = h ∙ sym k
+learns_one laws p at transferring (outcome.Started station) w z y h k = h ∙ sym k
+learns_one laws p at transferring (outcome.StartedGap station session) w z y h k = h ∙ sym k
+learns_one laws p at transferring (outcome.Empty station) w z y h k = h ∙ sym k

@@ -21,7 +21,7 @@ use Rattle.gateway.specs.Streams.{spelled, IsRefused}
 use Rattle.gateway.specs.Frames.{Connection}
 use Rattle.gateway.specs.Connections.{is_replaced, Channel, new_channel, present, BeginsWithFault, IsConnection}
 use Rattle.gateway.specs.Reports.{Setup}
-use Rattle.gateway.specs.Works.{Works, is_overfull, answered_works, sent_works, ready_works}
+use Rattle.gateway.specs.Works.{Works, has_lacked_place, answered_works, sent_works, ready_works}
 use Rattle.gateway.specs.Serial.{is_first_command}
 use Rattle.gateway.specs.Course.{Course, came_frames, with_frames, told_sent, closed_course, Runs}
 use Rattle.gateway.specs.Conversation.{KeepsRulesSoFar, KeepsRulesThroughout}
@@ -77,7 +77,7 @@ record OnlyOpened (p : Setup) (log : Log) : Type 0 where
   channel : present log ≡ new_channel
   settled : is_replaced log ≡ false
   said : (c : Course) → Runs p log c → c.talk ≡ talk.Opened (latest log) ∷ []
-  placed : (c : Course) → Runs p log c → is_overfull c.works.history ≡ false
+  placed : (c : Course) → Runs p log c → has_lacked_place c.works.history ≡ false
 
 replaced_one : (p : Setup) (log : Log) (now : ℕ) → is_replaced log ≡ true
     → OnlyOpened p (Went now (Closed Replaced) ∷ log)
@@ -92,7 +92,7 @@ replaced_one p (Came moment Opened ∷ log) now h = record {
   channel = refl;
   settled = refl;
   said = λ c r. ap (λ (d : Course). d.talk) (r.2 ∙ r.1.5);
-  placed = λ c r. ap (λ (d : Course). is_overfull d.works.history) (r.2 ∙ r.1.5);
+  placed = λ c r. ap (λ (d : Course). has_lacked_place d.works.history) (r.2 ∙ r.1.5);
 }
 
 request_after : (p : Setup) (log : Log) (now : ℕ) (octets : List ℕ) → OnlyOpened p log
@@ -101,7 +101,7 @@ request_after p log now octets h = record {
   channel = h.channel;
   settled = refl;
   said = λ c r. ap (λ (d : Course). d.talk) r.2.is ∙ h.said r.0 r.1;
-  placed = λ c r. ap (λ (d : Course). is_overfull d.works.history) r.2.is
+  placed = λ c r. ap (λ (d : Course). has_lacked_place d.works.history) r.2.is
       ∙ put_placed (is_first_command (ready_works (latest log) r.0.works).serial.line r.2.request) r.2.request.station
       (ready_works (latest log) r.0.works)
       ∙ settled_placed (latest log) r.0.works
@@ -114,7 +114,7 @@ gap_after p log now station session h = record {
   channel = h.channel;
   settled = refl;
   said = λ c r. ap (λ (d : Course). d.talk) r.2.is ∙ h.said r.0 r.1;
-  placed = λ c r. ap (λ (d : Course). is_overfull d.works.history) r.2.is ∙ h.placed r.0 r.1;
+  placed = λ c r. ap (λ (d : Course). has_lacked_place d.works.history) r.2.is ∙ h.placed r.0 r.1;
 }
 
 -- no octets hold no frames

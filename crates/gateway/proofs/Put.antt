@@ -8,7 +8,7 @@ use Rattle.apci.specs.declared.apdu.Uf.{Uf}
 use Rattle.apci.specs.Spelling.{spelling, Fits}
 use Rattle.session.specs.declared.kinds.Close.{Close}
 use Rattle.session.specs.Session as session
-use Rattle.session.specs.Session.{Session, may_send, is_running}
+use Rattle.session.specs.Session.{Session, may_send, is_transferring}
 use Rattle.gateway.specs.Log.{Log, events_of, Went, Output, TcpOut, Closed, tell}
 use Rattle.gateway.specs.Reports.{Setup}
 use Rattle.gateway.specs.Traffic.{IsFaithful}
@@ -23,7 +23,7 @@ use Rattle.session.specs.declared.kinds.Close.TheVariants.{Timeout}
 use Rattle.session.specs.History.{confirmation_of, has_timed_out}
 use Rattle.session.specs.Runs.{Confirm, Pull}
 use Rattle.session.specs.Ends.{after_confirm, after_pull, IsConfirmed, IsInTime}
-use Rattle.session.proofs.States.{running_opens, stopping_runs_not}
+use Rattle.session.proofs.States.{transferring_opens, stopping_transfers_not}
 use Rattle.gateway.specs.Agrees.{IsClear, Agrees, Tracks, Awaits, Leaves, Rests, IsSpent, IsQuiet, StaysInTime, pending}
 use Rattle.gateway.specs.Steps.{SendsPiece, SendsOwn, SendsData, MayClose}
 use Rattle.gateway.proofs.Tied.{SameWindow}
@@ -71,7 +71,7 @@ told_sent p told after s t f now unjudged phase e same sends h = rw (e, same) (b
 
 pub open_of : (s : Session) → may_send s ≡ true → session.is_open s ≡ true
 open_of s may =
-    running_opens s.transfer (and_parts (is_running s) (nat_lt (length s.unacknowledged) s.k) may).0
+    transferring_opens s.transfer (and_parts (is_transferring s) (nat_lt (length s.unacknowledged) s.k) may).0
 
 pub sends_piece : (s : State) (f : Apdu) (t : State) → s.serial.commands.answers ≡ []
     → SendsPiece s.moment s.centre f t.centre → t ≡ with_centre t.centre s → IsConfirmed s.centre.session
@@ -127,7 +127,7 @@ record LeavesWindow (s : Session) (d : Option Apdu × Session) : Type 0 where
 unchanged : (s : Session) → SameWindow s s
 unchanged s = record {
   same_connected = refl;
-  same_running = refl;
+  same_transferring = refl;
   same_received = refl;
   same_next = refl;
   same_k =
@@ -143,7 +143,7 @@ acknowledgement_leaves s on =
     record {
       same = record {
         same_connected = refl;
-        same_running = refl;
+        same_transferring = refl;
         same_received = refl;
         same_next =
             refl;
@@ -165,8 +165,9 @@ replied_leaves None s on =
     (λ h. record {
       same = record {
         same_connected = sym on;
-        same_running =
-            sym (stopping_runs_not s.transfer (and_parts (session.is_stopping s) (length s.unacknowledged == 0) h).0);
+        same_transferring =
+            sym (stopping_transfers_not s.transfer (and_parts (session.is_stopping s)
+            (length s.unacknowledged == 0) h).0);
         same_received = refl;
         same_next = refl;
         same_k = refl;
@@ -180,7 +181,7 @@ replied_leaves (Some u) s on =
     record {
       same = record {
         same_connected = refl;
-        same_running = refl;
+        same_transferring = refl;
         same_received = refl;
         same_next =
             refl;
@@ -205,7 +206,7 @@ pulled_leaves now s =
     (λ k. record {
       same = record {
         same_connected = refl;
-        same_running = refl;
+        same_transferring = refl;
         same_received = refl;
         same_next =
             refl;
@@ -292,9 +293,9 @@ pub pulled_spent : (r : Option Apdu) (s t : State) → ◌≡◌ {A =
 pulled_spent r s t e rest spent may =
     let same = (subst (LeavesWindow s.centre.session) (sym e) (pulled_leaves s.moment s.centre.session)).same in
     let before : may_send s.centre.session ≡ true = sym
-    (ap (λ b. b && nat_lt (length t.centre.session.unacknowledged) t.centre.session.k) same.same_running
-    ∙ ap (λ us. is_running s.centre.session && nat_lt (length us) t.centre.session.k) same.same_frames
-    ∙ ap (λ k. is_running s.centre.session && nat_lt (length s.centre.session.unacknowledged) k) same.same_k)
+    (ap (λ b. b && nat_lt (length t.centre.session.unacknowledged) t.centre.session.k) same.same_transferring
+    ∙ ap (λ us. is_transferring s.centre.session && nat_lt (length us) t.centre.session.k) same.same_frames
+    ∙ ap (λ k. is_transferring s.centre.session && nat_lt (length s.centre.session.unacknowledged) k) same.same_k)
     ∙ may in
     let both = spent before in (
       ap (λ (x : State). x.centre.queue.unsent) rest ∙ both.0,

@@ -61,35 +61,36 @@ module _ (p : Setup) where
 
   -- What came of an exchange
 
-  mirrored : (at : ℕ) (running : Bool) (v : AsduValue) (pieces : List (List ℕ)) (w : Works) → IsReached p w
-      → IsReached p (mirrored_works at running v pieces w)
+  mirrored : (at : ℕ) (transferring : Bool) (v : AsduValue) (pieces : List (List ℕ)) (w : Works) → IsReached p w
+      → IsReached p (mirrored_works at transferring v pieces w)
   mirrored at true v pieces w h =
       let r : Run = after_call (Mirror v at) (tasks_of w) in
       kept pieces r.state r.history (one (Mirror v at) (tasks_of w) h)
   mirrored at false v pieces w h = one (Mirror v at) (tasks_of w) h
 
-  reported : (at : ℕ) (running b : Bool) (report : List ℕ) (w z : Works) → LearnsReport p at running b report w z
+  reported : (at : ℕ) (transferring b : Bool) (report : List ℕ) (w z : Works)
+      → LearnsReport p at transferring b report w z
       → IsReached p w → IsReached p z
-  reported at running true report w z learns h = subst (IsReached p) (sym learns.5)
-      (mirrored at running learns.0 learns.2 w h)
-  reported at running false report w z learns h = subst (IsReached p) (sym learns) h
+  reported at transferring true report w z learns h = subst (IsReached p) (sym learns.5)
+      (mirrored at transferring learns.0 learns.2 w h)
+  reported at transferring false report w z learns h = subst (IsReached p) (sym learns) h
 
-  learnt : (at : ℕ) (running : Bool) (o : Outcome) (w z : Works) → LearnsOf p at running o w z → IsReached p w
+  learnt : (at : ℕ) (transferring : Bool) (o : Outcome) (w z : Works) → LearnsOf p at transferring o w z → IsReached p w
       → IsReached p z
-  learnt at running (outcome.Report station asdu) w z learns h =
-      reported at running (is_command_report p.sizes asdu.items) asdu.items w z learns h
-  learnt at running (outcome.Accepted station) w z learns h =
+  learnt at transferring (outcome.Report station asdu) w z learns h =
+      reported at transferring (is_command_report p.sizes asdu.items) asdu.items w z learns h
+  learnt at transferring (outcome.Accepted station) w z learns h =
       subst (IsReached p) (sym learns) (one (Accept station) (tasks_of w) h)
-  learnt at running (outcome.Busy station) w z learns h =
+  learnt at transferring (outcome.Busy station) w z learns h =
       let r : Run = after_call (Busy station) (tasks_of w) in
       subst (IsReached p) (sym learns) (kept (refusals station w.serial) r.state r.history
       (one (Busy station) (tasks_of w) h))
-  learnt at running (outcome.Down station) w z learns h =
+  learnt at transferring (outcome.Down station) w z learns h =
       subst (IsReached p) (sym learns) (one (Lose station) (tasks_of w) h)
-  learnt at running outcome.None w z learns h = subst (IsReached p) (sym learns) h
-  learnt at running (outcome.Started station) w z learns h = subst (IsReached p) (sym learns) h
-  learnt at running (outcome.StartedGap station session) w z learns h = subst (IsReached p) (sym learns) h
-  learnt at running (outcome.Empty station) w z learns h = subst (IsReached p) (sym learns) h
+  learnt at transferring outcome.None w z learns h = subst (IsReached p) (sym learns) h
+  learnt at transferring (outcome.Started station) w z learns h = subst (IsReached p) (sym learns) h
+  learnt at transferring (outcome.StartedGap station session) w z learns h = subst (IsReached p) (sym learns) h
+  learnt at transferring (outcome.Empty station) w z learns h = subst (IsReached p) (sym learns) h
 
   -- Frames
 

@@ -28,7 +28,7 @@ use Rattle.gateway.specs.Connections.{Channel, present}
 use Rattle.gateway.specs.Objects.{monitor_objects}
 use Rattle.link.specs.LineLaws.{LineLaws}
 use Rattle.gateway.specs.Reports.{Setup, address_at, exchanges_of, taken_objects}
-use Rattle.gateway.specs.Works.{is_overfull}
+use Rattle.gateway.specs.Works.{has_lacked_place}
 use Rattle.gateway.specs.Course.{Course, first_course, came_frames, kind_of, told_sent, with_frame, with_sent, IsFlushed, IsUntouched, HasBegun, MayTake, TakesFrames, HasTakenAll, IsNext, Runs}
 use Rattle.gateway.specs.Conversation.{KeepsRulesSoFar}
 use Rattle.gateway.proofs.Reached.{kept_commands}
@@ -67,8 +67,8 @@ may_at laws p log now other moment octets f c may = record {
   joined = may.joined;
   rules = may.rules;
   placed = may.placed;
-  flushed = λ running room.
-      let all = may.flushed running room in
+  flushed = λ transferring room.
+      let all = may.flushed transferring room in
       record {
         objects = all.objects ∙ ap length (bytes_taken laws p log now octets
             ∙ sym (bytes_taken laws p log other octets));
@@ -183,7 +183,7 @@ ruled p s t log c call now moment said k clock made =
 
 -- a frame goes out
 pub talk_out : (p : Setup) (s t : Session) (log : Log) (c : Course) (now moment : ℕ) (f : Apdu) (call : Call)
-    (k : Talks p s log c) → Fits f → moment ≡ latest log → IsNext p log f c → is_overfull c.works.history ≡ false
+    (k : Talks p s log c) → Fits f → moment ≡ latest log → IsNext p log f c → has_lacked_place c.works.history ≡ false
     → after_call call (at s c.talk) ≡ at t (told_sent f moment c.talk) → Begins (present log) c →
     Talks p t (Went now (TcpOut (spelling f)) ∷ log) (with_sent f moment c)
 talk_out p s t log c now moment f call k fits clock next placed made b = record {
@@ -222,7 +222,7 @@ talk_out p s t log c now moment f call k fits clock next placed made b = record 
 -- a frame is taken
 pub talk_heard : (p : Setup) (s : Session) (log : Log) (c : Course) (moment : ℕ) (f : Apdu) (rest : List ℕ)
     (k : Talks p s log c) → IsTaking log → moment ≡ latest log → session.is_open s ≡ true → IsConfirmed s → Fits f
-    → refuses s f ≡ false → is_overfull c.works.history ≡ false → IsFlushed p log c
+    → refuses s f ≡ false → has_lacked_place c.works.history ≡ false → IsFlushed p log c
     → IsUntouched log c ⊎ (frame_due p.session.w p.session.t2 p.session.t3 (latest log) c.talk ≡ None)
     → (present log).received ≡ spelled (f ∷ came_frames c.talk) ++ rest →
     Talks p (session.taken f moment s) log (with_frame p f moment (wall_on log moment) c)

@@ -111,8 +111,8 @@ some_pieces p o v report [] pieces is i t = absurd (ap is_command_by i.joined �
     absurd e = cc
 some_pieces p o v report (x ∷ xs) pieces is i t = tagged_some o x xs pieces t
 
-mirrored : (at : ℕ) (running : Bool) (v : AsduValue) (y : List ℕ) (ys : List (List ℕ)) (w : Works) → IsCounted w
-    → IsCounted (mirrored_works at running v (y ∷ ys) w)
+mirrored : (at : ℕ) (transferring : Bool) (v : AsduValue) (y : List ℕ) (ys : List (List ℕ)) (w : Works) → IsCounted w
+    → IsCounted (mirrored_works at transferring v (y ∷ ys) w)
 mirrored at true v y ys w c = passed v at y ys w c
 mirrored at false v y ys w c = (c.0, one_saturated w.serial.counts.mirrors (unpassed_in false w.history) c.1)
 
@@ -126,33 +126,34 @@ others_same (o ∷ objects) h t c = by_type (is_answer_type o.kind) (is_passed_o
     by_type false true = c
     by_type false false = c
 
-reported : (p : Setup) (at : ℕ) (running b : Bool) (report : List ℕ) (w z : Works)
-    → is_command_report p.sizes report ≡ b → LearnsReport p at running b report w z → IsCounted w → IsCounted z
-reported p at running true report w z is learns c =
+reported : (p : Setup) (at : ℕ) (transferring b : Bool) (report : List ℕ) (w z : Works)
+    → is_command_report p.sizes report ≡ b → LearnsReport p at transferring b report w z → IsCounted w → IsCounted z
+reported p at transferring true report w z is learns c =
     let some : (y : List ℕ) × (ys : List (List ℕ)) × (learns.2 ≡ y ∷ ys) =
     some_pieces p (mirrors.tag_for learns.0 learns.0.infos w.serial.commands) learns.0 report learns.1 learns.2
     is learns.3 learns.4 in
-    subst IsCounted (sym (learns.5 ∙ ap (λ pieces. mirrored_works at running learns.0 pieces w) some.2))
-    (mirrored at running learns.0 some.0 some.1 w c)
-reported p at running false report w z is learns c = subst IsCounted (sym learns)
+    subst IsCounted (sym (learns.5 ∙ ap (λ pieces. mirrored_works at transferring learns.0 pieces w) some.2))
+    (mirrored at transferring learns.0 some.0 some.1 w c)
+reported p at transferring false report w z is learns c = subst IsCounted (sym learns)
     (others_same (objects_of p.sizes report) w.history w.serial.counts c)
 
-learnt : (p : Setup) (at : ℕ) (running : Bool) (o : Outcome) (w z : Works) → LearnsOf p at running o w z → IsCounted w
+learnt : (p : Setup) (at : ℕ) (transferring : Bool) (o : Outcome) (w z : Works) → LearnsOf p at transferring o w z
+    → IsCounted w
     → IsCounted z
-learnt p at running (outcome.Report station asdu) w z learns c =
-    reported p at running (is_command_report p.sizes asdu.items) asdu.items w z refl learns c
-learnt p at running (outcome.Accepted station) w z learns c = subst IsCounted (sym learns) c
-learnt p at running (outcome.Busy station) w z learns c =
+learnt p at transferring (outcome.Report station asdu) w z learns c =
+    reported p at transferring (is_command_report p.sizes asdu.items) asdu.items w z refl learns c
+learnt p at transferring (outcome.Accepted station) w z learns c = subst IsCounted (sym learns) c
+learnt p at transferring (outcome.Busy station) w z learns c =
     let h : History = Refused station (refusal_of (line_of station w.serial.commands)) ∷ w.history in
     subst IsCounted (sym learns) (kept (refusals station w.serial)
     (tasks.given_up station w.serial.commands) h w.serial.counts refl c)
-learnt p at running (outcome.Down station) w z learns c =
+learnt p at transferring (outcome.Down station) w z learns c =
     subst IsCounted (sym learns) (given_up (is_used (line_of station w.serial.commands)) station w.history
     w.serial.counts c)
-learnt p at running outcome.None w z learns c = subst IsCounted (sym learns) c
-learnt p at running (outcome.Started station) w z learns c = subst IsCounted (sym learns) c
-learnt p at running (outcome.StartedGap station session) w z learns c = subst IsCounted (sym learns) c
-learnt p at running (outcome.Empty station) w z learns c = subst IsCounted (sym learns) c
+learnt p at transferring outcome.None w z learns c = subst IsCounted (sym learns) c
+learnt p at transferring (outcome.Started station) w z learns c = subst IsCounted (sym learns) c
+learnt p at transferring (outcome.StartedGap station session) w z learns c = subst IsCounted (sym learns) c
+learnt p at transferring (outcome.Empty station) w z learns c = subst IsCounted (sym learns) c
 
 -- Frames
 

@@ -12,9 +12,9 @@ use Rattle.session.specs.declared.kinds.Taken.{Taken}
 use Rattle.session.specs.declared.kinds.Close.TheVariants.{SendNumber, ReceiveNumber, Stopped}
 use Rattle.session.specs.declared.kinds.Kind.TheVariants.{Queue as FromQueue, Own}
 use Rattle.session.specs.Session as session
-use Rattle.session.specs.Session.{Session, is_close, outcome_of, after_frame, from_queue, is_running, may_send, is_valid, newly, newly_by, left_by, refuses, taken}
+use Rattle.session.specs.Session.{Session, is_close, outcome_of, after_frame, from_queue, is_transferring, may_send, is_valid, newly, newly_by, left_by, refuses, taken}
 use Rattle.session.specs.History.{reached}
-use Rattle.gateway.specs.Frames.{Connection, Sent, runs, i_frames, acknowledged_count, fault_of}
+use Rattle.gateway.specs.Frames.{Connection, Sent, transfers, i_frames, acknowledged_count, fault_of}
 use Rattle.gateway.specs.Objects.{has_objects}
 use Rattle.gateway.specs.Agrees.{Unconfirmed, Tied}
 use Rattle.gateway.proofs.Counters.{reached-valid, reached-invalid}
@@ -75,14 +75,14 @@ one_fault false = refl
 fault_agrees : (f : Apdu) (c : Connection) (s : Session) (ps : List (List ℕ)) → Tied c s ps
     → fault_in (outcome_of s f) ≡ fault_of (length c.sent_frames) c.received_frames f
 fault_agrees (I ns nr asdu) c s ps h =
-    three_faults (not (is_running s)) (not (ns == s.next_received)) (not (is_valid nr s)) ∙ (
+    three_faults (not (is_transferring s)) (not (ns == s.next_received)) (not (is_valid nr s)) ∙ (
     let valid : not (is_valid nr s) ≡ nat_lt (length c.sent_frames)
     (reached (acknowledged_count c.received_frames) nr) = valid_in nr c s ps h in
     ap (λ r. cond (not r) (Some Stopped) (cond (not (ns == s.next_received)) (Some SendNumber)
-    (cond (not (is_valid nr s)) (Some ReceiveNumber) None))) h.running
-    ∙ ap (λ n. cond (not (runs c.received_frames)) (Some Stopped)
+    (cond (not (is_valid nr s)) (Some ReceiveNumber) None))) h.transferring
+    ∙ ap (λ n. cond (not (transfers c.received_frames)) (Some Stopped)
     (cond (not (ns == n)) (Some SendNumber) (cond (not (is_valid nr s)) (Some ReceiveNumber) None))) h.received
-    ∙ ap (λ v. cond (not (runs c.received_frames)) (Some Stopped)
+    ∙ ap (λ v. cond (not (transfers c.received_frames)) (Some Stopped)
     (cond (not (ns == i_frames c.received_frames % 32768)) (Some SendNumber) (cond v (Some ReceiveNumber) None)))
     valid)
 fault_agrees (S nr) c s ps h = one_fault (not (is_valid nr s))
@@ -112,7 +112,7 @@ no_close f c s ps outcome goes h e = (
 pub fault_cases : (P : Close → Type 0) → P Stopped → P SendNumber → P ReceiveNumber
     → (sent : ℕ) (older : List Apdu) (f : Apdu) (cause : Close) → fault_of sent older f ≡ Some cause → P cause
 fault_cases P p2 p3 p4 sent older (I ns nr asdu) cause e =
-    three (not (runs older)) (not (ns == i_frames older % 32768))
+    three (not (transfers older)) (not (ns == i_frames older % 32768))
     (nat_lt sent (reached (acknowledged_count older) nr)) e
   where
     three : (a b c : Bool) → cond a (Some Stopped) (cond b (Some SendNumber) (cond c (Some ReceiveNumber) None))
@@ -159,10 +159,10 @@ after f now s = after_frame f now (session.acknowledged (newly_by f s) (record s
 tied_after : (f : Apdu) (now : ℕ) (c : Connection) (s : Session) (ps : List (List ℕ)) → session.is_open s ≡ true
     → Tied c s ps → refuses s f ≡ false → Tied (heard_more f c) (after f now s) (less f s ps)
 tied_after (I ns nr asdu) now c s ps on h passes =
-    let tests = or_parts (not (is_running s) || not (ns == s.next_received)) (not (is_valid nr s))
-    (sym (three_tests (not (is_running s)) (not (ns == s.next_received)) (not (is_valid nr s))) ∙ passes) in
+    let tests = or_parts (not (is_transferring s) || not (ns == s.next_received)) (not (is_valid nr s))
+    (sym (three_tests (not (is_transferring s)) (not (ns == s.next_received)) (not (is_valid nr s))) ∙ passes) in
     record {
-      running = h.running;
+      transferring = h.transferring;
       received = omega (arith, h.received);
       next = h.next;
       small = h.small;
@@ -171,7 +171,7 @@ tied_after (I ns nr asdu) now c s ps on h passes =
     }
 tied_after (S nr) now c s ps on h passes =
     record {
-      running = h.running;
+      transferring = h.transferring;
       received = h.received;
       next = h.next;
       small = h.small;
@@ -180,7 +180,7 @@ tied_after (S nr) now c s ps on h passes =
     }
 tied_after (U StartAct) now c s ps on h passes =
     record {
-      running = rw on;
+      transferring = rw on;
       received = h.received;
       next = h.next;
       small = h.small;
@@ -190,7 +190,7 @@ tied_after (U StartAct) now c s ps on h passes =
     }
 tied_after (U StopAct) now c s ps on h passes =
     record {
-      running = rw on;
+      transferring = rw on;
       received = h.received;
       next = h.next;
       small = h.small;
@@ -199,7 +199,7 @@ tied_after (U StopAct) now c s ps on h passes =
           h.unconfirmed;
     }
 tied_after (U StartCon) now c s ps on h passes = record {
-  running = h.running;
+  transferring = h.transferring;
   received = h.received;
   next =
       h.next;
@@ -208,7 +208,7 @@ tied_after (U StartCon) now c s ps on h passes = record {
   unconfirmed = h.unconfirmed;
 }
 tied_after (U StopCon) now c s ps on h passes = record {
-  running = h.running;
+  transferring = h.transferring;
   received = h.received;
   next =
       h.next;
@@ -217,7 +217,7 @@ tied_after (U StopCon) now c s ps on h passes = record {
   unconfirmed = h.unconfirmed;
 }
 tied_after (U TestAct) now c s ps on h passes = record {
-  running = h.running;
+  transferring = h.transferring;
   received = h.received;
   next =
       h.next;
@@ -226,7 +226,7 @@ tied_after (U TestAct) now c s ps on h passes = record {
   unconfirmed = h.unconfirmed;
 }
 tied_after (U TestCon) now c s ps on h passes = record {
-  running = h.running;
+  transferring = h.transferring;
   received = h.received;
   next =
       h.next;
@@ -258,7 +258,7 @@ tied_taken f now c s ps on h passes =
 -- a session whose window is the same
 pub record SameWindow (s t : Session) : Type 0 where
   pub same_connected : session.is_open t ≡ session.is_open s
-  pub same_running : is_running t ≡ is_running s
+  pub same_transferring : is_transferring t ≡ is_transferring s
   pub same_received : t.next_received ≡ s.next_received
   pub same_next : t.next_sent ≡ s.next_sent
   pub same_k : t.k ≡ s.k
@@ -266,7 +266,7 @@ pub record SameWindow (s t : Session) : Type 0 where
 
 pub tied_same : (c : Connection) (s t : Session) (ps : List (List ℕ)) → SameWindow s t → Tied c s ps → Tied c t ps
 tied_same c s t ps e h = record {
-  running = e.same_running ∙ h.running;
+  transferring = e.same_transferring ∙ h.transferring;
   received = e.same_received ∙ h.received;
   next = e.same_next ∙ h.next;
   small = omega (arith, e.same_k, h.small);
@@ -285,14 +285,14 @@ counted xs f next h = omega (arith, length-append xs (f ∷ []))
 
 room_for : (s : Session) (u : Unacknowledged) → may_send s ≡ true → length (s.unacknowledged ++ u ∷ []) ≤ s.k
 room_for s u h =
-    let tests = and_parts (is_running s) (nat_lt (length s.unacknowledged) s.k) h in
+    let tests = and_parts (is_transferring s) (nat_lt (length s.unacknowledged) s.k) h in
     omega (arith, ltb-true _ _ tests.1, length-append s.unacknowledged (u ∷ []))
 
 pub tied_piece : (f : Sent) (now : ℕ) (c : Connection) (s : Session) (ps : List (List ℕ)) → Tied c s ps
     → may_send s ≡ true → has_objects f.asdu ≡ true → Tied (sent_more f c) (session.sent FromQueue now s) (ps ++ f.asdu
     ∷ [])
 tied_piece f now c s ps h may has = record {
-  running = h.running;
+  transferring = h.transferring;
   received = h.received;
   next = counted c.sent_frames f s.next_sent h.next;
   small = h.small;
@@ -305,7 +305,7 @@ tied_piece f now c s ps h may has = record {
 pub tied_own : (f : Sent) (now : ℕ) (c : Connection) (s : Session) (ps : List (List ℕ)) → Tied c s ps
     → may_send s ≡ true → has_objects f.asdu ≡ false → Tied (sent_more f c) (session.sent Own now s) ps
 tied_own f now c s ps h may none = record {
-  running = h.running;
+  transferring = h.transferring;
   received = h.received;
   next = counted c.sent_frames f s.next_sent h.next;
   small = h.small;

@@ -161,7 +161,8 @@ spelled-oldest : (h : List Apdu) → spelled h ≡ joined (oldest h)
 spelled-oldest h = ap spelled (sym (back h)) ∙ spelled-grown [] (oldest h)
 
 pub one_reading : AreUnique → (octets : Channel) (c d : Connection) (fault other : Option Close)
-    → octets.overfull ≡ false → IsConnection octets c fault → IsConnection octets d other → (c ≡ d) × (fault ≡ other)
+    → octets.lacked_place ≡ false → IsConnection octets c fault → IsConnection octets d other
+    → (c ≡ d) × (fault ≡ other)
 one_reading u octets c d fault other within h k =
     let put : h.put ≡ k.put = sym (back h.put) ∙ ap (grown [])
     (same_put u (oldest h.put) (oldest k.put) (sym (spelled-oldest h.put) ∙ sym h.handed.joined
@@ -171,7 +172,7 @@ one_reading u octets c d fault other within h k =
     let pass : Passes n c.received_frames = subst (λ x. Passes (length x) c.received_frames) sent h.pass in
     let behind : IsBehind false n c.received_frames fault h.rest =
     subst (λ b. IsBehind b n c.received_frames fault h.rest) within
-    (subst (λ x. IsBehind octets.overfull (length x) c.received_frames fault h.rest) sent h.behind) in
+    (subst (λ x. IsBehind octets.lacked_place (length x) c.received_frames fault h.rest) sent h.behind) in
     let both = same_frames u n [] (oldest c.received_frames) (oldest d.received_frames) h.rest k.rest fault other
     (ap (λ x. x ++ h.rest) (sym (spelled-oldest c.received_frames)) ∙ sym h.joined ∙ k.joined
     ∙ ap (λ x. x ++ k.rest) (spelled-oldest d.received_frames))

@@ -13,7 +13,7 @@ use Rattle.command.specs.History.{Offered, History}
 use Rattle.command.specs.Calls.{Judge, after_answer, after_sending}
 use Rattle.gateway.specs.Serial as serial
 use Rattle.gateway.specs.Serial.{Serial, kept_until, all_kept, listed, has_place, unless_silent, settled, answered, without_gap}
-use Rattle.gateway.specs.Works.{Works, tasks_of, told, told_kept, is_overfull, heard_works, answered_works, told_silent, settled_works, ready_works, unasked_works, done_works, told_put}
+use Rattle.gateway.specs.Works.{Works, tasks_of, told, told_kept, has_lacked_place, heard_works, answered_works, told_silent, settled_works, ready_works, unasked_works, done_works, told_put}
 use Rattle.gateway.specs.Phases.{Phase, Fresh, Taking, Judged, Idle, Crowded, Timed, Asked, works_in, IsAsked}
 use Rattle.gateway.specs.Agrees.{ArePlain}
 
@@ -21,31 +21,32 @@ use Rattle.gateway.specs.Agrees.{ArePlain}
 
 -- where one finds no place, that shows
 pub kept_overfull : (xs : List (List ℕ)) (s : tasks.State) (h : History) → all_kept xs s ≡ false
-    → is_overfull (told_kept xs s h) ≡ true
+    → has_lacked_place (told_kept xs s h) ≡ true
 kept_overfull [] s h none = cc
 kept_overfull (x ∷ xs) s h none = by_room (has_room s) refl
     (kept_overfull xs (tasks.offered x s) (Offered x (has_room s) ∷ h))
   where
     at_room : Bool → Type 0
-    at_room b = is_overfull (if b then told_kept xs (tasks.offered x s) (Offered x (has_room s) ∷ h) else Offered x
+    at_room b = has_lacked_place (if b then told_kept xs (tasks.offered x s) (Offered x (has_room s) ∷ h) else Offered x
         (has_room s) ∷ h) ≡ true
 
     by_room : (b : Bool) → has_room s ≡ b → (all_kept xs (tasks.offered x s) ≡ false
-        → is_overfull (told_kept xs (tasks.offered x s) (Offered x (has_room s) ∷ h)) ≡ true) → at_room (has_room s)
+        → has_lacked_place (told_kept xs (tasks.offered x s) (Offered x (has_room s) ∷ h)) ≡ true)
+        → at_room (has_room s)
     by_room true e others =
         subst at_room (sym e) (others (sym (ap (λ b. b && all_kept xs (tasks.offered x s)) e) ∙ none))
-    by_room false e others = subst at_room (sym e) (ap (λ b. is_overfull (Offered x b ∷ h)) e)
+    by_room false e others = subst at_room (sym e) (ap (λ b. has_lacked_place (Offered x b ∷ h)) e)
 
 -- and where each finds one
 pub kept_placed : (xs : List (List ℕ)) (s : tasks.State) (h : History) → all_kept xs s ≡ true
-    → is_overfull (told_kept xs s h) ≡ is_overfull h
+    → has_lacked_place (told_kept xs s h) ≡ has_lacked_place h
 kept_placed [] s h all = refl
 kept_placed (x ∷ xs) s h all =
     let both = and_parts (has_room s) (all_kept xs (tasks.offered x s)) all in
-    ap (λ b. is_overfull (if b then told_kept xs (tasks.offered x s) (Offered x (has_room s) ∷ h) else Offered x
+    ap (λ b. has_lacked_place (if b then told_kept xs (tasks.offered x s) (Offered x (has_room s) ∷ h) else Offered x
     (has_room s) ∷ h)) both.0
     ∙ kept_placed xs (tasks.offered x s) (Offered x (has_room s) ∷ h) both.1
-    ∙ ap (λ b. is_overfull (Offered x b ∷ h)) both.0
+    ∙ ap (λ b. has_lacked_place (Offered x b ∷ h)) both.0
 
 -- nothing else of what is kept changes
 either_same : {A : Type 0} (b : Bool) (s t : tasks.State) (f : tasks.State → A) (x : A) → f s ≡ x → f t ≡ x
@@ -82,14 +83,14 @@ kept_plain (x ∷ xs) s h k =
 -- A frame is heard
 
 pub heard_overfull : (f : Apdu) (now : ℕ) (wall : Option ℕ) (w : Works)
-    → has_place f now wall w.serial.commands ≡ false → is_overfull (heard_works f now wall w).history ≡ true
+    → has_place f now wall w.serial.commands ≡ false → has_lacked_place (heard_works f now wall w).history ≡ true
 heard_overfull (I ns nr asdu) now wall w h = kept_overfull (listed (judged asdu.items now wall w.serial.commands).0)
     (judged asdu.items now wall w.serial.commands).1 (told (Judge asdu.items now wall) w) h
 heard_overfull (S nr) now wall w h = cc
 heard_overfull (U u) now wall w h = cc
 
 pub heard_placed : (f : Apdu) (now : ℕ) (wall : Option ℕ) (w : Works) → has_place f now wall w.serial.commands ≡ true
-    → is_overfull (heard_works f now wall w).history ≡ is_overfull w.history
+    → has_lacked_place (heard_works f now wall w).history ≡ has_lacked_place w.history
 heard_placed (I ns nr asdu) now wall w h = kept_placed (listed (judged asdu.items now wall w.serial.commands).0)
     (judged asdu.items now wall w.serial.commands).1 (told (Judge asdu.items now wall) w) h
 heard_placed (S nr) now wall w h = refl
@@ -97,19 +98,19 @@ heard_placed (U u) now wall w h = refl
 
 -- The timers
 
-pub settled_placed : (at : ℕ) (w : Works) → is_overfull (settled_works at w).history ≡ is_overfull w.history
+pub settled_placed : (at : ℕ) (w : Works) → has_lacked_place (settled_works at w).history ≡ has_lacked_place w.history
 settled_placed at w = by_silent w.serial.silent
   where
-    by_silent : (o : Option ℕ) → is_overfull (told_silent o w) ≡ is_overfull w.history
+    by_silent : (o : Option ℕ) → has_lacked_place (told_silent o w) ≡ has_lacked_place w.history
     by_silent None = refl
     by_silent (Some i) = refl
 
-pub done_placed : (at : ℕ) (room : Bool) (w : Works) → is_overfull (done_works at room w).history
-    ≡ is_overfull w.history
+pub done_placed : (at : ℕ) (room : Bool) (w : Works) → has_lacked_place (done_works at room w).history
+    ≡ has_lacked_place w.history
 done_placed at room w = by_due w.is_due
   where
-    by_due : (b : Bool) → is_overfull (if b then unasked_works at room (ready_works at w) else w).history
-        ≡ is_overfull w.history
+    by_due : (b : Bool) → has_lacked_place (if b then unasked_works at room (ready_works at w) else w).history
+        ≡ has_lacked_place w.history
     by_due true = settled_placed at w
     by_due false = refl
 
@@ -126,8 +127,8 @@ settled_own at s = by_silent s.silent
     by_silent (Some i) = refl
 
 module _ (w : Works) (x : List ℕ) (first : first_answer w.serial.commands.answers ≡ Some x) where
-  pub own_placed : is_overfull (answered_works w).history ≡ is_overfull w.history
-  own_placed = ap (λ (o : Option (List ℕ)). is_overfull (after_answer o (tasks_of w)).history) first
+  pub own_placed : has_lacked_place (answered_works w).history ≡ has_lacked_place w.history
+  own_placed = ap (λ (o : Option (List ℕ)). has_lacked_place (after_answer o (tasks_of w)).history) first
 
   pub own_serial : (phase : Phase) (at : ℕ) (room : Bool)
       → (works_in phase at room (answered_works w)).serial ≡ answered (works_in phase at room w).serial
@@ -214,10 +215,11 @@ settled_without_gap at s = by_silent s.silent
 
 -- A request goes out
 
-pub put_placed : (b : Bool) (i : ℕ) (w : Works) → is_overfull (told_put b i w) ≡ is_overfull w.history
+pub put_placed : (b : Bool) (i : ℕ) (w : Works) → has_lacked_place (told_put b i w) ≡ has_lacked_place w.history
 put_placed true i w = by_oldest (oldest_for i w.serial.commands)
   where
-    by_oldest : (o : Option Waiting) → is_overfull (after_sending o i (tasks_of w)).history ≡ is_overfull w.history
+    by_oldest : (o : Option Waiting) → has_lacked_place (after_sending o i (tasks_of w)).history
+        ≡ has_lacked_place w.history
     by_oldest None = refl
     by_oldest (Some x) = refl
 put_placed false i w = refl

@@ -9,7 +9,7 @@ use Rattle.link.specs.Offers.{offered_at}
 use Rattle.command.specs.State as tasks
 use Rattle.command.specs.State.{octets_waiting}
 use Rattle.link.specs.Telling.{Tells}
-use Rattle.session.specs.Session.{Session, is_open, is_running, is_from_queue, may_send, pulled}
+use Rattle.session.specs.Session.{Session, is_open, is_transferring, is_from_queue, may_send, pulled}
 use Rattle.session.specs.Runs.{Settings, IsInRange, Call, run}
 use Rattle.session.specs.Ends.{IsConfirmed, IsInTime}
 use Rattle.session.specs.declared.kinds.Unacknowledged.{Unacknowledged}
@@ -19,7 +19,7 @@ use Rattle.gateway.specs.Objects.{objects, has_objects}
 use Rattle.gateway.specs.Log.{Log, Input, Came, latest}
 use Rattle.gateway.specs.Walls.{wall_told}
 use Rattle.gateway.specs.Streams.{spelled, AllFit, AreFrames}
-use Rattle.gateway.specs.Frames.{Sent, Connection, new_connection, data_frames, runs, i_frames, acknowledged_count, objects_of_frames, first_unacknowledged, reports_among, acknowledged_reports, IsNumberedFrom, AreInOrder}
+use Rattle.gateway.specs.Frames.{Sent, Connection, new_connection, data_frames, transfers, i_frames, acknowledged_count, objects_of_frames, first_unacknowledged, reports_among, acknowledged_reports, IsNumberedFrom, AreInOrder}
 use Rattle.gateway.specs.Connections.{Channel, no_channel, present, past, received_before, is_replaced, Passes, AreConnections}
 use Rattle.gateway.specs.Reports.{Setup, AreFound, exchanges_of, taken_objects, reports_in, parts_of_all}
 use Rattle.gateway.specs.Traffic.{ActsRightly, RestsBetweenSteps, HasRested, IsFaithful}
@@ -72,7 +72,7 @@ pub record Unconfirmed (n : ℕ) (sent : List Sent) (us : List Unacknowledged)
 
 -- the session counts the connection's frames
 pub record Tied (c : Connection) (s : Session) (pieces : List (List ℕ)) : Type 0 where
-  pub running : is_running s ≡ runs c.received_frames
+  pub transferring : is_transferring s ≡ transfers c.received_frames
   pub received : s.next_received ≡ i_frames c.received_frames % 32768
   pub next : s.next_sent ≡ length c.sent_frames % 32768
   pub small : s.k < 32768

@@ -16,14 +16,14 @@ pub record Channel : Type 0 where
   pub sent : List ℕ
   pub received : List ℕ
   -- it was closed for want of a place for an own answer
-  pub overfull : Bool
+  pub lacked_place : Bool
 
 -- where there is no connection
 abbrev pub no_channel : Channel
-no_channel = record { is_open = false; sent = []; received = []; overfull = false }
+no_channel = record { is_open = false; sent = []; received = []; lacked_place = false }
 
 abbrev pub new_channel : Channel
-new_channel = record { is_open = true; sent = []; received = []; overfull = false }
+new_channel = record { is_open = true; sent = []; received = []; lacked_place = false }
 
 -- octets of no connection count for nothing
 abbrev pub receiving : Channel → List ℕ → Channel
@@ -32,7 +32,7 @@ receiving c octets =
       is_open = true;
       sent = c.sent;
       received = c.received ++ octets;
-      overfull = c.overfull;
+      lacked_place = c.lacked_place;
     } else c
 
 abbrev pub sending : Channel → List ℕ → Channel
@@ -40,7 +40,7 @@ sending c octets = record {
   is_open = c.is_open;
   sent = c.sent ++ octets;
   received = c.received;
-  overfull = c.overfull;
+  lacked_place = c.lacked_place;
 }
 
 -- the causes 1 to 6 end the connection of their step, and 7 the one before it, which the new one
@@ -77,7 +77,7 @@ over c past = if c.is_open then c ∷ past else past
 -- the gateway closes it with this cause
 abbrev pub closed_by : Close → Channel → Channel
 closed_by OwnAnswers c =
-    record { is_open = c.is_open; sent = c.sent; received = c.received; overfull = true }
+    record { is_open = c.is_open; sent = c.sent; received = c.received; lacked_place = true }
 closed_by cause c = c
 
 -- the connections that are over, the newest first
@@ -107,10 +107,10 @@ pub record BeginsWithFault (sent : ℕ) (received : List Apdu) (cause : Close)
 -- Where that is an own answer without a place, what is left of the octets was dropped; which frames
 -- came, the log's one course tells (the law `one_course`).
 abbrev pub IsBehind : Bool → ℕ → List Apdu → Option Close → List ℕ → Type 0
-IsBehind overfull sent received None rest = IsMore rest
-IsBehind overfull sent received (Some Grammar) rest = IsRefused rest
-IsBehind overfull sent received (Some OwnAnswers) rest = overfull ≡ true
-IsBehind overfull sent received (Some cause) rest = BeginsWithFault sent received cause rest
+IsBehind lacked_place sent received None rest = IsMore rest
+IsBehind lacked_place sent received (Some Grammar) rest = IsRefused rest
+IsBehind lacked_place sent received (Some OwnAnswers) rest = lacked_place ≡ true
+IsBehind lacked_place sent received (Some cause) rest = BeginsWithFault sent received cause rest
 
 -- The frames of a connection are those that the grammar finds, one after another, in its joined
 -- octets. In the octets handed to TCP there is nothing else. In those received they go up to what
@@ -125,7 +125,7 @@ pub record IsConnection (octets : Channel) (c : Connection) (fault : Option Clos
   pub joined : octets.received ≡ spelled c.received_frames ++ rest
   pub fit : AllFit c.received_frames
   pub pass : Passes (length c.sent_frames) c.received_frames
-  pub behind : IsBehind octets.overfull (length c.sent_frames) c.received_frames fault rest
+  pub behind : IsBehind octets.lacked_place (length c.sent_frames) c.received_frames fault rest
 
 -- the frames of each
 abbrev pub AreConnections : List Channel → List Connection → Type 0

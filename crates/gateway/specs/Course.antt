@@ -25,11 +25,11 @@ use Rattle.gateway.specs.Objects.{objects, has_objects}
 use Rattle.gateway.specs.Log.{Log, Input, LineIn, Opened, TcpIn, CutOff, Ticked, WallIs, Came, Went, LineOut, TcpOut, Closed, GapOut, latest}
 use Rattle.gateway.specs.Walls.{wall_on}
 use Rattle.gateway.specs.Streams.{spelled}
-use Rattle.gateway.specs.Frames.{Sent, Connection, runs, first_unacknowledged, monitor_objects_sent, acknowledged_reports}
+use Rattle.gateway.specs.Frames.{Sent, Connection, transfers, first_unacknowledged, monitor_objects_sent, acknowledged_reports}
 use Rattle.gateway.specs.Connections.{Channel, present, received_before, is_replaced, IsConnection}
 use Rattle.gateway.specs.Reports.{Setup, address_at, reports_in, parts_of_all, taken_objects}
 use Rattle.gateway.specs.Serial.{is_first_command, heard_outcome}
-use Rattle.gateway.specs.Works.{Works, first_works, is_overfull, LearnsOf, heard_works, sent_works, cut_works, octets_works, begun_works, settled_works, ready_works, gapless_works, asked_works, done_works}
+use Rattle.gateway.specs.Works.{Works, first_works, has_lacked_place, LearnsOf, heard_works, sent_works, cut_works, octets_works, begun_works, settled_works, ready_works, gapless_works, asked_works, done_works}
 
 pub record Course : Type 0 where
   -- what was said on the open connection: frames that came and frames that went out, each with its
@@ -122,7 +122,7 @@ pub record MayTake (p : Setup) (log : Log) (now : ℕ) (frame : Apdu) (c : Cours
   pub rest : List ℕ
   pub joined : (present log).received ≡ spelled (frame ∷ came_frames c.talk) ++ rest
   pub rules : KeepsRules p.session (talk.Came frame now ∷ c.talk)
-  pub placed : is_overfull c.works.history ≡ false
+  pub placed : has_lacked_place c.works.history ≡ false
   pub flushed : IsFlushed p log c
   pub undue : IsUntouched log c ⊎ (frame_due p.session.w p.session.t2 p.session.t3 now c.talk
       ≡ None)
@@ -192,7 +192,7 @@ pub record HandsOver (p : Setup) (log : Log) (octets : List ℕ) (now : ℕ)
   pub spelled_so : octets ≡ spelling frame
   pub rules : KeepsRules p.session (told_sent frame now before.talk)
   pub next : IsNext p log frame before
-  pub placed : is_overfull before.works.history ≡ false
+  pub placed : has_lacked_place before.works.history ≡ false
   pub put : after ≡ with_sent frame now before
 
 -- The ends of connections
@@ -203,13 +203,13 @@ pub record StandsNext (p : Setup) (log : Log) (cause : Close) (c : Course) : Typ
   pub next : IsConnection (present log) (here_of c) (Some cause)
   pub confirmed : confirmation_of c.talk ≡ None
   pub flushed : IsFlushed p log c
-  pub placed : is_overfull c.works.history ≡ false
+  pub placed : has_lacked_place c.works.history ≡ false
 
 -- An I frame or a test has been without an answer for t1 (5.2), and no cause stands before it: all
 -- that came was taken without fault, and each own answer found a place.
 pub record IsLate (p : Setup) (log : Log) (c : Course) : Type 0 where
   pub all : HasTakenAll (present log) c.talk
-  pub placed : is_overfull c.works.history ≡ false
+  pub placed : has_lacked_place c.works.history ≡ false
   pub late : has_timed_out p.session.t1 (latest log) c.talk ≡ true
 
 -- Why a connection is closed, where the course is so far: an answer is late; the own answer of the
@@ -218,7 +218,7 @@ pub record IsLate (p : Setup) (log : Log) (c : Course) : Type 0 where
 abbrev pub IsCause : Setup → Log → Close → Course → Type 0
 IsCause p log Replaced c = is_replaced log ≡ true
 IsCause p log Timeout c = IsLate p log c
-IsCause p log OwnAnswers c = is_overfull c.works.history ≡ true
+IsCause p log OwnAnswers c = has_lacked_place c.works.history ≡ true
 IsCause p log cause c = StandsNext p log cause c
 
 -- the connection that was open, if any, is over
@@ -265,7 +265,8 @@ with_works w c = record { talk = c.talk; sent = c.sent; earlier = c.earlier; wor
 -- what an event brings
 abbrev pub Comes : Setup → Log → (at : ℕ) → Input → (before after : Course) → Type 0
 Comes p log at (LineIn octets) c d =
-    (z : Works) × LearnsOf p at (runs (came_frames c.talk)) (heard_outcome octets c.works.serial)
+    (z : Works)
+    × LearnsOf p at (transfers (came_frames c.talk)) (heard_outcome octets c.works.serial)
     (octets_works octets c.works) z
     × (d ≡ with_works (begun_works at z) c)
 Comes p log at (TcpIn octets) c d =
@@ -290,7 +291,7 @@ pub record TellsGap (log : Log) (station session : ℕ) (before after : Course) 
 pub record SendsNext (p : Setup) (log : Log) (octets : List ℕ)
     (before after : Course) : Type 0 where
   pub all : HasTakenAll (present log) before.talk
-  pub placed : (present log).is_open ≡ true → is_overfull before.works.history ≡ false
+  pub placed : (present log).is_open ≡ true → has_lacked_place before.works.history ≡ false
   pub due : before.works.is_due ≡ true
   pub told : before.works.serial.gap ≡ None
   pub request : Sending

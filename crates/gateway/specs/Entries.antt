@@ -1,8 +1,11 @@
 -- What is stored of a run, as its log.
-use Rattle.std.specs.Prelude.{ℕ, ◌≤◌, ◌==◌, List, [], ◌∷◌, length, map, if◌then◌else◌}
+use Rattle.std.specs.Prelude.{◌≡◌, ℕ, ◌≤◌, ◌==◌, List, [], ◌∷◌, length, map, if◌then◌else◌}
 use Rattle.session.specs.declared.kinds.Close.{Close}
 use Rattle.session.specs.declared.kinds.Close.TheVariants.{Grammar, SendNumber, ReceiveNumber, Stopped, Timeout, OwnAnswers, Replaced}
 use Rattle.gateway.specs.Log.{Log, LogEntry, Came, Went, LineIn, Opened, TcpIn, CutOff, Ticked, WallIs, LineOut, TcpOut, Closed, GapOut}
+use Rattle.gateway.specs.Ports.{told_by, FitsBuffer, faults_of}
+use Rattle.gateway.specs.declared.ports.Next.{Next}
+use Rattle.gateway.specs.declared.ports.Next.TheVariants.{Done}
 use Rattle.gateway.specs.declared.entries.Entry.{Entry}
 use Rattle.gateway.specs.declared.entries.Entry.TheVariants as entries
 use Rattle.gateway.specs.declared.entries.Told.{Told}
@@ -21,6 +24,13 @@ event_of (entries.Bytes now octets) = Came now (TcpIn octets.items)
 event_of (entries.Cut now) = Came now CutOff
 event_of (entries.Tick now) = Came now Ticked
 event_of (entries.Wall now number) = Came now (WallIs number)
+
+-- an answer of a port tells this entry
+pub record IsAnnounced (entry : Entry) (next : Next) (buf : List ℕ) : Type 0 where
+  pub told : told_by next buf ≡ event_of entry ∷ []
+  pub fits : FitsBuffer next
+  pub healthy : faults_of next ≡ 0
+  pub some : next ≡ Done → ⊥
 
 -- the events of a run over these entries, the oldest first: a tick at moment 0, and then these
 abbrev pub script_of : List Entry → List LogEntry
@@ -46,7 +56,7 @@ abbrev pub told_of : Told → LogEntry
 told_of (told.Came entry) = event_of entry
 told_of (told.Line now octets) = Went now (LineOut octets.items)
 told_of (told.Tcp now octets) = Went now (TcpOut octets.items)
-told_of (told.Close now number) = Went now (Closed (cause_of number))
+told_of (told.Close now cause) = Went now (Closed cause)
 told_of (told.Gap now station session) = Went now (GapOut station session)
 
 -- the log that is stored, before what was there

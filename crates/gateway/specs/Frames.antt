@@ -38,11 +38,11 @@ IsNumberedFrom n [] = Unit {0}
 IsNumberedFrom n (f ∷ fs) = (f.ns ≡ n % 32768) × IsNumberedFrom (suc n) fs
 
 -- the latest STARTDT act or STOPDT act, if any, is a STARTDT act (5.3)
-abbrev pub runs : List Apdu → Bool
-runs [] = false
-runs (U StartAct ∷ older) = true
-runs (U StopAct ∷ older) = false
-runs (_ ∷ older) = runs older
+abbrev pub transfers : List Apdu → Bool
+transfers [] = false
+transfers (U StartAct ∷ older) = true
+transfers (U StopAct ∷ older) = false
+transfers (_ ∷ older) = transfers older
 
 abbrev pub i_frames : List Apdu → ℕ
 i_frames [] = 0
@@ -66,7 +66,7 @@ receive_fault sent older nr =
 -- transfer is stopped (5.3), an N(S) that isn't the next, or an N(R) that isn't valid (5.1).
 abbrev pub fault_of : ℕ → List Apdu → Apdu → Option Close
 fault_of sent older (I ns nr asdu) =
-    if not (runs older) then Some Stopped
+    if not (transfers older) then Some Stopped
     else (if not (ns == i_frames older % 32768) then Some SendNumber
     else receive_fault sent older nr)
 fault_of sent older (S nr) = receive_fault sent older nr

@@ -4,7 +4,7 @@ use Rattle.link.specs.Primary.{Outstanding, sending}
 use Rattle.gateway.specs.Log.{Log, TcpIn, Came, Went, TcpOut}
 use Rattle.command.specs.History.{History}
 use Rattle.gateway.specs.Connections.{present, received_before}
-use Rattle.gateway.specs.Works.{Works, is_overfull, settled_works, ready_works, done_works}
+use Rattle.gateway.specs.Works.{Works, has_lacked_place, settled_works, ready_works, done_works}
 
 -- nothing has come yet; octets of the connection are being taken; a frame of them was taken, and
 -- what follows goes out; the event is taken; an own answer of it found no place; the timers are
@@ -61,7 +61,7 @@ resting (entry ∷ log) = Asked
 -- But where one has just found none, each own answer of the open connection found a place.
 abbrev pub IsPlaced : Phase → Log → History → Type 0
 IsPlaced Crowded log h = Unit {0}
-IsPlaced phase log h = (present log).is_open ≡ true → is_overfull h ≡ false
+IsPlaced phase log h = (present log).is_open ≡ true → has_lacked_place h ≡ false
 
 -- what octets of the line, and what a frame leave, by whether their own answers found places
 abbrev pub after_line : Bool → Phase

@@ -89,7 +89,7 @@ refusal_fits station s = all_kept (refusals station s) (tasks.given_up station s
 
 -- A station's answer to a command: what it does to selections; and where data transfer runs it is
 -- passed on as own answers, these pieces. Else it is counted.
-abbrev pub mirrored : (at : ℕ) → (is_running : Bool) → AsduValue → (pieces : List (List ℕ)) →
+abbrev pub mirrored : (at : ℕ) → (is_transferring : Bool) → AsduValue → (pieces : List (List ℕ)) →
     Serial → Serial
 mirrored at true v pieces s =
     record s { commands = kept_until pieces (mirrors.mirrored v at s.commands) }
@@ -97,8 +97,8 @@ mirrored at false v pieces s =
     record s { commands = mirrors.mirrored v at s.commands; counts = one_mirrored s.counts }
 
 -- each piece finds a place
-abbrev pub mirror_fits : (at : ℕ) → (is_running : Bool) → AsduValue → (pieces : List (List ℕ)) →
-    Serial → Bool
+abbrev pub mirror_fits : (at : ℕ) → (is_transferring : Bool) → AsduValue →
+    (pieces : List (List ℕ)) → Serial → Bool
 mirror_fits at true v pieces s = all_kept pieces (mirrors.mirrored v at s.commands)
 mirror_fits at false v pieces s = true
 

@@ -10,7 +10,7 @@ use Rattle.apci.specs.Spelling.{Fits}
 use Rattle.session.specs.declared.kinds.Close.{Close}
 use Rattle.session.specs.declared.kinds.Close.TheVariants.{Timeout, OwnAnswers}
 use Rattle.session.specs.declared.kinds.Taken.TheVariants as taken
-use Rattle.session.specs.Session.{may_send, is_open, is_running, outcome_of, is_close}
+use Rattle.session.specs.Session.{may_send, is_open, is_transferring, outcome_of, is_close}
 use Rattle.command.specs.State.{first_answer}
 use Rattle.command.specs.Mirrors.{tag_for}
 use Rattle.gateway.specs.Tags.{AreTagged}
@@ -36,7 +36,7 @@ pub record Keeps (s : State) (report : List ℕ) (t : State) : Type 0 where
       ≡ record s { serial = reported s.sizes report s.serial; centre = pushed pieces s.centre }
 
 -- a station's answer to a command, whose pieces are passed on where data transfer runs
-pub record Mirrors (sizes : Sizes) (at : ℕ) (runs : Bool) (s : Serial) (report : List ℕ)
+pub record Mirrors (sizes : Sizes) (at : ℕ) (transferring : Bool) (s : Serial) (report : List ℕ)
     (fits : Bool) (t : Serial) : Type 0 where
   pub v : AsduValue
   pub plain : List (List ℕ)
@@ -47,12 +47,12 @@ pub record Mirrors (sizes : Sizes) (at : ℕ) (runs : Bool) (s : Serial) (report
   -- neither it nor any of them has an object of the queue's
   pub none : monitor_objects sizes report ≡ []
   pub unmonitored : AllByRecursion (λ piece. has_objects piece ≡ false) pieces
-  pub after : t ≡ mirrored at runs v pieces s
-  pub all : fits ≡ mirror_fits at runs v pieces s
+  pub after : t ≡ mirrored at transferring v pieces s
+  pub all : fits ≡ mirror_fits at transferring v pieces s
 
 abbrev pub LearnsReport : (is_of_command : Bool) → State → List ℕ → (fits : Bool) → State → Type 0
 LearnsReport true s report fits t =
-    Mirrors s.sizes s.moment (is_running s.centre.session) s.serial report fits t.serial
+    Mirrors s.sizes s.moment (is_transferring s.centre.session) s.serial report fits t.serial
     × (t ≡ with_serial t.serial s)
 LearnsReport false s report fits t = Keeps s report t × (fits ≡ true)
 

@@ -8,12 +8,12 @@ use Rattle.session.specs.declared.kinds.Close.TheVariants.{Replaced}
 use Rattle.gateway.specs.Log.{Log, Came, Went, Output, LineOut, TcpOut, Closed, GapOut, latest}
 use Rattle.gateway.specs.Gaps.{gaps_of, gaps_told, TellsGaps}
 use Rattle.gateway.specs.Streams.{IsOneFrame}
-use Rattle.gateway.specs.Frames.{runs, acknowledged_count, AreInOrder}
+use Rattle.gateway.specs.Frames.{transfers, acknowledged_count, AreInOrder}
 use Rattle.gateway.specs.Connections.{present, past, ends, is_replaced, AreConnections, IsBegun}
 use Rattle.gateway.specs.Reports.{Setup, address_at, taken_objects, KeepsLinks}
 use Rattle.link.specs.Leave.{is_poll_request}
 use Rattle.gateway.specs.Room.{AreConnectionsOf, HasRoom}
-use Rattle.gateway.specs.Works.{is_overfull}
+use Rattle.gateway.specs.Works.{has_lacked_place}
 use Rattle.gateway.specs.Course.{Course, here_of, HasSentAll, IsCause, Runs}
 use Rattle.gateway.specs.Conversation.{KeepsRulesThroughout, IsTalkAtRest}
 use Rattle.gateway.specs.Line.{IsWaiting, IsLineAtRest}
@@ -75,8 +75,8 @@ pub record IsAtRest (p : Setup) (log : Log) : Type 0 where
   pub course_runs : Runs p log course
   pub are : AreConnectionsOf log (here_of course) course.earlier
   pub settled : is_replaced log ≡ false
-  pub placed : (present log).is_open ≡ true → is_overfull course.works.history ≡ false
-  pub eager : (present log).is_open ≡ true → runs (here_of course).received_frames ≡ true →
+  pub placed : (present log).is_open ≡ true → has_lacked_place course.works.history ≡ false
+  pub eager : (present log).is_open ≡ true → transfers (here_of course).received_frames ≡ true →
       length (here_of course).sent_frames < acknowledged_count (here_of course).received_frames
       + p.session.k → HasSentAll p log course
   pub line : IsLineAtRest p log course (here_of course ∷ course.earlier)

@@ -7,7 +7,7 @@ use Rattle.asdu.specs.declared.sizes.Sizes.{Sizes}
 use Rattle.asdu.specs.Sizes.{tcp}
 use Rattle.asdu.specs.Asdu.{AsduValue, IsAsdu}
 use Rattle.asdu.specs.InformationObjects.{InformationObject, objects_of}
-use Rattle.asdu.specs.Translation.{parts, IsPiece, IsFull, AllButLast}
+use Rattle.asdu.specs.Translation.{parts, IsPiece, IsLargest, AllButLast}
 use Rattle.apci.specs.declared.apdu.Apdu.{Apdu}
 use Rattle.apci.specs.declared.apdu.Apdu.TheVariants.{I}
 use Rattle.link.specs.Exchanges.{Sending}
@@ -54,11 +54,11 @@ told_kept (x ∷ xs) s h =
     else Offered x (has_room s) ∷ h
 
 -- an own answer of the open connection found no place
-abbrev pub is_overfull : History → Bool
-is_overfull [] = false
-is_overfull (Offered octets false ∷ h) = true
-is_overfull (Ended ∷ h) = false
-is_overfull (entry ∷ h) = is_overfull h
+abbrev pub has_lacked_place : History → Bool
+has_lacked_place [] = false
+has_lacked_place (Offered octets false ∷ h) = true
+has_lacked_place (Ended ∷ h) = false
+has_lacked_place (entry ∷ h) = has_lacked_place h
 
 -- What came of an exchange
 
@@ -77,32 +77,32 @@ pub record IsPassedOn (sizes : Sizes) (v : AsduValue) (report : List ℕ)
   pub value : IsAsdu sizes v report
   pub joined : flat_map (λ piece. objects_of tcp piece) pieces ≡ objects_of sizes report
   pub each : AllByRecursion (λ piece. IsPiece v piece) pieces
-  pub full : AllButLast (λ piece. IsFull v piece) pieces
+  pub full : AllButLast (λ piece. IsLargest v piece) pieces
   pub number : length pieces ≡ parts sizes report
 
 -- a station's answer to a command
-abbrev pub told_mirror : (at : ℕ) → (is_running : Bool) → AsduValue → (pieces : List (List ℕ)) →
-    Works → History
+abbrev pub told_mirror : (at : ℕ) → (is_transferring : Bool) → AsduValue →
+    (pieces : List (List ℕ)) → Works → History
 told_mirror at true v pieces w =
     told_kept pieces (mirrors.mirrored v at w.serial.commands) (told (Mirror v at) w)
 told_mirror at false v pieces w = told (Mirror v at) w
 
-abbrev pub mirrored_works : (at : ℕ) → (is_running : Bool) → AsduValue → (pieces : List (List ℕ)) →
-    Works → Works
-mirrored_works at is_running v pieces w =
+abbrev pub mirrored_works : (at : ℕ) → (is_transferring : Bool) → AsduValue →
+    (pieces : List (List ℕ)) → Works → Works
+mirrored_works at is_transferring v pieces w =
     record w {
-      serial = serial.mirrored at is_running v pieces w.serial;
-      history = told_mirror at is_running v pieces w;
+      serial = serial.mirrored at is_transferring v pieces w.serial;
+      history = told_mirror at is_transferring v pieces w;
     }
 
-abbrev pub LearnsReport : Setup → (at : ℕ) → (is_running is_of_command : Bool) → List ℕ →
+abbrev pub LearnsReport : Setup → (at : ℕ) → (is_transferring is_of_command : Bool) → List ℕ →
     (before after : Works) → Type 0
-LearnsReport p at is_running true report w z =
+LearnsReport p at is_transferring true report w z =
     (v : AsduValue) × (plain : List (List ℕ)) × (pieces : List (List ℕ))
     × IsPassedOn p.sizes v report plain
     × AreTagged (mirrors.tag_for v v.infos w.serial.commands) plain pieces
-    × (z ≡ mirrored_works at is_running v pieces w)
-LearnsReport p at is_running false report w z = z
+    × (z ≡ mirrored_works at is_transferring v pieces w)
+LearnsReport p at is_transferring false report w z = z
     ≡ record w { serial = serial.reported p.sizes report w.serial }
 
 abbrev pub accepted_works : (station : ℕ) → Works → Works
@@ -121,16 +121,16 @@ refused_works station w = record w {
       (told (Busy station) w);
 }
 
-abbrev pub LearnsOf : Setup → (at : ℕ) → (is_running : Bool) → Outcome → (before after : Works) →
-    Type 0
-LearnsOf p at is_running (outcome.Report station asdu) w z =
-    LearnsReport p at is_running (is_command_report p.sizes asdu.items) asdu.items w z
-LearnsOf p at is_running (outcome.Accepted station) w z = z ≡ accepted_works station w
-LearnsOf p at is_running (outcome.Busy station) w z = z ≡ refused_works station w
-LearnsOf p at is_running (outcome.Down station) w z = z ≡ given_up_works station w
-LearnsOf p at is_running (outcome.StartedGap station session) w z = z
+abbrev pub LearnsOf : Setup → (at : ℕ) → (is_transferring : Bool) → Outcome →
+    (before after : Works) → Type 0
+LearnsOf p at is_transferring (outcome.Report station asdu) w z =
+    LearnsReport p at is_transferring (is_command_report p.sizes asdu.items) asdu.items w z
+LearnsOf p at is_transferring (outcome.Accepted station) w z = z ≡ accepted_works station w
+LearnsOf p at is_transferring (outcome.Busy station) w z = z ≡ refused_works station w
+LearnsOf p at is_transferring (outcome.Down station) w z = z ≡ given_up_works station w
+LearnsOf p at is_transferring (outcome.StartedGap station session) w z = z
     ≡ record w { serial = serial.with_gap station session w.serial }
-LearnsOf p at is_running other w z = z ≡ w
+LearnsOf p at is_transferring other w z = z ≡ w
 
 -- A frame that came, and one that goes out
 

@@ -242,6 +242,7 @@ impl Gateway {
     pub(crate) fn advance_to(&mut self, now: u64)
         ensures { self.new ≡ at_moment self.old now }
     {
+        // The bound keeps each sum of a moment and a setting far below 64 bits.
         self.moment = self.moment.max(now.min(LAST_MOMENT));
     }
 

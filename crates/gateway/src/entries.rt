@@ -1,5 +1,12 @@
 //! What comes in and goes out in a run, as it is stored.
-ghost use Rattle.std.specs.Prelude.{◌≡◌};
+ghost use Rattle.std.specs.Prelude.{◌≡◌, ◌≤◌, [], ◌∷◌, ◌++◌, length, take, IfOk, OnOk, OnErr};
+ghost use Rattle.gateway.specs.Log.{Went};
+ghost use Rattle.gateway.specs.Ports.{output_of};
+ghost use Rattle.gateway.specs.Entries.{FitsPort, IsAnnounced, number_of, told_of};
+
+use crate::ports::{Action, Next};
+use session::Close;
+use std::alloc::{AllocError, Global};
 
 /// An event with its moment, in milliseconds.
 #[derive(Debug, PartialEq, Eq, Drop)]
@@ -27,9 +34,69 @@ pub enum Told {
     Line(u64, Vec<u8>),
     /// Octets were handed to TCP: one APDU.
     Tcp(u64, Vec<u8>),
-    /// The connection was closed, with the number of the cause, 1 to 7.
-    Close(u64, u8),
+    /// The connection was closed, for this cause.
+    Close(u64, Close),
     /// A session of a station's link ended with a gap: the station, from 0, and the session, from
     /// 1.
     Gap(u64, usize, u64),
+}
+
+impl Told {
+    /// An action that went out at this moment, with octets of its own.
+    pub fn went(alloc: Global, now: u64, action: &Action<'_>) -> Result<Told, AllocError>
+        ensures { IfOk result (λ told. told_of told ≡ Went now (output_of action.now)) }
+    {
+        match action {
+            Action::Line(octets) => Ok(Told::Line(now, Vec::from_slice(alloc, octets)?)),
+            Action::Tcp(octets) => Ok(Told::Tcp(now, Vec::from_slice(alloc, octets)?)),
+            Action::Close(cause) => Ok(Told::Close(now, *cause)),
+            Action::Gap { station, session } => Ok(Told::Gap(now, *station, *session)),
+        }
+    }
+}
+
+/// Copies the octets to the front.
+fn fill(buf: &mut [u8; 1024], octets: &[u8])
+    requires { length octets.now ≤ 1024 }
+    ensures { take (length octets.now) buf.new ≡ octets.now }
+{
+    buf[..octets.len()].copy_from_slice(octets);
+}
+
+/// What a port answers that gives this entry: its octets are copied to the front of the buffer.
+/// They are to be 1,024 at most.
+pub fn announce(entry: &Entry, buf: &mut [u8; 1024]) -> Next
+    requires { FitsPort entry.now }
+    ensures { IsAnnounced entry.now result buf.new }
+{
+    match entry {
+        Entry::Line(now, octets) => {
+            fill(buf, octets);
+            Next::Line(*now, octets.len())
+        }
+        Entry::Open(now) => Next::Open(*now),
+        Entry::Bytes(now, octets) => {
+            fill(buf, octets);
+            Next::Bytes(*now, octets.len())
+        }
+        Entry::Cut(now) => Next::Cut(*now),
+        Entry::Tick(now) => Next::Tick(*now),
+        Entry::Wall(now, number) => Next::Wall(*now, *number),
+    }
+}
+
+/// Adds to a log that is stored.
+pub fn keep(log: &mut Vec<Told>, told: Told) -> Result<(), AllocError>
+    ensures ok { OnOk result (log.new.items ≡ log.old.items ++ told ∷ []) }
+    ensures err { OnErr result (log.new.items ≡ log.old.items) }
+{
+    log.push(told)?;
+    Ok(())
+}
+
+/// The number of a cause, 1 to 7, as it is printed.
+pub fn cause_number(cause: Close) -> u8
+    ensures { result ≡ number_of cause }
+{
+    cause as u8
 }

@@ -24,7 +24,7 @@ use link::line_keeps_the_procedures;
 /// don't tell at which frame: of a log `one_course` tells it.
 pub fn one_reading()
     ensures { (octets : Channel) (c d : Connection) (fault other : Option Close) →
-        octets.overfull ≡ false → IsConnection octets c fault → IsConnection octets d other →
+        octets.lacked_place ≡ false → IsConnection octets c fault → IsConnection octets d other →
         (c ≡ d) × (fault ≡ other) }
 {
     one_front();

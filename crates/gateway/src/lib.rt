@@ -39,7 +39,7 @@ mod walls;
 pub use config::Config;
 pub use counts::Counts;
 pub use engine::{Gateway, LAST_MOMENT, NoMemory};
-pub use entries::{Entry, Told};
+pub use entries::{Entry, Told, announce, cause_number, keep};
 pub use laws::{counts_tell_commands, courses_keep_commands, one_cause, one_course, one_reading};
 pub use ordering::{moments_never_fall, steps_keep_their_order};
 pub use ports::{Action, Event, Next, Port};

@@ -23,17 +23,22 @@ at_moment now (Some (found.Line len)) Holds h = h
 at_moment now (Some found.Fault) Holds h = tt
 
 -- by whether the line is heard out, and whether the exchange goes on
-heard_by : (h g : Bool) (t : Timing) (r : Request) (now : ℕ) → is_heard_out t r ≡ h → goes_on t r now ≡ g → 0 < t.answer_ms →
+heard_by : (h g : Bool) (t : Timing) (r : Request) (now : ℕ) → is_heard_out t r ≡ h → goes_on t r now ≡ g
+    → 0 < t.answer_ms →
     r.moment + t.answer_ms ≤ (if h then now else (if g then now else eve t r)) → t.answer_ms ≤ t.heard - r.written
 heard_by true g t r now heard on some late = grind (arith, heard)
 heard_by false true t r now heard on some late = grind (arith, on)
 heard_by false false t r now heard on some late = omega (arith, some, late)
 
-by_request : (t : Timing) (q : Option Request) (r : Request) (now : ℕ) → q ≡ Some r → 0 < t.answer_ms → r.moment + t.answer_ms ≤ moment_by t q now → t.answer_ms ≤ t.heard - r.written
-by_request t q r now asked some late = heard_by (is_heard_out t r) (goes_on t r now) t r now refl refl some (let P : Option Request → Type 0 = λ q. r.moment + t.answer_ms ≤ moment_by t q now in subst P asked late)
+by_request : (t : Timing) (q : Option Request) (r : Request) (now : ℕ) → q ≡ Some r → 0 < t.answer_ms
+    → r.moment + t.answer_ms ≤ moment_by t q now → t.answer_ms ≤ t.heard - r.written
+by_request t q r now asked some late = heard_by (is_heard_out t r) (goes_on t r now) t r now refl refl some
+    (let P : Option Request → Type 0 = λ q. r.moment + t.answer_ms ≤ moment_by t q now in subst P asked late)
 
-pub heard_out : (old new : Ends) (event : Next) (r : Request) → Turns old event new → new.timing.request ≡ Some r → 0 < new.timing.answer_ms →
-    AtMoment event (λ moment. r.moment + new.timing.answer_ms ≤ moment → new.timing.answer_ms ≤ new.timing.heard - r.written)
+pub heard_out : (old new : Ends) (event : Next) (r : Request) → Turns old event new → new.timing.request ≡ Some r
+    → 0 < new.timing.answer_ms →
+    AtMoment event (λ moment. r.moment + new.timing.answer_ms ≤ moment
+    → new.timing.answer_ms ≤ new.timing.heard - r.written)
 heard_out old new event r (inl t) asked some =
     let Holds : ℕ → Type 0 = λ moment. r.moment + new.timing.answer_ms ≤ moment →
     new.timing.answer_ms ≤ new.timing.heard - r.written in
@@ -45,7 +50,8 @@ heard_out old new event r (inr t) asked some =
     let Holds : ℕ → Type 0 = λ moment. r.moment + new.timing.answer_ms ≤ moment →
     new.timing.answer_ms ≤ new.timing.heard - r.written in
     let P : Next → Type 0 = λ e. AtMoment e Holds in
-    subst P (sym t.told.told) (at_moment (moment_at new.timing t.now) t.told.taken Holds (by_request new.timing new.timing.request r t.now asked some))
+    subst P (sym t.told.told) (at_moment (moment_at new.timing t.now) t.told.taken Holds
+    (by_request new.timing new.timing.request r t.now asked some))
 
 -- the clock has told this last
 at_clock : (told : Moments) (now : ℕ) (Holds : ℕ → Type 0) → Holds now → AtClock (read_at told now) Holds
@@ -59,7 +65,8 @@ InTime now p = AtClock p.1.clock (λ n. AtBytes (event_at (moment_at p.1.timing 
 level_bound : (now m : ℕ) → nat_lt 50 (now - m) ≡ false → now ≤ m + 50
 level_bound now m level = grind (arith, level)
 
-timely : (b : Bool) (f : Option Found) (e : Ends) (now : ℕ) → is_behind e.timing now ≡ b → InTime now (taken_by b f (told_at now e))
+timely : (b : Bool) (f : Option Found) (e : Ends) (now : ℕ) → is_behind e.timing now ≡ b
+    → InTime now (taken_by b f (told_at now e))
 unfolding InTime
 timely true None e now behind = at_clock e.clock now (λ n. Unit {0}) tt
 timely true (Some found.Open) e now behind = at_clock e.clock now (λ n. Unit {0}) tt
@@ -69,12 +76,14 @@ timely true (Some (found.Line len)) e now behind = at_clock e.clock now (λ n. U
 timely true (Some found.Fault) e now behind = at_clock e.clock now (λ n. Unit {0}) tt
 timely false None e now behind = at_clock e.clock now (λ n. Unit {0}) tt
 timely false (Some found.Open) e now behind = at_clock e.clock now (λ n. Unit {0}) tt
-timely false (Some (found.Bytes len)) e now behind = at_clock e.clock now (λ n. n ≤ moment_at e.timing now + 50) (level_bound now (moment_at e.timing now) behind)
+timely false (Some (found.Bytes len)) e now behind = at_clock e.clock now (λ n. n ≤ moment_at e.timing now + 50)
+    (level_bound now (moment_at e.timing now) behind)
 timely false (Some found.Cut) e now behind = at_clock e.clock now (λ n. Unit {0}) tt
 timely false (Some (found.Line len)) e now behind = at_clock e.clock now (λ n. Unit {0}) tt
 timely false (Some found.Fault) e now behind = at_clock e.clock now (λ n. Unit {0}) tt
 
-pub in_time : (old new : Ends) (event : Next) → Turns old event new → AtClock new.clock (λ now. AtBytes event (λ moment. now ≤ moment + 50))
+pub in_time : (old new : Ends) (event : Next) → Turns old event new
+    → AtClock new.clock (λ now. AtBytes event (λ moment. now ≤ moment + 50))
 unfolding InTime
 in_time old new event (inl t) =
     let P : Next → Type 0 = λ e. AtClock new.clock (λ now. AtBytes e (λ moment. now ≤ moment + 50)) in
@@ -84,7 +93,8 @@ in_time old new event (inl t) =
 in_time old new event (inr t) =
     let P : Next → Type 0 = λ e. AtClock new.clock (λ now. AtBytes e (λ moment. now ≤ moment + 50)) in
     let Q : Option Found × Ends → Type 0 = λ p. InTime t.now p in
-    subst P (sym t.told.told) (subst Q (sym t.told.ends) (timely (is_behind t.found.timing t.now) t.f t.found t.now refl))
+    subst P (sym t.told.told) (subst Q (sym t.told.ends)
+    (timely (is_behind t.found.timing t.now) t.f t.found t.now refl))
 
 -- the latest request and how long an answer is awaited are the same
 Keeps : Timing → Timing → Type 0
@@ -94,13 +104,15 @@ let_in_keeps : (k : Timing) (v : Option Peer) (e : Ends) → Keeps k e.timing �
 let_in_keeps k None e h = h
 let_in_keeps k (Some visitor) e h = h
 
-looked_keeps : (k : Timing) (s : Source) (t : ℕ) (a : Answers) (e : Ends) → Keeps k e.timing → Keeps k (looked_at s t a e).timing
+looked_keeps : (k : Timing) (s : Source) (t : ℕ) (a : Answers) (e : Ends) → Keeps k e.timing
+    → Keeps k (looked_at s t a e).timing
 unfolding Keeps
 looked_keeps k Door t a e h = let_in_keeps k a.visitor e h
 looked_keeps k Connection t a e h = h
 looked_keeps k Line t a e h = h
 
-next_keeps : (k : Timing) (s : Source) (f : Option Found) (e : Ends) → Keeps k e.timing → Keeps k (next_round s f e).timing
+next_keeps : (k : Timing) (s : Source) (f : Option Found) (e : Ends) → Keeps k e.timing
+    → Keeps k (next_round s f e).timing
 next_keeps k s None e h = h
 next_keeps k s (Some f) e h = h
 
@@ -108,16 +120,19 @@ next_keeps k s (Some f) e h = h
 IsKeeping : Timing → (Ends → Option Found × Ends) → Type 0
 IsKeeping k others = (e : Ends) → Keeps k e.timing → Keeps k (others e).1.timing
 
-unless_keeps : (k : Timing) (f : Option Found) (e : Ends) (others : Ends → Option Found × Ends) → Keeps k e.timing → IsKeeping k others → Keeps k (unless_found f e others).1.timing
+unless_keeps : (k : Timing) (f : Option Found) (e : Ends) (others : Ends → Option Found × Ends) → Keeps k e.timing
+    → IsKeeping k others → Keeps k (unless_found f e others).1.timing
 unfolding IsKeeping
 unless_keeps k None e others h on = on e h
 unless_keeps k (Some f) e others h on = h
 
-look_keeps : (k : Timing) (s : Source) (t : ℕ) (a : Answers) (others : Ends → Option Found × Ends) → IsKeeping k others → IsKeeping k (λ e. look s t a e others)
+look_keeps : (k : Timing) (s : Source) (t : ℕ) (a : Answers) (others : Ends → Option Found × Ends) → IsKeeping k others
+    → IsKeeping k (λ e. look s t a e others)
 unfolding IsKeeping
 look_keeps k s t a others on e h =
     let f = found_at s a e in
-    unless_keeps k f (next_round s f (looked_at s t a e)) others (next_keeps k s f (looked_at s t a e) (looked_keeps k s t a e h)) on
+    unless_keeps k f (next_round s f (looked_at s t a e)) others
+    (next_keeps k s f (looked_at s t a e) (looked_keeps k s t a e h)) on
 
 nothing_keeps : (k : Timing) → IsKeeping k nothing_more
 unfolding IsKeeping
@@ -128,18 +143,22 @@ unfolding IsKeeping
 round_keeps k t a e h =
     let third = look_keeps k (after (after e.first)) t a nothing_more (nothing_keeps k) in
     let second = look_keeps k (after e.first) t a (λ x. look (after (after e.first)) t a x nothing_more) third in
-    look_keeps k e.first t a (λ x. look (after e.first) t a x (λ y. look (after (after e.first)) t a y nothing_more)) second e h
+    look_keeps k e.first t a (λ x. look (after e.first) t a x (λ y. look (after (after e.first)) t a y nothing_more))
+    second e h
 
-sources_keeps : (k : Timing) (b : Bool) (t : ℕ) (a : Answers) (e : Ends) → Keeps k e.timing → Keeps k (sources_by b t a e).1.timing
+sources_keeps : (k : Timing) (b : Bool) (t : ℕ) (a : Answers) (e : Ends) → Keeps k e.timing
+    → Keeps k (sources_by b t a e).1.timing
 unfolding IsKeeping
 sources_keeps k true t a e h = look_keeps k Line t a nothing_more (nothing_keeps k) e h
 sources_keeps k false t a e h = round_keeps k t a e h
 
-turn_keeps : (k : Timing) (d : Bool) (t : ℕ) (a : Answers) (e : Ends) → Keeps k e.timing → Keeps k (turn_by d t a e).1.timing
+turn_keeps : (k : Timing) (d : Bool) (t : ℕ) (a : Answers) (e : Ends) → Keeps k e.timing
+    → Keeps k (turn_by d t a e).1.timing
 turn_keeps k true t a e h = h
 turn_keeps k false t a e h = sources_keeps k (is_behind e.timing t) t a e h
 
-taken_keeps : (k : Timing) (b : Bool) (f : Option Found) (e : Ends) → Keeps k e.timing → Keeps k (taken_by b f e).1.timing
+taken_keeps : (k : Timing) (b : Bool) (f : Option Found) (e : Ends) → Keeps k e.timing
+    → Keeps k (taken_by b f e).1.timing
 taken_keeps k false f e h = h
 taken_keeps k true None e h = h
 taken_keeps k true (Some found.Open) e h = h
@@ -148,12 +167,16 @@ taken_keeps k true (Some found.Cut) e h = h
 taken_keeps k true (Some (found.Line len)) e h = h
 taken_keeps k true (Some found.Fault) e h = h
 
-pub kept : (old new : Ends) (event : Next) → Turns old event new → (new.timing.request ≡ old.timing.request) × (new.timing.answer_ms ≡ old.timing.answer_ms)
+pub kept : (old new : Ends) (event : Next) → Turns old event new
+    → (new.timing.request ≡ old.timing.request) × (new.timing.answer_ms ≡ old.timing.answer_ms)
 unfolding Keeps
 kept old new event (inl t) =
     let same : new.timing ≡ old.timing = ap (λ (e : Ends). e.timing) t.told.ends in
     (ap (λ (k : Timing). k.request) same, ap (λ (k : Timing). k.answer_ms) same)
 kept old new event (inr t) =
     let Q : Option Found × Ends → Type 0 = λ p. Keeps old.timing p.1.timing in
-    let found : Keeps old.timing t.found.timing = subst Q (sym t.turn.turned) (turn_keeps old.timing old.is_cut_due t.begun t.turn.answers (looking (told_at t.begun old)) (refl, refl)) in
-    subst Q (sym t.told.ends) (taken_keeps old.timing (is_behind t.found.timing t.now) t.f (told_at t.now t.found) found)
+    let found : Keeps old.timing t.found.timing = subst Q (sym t.turn.turned)
+    (turn_keeps old.timing old.is_cut_due t.begun t.turn.answers (looking (told_at t.begun old)) (refl, refl))
+    in
+    subst Q (sym t.told.ends) (taken_keeps old.timing (is_behind t.found.timing t.now) t.f
+    (told_at t.now t.found) found)

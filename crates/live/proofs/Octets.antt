@@ -8,7 +8,8 @@ use Rattle.live.specs.declared.source.Source.TheVariants.{Connection}
 use Rattle.live.specs.declared.wires.Got.TheVariants.{Octets, Quiet}
 
 pub octets_came : (old new : Ends) (peer : Peer) (len : ℕ) → old.connection ≡ Some peer →
-    new ≡ record old { connection = Some (record peer { wire = noted peer.wire (Looked (Octets len)) }) } → LooksAt Connection 0 old (Some (Bytes len)) new
+    new ≡ record old { connection = Some (record peer { wire = noted peer.wire (Looked (Octets len)) }) }
+    → LooksAt Connection 0 old (Some (Bytes len)) new
 octets_came old new peer len there done = record {
   visitor = tt;
   found = sym (ap (λ c. of_open c (Octets len)) there);
@@ -16,7 +17,8 @@ octets_came old new peer len there done = record {
 }
 
 pub nothing_came : (old new : Ends) (peer : Peer) → old.connection ≡ Some peer →
-    new ≡ record old { connection = Some (record peer { wire = noted peer.wire (Looked Quiet) }) } → LooksAt Connection 0 old None new
+    new ≡ record old { connection = Some (record peer { wire = noted peer.wire (Looked Quiet) }) }
+    → LooksAt Connection 0 old None new
 nothing_came old new peer there done = record {
   visitor = tt;
   found = sym (ap (λ c. of_open c Quiet) there);

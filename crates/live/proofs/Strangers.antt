@@ -33,51 +33,61 @@ nothing_out : (g : Guests) (b : Option IpAddr) → KeepsOn g b nothing_more
 unfolding KeepsOn Out IsKeptOut
 nothing_out g b e h = h
 
-at_door : (g : Guests) (b : Option IpAddr) (v : Option Peer) (e : Ends) (others : Ends → Option Found × Ends) → KeepsOn g b others → IfSome v (IsGuest g) → IsSameOrNone b e.connection →
+at_door : (g : Guests) (b : Option IpAddr) (v : Option Peer) (e : Ends) (others : Ends → Option Found × Ends)
+    → KeepsOn g b others → IfSome v (IsGuest g) → IsSameOrNone b e.connection →
     Out g b (unless_found (of_visitor v) (next_round Door (of_visitor v) (let_in v e)) others)
 unfolding KeepsOn Out IsKeptOut
 at_door g b None e others on guest h = on (let_in None e) h
 at_door g b (Some peer) e others on guest h = guest.lets_in
 
-at_connection : (g : Guests) (b : Option IpAddr) (c : Option Peer) (got : Got) (e : Ends) (others : Ends → Option Found × Ends) → KeepsOn g b others → IsSameOrNone b c →
-    Out g b (unless_found (of_open c got) (next_round Connection (of_open c got) (record e { connection = read_from c got })) others)
+at_connection : (g : Guests) (b : Option IpAddr) (c : Option Peer) (got : Got) (e : Ends) (others : Ends
+    → Option Found × Ends) → KeepsOn g b others → IsSameOrNone b c →
+    Out g b (unless_found (of_open c got) (next_round Connection (of_open c got)
+    (record e { connection = read_from c got })) others)
 unfolding KeepsOn Out IsKeptOut
 at_connection g b None got e others on h = on (record e { connection = None }) tt
 at_connection g b (Some peer) (Octets len) e others on h = h
 at_connection g b (Some peer) Quiet e others on h = on (record e { connection = read_from (Some peer) Quiet }) h
 at_connection g b (Some peer) Gone e others on h = tt
 
-at_line : (g : Guests) (b : Option IpAddr) (got : Got) (e : Ends) (others : Ends → Option Found × Ends) → KeepsOn g b others → IsSameOrNone b e.connection →
+at_line : (g : Guests) (b : Option IpAddr) (got : Got) (e : Ends) (others : Ends → Option Found × Ends)
+    → KeepsOn g b others → IsSameOrNone b e.connection →
     Out g b (unless_found (of_line got) (next_round Line (of_line got) e) others)
 unfolding KeepsOn Out IsKeptOut
 at_line g b (Octets len) e others on h = h
 at_line g b Quiet e others on h = on e h
 at_line g b Gone e others on h = h
 
-look_out : (g : Guests) (b : Option IpAddr) (s : Source) (t : ℕ) (a : Answers) (others : Ends → Option Found × Ends) → IfSome a.visitor (IsGuest g) → KeepsOn g b others → KeepsOn g b (λ e. look s t a e others)
+look_out : (g : Guests) (b : Option IpAddr) (s : Source) (t : ℕ) (a : Answers) (others : Ends → Option Found × Ends)
+    → IfSome a.visitor (IsGuest g) → KeepsOn g b others → KeepsOn g b (λ e. look s t a e others)
 unfolding KeepsOn
 look_out g b Door t a others guest on e h = at_door g b a.visitor e others on guest h
 look_out g b Connection t a others guest on e h = at_connection g b e.connection a.connection e others on h
 look_out g b Line t a others guest on e h = at_line g b a.line (looked_at Line t a e) others on h
 
-round_out : (g : Guests) (b : Option IpAddr) (t : ℕ) (a : Answers) (e : Ends) → IfSome a.visitor (IsGuest g) → IsSameOrNone b e.connection → Out g b (round t a e)
+round_out : (g : Guests) (b : Option IpAddr) (t : ℕ) (a : Answers) (e : Ends) → IfSome a.visitor (IsGuest g)
+    → IsSameOrNone b e.connection → Out g b (round t a e)
 unfolding KeepsOn
 round_out g b t a e guest h =
     let third = look_out g b (after (after e.first)) t a nothing_more guest (nothing_out g b) in
     let second = look_out g b (after e.first) t a (λ x. look (after (after e.first)) t a x nothing_more) guest third in
-    look_out g b e.first t a (λ x. look (after e.first) t a x (λ y. look (after (after e.first)) t a y nothing_more)) guest second e h
+    look_out g b e.first t a (λ x. look (after e.first) t a x (λ y. look (after (after e.first)) t a y nothing_more))
+    guest second e h
 
-sources_out : (g : Guests) (b : Option IpAddr) (is_late : Bool) (t : ℕ) (a : Answers) (e : Ends) → IfSome a.visitor (IsGuest g) → IsSameOrNone b e.connection → Out g b (sources_by is_late t a e)
+sources_out : (g : Guests) (b : Option IpAddr) (is_late : Bool) (t : ℕ) (a : Answers) (e : Ends)
+    → IfSome a.visitor (IsGuest g) → IsSameOrNone b e.connection → Out g b (sources_by is_late t a e)
 unfolding KeepsOn
 sources_out g b true t a e guest h = look_out g b Line t a nothing_more guest (nothing_out g b) e h
 sources_out g b false t a e guest h = round_out g b t a e guest h
 
-turn_out : (g : Guests) (b : Option IpAddr) (is_due : Bool) (t : ℕ) (a : Answers) (e : Ends) → IfSome a.visitor (IsGuest g) → IsSameOrNone b e.connection → Out g b (turn_by is_due t a e)
+turn_out : (g : Guests) (b : Option IpAddr) (is_due : Bool) (t : ℕ) (a : Answers) (e : Ends)
+    → IfSome a.visitor (IsGuest g) → IsSameOrNone b e.connection → Out g b (turn_by is_due t a e)
 unfolding Out IsKeptOut
 turn_out g b true t a e guest h = tt
 turn_out g b false t a e guest h = sources_out g b (is_behind e.timing t) t a e guest h
 
-taken_out : (g : Guests) (b : Option IpAddr) (is_late : Bool) (f : Option Found) (e : Ends) → IsKeptOut g b f e.connection → Out g b (taken_by is_late f e)
+taken_out : (g : Guests) (b : Option IpAddr) (is_late : Bool) (f : Option Found) (e : Ends)
+    → IsKeptOut g b f e.connection → Out g b (taken_by is_late f e)
 unfolding Out IsKeptOut
 taken_out g b false f e h = h
 taken_out g b true None e h = h
@@ -87,7 +97,8 @@ taken_out g b true (Some found.Cut) e h = h
 taken_out g b true (Some (found.Line len)) e h = h
 taken_out g b true (Some found.Fault) e h = h
 
-told_out : (old new : Ends) (now : ℕ) (f : Option Found) → IsKeptOut old.guests (peer_of old) f new.connection → KeepsOut old (event_at now f) new
+told_out : (old new : Ends) (now : ℕ) (f : Option Found) → IsKeptOut old.guests (peer_of old) f new.connection
+    → KeepsOut old (event_at now f) new
 unfolding IsKeptOut
 told_out old new now None h = h
 told_out old new now (Some found.Open) h = h
@@ -110,7 +121,8 @@ kept_out old new event (inl t) =
 kept_out old new event (inr t) =
     let Q : Option Found × Ends → Type 0 = λ p. Out old.guests (peer_of old) p in
     let P : Next → Type 0 = λ e. KeepsOut old e new in
-    let turned = turn_out old.guests (peer_of old) old.is_cut_due t.begun t.turn.answers (looking (told_at t.begun old)) t.turn.visitor (as_it_was old.connection) in
+    let turned = turn_out old.guests (peer_of old) old.is_cut_due t.begun t.turn.answers
+    (looking (told_at t.begun old)) t.turn.visitor (as_it_was old.connection) in
     let found : IsKeptOut old.guests (peer_of old) t.f t.found.connection = subst Q (sym t.turn.turned) turned in
     let taken = taken_out old.guests (peer_of old) (is_behind t.found.timing t.now) t.f (told_at t.now t.found) found in
     let told : IsKeptOut old.guests (peer_of old) t.told.taken new.connection = subst Q (sym t.told.ends) taken in

@@ -18,7 +18,8 @@ joined Door a b c = record { visitor = a.visitor; connection = b.connection; lin
 joined Connection a b c = record { visitor = c.visitor; connection = a.connection; line = b.line }
 joined Line a b c = record { visitor = b.visitor; connection = c.connection; line = a.line }
 
-visitor_of : (g : Guests) (s : Source) (a b c : Answers) → IfSome a.visitor (IsGuest g) → IfSome b.visitor (IsGuest g) → IfSome c.visitor (IsGuest g) → IfSome (joined s a b c).visitor (IsGuest g)
+visitor_of : (g : Guests) (s : Source) (a b c : Answers) → IfSome a.visitor (IsGuest g) → IfSome b.visitor (IsGuest g)
+    → IfSome c.visitor (IsGuest g) → IfSome (joined s a b c).visitor (IsGuest g)
 unfolding joined
 visitor_of g Door a b c x y z = x
 visitor_of g Connection a b c x y z = z
@@ -56,47 +57,62 @@ found_2 Door a b c e = refl
 found_2 Connection a b c e = refl
 found_2 Line a b c e = refl
 
-ends_2 : (s : Source) (n : ℕ) (a b c : Answers) (e : Ends) → looked_at (after s) n (joined s a b c) e ≡ looked_at (after s) n b e
+ends_2 : (s : Source) (n : ℕ) (a b c : Answers) (e : Ends)
+    → looked_at (after s) n (joined s a b c) e ≡ looked_at (after s) n b e
 unfolding joined
 ends_2 Door n a b c e = refl
 ends_2 Connection n a b c e = refl
 ends_2 Line n a b c e = refl
 
-found_3 : (s : Source) (a b c : Answers) (e : Ends) → found_at (after (after s)) (joined s a b c) e ≡ found_at (after (after s)) c e
+found_3 : (s : Source) (a b c : Answers) (e : Ends) → found_at (after (after s)) (joined s a b c) e
+    ≡ found_at (after (after s)) c e
 unfolding joined
 found_3 Door a b c e = refl
 found_3 Connection a b c e = refl
 found_3 Line a b c e = refl
 
-ends_3 : (s : Source) (n : ℕ) (a b c : Answers) (e : Ends) → looked_at (after (after s)) n (joined s a b c) e ≡ looked_at (after (after s)) n c e
+ends_3 : (s : Source) (n : ℕ) (a b c : Answers) (e : Ends)
+    → looked_at (after (after s)) n (joined s a b c) e ≡ looked_at (after (after s)) n c e
 unfolding joined
 ends_3 Door n a b c e = refl
 ends_3 Connection n a b c e = refl
 ends_3 Line n a b c e = refl
 
 -- a look with these answers
-look_of : (s : Source) (t : ℕ) (a : Answers) (e n : Ends) (f : Option Found) (others : Ends → Option Found × Ends) → f ≡ found_at s a e → n ≡ next_round s f (looked_at s t a e) → look s t a e others ≡ unless_found f n others
+look_of : (s : Source) (t : ℕ) (a : Answers) (e n : Ends) (f : Option Found) (others : Ends → Option Found × Ends)
+    → f ≡ found_at s a e → n ≡ next_round s f (looked_at s t a e) → look s t a e others ≡ unless_found f n others
 look_of s t a e n f others found ends = rw (ends, ← found) refl
 
 -- the cut that is due
-pub due_turn : (t : ℕ) (old new : Ends) → old.is_cut_due ≡ true → new ≡ record old { connection = None; first = after Connection; is_cut_due = false } → IsTurn t old (Some Cut) new
+pub due_turn : (t : ℕ) (old new : Ends) → old.is_cut_due ≡ true
+    → new ≡ record old { connection = None; first = after Connection; is_cut_due = false } → IsTurn t old (Some Cut) new
 due_turn t old new due done = record {
   answers = record { visitor = None; connection = Quiet; line = Quiet };
   visitor = tt;
   turned = rw (due, done) refl;
 }
 
-look_1 : (s : Source) (t : ℕ) (a b c : Answers) (e n : Ends) (f : Option Found) (others : Ends → Option Found × Ends) → f ≡ found_at s a e → n ≡ next_round s f (looked_at s t a e) → look s t (joined s a b c) e others ≡ unless_found f n others
-look_1 s t a b c e n f others found ends = look_of s t (joined s a b c) e n f others (found ∙ sym (found_1 s a b c e)) (ends ∙ ap (next_round s f) (sym (ends_1 s t a b c e)))
+look_1 : (s : Source) (t : ℕ) (a b c : Answers) (e n : Ends) (f : Option Found) (others : Ends → Option Found × Ends)
+    → f ≡ found_at s a e → n ≡ next_round s f (looked_at s t a e)
+    → look s t (joined s a b c) e others ≡ unless_found f n others
+look_1 s t a b c e n f others found ends = look_of s t (joined s a b c) e n f others (found
+    ∙ sym (found_1 s a b c e)) (ends ∙ ap (next_round s f) (sym (ends_1 s t a b c e)))
 
-look_2 : (s : Source) (t : ℕ) (a b c : Answers) (e n : Ends) (f : Option Found) (others : Ends → Option Found × Ends) → f ≡ found_at (after s) b e → n ≡ next_round (after s) f (looked_at (after s) t b e) → look (after s) t (joined s a b c) e others ≡ unless_found f n others
-look_2 s t a b c e n f others found ends = look_of (after s) t (joined s a b c) e n f others (found ∙ sym (found_2 s a b c e)) (ends ∙ ap (next_round (after s) f) (sym (ends_2 s t a b c e)))
+look_2 : (s : Source) (t : ℕ) (a b c : Answers) (e n : Ends) (f : Option Found) (others : Ends → Option Found × Ends)
+    → f ≡ found_at (after s) b e → n ≡ next_round (after s) f (looked_at (after s) t b e)
+    → look (after s) t (joined s a b c) e others ≡ unless_found f n others
+look_2 s t a b c e n f others found ends = look_of (after s) t (joined s a b c) e n f others (found
+    ∙ sym (found_2 s a b c e)) (ends ∙ ap (next_round (after s) f) (sym (ends_2 s t a b c e)))
 
-look_3 : (s : Source) (t : ℕ) (a b c : Answers) (e n : Ends) (f : Option Found) (others : Ends → Option Found × Ends) → f ≡ found_at (after (after s)) c e → n ≡ next_round (after (after s)) f (looked_at (after (after s)) t c e) → look (after (after s)) t (joined s a b c) e others ≡ unless_found f n others
-look_3 s t a b c e n f others found ends = look_of (after (after s)) t (joined s a b c) e n f others (found ∙ sym (found_3 s a b c e)) (ends ∙ ap (next_round (after (after s)) f) (sym (ends_3 s t a b c e)))
+look_3 : (s : Source) (t : ℕ) (a b c : Answers) (e n : Ends) (f : Option Found) (others : Ends → Option Found × Ends)
+    → f ≡ found_at (after (after s)) c e → n ≡ next_round (after (after s)) f (looked_at (after (after s)) t c e)
+    → look (after (after s)) t (joined s a b c) e others ≡ unless_found f n others
+look_3 s t a b c e n f others found ends = look_of (after (after s)) t (joined s a b c) e n f others (found
+    ∙ sym (found_3 s a b c e)) (ends ∙ ap (next_round (after (after s)) f) (sym (ends_3 s t a b c e)))
 
 -- no cut is due, and no moment too far behind
-plain : (t : ℕ) (answers : Answers) (old : Ends) → old.is_cut_due ≡ false → is_behind old.timing t ≡ false → turn t answers old ≡ round t answers old
+plain : (t : ℕ) (answers : Answers) (old : Ends) → old.is_cut_due ≡ false → is_behind old.timing t ≡ false
+    → turn t answers old ≡ round t answers old
 plain t answers old due level = ap (λ b. turn_by b t answers old) due ∙ ap (λ b. sources_by b t answers old) level
 
 last_look : (f : Option Found) (n : Ends) → unless_found f n nothing_more ≡ (f, n)
@@ -104,27 +120,32 @@ last_look None n = refl
 last_look (Some f) n = refl
 
 -- the line alone is looked at
-pub line_turn : (t : ℕ) (old new : Ends) (f : Option Found) → old.is_cut_due ≡ false → is_behind old.timing t ≡ true → Looks Line t old f new → IsTurn t old f new
+pub line_turn : (t : ℕ) (old new : Ends) (f : Option Found) → old.is_cut_due ≡ false → is_behind old.timing t ≡ true
+    → Looks Line t old f new → IsTurn t old f new
 line_turn t old new f due behind l =
     let a = answers_for f new in
     record {
       answers = a;
       visitor = l.visitor;
-      turned = sym (ap (λ b. turn_by b t a old) due ∙ (ap (λ b. sources_by b t a old) behind ∙ (look_of Line t a old new f nothing_more l.found l.ends ∙ last_look f new)));
+      turned = sym (ap (λ b. turn_by b t a old) due ∙ (ap (λ b. sources_by b t a old) behind
+          ∙ (look_of Line t a old new f nothing_more l.found l.ends ∙ last_look f new)));
     }
 
 -- the first look finds something
-pub first_turn : (t : ℕ) (old new : Ends) (f : Found) → old.is_cut_due ≡ false → is_behind old.timing t ≡ false → Looks old.first t old (Some f) new → IsTurn t old (Some f) new
+pub first_turn : (t : ℕ) (old new : Ends) (f : Found) → old.is_cut_due ≡ false → is_behind old.timing t ≡ false
+    → Looks old.first t old (Some f) new → IsTurn t old (Some f) new
 first_turn t old new f due level l =
     let a = answers_for (Some f) new in
     record {
       answers = joined old.first a a a;
       visitor = visitor_of old.guests old.first a a a l.visitor l.visitor l.visitor;
-      turned = sym (plain t (joined old.first a a a) old due level ∙ look_1 old.first t a a a old new (Some f) _ l.found l.ends);
+      turned = sym (plain t (joined old.first a a a) old due level
+          ∙ look_1 old.first t a a a old new (Some f) _ l.found l.ends);
     }
 
 -- the second look finds something
-pub second_turn : (t : ℕ) (old mid new : Ends) (f : Found) → old.is_cut_due ≡ false → is_behind old.timing t ≡ false → Looks old.first t old None mid → Looks (after old.first) t mid (Some f) new → IsTurn t old (Some f) new
+pub second_turn : (t : ℕ) (old mid new : Ends) (f : Found) → old.is_cut_due ≡ false → is_behind old.timing t ≡ false
+    → Looks old.first t old None mid → Looks (after old.first) t mid (Some f) new → IsTurn t old (Some f) new
 second_turn t old mid new f due level l m =
     let a = answers_for None mid in
     let b = answers_for (Some f) new in
@@ -133,11 +154,15 @@ second_turn t old mid new f due level l m =
     record {
       answers = joined old.first a b b;
       visitor = visitor_of old.guests old.first a b b l.visitor second second;
-      turned = sym (plain t (joined old.first a b b) old due level ∙ (look_1 old.first t a b b old mid None _ l.found l.ends ∙ look_2 old.first t a b b mid new (Some f) _ m.found m.ends));
+      turned = sym (plain t (joined old.first a b b) old due level
+          ∙ (look_1 old.first t a b b old mid None _ l.found l.ends
+          ∙ look_2 old.first t a b b mid new (Some f) _ m.found m.ends));
     }
 
 -- the third look tells the turn
-pub third_turn : (t : ℕ) (old mid more new : Ends) (f : Option Found) → old.is_cut_due ≡ false → is_behind old.timing t ≡ false → Looks old.first t old None mid → Looks (after old.first) t mid None more → Looks (after (after old.first)) t more f new → IsTurn t old f new
+pub third_turn : (t : ℕ) (old mid more new : Ends) (f : Option Found) → old.is_cut_due ≡ false
+    → is_behind old.timing t ≡ false → Looks old.first t old None mid → Looks (after old.first) t mid None more
+    → Looks (after (after old.first)) t more f new → IsTurn t old f new
 third_turn t old mid more new f due level l m n =
     let a = answers_for None mid in
     let b = answers_for None more in
@@ -150,11 +175,16 @@ third_turn t old mid more new f due level l m n =
     record {
       answers = joined old.first a b c;
       visitor = visitor_of old.guests old.first a b c l.visitor second third;
-      turned = sym (plain t (joined old.first a b c) old due level ∙ (look_1 old.first t a b c old mid None _ l.found l.ends ∙ (look_2 old.first t a b c mid more None _ m.found m.ends ∙ (look_3 old.first t a b c more new f _ n.found n.ends ∙ last_look f new))));
+      turned = sym (plain t (joined old.first a b c) old due level
+          ∙ (look_1 old.first t a b c old mid None _ l.found l.ends
+          ∙ (look_2 old.first t a b c mid more None _ m.found m.ends
+          ∙ (look_3 old.first t a b c more new f _ n.found n.ends ∙ last_look f new))));
     }
 
 -- octets that came too far behind the clock
-pub told_cut : (now : ℕ) (old new : Ends) (len : ℕ) (event : Next) → is_behind old.timing now ≡ true → new ≡ record old { connection = None } → event ≡ event_at (moment_at new.timing now) (Some Cut) → IsTold now old (Some (Bytes len)) event new
+pub told_cut : (now : ℕ) (old new : Ends) (len : ℕ) (event : Next) → is_behind old.timing now ≡ true
+    → new ≡ record old { connection = None } → event ≡ event_at (moment_at new.timing now) (Some Cut)
+    → IsTold now old (Some (Bytes len)) event new
 told_cut now old new len event behind done told = record {
   taken = Some Cut;
   ends = ap (λ e. (Some Cut, e)) done ∙ sym (ap (λ b. taken_by b (Some (Bytes len)) old) behind);
@@ -162,7 +192,8 @@ told_cut now old new len event behind done told = record {
 }
 
 -- octets that came in time
-pub told_level : (now : ℕ) (old : Ends) (f : Option Found) (event : Next) → is_behind old.timing now ≡ false → event ≡ event_at (moment_at old.timing now) f → IsTold now old f event old
+pub told_level : (now : ℕ) (old : Ends) (f : Option Found) (event : Next) → is_behind old.timing now ≡ false
+    → event ≡ event_at (moment_at old.timing now) f → IsTold now old f event old
 told_level now old f event level told = record {
   taken = f;
   ends = sym (ap (λ b. taken_by b f old) level);

@@ -30,9 +30,10 @@ pub record IsGuest (guests : Guests) (peer : Peer) : Type 0 where
   pub is_new : IsNew peer.wire
   pub lets_in : LetsIn guests peer.address
 
--- Who may come in; what happened at the line, at the connection, if there is one, at the door, and what the clock told; the
--- source that is looked at first; whether a write to the connection failed, so that a cut is due; how often the line was gone;
--- what tells the moment of an event; and what the wall clock showed, and when it was told last.
+-- Who may come in; what happened at the line, at the connection, if there is one, at the door, and
+-- what the clock told; the source that is looked at first; whether a write to the connection
+-- failed, so that a cut is due; how often the line was gone; what tells the moment of an event; and
+-- what the wall clock showed, and when it was told last.
 pub record Ends : Type 0 where
   pub guests : Guests
   pub line : History
@@ -52,7 +53,8 @@ after Door = Connection
 after Connection = Line
 after Line = Door
 
--- what the ends answer in one round, each if it is looked at: a visitor at the door, with what happened at the wire so far
+-- what the ends answer in one round, each if it is looked at: a visitor at the door, with what
+-- happened at the wire so far
 pub record Answers : Type 0 where
   pub visitor : Option Peer
   pub connection : Got
@@ -88,7 +90,8 @@ found_at Line answers ends = of_line answers.line
 -- a visitor takes the place of the connection that was
 abbrev pub let_in : Option Peer → Ends → Ends
 let_in None ends = record ends { door = visited ends.door false }
-let_in (Some visitor) ends = record ends { door = visited ends.door true; connection = Some visitor }
+let_in (Some visitor) ends =
+    record ends { door = visited ends.door true; connection = Some visitor }
 
 -- a connection that is gone is none any more
 abbrev pub read_open : History → Got → Option History
@@ -113,8 +116,13 @@ failed_by Gone failed = failed + 1
 -- the ends after a look at a source, before which the clock told this moment
 abbrev pub looked_at : Source → ℕ → Answers → Ends → Ends
 looked_at Door begun answers ends = let_in answers.visitor ends
-looked_at Connection begun answers ends = record ends { connection = read_from ends.connection answers.connection }
-looked_at Line begun answers ends = record ends { line = noted ends.line (Looked answers.line); failed = failed_by answers.line ends.failed; timing = heard_at begun ends.timing }
+looked_at Connection begun answers ends =
+    record ends { connection = read_from ends.connection answers.connection }
+looked_at Line begun answers ends = record ends {
+  line = noted ends.line (Looked answers.line);
+  failed = failed_by answers.line ends.failed;
+  timing = heard_at begun ends.timing;
+}
 
 -- where something is found the next round begins after its source
 abbrev pub next_round : Source → Option Found → Ends → Ends
@@ -128,31 +136,39 @@ unless_found (Some f) ends others = (Some f, ends)
 
 abbrev pub look : Source → ℕ → Answers → Ends → (Ends → Option Found × Ends) → Option Found × Ends
 look source begun answers ends others =
-    let f = found_at source answers ends in unless_found f (next_round source f (looked_at source begun answers ends)) others
+    let f = found_at source answers ends in
+    unless_found f (next_round source f (looked_at source begun answers ends)) others
 
 -- no other is looked at
 abbrev pub nothing_more : Ends → Option Found × Ends
 nothing_more ends = (None, ends)
 
--- The sources are looked at in turn, beginning with `first`, until something is found; the next round begins after that source.
+-- The sources are looked at in turn, beginning with `first`, until something is found; the next
+-- round begins after that source.
 abbrev pub round : ℕ → Answers → Ends → Option Found × Ends
 round begun answers ends =
-    look ends.first begun answers ends (λ e. look (after ends.first) begun answers e (λ e. look (after (after ends.first)) begun answers e nothing_more))
+    look ends.first begun answers ends
+    (λ e. look (after ends.first) begun answers e
+    (λ e. look (after (after ends.first)) begun answers e nothing_more))
 
 -- Where the moment of an event would be too far behind the clock, the line alone is looked at.
 abbrev pub sources_by : Bool → ℕ → Answers → Ends → Option Found × Ends
 sources_by true begun answers ends = look Line begun answers ends nothing_more
 sources_by false begun answers ends = round begun answers ends
 
--- a cut that is due comes before any source is looked at, as an event of the connection, which is no more
+-- a cut that is due comes before any source is looked at, as an event of the connection, which is
+-- no more
 abbrev pub turn_by : Bool → ℕ → Answers → Ends → Option Found × Ends
-turn_by true begun answers ends = (Some found.Cut, record ends { connection = None; first = after Connection; is_cut_due = false })
+turn_by true begun answers ends =
+    let cut = record ends { connection = None; first = after Connection; is_cut_due = false } in
+    (Some found.Cut, cut)
 turn_by false begun answers ends = sources_by (is_behind ends.timing begun) begun answers ends
 
 abbrev pub turn : ℕ → Answers → Ends → Option Found × Ends
 turn begun answers ends = turn_by ends.is_cut_due begun answers ends
 
--- Octets of the connection that would bear a moment too far behind the clock aren't taken: the connection is cut.
+-- Octets of the connection that would bear a moment too far behind the clock aren't taken: the
+-- connection is cut.
 abbrev pub taken_by : Bool → Option Found → Ends → Option Found × Ends
 taken_by true (Some (found.Bytes len)) ends = (Some found.Cut, record ends { connection = None })
 taken_by true f ends = (f, ends)
@@ -195,7 +211,8 @@ abbrev pub told_at : ℕ → Ends → Ends
 told_at now ends = record ends { clock = read_at ends.clock now }
 
 -- what was found when the clock was read again, as an event
-pub record IsTold (now : ℕ) (old : Ends) (f : Option Found) (event : Next) (new : Ends) : Type 0 where
+pub record IsTold (now : ℕ) (old : Ends) (f : Option Found) (event : Next) (new : Ends)
+    : Type 0 where
   pub taken : Option Found
   pub ends : (taken, new) ≡ taken_by (is_behind old.timing now) f old
   pub told : event ≡ event_at (moment_at new.timing now) taken
@@ -237,7 +254,8 @@ pub record TurnsToEnds (old : Ends) (event : Next) (new : Ends) : Type 0 where
 abbrev pub Turns : Ends → Next → Ends → Type 0
 Turns old event new = TurnsToWall old event new ⊎ TurnsToEnds old event new
 
--- the ends after octets for the connection: they are dropped where there is none, and where a cut is due
+-- the ends after octets for the connection: they are dropped where there is none, and where a cut
+-- is due
 abbrev pub written_open : Bool → List ℕ → Bool → Option Peer → Ends → Ends
 written_open true octets taken peer ends = ends
 written_open false octets taken None ends = ends
@@ -252,17 +270,23 @@ pub record IsWritten (old : Ends) (octets : List ℕ) (new : Ends) : Type 0 wher
   pub taken : Bool
   pub done : new ≡ written_open old.is_cut_due octets taken old.connection old
 
--- A close ends the connection, and with it a cut that was due. That of a connection which another has replaced has nothing
--- more to end.
+-- A close ends the connection, and with it a cut that was due. That of a connection which another
+-- has replaced has nothing more to end.
 abbrev pub closed_by : Close → Ends → Ends
 closed_by Replaced ends = ends
 closed_by _ ends = record ends { connection = None; is_cut_due = false }
 
--- The ends after an action of this moment, where the wire that it goes to took the octets, or not: a write to the connection
--- that failed makes a cut due, one to the line loses a request. Once a request is written the clock is read.
+-- The ends after an action of this moment, where the wire that it goes to took the octets, or not:
+-- a write to the connection that failed makes a cut due, one to the line loses a request. Once a
+-- request is written the clock is read.
 abbrev pub after_action : ℕ → Output → ℕ → Bool → Ends → Ends
-after_action moment (LineOut octets) written taken ends = record ends { line = noted ends.line (Wrote octets taken); clock = read_at ends.clock written; timing = asked_at moment written ends.timing }
-after_action moment (TcpOut octets) written taken ends = written_open ends.is_cut_due octets taken ends.connection ends
+after_action moment (LineOut octets) written taken ends = record ends {
+  line = noted ends.line (Wrote octets taken);
+  clock = read_at ends.clock written;
+  timing = asked_at moment written ends.timing;
+}
+after_action moment (TcpOut octets) written taken ends =
+    written_open ends.is_cut_due octets taken ends.connection ends
 after_action moment (Closed cause) written taken ends = closed_by cause ends
 after_action moment (GapOut station session) written taken ends = ends
 

@@ -50,7 +50,8 @@ IsSameOrNone before (Some peer) = before ≡ Some peer.address
 abbrev pub peer_of : Ends → Option IpAddr
 peer_of ends = option_map (λ (p : Peer). p.address) ends.connection
 
--- Where a connection is opened it is one of a guest; any other event leaves the one that was, or none.
+-- Where a connection is opened it is one of a guest; any other event leaves the one that was, or
+-- none.
 abbrev pub KeepsOut : Ends → Next → Ends → Type 0
 KeepsOut old (next.Open now) new = IsOfGuest old.guests new.connection
 KeepsOut old (next.Line now len) new = IsSameOrNone (peer_of old) new.connection

@@ -22,16 +22,22 @@ visitor_for (Some found.Open) connection = connection
 visitor_for _ connection = None
 
 abbrev pub answers_for : Option Found → Ends → Answers
-answers_for f new = record { visitor = visitor_for f new.connection; connection = got_for f; line = got_for f }
+answers_for f new = record {
+  visitor = visitor_for f new.connection;
+  connection = got_for f;
+  line = got_for f;
+}
 
 -- such answers of a source give what was found, and the ends after it
-pub record LooksAt (source : Source) (begun : ℕ) (old : Ends) (f : Option Found) (new : Ends) : Type 0 where
+pub record LooksAt (source : Source) (begun : ℕ) (old : Ends) (f : Option Found) (new : Ends)
+    : Type 0 where
   pub visitor : IfSome (answers_for f new).visitor (IsGuest old.guests)
   pub found : f ≡ found_at source (answers_for f new) old
   pub ends : new ≡ looked_at source begun (answers_for f new) old
 
 -- and the next round begins after the source, where something was found
-pub record Looks (source : Source) (begun : ℕ) (old : Ends) (f : Option Found) (new : Ends) : Type 0 where
+pub record Looks (source : Source) (begun : ℕ) (old : Ends) (f : Option Found) (new : Ends)
+    : Type 0 where
   pub visitor : IfSome (answers_for f new).visitor (IsGuest old.guests)
   pub found : f ≡ found_at source (answers_for f new) old
   pub ends : new ≡ next_round source f (looked_at source begun (answers_for f new) old)

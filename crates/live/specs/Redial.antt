@@ -6,7 +6,8 @@ use Rattle.live.specs.Ends.{read_open}
 use Rattle.live.specs.declared.wires.Got.{Got}
 use Rattle.live.specs.declared.wires.Got.TheVariants.{Octets, Quiet, Gone}
 
--- Whether each try reached a wire, what the clock told, what happened at the wire, if there is one, and when it was tried last.
+-- Whether each try reached a wire, what the clock told, what happened at the wire, if there is one,
+-- and when it was tried last.
 pub record Redial : Type 0 where
   pub tries : Visits
   pub clock : Moments
@@ -25,7 +26,8 @@ told_at now r = record r { clock = read_at r.clock now }
 -- where one is due it is tried once, and a wire that is reached is a new one
 abbrev pub tried_by : Bool → ℕ → Option History → Redial → Redial
 tried_by false now reached r = r
-tried_by true now reached r = record r { tries = visited r.tries (is_some reached); wire = reached; tried = Some now }
+tried_by true now reached r =
+    record r { tries = visited r.tries (is_some reached); wire = reached; tried = Some now }
 
 -- it was tried once at this moment
 pub record IsTried (now : ℕ) (old new : Redial) : Type 0 where
@@ -38,9 +40,11 @@ quieted (Octets len) = Octets len
 quieted Quiet = Quiet
 quieted Gone = Quiet
 
--- A look: at the wire, if there is one, which is none any more where it has gone; else it is tried to reach one.
+-- A look: at the wire, if there is one, which is none any more where it has gone; else it is tried
+-- to reach one.
 abbrev pub looked_by : Option History → ℕ → Option History → Got → Redial → Got × Redial
-looked_by None now reached got r = (Quiet, tried_by (is_due r.tried now) now reached (told_at now r))
+looked_by None now reached got r =
+    (Quiet, tried_by (is_due r.tried now) now reached (told_at now r))
 looked_by (Some wire) now reached got r = (quieted got, record r { wire = read_open wire got })
 
 pub record IsRedialled (old : Redial) (got : Got) (new : Redial) : Type 0 where
@@ -53,7 +57,8 @@ pub record IsRedialled (old : Redial) (got : Got) (new : Redial) : Type 0 where
 -- octets are put on the wire, if there is one; else they aren't taken
 abbrev pub put_by : Option History → List ℕ → Bool → Redial → Bool × Redial
 put_by None octets taken r = (false, r)
-put_by (Some wire) octets taken r = (taken, record r { wire = Some (noted wire (Wrote octets taken)) })
+put_by (Some wire) octets taken r =
+    (taken, record r { wire = Some (noted wire (Wrote octets taken)) })
 
 pub record IsPut (old : Redial) (octets : List ℕ) (is_taken : Bool) (new : Redial) : Type 0 where
   pub taken : Bool

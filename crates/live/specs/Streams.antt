@@ -15,7 +15,8 @@ abbrev pub called : Calls → Result ℕ Error → Calls
 called None answer = None
 called (Some before) answer = Some (answer ∷ before)
 
--- A wait that ended without octets and an interruption are quiet; every other failure is the wire's end.
+-- A wait that ended without octets and an interruption are quiet; every other failure is the wire's
+-- end.
 abbrev pub MeansFault : ErrorKind → Got → Type 0
 MeansFault kind (Octets len) = ⊥
 MeansFault kind Quiet = (kind ≡ WouldBlock) ⊎ ((kind ≡ TimedOut) ⊎ (kind ≡ Interrupted))
@@ -23,7 +24,9 @@ MeansFault kind Gone = (kind ≢ WouldBlock) × (kind ≢ TimedOut) × (kind ≢
 
 -- octets are octets, and none at all are the wire's end
 abbrev pub MeansGot : Result ℕ Error → Got → Type 0
-MeansGot answer got = MatchResult answer (λ len. got ≡ (if len == 0 then Gone else Octets len)) (λ fault. MeansFault (error_kind fault) got)
+MeansGot answer got =
+    MatchResult answer (λ len. got ≡ (if len == 0 then Gone else Octets len))
+    (λ fault. MeansFault (error_kind fault) got)
 
 -- one call, and what its answer means
 pub record ReadsOnce (old : Calls) (got : Got) (new : Calls) : Type 0 where

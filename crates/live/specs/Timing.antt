@@ -1,6 +1,7 @@
--- What moment an event bears (this gateway's own profile). By IEC 60870-5-101 an exchange is unanswered where no answer has come
--- for so long after its request: that is time that the line had, not time for which the gateway itself stood still. So the end of
--- an exchange waits until the line has been looked at that long after the request was written.
+-- What moment an event bears (this gateway's own profile). By IEC 60870-5-101 an exchange is
+-- unanswered where no answer has come for so long after its request: that is time that the line
+-- had, not time for which the gateway itself stood still. So the end of an exchange waits until the
+-- line has been looked at that long after the request was written.
 use Rattle.std.specs.Prelude.{ℕ, ◌+◌, ◌-◌, nat_le, nat_lt, Bool, List, ◌∷◌, Option, Some, None, if◌then◌else◌}
 use Rattle.live.specs.declared.timing.Timing.{Timing}
 use Rattle.live.specs.declared.timing.Request.{Request}
@@ -25,10 +26,12 @@ goes_on t r now = nat_lt (now - r.moment) t.answer_ms
 abbrev pub eve : Timing → Request → ℕ
 eve t r = r.moment + (t.answer_ms - 1)
 
--- That of the clock, but while the line hasn't been heard out no later than the eve of the exchange's end.
+-- That of the clock, but while the line hasn't been heard out no later than the eve of the
+-- exchange's end.
 abbrev pub moment_by : Timing → Option Request → ℕ → ℕ
 moment_by t None now = now
-moment_by t (Some r) now = if is_heard_out t r then now else (if goes_on t r now then now else eve t r)
+moment_by t (Some r) now =
+    if is_heard_out t r then now else (if goes_on t r now then now else eve t r)
 
 abbrev pub moment_at : Timing → ℕ → ℕ
 moment_at t now = moment_by t t.request now
@@ -43,4 +46,5 @@ heard_at begun t = record t { heard = begun }
 
 -- a request of this moment, written then
 abbrev pub asked_at : ℕ → ℕ → Timing → Timing
-asked_at moment written t = record t { request = Some (record { moment = moment; written = written }) }
+asked_at moment written t =
+    record t { request = Some (record { moment = moment; written = written }) }

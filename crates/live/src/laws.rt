@@ -1,4 +1,5 @@
-//! Laws of the port over live ends, in the terms of the clock, the requests and the looks at the line.
+//! Laws of the port over live ends, in the terms of the clock, the requests and the looks at the
+//! line.
 ghost use Rattle.std.specs.Prelude.{◌≡◌, ◌+◌, ◌-◌, ◌<◌, ◌≤◌, Some, true, false};
 ghost use Rattle.gateway.specs.declared.ports.Next.{Next};
 ghost use Rattle.live.specs.Ends.{Ends, Turns};
@@ -6,19 +7,23 @@ ghost use Rattle.live.specs.Law.{AtMoment, AtBytes, AtClock, KeepsOut};
 ghost use Rattle.live.specs.Walls.{is_wall};
 ghost use Rattle.live.specs.declared.timing.Request.{Request};
 
-/// Where an event's moment lets an exchange end (`answer_ms` or more after its request's), a look at the line has begun `answer_ms`
-/// or more after that request was written: a stall of the gateway ends no exchange whose answer waits.
+/// Where an event's moment lets an exchange end (`answer_ms` or more after its request's), a look
+/// at the line has begun `answer_ms` or more after that request was written: a stall of the gateway
+/// ends no exchange whose answer waits.
 #[tactic(auto, using(crate::proofs::Law::heard_out))]
 pub fn no_exchange_ends_unheard()
-    ensures { (old new : Ends) (event : Next) (r : Request) → Turns old event new → new.timing.request ≡ Some r → 0 < new.timing.answer_ms →
-        AtMoment event (λ moment. r.moment + new.timing.answer_ms ≤ moment → new.timing.answer_ms ≤ new.timing.heard - r.written) }
+    ensures { (old new : Ends) (event : Next) (r : Request) → Turns old event new →
+        new.timing.request ≡ Some r → 0 < new.timing.answer_ms →
+        AtMoment event (λ moment. r.moment + new.timing.answer_ms ≤ moment →
+        new.timing.answer_ms ≤ new.timing.heard - r.written) }
 {}
 
-/// An event that bears what a control centre sent bears a moment at most 50 ms before the one that the clock told last: no stall
-/// makes a selection longer than that.
+/// An event that bears what a control centre sent bears a moment at most 50 ms before the one that
+/// the clock told last: no stall makes a selection longer than that.
 #[tactic(auto, using(crate::proofs::Law::in_time))]
 pub fn what_the_centre_sent_is_told_in_time()
-    ensures { (old new : Ends) (event : Next) → Turns old event new → AtClock new.clock (λ now. AtBytes event (λ moment. now ≤ moment + 50)) }
+    ensures { (old new : Ends) (event : Next) → Turns old event new →
+        AtClock new.clock (λ now. AtBytes event (λ moment. now ≤ moment + 50)) }
 {}
 
 /// Looks at the ends leave the latest request and `answer_ms` as they were.
@@ -27,14 +32,14 @@ pub fn looks_ask_nothing()
         (new.timing.request ≡ old.timing.request) × (new.timing.answer_ms ≡ old.timing.answer_ms) }
 {}
 
-/// Nobody but a guest comes in: an event that opens a connection opens one of a guest, and who is none leaves the open
-/// connection as it was.
+/// Nobody but a guest comes in: an event that opens a connection opens one of a guest, and who is
+/// none leaves the open connection as it was.
 pub fn nobody_but_guests_comes_in()
     ensures { (old new : Ends) (event : Next) → Turns old event new → KeepsOut old event new }
 {}
 
-/// Two events that follow each other never both tell the wall clock: whatever the gateway stalls, the
-/// ends are looked at in between.
+/// Two events that follow each other never both tell the wall clock: whatever the gateway stalls,
+/// the ends are looked at in between.
 pub fn the_ends_are_looked_at_between_wall_moments()
     ensures { (a b c : Ends) (first second : Next) → Turns a first b → Turns b second c →
         is_wall first ≡ true → is_wall second ≡ false }

@@ -1,31 +1,36 @@
-//! The gateway's port over real ends: a line, a door that control centres come through, and a clock (this gateway's own
-//! profile).
+//! The gateway's port over real ends: a line, a door that control centres come through, and a clock
+//! (this gateway's own profile).
 //!
-//! [`Live`] looks at its ends in turn and gives what it finds as events; it puts requests on the line, and APDUs on the
-//! connection. Each end is behind a trait: [`Wire`] (octets both ways, without a long wait), [`Door`], [`Clock`].
-//! Those on the system's sockets are [`LineSocket`], [`CentreListener`], [`CentreSocket`] and [`SystemClock`].
+//! [`Live`] looks at its ends in turn and gives what it finds as events; it puts requests on the
+//! line, and APDUs on the connection. Each end is behind a trait: [`Wire`] (octets both ways,
+//! without a long wait), [`Door`], [`Clock`]. Those on the system's sockets are [`LineSocket`],
+//! [`CentreListener`], [`CentreSocket`] and [`SystemClock`].
 //!
-//! Proved, for any ends that tell what happens at them: an event is the first thing found in one round that begins after the
-//! source of the last event, else a tick; each source of the round is looked at once, and none after the one that had something;
-//! a connection that is gone is a cut; after a write to the connection that failed the next event but the wall clock is a cut, no
-//! end is looked at before, and nothing more is written to it; a close ends the connection and that cut; who comes through the door takes the
-//! place of the connection, and stays when the gateway closes the one before; a request that the line doesn't take is lost and
-//! no failure; the line's end alone is one.
+//! Proved, for any ends that tell what happens at them: an event is the first thing found in one
+//! round that begins after the source of the last event, else a tick; each source of the round is
+//! looked at once, and none after the one that had something; a connection that is gone is a cut;
+//! after a write to the connection that failed the next event but the wall clock is a cut, no end
+//! is looked at before, and nothing more is written to it; a close ends the connection and that
+//! cut; who comes through the door takes the place of the connection, and stays when the gateway
+//! closes the one before; a request that the line doesn't take is lost and no failure; the line's
+//! end alone is one.
 //!
-//! And of time, whatever the gateway stalls: an event bears the clock's moment after the looks, but none that ends an exchange
-//! whose line hasn't been looked at for `answer_ms` since the request was written ([`no_exchange_ends_unheard`]); where that
-//! moment is more than 50 ms behind the clock, the line alone is looked at, and octets of a control centre that would bear such
-//! a moment are not taken: the connection is cut ([`what_the_centre_sent_is_told_in_time`]).
+//! And of time, whatever the gateway stalls: an event bears the clock's moment after the looks, but
+//! none that ends an exchange whose line hasn't been looked at for `answer_ms` since the request
+//! was written ([`no_exchange_ends_unheard`]); where that moment is more than 50 ms behind the
+//! clock, the line alone is looked at, and octets of a control centre that would bear such a moment
+//! are not taken: the connection is cut ([`what_the_centre_sent_is_told_in_time`]).
 //!
 //! The wall clock is told at the first call, and again where a second has passed since and the ends
 //! have been looked at in between ([`the_ends_are_looked_at_between_wall_moments`]): as it stood at
 //! the moment that the event bears. A wall clock that is set is told as it then shows.
 //!
-//! [`Redialled`] is a wire that is reached again where it has gone: proved, for any dialler that tells its tries, is that it is
-//! quiet and takes nothing while it is away, is tried at once and then every second, and begins as a new wire each time.
+//! [`Redialled`] is a wire that is reached again where it has gone: proved, for any dialler that
+//! tells its tries, is that it is quiet and takes nothing while it is away, is tried at once and
+//! then every second, and begins as a new wire each time.
 //!
-//! One call to a stream of the system is read as one fact about its answer: octets, quiet or gone, and taken only where all was
-//! taken. What sockets do beyond that is no matter of a proof.
+//! One call to a stream of the system is read as one fact about its answer: octets, quiet or gone,
+//! and taken only where all was taken. What sockets do beyond that is no matter of a proof.
 #![tactic(auto)]
 
 #[cfg(test)]

@@ -5,7 +5,8 @@ use crate::guests::Guests;
 use crate::wires::{Clock, Door, Got, SentAway, Visitor, Wire};
 use std::net::{IpAddr, Ipv4Addr};
 
-/// A wire. Its reads find nothing, or one octet each, and it takes what is written, but for one read and one write that fail.
+/// A wire. Its reads find nothing, or one octet each, and it takes what is written, but for one
+/// read and one write that fail.
 #[derive(Debug, Drop)]
 pub(crate) struct MemoryWire {
     has_octets: bool,

@@ -47,7 +47,10 @@ impl<L: Wire, D: Door + Drop, C: Clock + Drop> Model for Live<L, D, C> {
     ghost view = { λ a. record {
       guests = a.guests;
       line = L.history a.line;
-      connection = option_map (λ v. record { address = v.address; wire = D.Wire.history v.wire }) a.connection;
+      connection = option_map (λ v. record {
+        address = v.address;
+        wire = D.Wire.history v.wire;
+      }) a.connection;
       door = D.visits a.door;
       clock = C.moments a.clock;
       first = a.first;
@@ -62,8 +65,8 @@ impl<L: Wire, D: Door + Drop, C: Clock + Drop> Model for Live<L, D, C> {
 impl<L: Wire, D: Door + Drop, C: Clock + Drop> Live<L, D, C> {
     ghost use Rattle.live.specs.declared.source.Source.TheVariants as sources;
 
-    /// A port over these ends, with no connection yet. Nobody but these guests comes in. An answer of the line is awaited for
-    /// `answer_ms`, in ms, as in the gateway's settings.
+    /// A port over these ends, with no connection yet. Nobody but these guests comes in. An answer
+    /// of the line is awaited for `answer_ms`, in ms, as in the gateway's settings.
     pub fn new(line: L, door: D, clock: C, guests: Guests, answer_ms: u64) -> Live<L, D, C>
         ensures { result ≡ record {
           guests = guests;
@@ -124,8 +127,9 @@ impl<L: Wire, D: Door + Drop, C: Clock + Drop> Live<L, D, C> {
         self.clock.now_ms()
     }
 
-    /// What a turn finds, which the clock begins at this moment: the cut that is due, else the first thing in one round over the
-    /// sources, or, where the moment of an event would be too far behind the clock, on the line alone.
+    /// What a turn finds, which the clock begins at this moment: the cut that is due, else the
+    /// first thing in one round over the sources, or, where the moment of an event would be too far
+    /// behind the clock, on the line alone.
     #[tactic(auto, using(crate::proofs::Turns::due_turn, crate::proofs::Turns::line_turn, crate::proofs::Turns::first_turn, crate::proofs::Turns::second_turn, crate::proofs::Turns::third_turn))]
     fn turn(&mut self, begun: u64, buf: &mut [u8; 1024]) -> Option<Found>
         requires { self.old.failed < u64.MAX }
@@ -154,7 +158,8 @@ impl<L: Wire, D: Door + Drop, C: Clock + Drop> Live<L, D, C> {
         self.look(second.after(), begun, buf)
     }
 
-    /// Looks once at a source. Where something is found, the next round begins with the source after it.
+    /// Looks once at a source. Where something is found, the next round begins with the source
+    /// after it.
     fn look(&mut self, source: Source, begun: u64, buf: &mut [u8; 1024]) -> Option<Found>
         requires { self.old.failed < u64.MAX }
         ensures fits { IfSome result FitsFound }
@@ -224,8 +229,9 @@ impl<L: Wire, D: Door + Drop, C: Clock + Drop> Live<L, D, C> {
         }
     }
 
-    /// What was found, as an event of the moment that is due now. Octets of the connection whose moment would be too far behind
-    /// the clock are not taken: the connection is cut, since an execute among them could come in time by that moment alone.
+    /// What was found, as an event of the moment that is due now. Octets of the connection whose
+    /// moment would be too far behind the clock are not taken: the connection is cut, since an
+    /// execute among them could come in time by that moment alone.
     #[tactic(auto, using(crate::proofs::Turns::told_cut, crate::proofs::Turns::told_level))]
     fn tell(&mut self, now: u64, found: Option<Found>) -> Next
         requires { IfSome found FitsFound }

@@ -25,13 +25,14 @@ pub trait Dialler {
         ensures fresh { IfSome result (λ wire. IsNew (Self.Wire.history wire)) }
         ensures told { tries self.new ≡ visited (tries self.old) (is_some result) };
 
-    /// Waits for as long as a look at a quiet wire does, so that who looks at a wire that is away doesn't spin.
+    /// Waits for as long as a look at a quiet wire does, so that who looks at a wire that is away
+    /// doesn't spin.
     fn pause(&mut self)
         ensures { tries self.new ≡ tries self.old };
 }
 
-/// A wire that is reached again where it has gone: at once, then every second. While it is away it is quiet and takes nothing,
-/// and it begins with an empty stream each time.
+/// A wire that is reached again where it has gone: at once, then every second. While it is away it
+/// is quiet and takes nothing, and it begins with an empty stream each time.
 #[derive(Drop)]
 pub struct Redialled<D: Dialler + Drop, C: Clock + Drop> {
     dialler: D,
@@ -47,13 +48,23 @@ impl<D: Dialler + Drop, C: Clock + Drop> Model for Redialled<D, C> {
 
     ghost Value = { Redial };
 
-    ghost view = { λ a. record { tries = D.tries a.dialler; clock = C.moments a.clock; wire = option_map (λ wire. D.Wire.history wire) a.wire; tried = a.tried } };
+    ghost view = { λ a. record {
+      tries = D.tries a.dialler;
+      clock = C.moments a.clock;
+      wire = option_map (λ wire. D.Wire.history wire) a.wire;
+      tried = a.tried;
+    } };
 }
 
 impl<D: Dialler + Drop, C: Clock + Drop> Redialled<D, C> {
     /// One that is away. The first look tries to reach it.
     pub fn new(dialler: D, clock: C) -> Redialled<D, C>
-        ensures { result ≡ record { tries = D.tries dialler; clock = C.moments clock; wire = None; tried = None } }
+        ensures { result ≡ record {
+          tries = D.tries dialler;
+          clock = C.moments clock;
+          wire = None;
+          tried = None;
+        } }
     {
         Redialled {
             dialler,

@@ -1,7 +1,8 @@
 //! Ends on the system's sockets and clock.
 //!
-//! Only a look at the line waits, for some milliseconds; the door and a connection are asked without a wait. So octets of the
-//! line are seen at once, those of a control centre after one look at a quiet line.
+//! Only a look at the line waits, for some milliseconds; the door and a connection are asked
+//! without a wait. So octets of the line are seen at once, those of a control centre after one look
+//! at a quiet line.
 ghost use Rattle.std.specs.Prelude.{None};
 
 use crate::guests::Guests;
@@ -41,7 +42,8 @@ pub enum LineSocket {
 }
 
 impl LineSocket {
-    /// Connects to `tcp:HOST:PORT` or `unix:PATH`, within some seconds for each address that HOST has.
+    /// Connects to `tcp:HOST:PORT` or `unix:PATH`, within some seconds for each address that HOST
+    /// has.
     ///
     /// # Errors
     ///
@@ -104,8 +106,9 @@ impl Wire for LineSocket {
         }
     }
 
-    /// What came before a request is no answer to it and is dropped: the exchange before is over, and what is late of it the
-    /// station gives again, since the request that wasn't answered is repeated with its frame count bit.
+    /// What came before a request is no answer to it and is dropped: the exchange before is over,
+    /// and what is late of it the station gives again, since the request that wasn't answered is
+    /// repeated with its frame count bit.
     fn write(&mut self, octets: &[u8]) -> bool {
         match self {
             LineSocket::Tcp(stream) => {
@@ -126,8 +129,8 @@ impl Reached for LineSocket {
     }
 }
 
-/// Reaches the line at `tcp:HOST:PORT` or `unix:PATH` again and again, within half a second for each address that HOST has. A name
-/// is looked up at each try.
+/// Reaches the line at `tcp:HOST:PORT` or `unix:PATH` again and again, within half a second for
+/// each address that HOST has. A name is looked up at each try.
 #[derive(Drop)]
 pub struct LineDialler<'a, R> {
     rt: &'a R,
@@ -155,7 +158,8 @@ impl<R: Net<Stream = TcpStream> + std::rt::Clock> Dialler for LineDialler<'_, R>
     }
 }
 
-/// The connection of a control centre. Its reads don't wait; a write waits for 20 ms at the most, where the system has no room.
+/// The connection of a control centre. Its reads don't wait; a write waits for 20 ms at the most,
+/// where the system has no room.
 #[derive(Drop)]
 pub struct CentreSocket(TcpStream);
 
@@ -192,8 +196,8 @@ impl Wire for CentreSocket {
     }
 }
 
-/// The door: a TCP listener that doesn't wait. All guests who wait come in, and the last of them stays; who is none is sent
-/// away.
+/// The door: a TCP listener that doesn't wait. All guests who wait come in, and the last of them
+/// stays; who is none is sent away.
 #[derive(Drop)]
 pub struct CentreListener<'a, R> {
     rt: &'a R,
@@ -287,7 +291,8 @@ impl<R: Net<Listener = TcpListener, Stream = TcpStream> + Eprint> Door for Centr
     }
 }
 
-/// The system's clock that never goes back, from 0 at its start. Where it can't be read the last moment is told again.
+/// The system's clock that never goes back, from 0 at its start. Where it can't be read the last
+/// moment is told again.
 #[derive(Drop)]
 pub struct SystemClock<'a, R> {
     rt: &'a R,

@@ -71,7 +71,8 @@ impl Stream for UnixStream {
     }
 }
 
-/// Reads once: a timeout and an interruption are quiet, an end and every other failure are the wire's end.
+/// Reads once: a timeout and an interruption are quiet, an end and every other failure are the
+/// wire's end.
 pub(crate) fn read_once<S: Stream>(stream: &mut S, buf: &mut [u8; 1024]) -> Got
     ensures fits { FitsBuffer result }
     ensures reads { ReadsOnce (S.calls stream.old) result (S.calls stream.new) }
@@ -86,7 +87,8 @@ pub(crate) fn read_once<S: Stream>(stream: &mut S, buf: &mut [u8; 1024]) -> Got
     }
 }
 
-/// Writes in one call, so that it waits no longer than the stream's timeout, and answers whether all octets were taken.
+/// Writes in one call, so that it waits no longer than the stream's timeout, and answers whether
+/// all octets were taken.
 pub(crate) fn write_once<S: Stream>(stream: &mut S, octets: &[u8]) -> bool
     ensures { WritesAll (S.calls stream.old) octets.now result (S.calls stream.new) }
 {

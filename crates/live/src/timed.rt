@@ -48,11 +48,13 @@ impl Time {
     }
 }
 
-/// A line whose station gives each answer in two pieces: 'not available' to a poll, and what the link's start wants.
+/// A line whose station gives each answer in two pieces: 'not available' to a poll, and what the
+/// link's start wants.
 #[derive(Drop)]
 pub(crate) struct TimedLine<'a> {
     time: &'a Time,
-    /// How long after a request the first piece of its answer comes, and the second one after it, in ms.
+    /// How long after a request the first piece of its answer comes, and the second one after it,
+    /// in ms.
     answer_ms: u64,
     rest_ms: u64,
     /// How long the next look takes, and the next write, in ms.

@@ -24,8 +24,9 @@ pub(crate) struct Timing {
 }
 
 impl Timing {
-    /// The moment of an event that the clock tells now. It is the clock's, but as long as the line hasn't been looked at for
-    /// `answer_ms` after the latest request was written, it doesn't end that request's exchange.
+    /// The moment of an event that the clock tells now. It is the clock's, but as long as the line
+    /// hasn't been looked at for `answer_ms` after the latest request was written, it doesn't end
+    /// that request's exchange.
     pub(crate) fn moment(&self, now: u64) -> u64
         ensures { result ≡ moment_at self.now now }
     {
@@ -41,7 +42,8 @@ impl Timing {
         request.moment + self.answer_ms.saturating_sub(1)
     }
 
-    /// That moment is too far behind the clock for what a control centre sends: a selection would last too long.
+    /// That moment is too far behind the clock for what a control centre sends: a selection would
+    /// last too long.
     pub(crate) fn is_behind(&self, now: u64) -> bool
         ensures { result ≡ is_behind self.now now }
     {

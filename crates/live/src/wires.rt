@@ -69,8 +69,8 @@ pub trait Door {
     /// Whether someone came in at each look, the newest first, where it tells that.
     ghost visits: { Self → Visits };
 
-    /// Looks once for a new connection, without a wait, and lets in no one but these guests: who else comes is sent away at
-    /// once. Nothing has happened at the wire yet.
+    /// Looks once for a new connection, without a wait, and lets in no one but these guests: who
+    /// else comes is sent away at once. Nothing has happened at the wire yet.
     fn accept(&mut self, guests: &Guests) -> Option<Visitor<Self::Wire>>
         ensures guest { IfSome result (λ visitor. LetsIn guests.now visitor.address) }
         ensures fresh { IfSome result (λ visitor. IsNew (Self.Wire.history visitor.wire)) }
@@ -89,8 +89,8 @@ pub struct SentAway {
     pub last: Option<IpAddr>,
 }
 
-/// A clock that begins anywhere and never goes back, and the wall clock beside it, which people set.
-/// One that tells what it told adds each moment, and each number that the wall clock showed.
+/// A clock that begins anywhere and never goes back, and the wall clock beside it, which people
+/// set. One that tells what it told adds each moment, and each number that the wall clock showed.
 pub trait Clock {
     ghost use Rattle.live.specs.Timing.{Moments, read_at};
 

@@ -15,7 +15,8 @@ nothing_added (Some x) a = ap Some (append-nil (x ++ a))
 
 -- by whether the record was over, and whether there was memory
 noted : (over memory : Bool) (old : Recording) (line : List ℕ) → old.is_over ≡ over →
-    grows_by (if over then old else held_by memory line old).is_over old line (if over then old else held_by memory line old)
+    grows_by (if over then old else held_by memory line old).is_over old line
+    (if over then old else held_by memory line old)
 noted true memory old line over =
     let P : Bool → Type 0 = λ b. grows_by b old line old in subst P (sym over) refl
 noted false false old line over = refl
@@ -37,7 +38,8 @@ gave false false old = refl
 pub gives_text : (old new : Recording) → Gives old new → text_of new ≡ text_of old
 gives_text old new g = ap text_of g.done ∙ gave old.is_over g.taken old
 
-took : (over taken : Bool) (old : Recording) → old.is_over ≡ over → (if over then old else given taken old).is_over ≡ false →
+took : (over taken : Bool) (old : Recording) → old.is_over ≡ over
+    → (if over then old else given taken old).is_over ≡ false →
     (if over then old else given taken old).taken ≡ text_of old
 took true taken old over goes = let no : false ≡ true = sym goes ∙ over in absurd (cc)
 took false true old over goes = refl

@@ -6,7 +6,7 @@ ghost use Rattle.traces.specs.Printed.{lines_of_log};
 
 use gateway::{Action, Next, Told};
 use std::alloc::{AllocError, Global};
-use traces::{append_event, append_line, cause_number};
+use traces::{append_event, append_line};
 
 /// The line of an event, or nothing where a port has none. An `Err` is want of memory.
 pub(crate) fn event_line(alloc: Global, next: Next, buf: &[u8; 1024]) -> Result<String, AllocError>
@@ -26,12 +26,7 @@ pub(crate) fn action_line(
 ) -> Result<String, AllocError>
     ensures { IfOk result (λ line. string_bytes line ≡ line_of now (output_of action.now)) }
 {
-    let told = match action {
-        Action::Line(octets) => Told::Line(now, Vec::from_slice(alloc, octets)?),
-        Action::Tcp(octets) => Told::Tcp(now, Vec::from_slice(alloc, octets)?),
-        Action::Close(cause) => Told::Close(now, cause_number(*cause)),
-        Action::Gap { station, session } => Told::Gap(now, *station, *session),
-    };
+    let told = Told::went(alloc, now, action)?;
     let mut line = String::new(alloc);
     append_line(alloc, &mut line, &told)?;
     Ok(line)

@@ -14,11 +14,11 @@ use Rattle.session.specs.declared.kinds.Taken.TheVariants.{Nothing, Asdu, Close}
 use Rattle.session.specs.declared.kinds.Close.TheVariants.{SendNumber, ReceiveNumber, Stopped}
 use Rattle.session.specs.declared.kinds.Transfer.TheVariants as Transfer
 use Rattle.session.specs.Session as session
-use Rattle.session.specs.Session.{Session, is_close, is_running, may_send, is_valid, newly, newly_by, outcome_of, refuses, taken, after_frame, nothing_due, acknowledgement, replied, confirmed, pulled, Due}
+use Rattle.session.specs.Session.{Session, is_close, is_transferring, may_send, is_valid, newly, newly_by, outcome_of, refuses, taken, after_frame, nothing_due, acknowledgement, replied, confirmed, pulled, Due}
 use Rattle.session.specs.History.{History, Opened, Came, Refused, Sent, Went, is_open, sent_frames, received_count, reached, acknowledged_count, IsNumbered, is_started, is_stop_pending, confirmations_due, confirmations_sent, confirmation_owed, unconfirmed_moments, last_frame, outstanding_test}
 use Rattle.session.specs.Runs.{Settings, IsInRange, Call, Open, Cut, Take, Send, Confirm, Pull, Run, run, told, with_frame, may_take, after_call}
 use Rattle.session.proofs.Counters.{valid_agrees, reached_newly}
-use Rattle.session.proofs.States.{running_opens, stopping_runs_not}
+use Rattle.session.proofs.States.{transferring_opens, stopping_transfers_not}
 
 -- ---- the parts
 
@@ -45,7 +45,7 @@ IsSet p s = (s.k ≡ p.k) × (s.w ≡ p.w) × (s.t1 ≡ p.t1) × (s.t2 ≡ p.t2)
 pub record Keeps (p : Settings) (s : Session) (h : History) : Type 0 where
   pub set : IsSet p s
   pub connected : session.is_open s ≡ is_open h
-  pub running : is_running s ≡ is_started h
+  pub transferring : is_transferring s ≡ is_started h
   pub stopping : session.is_stopping s ≡ is_stop_pending h
   pub window : Window s.k s.unacknowledged s.next_sent (acknowledged_count h) (sent_frames h)
   pub receipt : Receipt s.w s.next_received s.unconfirmed s.unconfirmed_since (received_count h) (unconfirmed_moments h)
@@ -150,7 +150,7 @@ passed : (p : Settings) (frame : Apdu) (now : ℕ) (s : Session) (h : History) �
 passed p (I ns nr asdu) now s h range keeps connected drained passes = record {
   set = keeps.set;
   connected = connected;
-  running = keeps.running;
+  transferring = keeps.transferring;
   stopping = keeps.stopping;
   window = window_after nr s.k s.unacknowledged s.next_sent (acknowledged_count h) (sent_frames h)
       (omega (arith, keeps.set.0, range.k_small)) keeps.window (three_tests _ _ (is_valid nr s) passes);
@@ -165,7 +165,7 @@ passed p (I ns nr asdu) now s h range keeps connected drained passes = record {
 passed p (S nr) now s h range keeps connected drained passes = record {
   set = keeps.set;
   connected = connected;
-  running = keeps.running;
+  transferring = keeps.transferring;
   stopping = keeps.stopping;
   window = window_after nr s.k s.unacknowledged s.next_sent (acknowledged_count h) (sent_frames h)
       (omega (arith, keeps.set.0, range.k_small)) keeps.window (one_test (is_valid nr s) passes);
@@ -179,7 +179,7 @@ passed p (S nr) now s h range keeps connected drained passes = record {
 passed p (U StartAct) now s h range keeps connected drained passes = record {
   set = keeps.set;
   connected = rw connected;
-  running = rw connected;
+  transferring = rw connected;
   stopping = rw connected;
   window = keeps.window;
   receipt = keeps.receipt;
@@ -193,7 +193,7 @@ passed p (U StartAct) now s h range keeps connected drained passes = record {
 passed p (U StopAct) now s h range keeps connected drained passes = record {
   set = keeps.set;
   connected = rw connected;
-  running = rw connected;
+  transferring = rw connected;
   stopping = rw connected;
   window = keeps.window;
   receipt = keeps.receipt;
@@ -206,7 +206,7 @@ passed p (U StopAct) now s h range keeps connected drained passes = record {
 passed p (U TestAct) now s h range keeps connected drained passes = record {
   set = keeps.set;
   connected = connected;
-  running = keeps.running;
+  transferring = keeps.transferring;
   stopping = keeps.stopping;
   window = keeps.window;
   receipt = keeps.receipt;
@@ -220,7 +220,7 @@ passed p (U TestAct) now s h range keeps connected drained passes = record {
 passed p (U TestCon) now s h range keeps connected drained passes = record {
   set = keeps.set;
   connected = connected;
-  running = keeps.running;
+  transferring = keeps.transferring;
   stopping = keeps.stopping;
   window = keeps.window;
   receipt = keeps.receipt;
@@ -233,7 +233,7 @@ passed p (U TestCon) now s h range keeps connected drained passes = record {
 passed p (U StartCon) now s h range keeps connected drained passes = record {
   set = keeps.set;
   connected = connected;
-  running = keeps.running;
+  transferring = keeps.transferring;
   stopping = keeps.stopping;
   window = keeps.window;
   receipt = keeps.receipt;
@@ -246,7 +246,7 @@ passed p (U StartCon) now s h range keeps connected drained passes = record {
 passed p (U StopCon) now s h range keeps connected drained passes = record {
   set = keeps.set;
   connected = connected;
-  running = keeps.running;
+  transferring = keeps.transferring;
   stopping = keeps.stopping;
   window = keeps.window;
   receipt = keeps.receipt;
@@ -262,7 +262,7 @@ refused : (p : Settings) (now : ℕ) (s : Session) (h : History) → Keeps p s h
 refused p now s h keeps connected = record {
   set = keeps.set;
   connected = connected;
-  running = keeps.running;
+  transferring = keeps.transferring;
   stopping = keeps.stopping;
   window = keeps.window;
   receipt = keeps.receipt;
@@ -297,13 +297,13 @@ came p frame now s h range keeps connected drained Nothing e =
 data_sent : (p : Settings) (kind : Kind) (now : ℕ) (s : Session) (h : History) → Keeps p s h → may_send s ≡ true
     → Keeps p (session.sent kind now s) (Sent s.next_sent s.next_received kind now ∷ h)
 data_sent p kind now s h keeps may =
-    let tests = and_parts (is_running s) (nat_lt (length s.unacknowledged) s.k) may in
+    let tests = and_parts (is_transferring s) (nat_lt (length s.unacknowledged) s.k) may in
     let u : Unacknowledged = record { kind = kind; moment = now } in
     let w = keeps.window in
     record {
       set = keeps.set;
-      connected = running_opens s.transfer tests.0;
-      running = keeps.running;
+      connected = transferring_opens s.transfer tests.0;
+      transferring = keeps.transferring;
       stopping = keeps.stopping;
       window = record {
         frames = ap (λ us. us ++ u ∷ []) w.frames ∙ sym
@@ -326,7 +326,7 @@ acknowledgement_gone : (p : Settings) (now : ℕ) (s : Session) (h : History) �
 acknowledgement_gone p now s h keeps connected = record {
   set = keeps.set;
   connected = connected;
-  running = keeps.running;
+  transferring = keeps.transferring;
   stopping = keeps.stopping;
   window = keeps.window;
   receipt = confirmed_receipt s.w s.next_received s.unconfirmed s.unconfirmed_since (received_count h)
@@ -375,7 +375,7 @@ function_gone : (p : Settings) (u : Uf) (now : ℕ) (s : Session) (h : History) 
 function_gone p StartCon now s h keeps connected due = record {
   set = keeps.set;
   connected = connected;
-  running = keeps.running;
+  transferring = keeps.transferring;
   stopping = keeps.stopping;
   window = keeps.window;
   receipt = keeps.receipt;
@@ -388,7 +388,7 @@ function_gone p StartCon now s h keeps connected due = record {
 function_gone p TestCon now s h keeps connected due = record {
   set = keeps.set;
   connected = connected;
-  running = keeps.running;
+  transferring = keeps.transferring;
   stopping = keeps.stopping;
   window = keeps.window;
   receipt = keeps.receipt;
@@ -412,7 +412,7 @@ stop_confirmed : (p : Settings) (now : ℕ) (s : Session) (h : History) → Keep
 stop_confirmed p now s h keeps connected stopping = record {
   set = keeps.set;
   connected = refl;
-  running = sym (stopping_runs_not s.transfer stopping) ∙ keeps.running;
+  transferring = sym (stopping_transfers_not s.transfer stopping) ∙ keeps.transferring;
   stopping = refl;
   window = keeps.window;
   receipt = keeps.receipt;
@@ -454,7 +454,7 @@ test_gone : (p : Settings) (now : ℕ) (s : Session) (h : History) → Keeps p s
 test_gone p now s h keeps connected = record {
   set = keeps.set;
   connected = connected;
-  running = keeps.running;
+  transferring = keeps.transferring;
   stopping = keeps.stopping;
   window = keeps.window;
   receipt = keeps.receipt;
@@ -484,7 +484,7 @@ new_keeps : (p : Settings) → Keeps p (session.new_session p.k p.w p.t1 p.t2 p.
 new_keeps p = record {
   set = (refl, refl, refl, refl, refl);
   connected = refl;
-  running = refl;
+  transferring = refl;
   stopping = refl;
   window = no_window p.k;
   receipt = no_receipt p.w;
@@ -499,7 +499,7 @@ open_keeps : (p : Settings) (now : ℕ) (s : Session) → IsSet p s → Keeps p 
 open_keeps p now s set = record {
   set = set;
   connected = refl;
-  running = refl;
+  transferring = refl;
   stopping = refl;
   window = no_window s.k;
   receipt = no_receipt s.w;
@@ -514,7 +514,7 @@ cut_keeps : (p : Settings) (s : Session) → IsSet p s → Keeps p (session.clos
 cut_keeps p s set = record {
   set = set;
   connected = refl;
-  running = refl;
+  transferring = refl;
   stopping = refl;
   window = no_window s.k;
   receipt = no_receipt s.w;

@@ -11,7 +11,7 @@ use Rattle.session.specs.declared.kinds.Unacknowledged.{Unacknowledged}
 use Rattle.session.specs.declared.kinds.Taken.TheVariants.{Nothing, Asdu, Close}
 use Rattle.session.specs.declared.kinds.Close.TheVariants.{SendNumber, ReceiveNumber, Stopped}
 use Rattle.session.specs.Session as session
-use Rattle.session.specs.Session.{Session, is_close, is_running, may_send, is_valid, newly, newly_by, outcome_of, refuses, taken, after_frame, nothing_due, acknowledgement, replied, confirmed, pulled, Due, from_queue}
+use Rattle.session.specs.Session.{Session, is_close, is_transferring, may_send, is_valid, newly, newly_by, outcome_of, refuses, taken, after_frame, nothing_due, acknowledgement, replied, confirmed, pulled, Due, from_queue}
 use Rattle.session.specs.History.{History, is_open, sent_frames, received_count, reached, acknowledged_count, is_started, is_stop_pending, unconfirmed_moments, last_frame, outstanding_test, still_unacknowledged, is_valid_receive_number, verdict_on, confirmation_of, stop_confirmation_of, acknowledgement_of, function_of, has_passed, moments_of, moment_of, has_timed_out, is_acknowledgement_due, frame_due, newly_acknowledged}
 use Rattle.session.specs.Laws.{newly_acknowledged_by, TellsAcknowledged}
 use Rattle.session.specs.Runs.{Settings, IsInRange}
@@ -25,7 +25,7 @@ at_most_k p s h keeps = omega (arith, keeps.window.bound, ap length keeps.window
 pub sends : (p : Settings) (s : Session) (h : History) → Keeps p s h
     → may_send s ≡ (is_started h && nat_lt (length (still_unacknowledged h)) p.k)
 sends p s h keeps =
-    ap (λ (b : Bool). b && nat_lt (length s.unacknowledged) s.k) keeps.running
+    ap (λ (b : Bool). b && nat_lt (length s.unacknowledged) s.k) keeps.transferring
     ∙ ap (λ (us : List Unacknowledged). is_started h && nat_lt (length us) s.k) keeps.window.frames
     ∙ ap (λ (k : ℕ). is_started h && nat_lt (length (still_unacknowledged h)) k) keeps.set.0
 
@@ -38,7 +38,7 @@ pub verdict : (p : Settings) (s : Session) (h : History) → IsInRange p → Kee
     → outcome_of s frame ≡ verdict_on frame h
 verdict p s h range keeps (I ns nr asdu) =
     ap (λ (b : Bool). cond (not b) (Close Stopped) (cond (not (ns == s.next_received)) (Close SendNumber)
-    (cond (not (is_valid nr s)) (Close ReceiveNumber) Asdu))) keeps.running
+    (cond (not (is_valid nr s)) (Close ReceiveNumber) Asdu))) keeps.transferring
     ∙ ap (λ (n : ℕ). cond (not (is_started h)) (Close Stopped)
     (cond (not (ns == n)) (Close SendNumber) (cond (not (is_valid nr s)) (Close ReceiveNumber) Asdu)))
     keeps.receipt.next_is

@@ -2,19 +2,19 @@
 use Rattle.std.proofs.Common.{◌≡◌, Bool, true, false, cond, refl}
 use Rattle.session.specs.declared.kinds.Transfer.{Transfer}
 use Rattle.session.specs.declared.kinds.Transfer.TheVariants.{Closed, Stopped, Started, Stopping}
-use Rattle.session.specs.Session.{Session, opens, runs, stops, is_open, turned_to}
+use Rattle.session.specs.Session.{Session, opens, transfers, stops, is_open, turned_to}
 
-pub running_opens : (t : Transfer) → runs t ≡ true → opens t ≡ true
-running_opens Closed h = absurd cc
-running_opens Stopped h = refl
-running_opens Started h = refl
-running_opens Stopping h = refl
+pub transferring_opens : (t : Transfer) → transfers t ≡ true → opens t ≡ true
+transferring_opens Closed h = absurd cc
+transferring_opens Stopped h = refl
+transferring_opens Started h = refl
+transferring_opens Stopping h = refl
 
-pub stopping_runs_not : (t : Transfer) → stops t ≡ true → runs t ≡ false
-stopping_runs_not Closed h = refl
-stopping_runs_not Stopped h = refl
-stopping_runs_not Started h = absurd cc
-stopping_runs_not Stopping h = refl
+pub stopping_transfers_not : (t : Transfer) → stops t ≡ true → transfers t ≡ false
+stopping_transfers_not Closed h = refl
+stopping_transfers_not Stopped h = refl
+stopping_transfers_not Started h = absurd cc
+stopping_transfers_not Stopping h = refl
 
 either_opens : (t : Transfer) (b : Bool) → opens t ≡ true → opens (cond b t Closed) ≡ b
 either_opens t true h = h

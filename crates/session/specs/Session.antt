@@ -77,11 +77,11 @@ opens Transfer.Stopped = true
 opens Transfer.Started = true
 opens Transfer.Stopping = true
 
-abbrev pub runs : Transfer → Bool
-runs Transfer.Closed = false
-runs Transfer.Stopped = false
-runs Transfer.Started = true
-runs Transfer.Stopping = false
+abbrev pub transfers : Transfer → Bool
+transfers Transfer.Closed = false
+transfers Transfer.Stopped = false
+transfers Transfer.Started = true
+transfers Transfer.Stopping = false
 
 abbrev pub stops : Transfer → Bool
 stops Transfer.Closed = false
@@ -93,8 +93,8 @@ abbrev pub is_open : Session → Bool
 is_open s = opens s.transfer
 
 -- data transfer is started, and no STOPDT act is pending
-abbrev pub is_running : Session → Bool
-is_running s = runs s.transfer
+abbrev pub is_transferring : Session → Bool
+is_transferring s = transfers s.transfer
 
 -- a STOPDT act is not confirmed yet
 abbrev pub is_stopping : Session → Bool
@@ -105,7 +105,7 @@ abbrev pub turned_to : Transfer → Session → Transfer
 turned_to transfer s = if is_open s then transfer else Transfer.Closed
 
 abbrev pub may_send : Session → Bool
-may_send s = is_running s && nat_lt (length s.unacknowledged) s.k
+may_send s = is_transferring s && nat_lt (length s.unacknowledged) s.k
 
 -- an I frame of this kind goes out
 abbrev pub sent : Kind → ℕ → Session → Session
@@ -145,7 +145,7 @@ acknowledged n s = record s {
 -- what a frame leads to, by the first of its faults
 abbrev pub outcome_of : Session → Apdu → Taken
 outcome_of s (I ns nr asdu) =
-    if not (is_running s) then Close Stopped
+    if not (is_transferring s) then Close Stopped
     else (if not (ns == s.next_received) then Close SendNumber
     else (if not (is_valid nr s) then Close ReceiveNumber
     else Asdu))

@@ -61,7 +61,7 @@ impl Model for Session {
 }
 
 impl Session {
-    ghost use Rattle.session.specs.Session.{new_session, opened, closed, is_open, is_stopping, turned_to, is_running, may_send as can_send, sent as after_sent, left_by, refuses, outcome_of, taken, timed_out, confirmed, pulled, is_valid, acknowledged, newly_by, counted, after_u};
+    ghost use Rattle.session.specs.Session.{new_session, opened, closed, is_open, is_stopping, turned_to, is_transferring, may_send as can_send, sent as after_sent, left_by, refuses, outcome_of, taken, timed_out, confirmed, pulled, is_valid, acknowledged, newly_by, counted, after_u};
 
     /// A session without a connection. This alone takes memory: room for k frames.
     ///
@@ -137,8 +137,8 @@ impl Session {
     }
 
     /// Whether data transfer is started and no STOPDT is pending. Without a connection it is false.
-    pub fn runs(&self) -> bool
-        ensures { result ≡ is_running self.now }
+    pub fn is_transferring(&self) -> bool
+        ensures { result ≡ is_transferring self.now }
     {
         matches!(self.transfer, Transfer::Started)
     }
@@ -154,7 +154,7 @@ impl Session {
     pub fn may_send(&self) -> bool
         ensures { result ≡ can_send self.now }
     {
-        self.runs() && self.unacknowledged.len() < usize::from(self.k)
+        self.is_transferring() && self.unacknowledged.len() < usize::from(self.k)
     }
 
     /// Counts an I frame of this kind as sent now, and answers its N(S) and N(R).
@@ -236,7 +236,7 @@ impl Session {
         ensures { result ≡ outcome_of self.now (owned apdu.entry) }
     {
         match apdu {
-            ApduRef::I { .. } if !self.runs() => Taken::Close(Close::Stopped),
+            ApduRef::I { .. } if !self.is_transferring() => Taken::Close(Close::Stopped),
             ApduRef::I { ns, .. } if ns != self.next_received => Taken::Close(Close::SendNumber),
             ApduRef::I { nr, .. } if !self.is_valid(nr) => Taken::Close(Close::ReceiveNumber),
             ApduRef::I { .. } => Taken::Asdu,

@@ -7,7 +7,7 @@ ghost use Rattle.std.specs.Prelude.{◌≡◌, ℕ, ◌%◌, ◌<◌, ◌≤◌,
 ghost use Rattle.apci.specs.declared.apdu.Apdu.{Apdu};
 ghost use Rattle.session.specs.declared.kinds.Kind.{Kind};
 ghost use Rattle.session.specs.declared.kinds.Unacknowledged.{Unacknowledged};
-ghost use Rattle.session.specs.Session.{Session, is_running, may_send, outcome_of, timed_out, confirmed, pulled, sent, taken};
+ghost use Rattle.session.specs.Session.{Session, is_transferring, may_send, outcome_of, timed_out, confirmed, pulled, sent, taken};
 ghost use Rattle.session.specs.History.{IsNumbered, sent_frames, received_count, reached, still_unacknowledged, is_started, verdict_on, confirmation_of, confirmation_owed, confirmations_due, confirmations_sent, has_timed_out, frame_due};
 ghost use Rattle.session.specs.Laws.{AfterEachRun, Acknowledges};
 ghost use Rattle.session.specs.Rules.{KeepsRules};
@@ -48,7 +48,7 @@ pub fn frames_are_judged()
 /// Data transfer runs where the latest STARTDT act or STOPDT act is a STARTDT act. Each STARTDT act
 /// and TESTFR act is confirmed once, and a STOPDT act once no sent frame is unacknowledged (5.3).
 pub fn transfer_is_controlled()
-    ensures runs { AfterEachRun (λ p s h. is_running s ≡ is_started h) }
+    ensures transferring { AfterEachRun (λ p s h. is_transferring s ≡ is_started h) }
     ensures confirm { AfterEachRun (λ p s h. (confirmed s).0 ≡ confirmation_of h) }
     ensures once { AfterEachRun (λ p s h.
         confirmations_due h ≡ option_to_list (confirmation_owed h) ++ confirmations_sent h) }

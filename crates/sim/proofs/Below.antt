@@ -20,14 +20,24 @@ pub record Laws : Type 0 where
   -- of octets
   pub right : (size : LinkSize) (octets : List ℕ) → IsFront size octets (front_of size octets)
   pub nothing : (size : LinkSize) → front_of size [] ≡ More
-  pub whole : (size : LinkSize) (octets more : List ℕ) (frame : Frame) (n : ℕ) → front_of size octets ≡ Whole frame n → front_of size (octets ++ more) ≡ Whole frame n
-  pub spelled : (size : LinkSize) (frame : Frame) (more : List ℕ) → Fits size frame → front_of size (spelling size frame ++ more) ≡ Whole frame (length (spelling size frame))
-  pub spoils : (size : LinkSize) (f g : Frame) (x rest : List ℕ) (place n : ℕ) → IsLineFrame size f x → place < length x → IsFront size (spoilt place x ++ rest) (Whole g n) → ⊥
+  pub whole : (size : LinkSize) (octets more : List ℕ) (frame : Frame) (n : ℕ) → front_of size octets ≡ Whole frame n
+      → front_of size (octets ++ more) ≡ Whole frame n
+  pub spelled : (size : LinkSize) (frame : Frame) (more : List ℕ) → Fits size frame
+      → front_of size (spelling size frame ++ more) ≡ Whole frame (length (spelling size frame))
+  pub spoils : (size : LinkSize) (f g : Frame) (x rest : List ℕ) (place n : ℕ) → IsLineFrame size f x
+      → place < length x → IsFront size (spoilt place x ++ rest) (Whole g n) → ⊥
   -- of stations
-  pub run : (s : Secondary) (calls : List Call) → OutstationRun s.address (outstation_of s) (requests_heard s.address calls) (turns_in s calls) (outstation_of (after s calls))
-  pub class1 : (s : Secondary) (calls : List Call) → s.given < 2 ^ 64 → given1 (requests_heard s.address calls) (turns_in s calls) ++ (after s calls).class1 ≡ s.class1 ++ reported1 calls
-  pub class2 : (s : Secondary) (calls : List Call) → s.given < 2 ^ 64 → given2 (requests_heard s.address calls) (turns_in s calls) ++ (after s calls).class2 ≡ s.class2 ++ reported2 calls
-  pub accepted : (s : Secondary) (calls : List Call) → s.given < 2 ^ 64 → s.accepted ++ commands (all_done (turns_in s calls)) ≡ (after s calls).accepted
-  pub given : (s : Secondary) (calls : List Call) → s.given < 2 ^ 64 → (after s calls).given ≡ saturated (s.given + length (reports (all_done (turns_in s calls))))
+  pub run : (s : Secondary) (calls : List Call) → OutstationRun s.address (outstation_of s)
+      (requests_heard s.address calls) (turns_in s calls) (outstation_of (after s calls))
+  pub class1 : (s : Secondary) (calls : List Call) → s.given < 2 ^ 64
+      → given1 (requests_heard s.address calls) (turns_in s calls) ++ (after s calls).class1 ≡ s.class1
+      ++ reported1 calls
+  pub class2 : (s : Secondary) (calls : List Call) → s.given < 2 ^ 64
+      → given2 (requests_heard s.address calls) (turns_in s calls) ++ (after s calls).class2 ≡ s.class2
+      ++ reported2 calls
+  pub accepted : (s : Secondary) (calls : List Call) → s.given < 2 ^ 64
+      → s.accepted ++ commands (all_done (turns_in s calls)) ≡ (after s calls).accepted
+  pub given : (s : Secondary) (calls : List Call) → s.given < 2 ^ 64
+      → (after s calls).given ≡ saturated (s.given + length (reports (all_done (turns_in s calls))))
   pub address : (s : Secondary) (calls : List Call) → (after s calls).address ≡ s.address
   pub size : KeepsSize

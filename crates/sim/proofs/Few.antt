@@ -37,7 +37,8 @@ requests_few p ds i (Went now (LineOut octets) ∷ log) =
       arith,
       requests_few p ds i log,
       one_request i (is_heard (fate_of ds (requests_in log + 1))) (sending_in p octets),
-      length-append (requests_to p ds i log) (request_to i (is_heard (fate_of ds (requests_in log + 1))) (sending_in p octets)),
+      length-append (requests_to p ds i log) (request_to i (is_heard (fate_of ds (requests_in log + 1)))
+          (sending_in p octets)),
     )
 requests_few p ds i (Went now (TcpOut octets) ∷ log) = omega (arith, requests_few p ds i log)
 requests_few p ds i (Went now (Closed cause) ∷ log) = omega (arith, requests_few p ds i log)
@@ -49,28 +50,48 @@ length-requests (x ∷ xs) = omega (arith, length-requests xs)
 
 pub exchanges_few : (p : Setup) (ds : List Directive) (i : ℕ) (log : Log) → length (exchanges_with p i log) ≤ length log
 exchanges_few p ds i log =
-    let same : length (requests_of (exchanges_with p i log)) ≡ length (asked_of (requests_to p ds i log)) = ap length (same_asked p ds i log) in
-    omega (arith, same, length-requests (exchanges_with p i log), length-map (requests_to p ds i log) (λ (r : Bool × Asked). r.1), requests_few p ds i log)
+    let same : length (requests_of (exchanges_with p i log)) ≡ length (asked_of (requests_to p ds i log)) =
+    ap length (same_asked p ds i log) in
+    omega (
+      arith,
+      same,
+      length-requests (exchanges_with p i log),
+      length-map (requests_to p ds i log) (λ (r : Bool × Asked). r.1),
+      requests_few p ds i log,
+    )
 
 none_by : (turn other : Turn) → turn ≡ other → length (reports other.done) ≤ 1 → length (reports turn.done) ≤ 1
 none_by turn other e le = subst (λ (t : Turn). length (reports t.done) ≤ 1) (sym e) le
 
-served_one : (station : ℕ) (bit : Option Bool) (old new : Outstation) (fcb : Bool) (service : Service) (turn : Turn) → Serves station bit old fcb service turn new → length (reports turn.done) ≤ 1
-served_one station None old new fcb service turn h = none_by turn (record { answer = None; done = [] }) h.0 (omega arith)
-served_one station (Some bit) old new fcb service turn (inl h) = none_by turn (record { answer = old.last; done = [] }) h.1 (omega arith)
+served_one : (station : ℕ) (bit : Option Bool) (old new : Outstation) (fcb : Bool) (service : Service) (turn : Turn)
+    → Serves station bit old fcb service turn new → length (reports turn.done) ≤ 1
+served_one station None old new fcb service turn h = none_by turn (record { answer = None; done = [] }) h.0
+    (omega arith)
+served_one station (Some bit) old new fcb service turn (inl h) =
+    none_by turn (record { answer = old.last; done = [] }) h.1 (omega arith)
 served_one station (Some bit) old new fcb service turn (inr h) =
-    none_by turn (record { answer = Some h.1.0; done = effects_of service h.1.1 }) h.1.4 (omega (arith, effects_one service h.1.1))
+    none_by turn (record { answer = Some h.1.0; done = effects_of service h.1.1 }) h.1.4
+    (omega (arith, effects_one service h.1.1))
 
-step_one : (station : ℕ) (old new : Outstation) (request : Asked) (turn : Turn) → OutstationStep station old request turn new → length (reports turn.done) ≤ 1
+step_one : (station : ℕ) (old new : Outstation) (request : Asked) (turn : Turn)
+    → OutstationStep station old request turn new → length (reports turn.done) ≤ 1
 step_one station old new request turn (unheard t n) = none_by turn (record { answer = None; done = [] }) t (omega arith)
-step_one station old new request turn (unable frame is t n) = none_by turn (record { answer = Some frame; done = [] }) t (omega arith)
-step_one station old new Status turn (heard h) = none_by turn (record { answer = Some h.0; done = [] }) h.2 (omega arith)
+step_one station old new request turn (unable frame is t n) =
+    none_by turn (record { answer = Some frame; done = [] }) t (omega arith)
+step_one station old new Status turn (heard h) = none_by turn (record { answer = Some h.0; done = [] }) h.2
+    (omega arith)
 step_one station old new Reset turn (heard h) = none_by turn (record { answer = Some h.0; done = [] }) h.2 (omega arith)
 step_one station old new (Counted fcb service) turn (heard h) = served_one station old.bit old new fcb service turn h
 
-pub reports_few : (station : ℕ) (old new : Outstation) (requests : List Asked) (turns : List Turn) → OutstationRun station old requests turns new → length (reports (all_done turns)) ≤ length turns
+pub reports_few : (station : ℕ) (old new : Outstation) (requests : List Asked) (turns : List Turn)
+    → OutstationRun station old requests turns new → length (reports (all_done turns)) ≤ length turns
 reports_few station old new [] [] run = omega arith
 reports_few station old new [] (turn ∷ turns) run = absurd run
 reports_few station old new (r ∷ rs) [] run = absurd run
 reports_few station old new (r ∷ rs) (turn ∷ turns) run =
-    omega (arith, step_one station old run.0 r turn run.1, reports_few station run.0 new rs turns run.2, length_more turn.done (all_done turns))
+    omega (
+      arith,
+      step_one station old run.0 r turn run.1,
+      reports_few station run.0 new rs turns run.2,
+      length_more turn.done (all_done turns),
+    )

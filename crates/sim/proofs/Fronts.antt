@@ -32,11 +32,13 @@ IsSettled size x = (x.closed ≡ true) ⊎ ((frame : Frame) × (n : ℕ) × (fro
 -- what waits may come to the exchange: it has no effect, or is all that comes, and true
 abbrev pub MayCome : LinkSize → Option (List ℕ) → OpenExchange → Turn → Type 0
 MayCome size None x turn = Unit {0}
-MayCome size (Some piece) x turn = IsSettled size x ⊎ ((x.octets ≡ []) × IsTrueFront (whole_of (front_of size piece)) turn)
+MayCome size (Some piece) x turn = IsSettled size x ⊎ ((x.octets ≡ [])
+    × IsTrueFront (whole_of (front_of size piece)) turn)
 
 -- the latest exchange, where it is one with the station (or isn't)
 abbrev pub IsLatestOf : LinkSize → (is_its : Bool) → OpenExchange → List Turn → Option (List ℕ) → Type 0
-IsLatestOf size true x here waiting = (turn : Turn) × (here ≡ turn ∷ []) × IsTrueFront (whole_of (front_of size x.octets)) turn × MayCome size waiting x turn
+IsLatestOf size true x here waiting = (turn : Turn) × (here ≡ turn ∷ [])
+    × IsTrueFront (whole_of (front_of size x.octets)) turn × MayCome size waiting x turn
 IsLatestOf size false x here waiting = here ≡ []
 
 abbrev pub IsLatest : LinkSize → ℕ → Option OpenExchange → List Turn → Option (List ℕ) → Type 0
@@ -47,8 +49,10 @@ IsLatest size i (Some x) here waiting = IsLatestOf size (x.station == i) x here 
 abbrev pub its : LinkSize → ℕ → List OpenExchange → List Exchange
 its size i xs = with_station i (views (front_of size) xs)
 
--- The turns are those at the exchanges that ended and at the latest, and true to their fronts, also once what waits has come.
-pub record AreFronts (size : LinkSize) (i : ℕ) (e : Exchanges) (turns : List Turn) (waiting : Option (List ℕ)) : Type 0 where
+-- The turns are those at the exchanges that ended and at the latest, and true to their fronts, also once what
+-- waits has come.
+pub record AreFronts (size : LinkSize) (i : ℕ) (e : Exchanges) (turns : List Turn)
+    (waiting : Option (List ℕ)) : Type 0 where
   pub done : List Turn
   pub here : List Turn
   pub both : turns ≡ done ++ here
@@ -62,12 +66,14 @@ settled_timed : (size : LinkSize) (ms at : ℕ) (x : OpenExchange) → IsSettled
 settled_timed size ms at x (inl closed) = inl (ap (λ (b : Bool). b || nat_le (x.since + ms) at) closed)
 settled_timed size ms at x (inr h) = inr h
 
-may_timed : (size : LinkSize) (ms at : ℕ) (waiting : Option (List ℕ)) (x : OpenExchange) (turn : Turn) → MayCome size waiting x turn → MayCome size waiting (timed ms at x) turn
+may_timed : (size : LinkSize) (ms at : ℕ) (waiting : Option (List ℕ)) (x : OpenExchange) (turn : Turn)
+    → MayCome size waiting x turn → MayCome size waiting (timed ms at x) turn
 may_timed size ms at None x turn h = tt
 may_timed size ms at (Some piece) x turn (inl settled) = inl (settled_timed size ms at x settled)
 may_timed size ms at (Some piece) x turn (inr h) = inr h
 
-pub latest_timed : (size : LinkSize) (i ms at : ℕ) (c : Option OpenExchange) (here : List Turn) (waiting : Option (List ℕ)) → IsLatest size i c here waiting → IsLatest size i (timed_current ms at c) here waiting
+pub latest_timed : (size : LinkSize) (i ms at : ℕ) (c : Option OpenExchange) (here : List Turn)
+    (waiting : Option (List ℕ)) → IsLatest size i c here waiting → IsLatest size i (timed_current ms at c) here waiting
 latest_timed size i ms at None here waiting h = h
 latest_timed size i ms at (Some x) here waiting h = go (x.station == i) h
   where
@@ -75,25 +81,38 @@ latest_timed size i ms at (Some x) here waiting h = go (x.station == i) h
     go true k = (k.0, k.1, k.2, may_timed size ms at waiting x k.0 k.3)
     go false k = k
 
-abbrev pub fronts_timed : (size : LinkSize) (i ms at : ℕ) (e : Exchanges) (turns : List Turn) (waiting : Option (List ℕ)) → AreFronts size i e turns waiting →
+abbrev pub fronts_timed : (size : LinkSize) (i ms at : ℕ) (e : Exchanges) (turns : List Turn)
+    (waiting : Option (List ℕ)) → AreFronts size i e turns waiting →
     AreFronts size i (record { ended = e.ended; current = timed_current ms at e.current }) turns waiting
 fronts_timed size i ms at e turns waiting h =
-    record { done = h.done; here = h.here; both = h.both; long = h.long; fronts = h.fronts; latest = latest_timed size i ms at e.current h.here waiting h.latest }
+    record {
+      done = h.done;
+      here = h.here;
+      both = h.both;
+      long = h.long;
+      fronts = h.fronts;
+      latest =
+          latest_timed size i ms at e.current h.here waiting h.latest;
+    }
 
 -- What waits comes
 
-front_heard : (laws : Laws) (size : LinkSize) (piece : List ℕ) (x : OpenExchange) (turn : Turn) → IsTrueFront (whole_of (front_of size x.octets)) turn → MayCome size (Some piece) x turn →
+front_heard : (laws : Laws) (size : LinkSize) (piece : List ℕ) (x : OpenExchange) (turn : Turn)
+    → IsTrueFront (whole_of (front_of size x.octets)) turn → MayCome size (Some piece) x turn →
     IsTrueFront (whole_of (front_of size (heard_octets piece x).octets)) turn
 front_heard laws size piece x turn h may = go x.closed refl may
   where
-    go : (b : Bool) → x.closed ≡ b → MayCome size (Some piece) x turn → IsTrueFront (whole_of (front_of size (if b then x.octets else x.octets ++ piece))) turn
+    go : (b : Bool) → x.closed ≡ b → MayCome size (Some piece) x turn
+        → IsTrueFront (whole_of (front_of size (if b then x.octets else x.octets ++ piece))) turn
     go true is k = h
     go false is (inl (inl closed)) = let bad : ⊥ = cc in absurd bad
     go false is (inl (inr k)) =
         subst (λ (f : Front). IsTrueFront (whole_of f) turn) (k.2 ∙ sym (laws.whole size x.octets piece k.0 k.1 k.2)) h
-    go false is (inr k) = subst (λ (xs : List ℕ). IsTrueFront (whole_of (front_of size (xs ++ piece))) turn) (sym k.0) k.1
+    go false is (inr k) = subst (λ (xs : List ℕ). IsTrueFront (whole_of (front_of size (xs ++ piece))) turn)
+        (sym k.0) k.1
 
-pub latest_heard : (laws : Laws) (size : LinkSize) (i : ℕ) (piece : List ℕ) (c : Option OpenExchange) (here : List Turn) → IsLatest size i c here (Some piece) → IsLatest size i (heard_current piece c) here None
+pub latest_heard : (laws : Laws) (size : LinkSize) (i : ℕ) (piece : List ℕ) (c : Option OpenExchange)
+    (here : List Turn) → IsLatest size i c here (Some piece) → IsLatest size i (heard_current piece c) here None
 latest_heard laws size i piece None here h = h
 latest_heard laws size i piece (Some x) here h = go (x.station == i) h
   where
@@ -101,10 +120,19 @@ latest_heard laws size i piece (Some x) here h = go (x.station == i) h
     go true k = (k.0, k.1, front_heard laws size piece x k.0 k.2 k.3, tt)
     go false k = k
 
-abbrev pub fronts_heard : (laws : Laws) (size : LinkSize) (i : ℕ) (piece : List ℕ) (e : Exchanges) (turns : List Turn) → AreFronts size i e turns (Some piece) →
+abbrev pub fronts_heard : (laws : Laws) (size : LinkSize) (i : ℕ) (piece : List ℕ) (e : Exchanges) (turns : List Turn)
+    → AreFronts size i e turns (Some piece) →
     AreFronts size i (record { ended = e.ended; current = heard_current piece e.current }) turns None
 fronts_heard laws size i piece e turns h =
-    record { done = h.done; here = h.here; both = h.both; long = h.long; fronts = h.fronts; latest = latest_heard laws size i piece e.current h.here h.latest }
+    record {
+      done = h.done;
+      here = h.here;
+      both = h.both;
+      long = h.long;
+      fronts = h.fronts;
+      latest =
+          latest_heard laws size i piece e.current h.here h.latest;
+    }
 
 -- All fronts
 
@@ -112,45 +140,61 @@ views_append : (f : List ℕ → Front) (xs ys : List OpenExchange) → views f 
 views_append f [] ys = refl
 views_append f (x ∷ xs) ys = ap (λ l. view f x ∷ l) (views_append f xs ys)
 
-pub its-append : (size : LinkSize) (i : ℕ) (xs ys : List OpenExchange) → its size i (xs ++ ys) ≡ its size i xs ++ its size i ys
+pub its-append : (size : LinkSize) (i : ℕ) (xs ys : List OpenExchange)
+    → its size i (xs ++ ys) ≡ its size i xs ++ its size i ys
 its-append size i [] ys = refl
 its-append size i (x ∷ xs) ys = go (x.station == i) (its-append size i xs ys)
   where
     go : (b : Bool) → its size i (xs ++ ys) ≡ its size i xs ++ its size i ys →
-        (if b then (view (front_of size) x).exchange ∷ its size i (xs ++ ys) else its size i (xs ++ ys)) ≡ (if b then (view (front_of size) x).exchange ∷ its size i xs else its size i xs) ++ its size i ys
+        (if b then (view (front_of size) x).exchange ∷ its size i (xs ++ ys) else its size i (xs ++ ys))
+        ≡ (if b then (view (front_of size) x).exchange ∷ its size i xs else its size i xs) ++ its size i ys
     go true ih = ap (λ (l : List Exchange). (view (front_of size) x).exchange ∷ l) ih
     go false ih = ih
 
-true_append : (xs ys : List Exchange) (ts us : List Turn) → length ts ≡ length xs → AreTrueFronts xs ts → AreTrueFronts ys us → AreTrueFronts (xs ++ ys) (ts ++ us)
+true_append : (xs ys : List Exchange) (ts us : List Turn) → length ts ≡ length xs → AreTrueFronts xs ts
+    → AreTrueFronts ys us → AreTrueFronts (xs ++ ys) (ts ++ us)
 true_append [] ys [] us e h k = k
 true_append [] ys (t ∷ ts) us e h k = absurd (omega arith)
 true_append (x ∷ xs) ys [] us e h k = absurd (omega arith)
 true_append (x ∷ xs) ys (t ∷ ts) us e h k = (h.0, true_append xs ys ts us (omega arith) h.1 k)
 
-latest_fronts : (size : LinkSize) (i : ℕ) (c : Option OpenExchange) (here : List Turn) (waiting : Option (List ℕ)) → IsLatest size i c here waiting →
+latest_fronts : (size : LinkSize) (i : ℕ) (c : Option OpenExchange) (here : List Turn) (waiting : Option (List ℕ))
+    → IsLatest size i c here waiting →
     (length here ≡ length (its size i (as_list c))) × AreTrueFronts (its size i (as_list c)) here
 latest_fronts size i None here waiting h = (ap length h, subst (λ (ts : List Turn). AreTrueFronts [] ts) (sym h) tt)
 latest_fronts size i (Some x) here waiting h = go (x.station == i) h
   where
     go : (b : Bool) → IsLatestOf size b x here waiting →
-        (length here ≡ length (if b then (view (front_of size) x).exchange ∷ [] else [])) × AreTrueFronts (if b then (view (front_of size) x).exchange ∷ [] else []) here
-    go true k = (ap length k.1, subst (λ (ts : List Turn). AreTrueFronts ((view (front_of size) x).exchange ∷ []) ts) (sym k.1) (k.2, tt))
+        (length here ≡ length (if b then (view (front_of size) x).exchange ∷ [] else []))
+        × AreTrueFronts (if b then (view (front_of size) x).exchange ∷ [] else []) here
+    go true k = (
+      ap length k.1,
+      subst (λ (ts : List Turn). AreTrueFronts ((view (front_of size) x).exchange ∷ []) ts)
+          (sym k.1) (k.2, tt),
+    )
     go false k = (ap length k, subst (λ (ts : List Turn). AreTrueFronts [] ts) (sym k) tt)
 
 pub record HasFronts (size : LinkSize) (i : ℕ) (xs : List OpenExchange) (turns : List Turn) : Type 0 where
   pub long : length turns ≡ length (its size i xs)
   pub fronts : AreTrueFronts (its size i xs) turns
 
-pub all_fronts : (size : LinkSize) (i : ℕ) (e : Exchanges) (turns : List Turn) (waiting : Option (List ℕ)) → AreFronts size i e turns waiting → HasFronts size i (all_of e) turns
+pub all_fronts : (size : LinkSize) (i : ℕ) (e : Exchanges) (turns : List Turn) (waiting : Option (List ℕ))
+    → AreFronts size i e turns waiting → HasFronts size i (all_of e) turns
 all_fronts size i e turns waiting h =
     let last = latest_fronts size i e.current h.here waiting h.latest in
-    let parts : its size i (all_of e) ≡ its size i e.ended ++ its size i (as_list e.current) = its-append size i e.ended (as_list e.current) in
+    let parts : its size i (all_of e) ≡ its size i e.ended ++ its size i (as_list e.current) =
+    its-append size i e.ended (as_list e.current) in
     let first : length h.done ≡ length (its size i e.ended) = h.long in
     let second : length h.here ≡ length (its size i (as_list e.current)) = last.0 in
     record {
-      long = ap length h.both ∙ omega (arith, length-append h.done h.here, length-append (its size i e.ended) (its size i (as_list e.current))) ∙ ap length (sym parts);
+      long = ap length h.both ∙ omega (
+        arith,
+        length-append h.done h.here,
+        length-append (its size i e.ended) (its size i (as_list e.current)),
+      ) ∙ ap length (sym parts);
       fronts = subst (λ (xs : List Exchange). AreTrueFronts xs turns) (sym parts)
-          (subst (λ (ts : List Turn). AreTrueFronts (its size i e.ended ++ its size i (as_list e.current)) ts) (sym h.both)
+          (subst (λ (ts : List Turn). AreTrueFronts (its size i e.ended ++ its size i (as_list e.current)) ts)
+          (sym h.both)
           (true_append (its size i e.ended) (its size i (as_list e.current)) h.done h.here h.long h.fronts last.1));
     }
 
@@ -160,11 +204,14 @@ abbrev pub IsSettledNow : LinkSize → Option OpenExchange → Type 0
 IsSettledNow size None = Unit {0}
 IsSettledNow size (Some x) = IsSettled size x
 
-may_settled : (size : LinkSize) (waiting : Option (List ℕ)) (x : OpenExchange) (turn : Turn) → IsSettled size x → MayCome size waiting x turn
+may_settled : (size : LinkSize) (waiting : Option (List ℕ)) (x : OpenExchange) (turn : Turn) → IsSettled size x
+    → MayCome size waiting x turn
 may_settled size None x turn h = tt
 may_settled size (Some piece) x turn h = inl h
 
-pub latest_settled : (size : LinkSize) (i : ℕ) (c : Option OpenExchange) (here : List Turn) (waiting next : Option (List ℕ)) → IsSettledNow size c → IsLatest size i c here waiting → IsLatest size i c here next
+pub latest_settled : (size : LinkSize) (i : ℕ) (c : Option OpenExchange) (here : List Turn)
+    (waiting next : Option (List ℕ)) → IsSettledNow size c → IsLatest size i c here waiting
+    → IsLatest size i c here next
 latest_settled size i None here waiting next s h = h
 latest_settled size i (Some x) here waiting next s h = go (x.station == i) h
   where
@@ -173,16 +220,27 @@ latest_settled size i (Some x) here waiting next s h = go (x.station == i) h
     go false k = k
 
 -- that is one to no station
-abbrev pub fronts_settled : (size : LinkSize) (i : ℕ) (e : Exchanges) (turns : List Turn) (waiting next : Option (List ℕ)) → IsSettledNow size e.current → AreFronts size i e turns waiting → AreFronts size i e turns next
+abbrev pub fronts_settled : (size : LinkSize) (i : ℕ) (e : Exchanges) (turns : List Turn)
+    (waiting next : Option (List ℕ)) → IsSettledNow size e.current → AreFronts size i e turns waiting
+    → AreFronts size i e turns next
 fronts_settled size i e turns waiting next s h =
-    record { done = h.done; here = h.here; both = h.both; long = h.long; fronts = h.fronts; latest = latest_settled size i e.current h.here waiting next s h.latest }
+    record {
+      done = h.done;
+      here = h.here;
+      both = h.both;
+      long = h.long;
+      fronts = h.fronts;
+      latest =
+          latest_settled size i e.current h.here waiting next s h.latest;
+    }
 
 -- the exchange that a request begins
 abbrev pub begun : ℕ → Sending → OpenExchange
 begun now s = record { station = s.station; request = s.request; since = now; octets = []; closed = false }
 
 -- one to another station
-abbrev pub fronts_other : (size : LinkSize) (i now : ℕ) (s : Sending) (e : Exchanges) (turns : List Turn) (waiting next : Option (List ℕ)) → (s.station == i) ≡ false → AreFronts size i e turns waiting →
+abbrev pub fronts_other : (size : LinkSize) (i now : ℕ) (s : Sending) (e : Exchanges) (turns : List Turn)
+    (waiting next : Option (List ℕ)) → (s.station == i) ≡ false → AreFronts size i e turns waiting →
     AreFronts size i (begun_by now (Some s) e) turns next
 fronts_other size i now s e turns waiting next apart h =
     let all = all_fronts size i e turns waiting h in
@@ -196,7 +254,9 @@ fronts_other size i now s e turns waiting next apart h =
     }
 
 -- one to this station
-abbrev pub fronts_this : (laws : Laws) (size : LinkSize) (i now : ℕ) (s : Sending) (e : Exchanges) (turns : List Turn) (turn : Turn) (waiting next : Option (List ℕ)) → s.station ≡ i → MayCome size next (begun now s) turn → AreFronts size i e turns waiting →
+abbrev pub fronts_this : (laws : Laws) (size : LinkSize) (i now : ℕ) (s : Sending) (e : Exchanges) (turns : List Turn)
+    (turn : Turn) (waiting next : Option (List ℕ)) → s.station ≡ i → MayCome size next (begun now s) turn
+    → AreFronts size i e turns waiting →
     AreFronts size i (begun_by now (Some s) e) (turns ++ turn ∷ []) next
 fronts_this laws size i now s e turns turn waiting next same may h =
     let all = all_fronts size i e turns waiting h in
@@ -212,22 +272,29 @@ fronts_this laws size i now s e turns turn waiting next same may h =
 
 -- what comes to wait of an answer
 
-spoilt_front : (laws : Laws) (size : LinkSize) (frame : Frame) (place : ℕ) (turn : Turn) → Fits size frame → place < length (spelling size frame) → IsTrueFront (whole_of (front_of size (spoilt place (spelling size frame)))) turn
-spoilt_front laws size frame place turn fits lt = go (front_of size (spoilt place (spelling size frame))) (laws.right size (spoilt place (spelling size frame)))
+spoilt_front : (laws : Laws) (size : LinkSize) (frame : Frame) (place : ℕ) (turn : Turn) → Fits size frame
+    → place < length (spelling size frame) → IsTrueFront
+    (whole_of (front_of size (spoilt place (spelling size frame)))) turn
+spoilt_front laws size frame place turn fits lt = go (front_of size (spoilt place (spelling size frame)))
+    (laws.right size (spoilt place (spelling size frame)))
   where
     go : (f : Front) → IsFront size (spoilt place (spelling size frame)) f → IsTrueFront (whole_of f) turn
     go (Whole g n) right =
         absurd (laws.spoils size frame g (spelling size frame) [] place n (record { fits = fits; spelled = refl }) lt
-        (subst (λ (xs : List ℕ). IsFront size xs (Whole g n)) (sym (append-nil (spoilt place (spelling size frame)))) right))
+        (subst (λ (xs : List ℕ). IsFront size xs (Whole g n))
+        (sym (append-nil (spoilt place (spelling size frame)))) right))
     go More right = tt
     go (Never at why) right = tt
 
-spelled_front : (laws : Laws) (size : LinkSize) (frame : Frame) (turn : Turn) → Fits size frame → turn.answer ≡ Some frame → IsTrueFront (whole_of (front_of size (spelling size frame))) turn
+spelled_front : (laws : Laws) (size : LinkSize) (frame : Frame) (turn : Turn) → Fits size frame
+    → turn.answer ≡ Some frame → IsTrueFront (whole_of (front_of size (spelling size frame))) turn
 spelled_front laws size frame turn fits e =
-    let whole : front_of size (spelling size frame) ≡ Whole frame (length (spelling size frame)) = ap (front_of size) (sym (append-nil (spelling size frame))) ∙ laws.spelled size frame [] fits in
+    let whole : front_of size (spelling size frame) ≡ Whole frame (length (spelling size frame)) =
+    ap (front_of size) (sym (append-nil (spelling size frame))) ∙ laws.spelled size frame [] fits in
     subst (λ (f : Front). IsTrueFront (whole_of f) turn) (sym whole) e
 
-pub may_arrive : (laws : Laws) (size : LinkSize) (fate : Fate) (answer : Option Frame) (x : OpenExchange) (turn : Turn) → IfSome answer (Fits size) → x.octets ≡ [] → turn.answer ≡ answer → MayCome size (arriving size fate answer) x turn
+pub may_arrive : (laws : Laws) (size : LinkSize) (fate : Fate) (answer : Option Frame) (x : OpenExchange) (turn : Turn)
+    → IfSome answer (Fits size) → x.octets ≡ [] → turn.answer ≡ answer → MayCome size (arriving size fate answer) x turn
 may_arrive laws size Unheard None x turn fits empty e = tt
 may_arrive laws size AnswerLost None x turn fits empty e = tt
 may_arrive laws size (AnswerSpoilt place) None x turn fits empty e = tt
@@ -241,25 +308,33 @@ may_arrive laws size Answered (Some frame) x turn fits empty e = inr (empty, spe
 
 -- While no exchange is outstanding the latest one is settled
 
-answered_whole : (size : LinkSize) (a : ℕ) (x : OpenExchange) (answer : Answer) → option_and_then (answer_of a x.request) (whole_of (front_of size x.octets)) ≡ Some answer → IsSettled size x
+answered_whole : (size : LinkSize) (a : ℕ) (x : OpenExchange) (answer : Answer)
+    → option_and_then (answer_of a x.request) (whole_of (front_of size x.octets)) ≡ Some answer → IsSettled size x
 answered_whole size a x answer e = go (front_of size x.octets) refl e
   where
-    go : (f : Front) → front_of size x.octets ≡ f → option_and_then (answer_of a x.request) (whole_of f) ≡ Some answer → IsSettled size x
+    go : (f : Front) → front_of size x.octets ≡ f → option_and_then (answer_of a x.request) (whole_of f) ≡ Some answer
+        → IsSettled size x
     go (Whole frame n) is k = inr (frame, n, is)
     go More is k = let bad : ⊥ = cc in absurd bad
     go (Never place why) is k = let bad : ⊥ = cc in absurd bad
 
-settles : (size : LinkSize) (a : ℕ) (x : OpenExchange) → ((option_and_then (answer_of a x.request) (whole_of (front_of size x.octets)) ≡ None) × (x.closed ≡ false) → ⊥) → IsSettled size x
-settles size a x never = go x.closed (option_and_then (answer_of a x.request) (whole_of (front_of size x.octets))) refl refl
+settles : (size : LinkSize) (a : ℕ) (x : OpenExchange)
+    → ((option_and_then (answer_of a x.request) (whole_of (front_of size x.octets)) ≡ None) × (x.closed ≡ false) → ⊥)
+    → IsSettled size x
+settles size a x never =
+    go x.closed (option_and_then (answer_of a x.request) (whole_of (front_of size x.octets))) refl refl
   where
-    go : (b : Bool) (m : Option Answer) → x.closed ≡ b → option_and_then (answer_of a x.request) (whole_of (front_of size x.octets)) ≡ m → IsSettled size x
+    go : (b : Bool) (m : Option Answer) → x.closed ≡ b
+        → option_and_then (answer_of a x.request) (whole_of (front_of size x.octets)) ≡ m → IsSettled size x
     go true m c e = inl c
     go false None c e = absurd (never (e, c))
     go false (Some answer) c e = answered_whole size a x answer e
 
-pub settled_now : (p : Setup) (log : Log) → (IsWaiting p log → ⊥) → IsSettledNow p.link.size (exchanges_of p log).current
+pub settled_now : (p : Setup) (log : Log) → (IsWaiting p log → ⊥)
+    → IsSettledNow p.link.size (exchanges_of p log).current
 settled_now p log never = go (exchanges_of p log).current refl
   where
     go : (c : Option OpenExchange) → (exchanges_of p log).current ≡ c → IsSettledNow p.link.size c
     go None is = tt
-    go (Some x) is = settles p.link.size (address_at p.addresses x.station) x (λ w. never (record { exchange = x; latest_is = is; waits = w }))
+    go (Some x) is = settles p.link.size (address_at p.addresses x.station) x
+        (λ w. never (record { exchange = x; latest_is = is; waits = w }))

@@ -46,26 +46,32 @@ use Rattle.sim.proofs.Serviceable.{never_unable, willing_turns}
 
 -- The settings fit the plan
 
-begun_addresses : (size : LinkSize) (n : ℕ) (ds : List Directive) (ss : List Station) → map (λ (s : Secondary). s.address) (begun_from size n ds ss) ≡ map (λ (s : Station). s.address) ss
+begun_addresses : (size : LinkSize) (n : ℕ) (ds : List Directive) (ss : List Station)
+    → map (λ (s : Secondary). s.address) (begun_from size n ds ss) ≡ map (λ (s : Station). s.address) ss
 begun_addresses size n ds [] = refl
 begun_addresses size n ds (s ∷ ss) = ap (λ (l : List ℕ). s.address ∷ l) (begun_addresses size (n + 1) ds ss)
 
 -- an address is none of the other stations'
-none_of : (a : ℕ) (ss : List Station) (i : ℕ) → ((t : Station) → AllByRecursion (AreApart t) ss → t.address ≡ a → i < length ss → a ≢ address_at (map (λ (s : Station). s.address) ss) i)
+none_of : (a : ℕ) (ss : List Station) (i : ℕ) → ((t : Station) → AllByRecursion (AreApart t) ss → t.address ≡ a
+    → i < length ss → a ≢ address_at (map (λ (s : Station). s.address) ss) i)
 none_of a [] i t all is lt = absurd (omega arith)
 none_of a (s ∷ ss) zero t all is lt = λ e. all.0.0 (is ∙ e)
 none_of a (s ∷ ss) (suc i) t all is lt = none_of a ss i t all.1 is (omega arith)
 
 found_apart : (ss : List Station) → AreDistinct ss → AreFound (map (λ (s : Station). s.address) ss)
 found_apart [] h i lt = absurd (omega (arith, lt))
-found_apart (s ∷ ss) h zero lt = ap (λ (b : Bool). if b then Some 0 else option_map suc (index_of s.address (map (λ (t : Station). t.address) ss))) (eq-eqb s.address s.address refl)
+found_apart (s ∷ ss) h zero lt =
+    ap (λ (b : Bool). if b then Some 0 else option_map suc (index_of s.address (map (λ (t : Station). t.address) ss)))
+    (eq-eqb s.address s.address refl)
 found_apart (s ∷ ss) h (suc i) lt =
     let a : ℕ = address_at (map (λ (t : Station). t.address) ss) i in
     let within : i < length ss = omega (arith, lt, length-map ss (λ (t : Station). t.address)) in
-    ap (λ (b : Bool). if b then Some 0 else option_map suc (index_of a (map (λ (t : Station). t.address) ss))) (ne_eqb s.address a (none_of s.address ss i s h.0 refl within))
+    ap (λ (b : Bool). if b then Some 0 else option_map suc (index_of a (map (λ (t : Station). t.address) ss)))
+    (ne_eqb s.address a (none_of s.address ss i s h.0 refl within))
     ∙ ap (option_map suc) (found_apart ss h.1 i (omega (arith, lt)))
 
-begun_fresh : (size : LinkSize) (n : ℕ) (ds : List Directive) (ss : List Station) (i : ℕ) (d : Secondary) → d.given ≡ 0 → (get_or (begun_from size n ds ss) i d).given ≡ 0
+begun_fresh : (size : LinkSize) (n : ℕ) (ds : List Directive) (ss : List Station) (i : ℕ) (d : Secondary) → d.given ≡ 0
+    → (get_or (begun_from size n ds ss) i d).given ≡ 0
 begun_fresh size n ds [] i d none = none
 begun_fresh size n ds (s ∷ ss) zero d none = refl
 begun_fresh size n ds (s ∷ ss) (suc i) d none = begun_fresh size (n + 1) ds ss i d none
@@ -79,15 +85,21 @@ fits_plan c ds apart = record {
   fresh = λ i d none. begun_fresh c.line.link 0 ds c.stations i d none;
 }
 
-begun_at : (size : LinkSize) (n m : ℕ) (ds : List Directive) (ss : List Station) (i : ℕ) (d : Secondary) → i < length ss → m ≡ n + i →
-    get_or (begun_from size n ds ss) i d ≡ record (fresh_station size (address_at (map (λ (s : Station). s.address) ss) i)) {
+begun_at : (size : LinkSize) (n m : ℕ) (ds : List Directive) (ss : List Station) (i : ℕ) (d : Secondary)
+    → i < length ss → m ≡ n + i →
+    get_or (begun_from size n ds ss) i d
+    ≡ record (fresh_station size (address_at (map (λ (s : Station). s.address) ss) i)) {
       class1 = flat_map (report_said m One) ds;
       class2 = flat_map (report_said m Two) ds;
     }
 begun_at size n m ds [] i d lt e = absurd (omega arith)
 begun_at size n m ds (s ∷ ss) zero d lt e =
     let same : n ≡ m = omega arith in
-    ap (λ (k : ℕ). record (fresh_station size s.address) { class1 = flat_map (report_said k One) ds; class2 = flat_map (report_said k Two) ds }) same
+    ap (λ (k : ℕ). record (fresh_station size s.address) {
+      class1 = flat_map (report_said k One) ds;
+      class2 =
+          flat_map (report_said k Two) ds;
+    }) same
 begun_at size n m ds (s ∷ ss) (suc i) d lt e = begun_at size (n + 1) m ds ss i d (omega arith) (omega arith)
 
 -- One station
@@ -98,30 +110,37 @@ Delivered = (p : Setup) (log : Log) → IsFaithful p log → Delivers p log
 
 abbrev pub Steadied : Type 0
 Steadied = (p : Setup) (log : Log) (i : ℕ) → IsFaithful p log → i < length p.addresses → p.link.hold ≡ true →
-    AllByRecursion (λ x. answer_to (address_at p.addresses i) x ≢ Some Unable) (exchanges_with p i log) → IsSteady p log i
+    AllByRecursion (λ x. answer_to (address_at p.addresses i) x ≢ Some Unable) (exchanges_with p i log)
+    → IsSteady p log i
 
 -- what it says of sessions
 abbrev pub SessionsKnown : Type 0
-SessionsKnown = (p : Setup) (log : Log) (i : ℕ) (turns : List Turn) → IsFaithful p log → i < length p.addresses → IsHonest p log i turns → HasSessions p log i turns
+SessionsKnown = (p : Setup) (log : Log) (i : ℕ) (turns : List Turn) → IsFaithful p log → i < length p.addresses
+    → IsHonest p log i turns → HasSessions p log i turns
 
 -- nothing before the first of them
 abbrev pub Idle : Type 0
-Idle = (p : Setup) (log : Log) (i : ℕ) (turns : List Turn) → IsFaithful p log → i < length p.addresses → IsHonest p log i turns → IsIdle (address_at p.addresses i) (before_sessions p log i turns)
+Idle = (p : Setup) (log : Log) (i : ℕ) (turns : List Turn) → IsFaithful p log → i < length p.addresses
+    → IsHonest p log i turns → IsIdle (address_at p.addresses i) (before_sessions p log i turns)
 
 -- and of what is lost in them
 abbrev pub LossesKnown : Type 0
-LossesKnown = (p : Setup) (log : Log) (i : ℕ) (turns : List Turn) → IsFaithful p log → i < length p.addresses → IsHonest p log i turns → (session_counts p log i turns).lost ≤ (session_counts p log i turns).gaps
+LossesKnown = (p : Setup) (log : Log) (i : ℕ) (turns : List Turn) → IsFaithful p log → i < length p.addresses
+    → IsHonest p log i turns → (session_counts p log i turns).lost ≤ (session_counts p log i turns).gaps
 
 -- the reports that a line of a script gives it
-reported_by : (index : ℕ) (d : Directive) → cond (reports_for index d) 1 0 ≡ length (report_said index One d) + length (report_said index Two d)
+reported_by : (index : ℕ) (d : Directive) → cond (reports_for index d) 1 0
+    ≡ length (report_said index One d) + length (report_said index Two d)
 reported_by index (Report i One octets) = go (i == index)
   where
-    go : (b : Bool) → cond b 1 0 ≡ length (if b && true then octets ∷ [] else []) + length (if b && false then octets ∷ [] else [])
+    go : (b : Bool) → cond b 1 0 ≡ length (if b && true then octets ∷ [] else []) + length (if b && false then octets
+        ∷ [] else [])
     go true = omega arith
     go false = omega arith
 reported_by index (Report i Two octets) = go (i == index)
   where
-    go : (b : Bool) → cond b 1 0 ≡ length (if b && false then octets ∷ [] else []) + length (if b && true then octets ∷ [] else [])
+    go : (b : Bool) → cond b 1 0 ≡ length (if b && false then octets ∷ [] else []) + length (if b && true then octets
+        ∷ [] else [])
     go true = omega arith
     go false = omega arith
 reported_by index (Turns n) = omega arith
@@ -133,35 +152,56 @@ reported_by index (SpoilAnswer n place) = omega arith
 reported_by index (Cut n) = omega arith
 reported_by index (Send n octets) = omega arith
 
-reported_all : (index : ℕ) (ds : List Directive) → count_by (reports_for index) ds ≡ length (flat_map (report_said index One) ds) + length (flat_map (report_said index Two) ds)
+reported_all : (index : ℕ) (ds : List Directive) → count_by (reports_for index) ds
+    ≡ length (flat_map (report_said index One) ds) + length (flat_map (report_said index Two) ds)
 reported_all index [] = refl
 reported_all index (d ∷ ds) =
     sum_by-cons (λ (x : Directive). cond (reports_for index x) 1 0) d ds
-    ∙ omega (arith, reported_by index d, reported_all index ds, length-append (report_said index One d) (flat_map (report_said index One) ds), length-append (report_said index Two d) (flat_map (report_said index Two) ds))
+    ∙ omega (
+      arith,
+      reported_by index d,
+      reported_all index ds,
+      length-append (report_said index One d) (flat_map (report_said index One) ds),
+      length-append (report_said index Two d) (flat_map (report_said index Two) ds),
+    )
 
-served_so : (laws : Laws) → Delivered → Steadied → SessionsKnown → Idle → LossesKnown → (c : Settings) (ds : List Directive) (log : Log) (waiting : Option (List ℕ)) (i : ℕ) (s : Secondary) (t : Tally) → IsFaithful (setup_of c) log → length log < 2 ^ 64 → i < length (setup_of c).addresses →
-    Serves (setup_of c) (requests_to (setup_of c) ds i log) (exchanges_of (setup_of c) log) waiting i (first_station c ds i) s t → HasServed c ds log i s t
+served_so : (laws : Laws) → Delivered → Steadied → SessionsKnown → Idle → LossesKnown
+    → (c : Settings) (ds : List Directive) (log : Log) (waiting : Option (List ℕ)) (i : ℕ) (s : Secondary) (t : Tally)
+    → IsFaithful (setup_of c) log → length log < 2 ^ 64 → i < length (setup_of c).addresses →
+    Serves (setup_of c) (requests_to (setup_of c) ds i log) (exchanges_of (setup_of c) log) waiting i
+    (first_station c ds i) s t → HasServed c ds log i s t
 served_so laws delivers steadies known idle losses c ds log waiting i s t faithful small lt h =
     let p : Setup = setup_of c in
     let a : ℕ = address_at p.addresses i in
     let asked : requests_of (exchanges_with p i log) ≡ asked_of (requests_to p ds i log) = same_asked p ds i log in
-    let fronts : HasFronts p.link.size i (all_of (exchanges_of p log)) h.turns = all_fronts p.link.size i (exchanges_of p log) h.turns waiting h.fronts in
-    let all : DidAll (first_station c ds i) (asked_of (requests_to p ds i log)) h.turns s = did_all laws (first_station c ds i) s (requests_to p ds i log) h.turns (omega arith) h.readable h.took in
+    let fronts : HasFronts p.link.size i (all_of (exchanges_of p log)) h.turns =
+    all_fronts p.link.size i (exchanges_of p log) h.turns waiting h.fronts in
+    let all : DidAll (first_station c ds i) (asked_of (requests_to p ds i log)) h.turns s =
+    did_all laws (first_station c ds i) s (requests_to p ds i log) h.turns (omega arith) h.readable h.took in
     let honest : IsHonest p log i h.turns = record {
       end = outstation_of s;
       run = subst (λ (rs : List Asked). OutstationRun a unreset rs h.turns (outstation_of s)) (sym asked) all.run;
       fronts = fronts.fronts;
     } in
-    let steady : c.line.silence ≡ Hold → IsSteady p log i = λ (held : c.line.silence ≡ Hold). steadies p log i faithful lt (ap holds held)
-    (never_unable a (exchanges_with p i log) h.turns fronts.long (willing_turns (first_station c ds i) s (requests_to p ds i log) h.turns tt h.took) fronts.fronts) in
+    let steady : c.line.silence ≡ Hold → IsSteady p log i =
+    λ (held : c.line.silence ≡ Hold). steadies p log i faithful lt (ap holds held)
+    (never_unable a (exchanges_with p i log) h.turns fronts.long
+    (willing_turns (first_station c ds i) s (requests_to p ds i log) h.turns tt h.took) fronts.fronts) in
     let before : IsIdle a (before_sessions p log i h.turns) = idle p log i h.turns faithful lt honest in
     let few : length (exchanges_with p i log) < 2 ^ 64 = omega (arith, exchanges_few p ds i log) in
     let long : length h.turns ≡ length (exchanges_with p i log) = fronts.long in
-    let given_few : length (reports (all_done h.turns)) < 2 ^ 64 = omega (arith, reports_few a unreset (outstation_of s) (requests_of (exchanges_with p i log)) h.turns honest.run) in
-    let all_counted : IsCounted (session_counts p log i h.turns) (tally_over a 0 fresh_tally (exchanges_with p i log) h.turns) =
+    let given_few : length (reports (all_done h.turns)) < 2 ^ 64 =
+    omega (
+      arith,
+      reports_few a unreset (outstation_of s)
+          (requests_of (exchanges_with p i log)) h.turns honest.run,
+    ) in
+    let all_counted : IsCounted (session_counts p log i h.turns)
+    (tally_over a 0 fresh_tally (exchanges_with p i log) h.turns) =
     counted_all a (exchanges_with p i log) h.turns long few given_few before.taken before.done in
     let counted : IsCounted (session_counts p log i h.turns) t =
-    subst (IsCounted (session_counts p log i h.turns)) (sym (tally_all p i (exchanges_of p log) h.turns waiting h.fronts t h.tallied)) all_counted in
+    subst (IsCounted (session_counts p log i h.turns))
+    (sym (tally_all p i (exchanges_of p log) h.turns waiting h.fronts t h.tallied)) all_counted in
     record {
       turns = h.turns;
       took = h.took;
@@ -175,12 +215,14 @@ served_so laws delivers steadies known idle losses c ds log waiting i s t faithf
       accepted = sym all.accepted;
       sessions_known = known p log i h.turns faithful lt honest;
       steady = steady;
-      relayed = λ (held : c.line.silence ≡ Hold). let given_on = delivers p log faithful in given_on.relayed i h.turns lt honest (steady held);
+      relayed = λ (held : c.line.silence ≡ Hold). let given_on = delivers p log faithful in
+          given_on.relayed i h.turns lt honest (steady held);
     }
 
 -- All stations
 
-have_served : (c : Settings) (ds : List Directive) (log : Log) (n : ℕ) (ss : List Secondary) (ts : List Tally) (d : Secondary) → length ts ≡ length ss →
+have_served : (c : Settings) (ds : List Directive) (log : Log) (n : ℕ) (ss : List Secondary) (ts : List Tally)
+    (d : Secondary) → length ts ≡ length ss →
     ((i : ℕ) → i < length ss → HasServed c ds log (n + i) (get_or ss i d) (tally_at ts i)) → HaveServed c ds log n ss ts
 have_served c ds log n [] [] d long h = tt
 have_served c ds log n [] (t ∷ ts) d long h = absurd (omega arith)
@@ -188,26 +230,44 @@ have_served c ds log n (s ∷ ss) [] d long h = absurd (omega arith)
 have_served c ds log n (s ∷ ss) (t ∷ ts) d long h =
     let same : n + 0 ≡ n = omega arith in (
       subst (λ (k : ℕ). HasServed c ds log k s t) same (h 0 (omega arith)),
-      have_served c ds log (n + 1) ss ts d (omega arith) (λ i lt. let one : n + suc i ≡ (n + 1) + i = omega arith in subst (λ (k : ℕ). HasServed c ds log k (get_or ss i d) (tally_at ts i)) one (h (suc i) (omega arith))),
+      have_served c ds log (n + 1) ss ts d (omega arith) (λ i lt. let one : n + suc i ≡ (n + 1) + i = omega arith in
+          subst (λ (k : ℕ). HasServed c ds log k (get_or ss i d) (tally_at ts i)) one (h (suc i) (omega arith))),
     )
 
-pub all_served : (laws : Laws) → Delivered → Steadied → SessionsKnown → Idle → LossesKnown → (c : Settings) (ds : List Directive) (log : Log) (answers : List (Option Frame)) (stations : List Secondary) (tallies : List Tally) → AreDistinct c.stations →
-    (played : IsPlayed (plan_of c ds) log answers stations) → tallies ≡ tallies_of (plan_of c ds) log answers stations played.lived → length log < 2 ^ 64 → IsFaithful (setup_of c) log → HaveServed c ds log 0 stations tallies
+pub all_served : (laws : Laws) → Delivered → Steadied → SessionsKnown → Idle → LossesKnown
+    → (c : Settings) (ds : List Directive) (log : Log) (answers : List (Option Frame)) (stations : List Secondary)
+    (tallies : List Tally) → AreDistinct c.stations →
+    (played : IsPlayed (plan_of c ds) log answers stations)
+    → tallies ≡ tallies_of (plan_of c ds) log answers stations played.lived → length log < 2 ^ 64
+    → IsFaithful (setup_of c) log → HaveServed c ds log 0 stations tallies
 all_served laws delivers steadies known idle losses c ds log answers stations tallies apart played are small faithful =
     let p : Setup = setup_of c in
     let d : Secondary = fresh_station c.line.link 0 in
     let fits : FitsPlan p (plan_of c ds) = fits_plan c ds apart in
     let counts : List Tally = tallies_of (plan_of c ds) log answers stations played.lived in
-    let as_long : length counts ≡ length (plan_of c ds).stations = length_tallies (plan_of c ds) log answers stations played.lived in
-    let stay : length stations ≡ length (plan_of c ds).stations = length_lived (plan_of c ds) log answers stations played.lived in
+    let as_long : length counts ≡ length (plan_of c ds).stations =
+    length_tallies (plan_of c ds) log answers stations played.lived in
+    let stay : length stations ≡ length (plan_of c ds).stations =
+    length_lived (plan_of c ds) log answers stations played.lived in
     subst (λ (ts : List Tally). HaveServed c ds log 0 stations ts) (sym are)
     (have_served c ds log 0 stations counts d (as_long ∙ sym stay) (λ i lt.
-    let short : length stations ≡ length (plan_of c ds).stations = length_lived (plan_of c ds) log answers stations played.lived in
-    let within : i < length p.addresses = omega (arith, lt, short, ap length fits.addresses, length-map (plan_of c ds).stations (λ (s : Secondary). s.address)) in
+    let short : length stations ≡ length (plan_of c ds).stations =
+    length_lived (plan_of c ds) log answers stations played.lived in
+    let within : i < length p.addresses = omega (
+      arith,
+      lt,
+      short,
+      ap length fits.addresses,
+      length-map (plan_of c ds).stations (λ (s : Secondary). s.address),
+    ) in
     let set : i < length c.stations = omega (arith, within, length-map c.stations (λ (s : Station). s.address)) in
     let same : 0 + i ≡ i = omega arith in
-    let begins : get_or (plan_of c ds).stations i d ≡ first_station c ds i = begun_at c.line.link 0 i ds c.stations i d set (omega arith) in
+    let begins : get_or (plan_of c ds).stations i d ≡ first_station c ds i =
+    begun_at c.line.link 0 i ds c.stations i d set (omega arith) in
     subst (λ (k : ℕ). HasServed c ds log k (get_or stations i d) (tally_at counts i)) (sym same)
-    (served_so laws delivers steadies known idle losses c ds log (waiting_in (plan_of c ds) log answers) i (get_or stations i d) (tally_at counts i) faithful small within
-    (subst (λ (f : Secondary). Serves p (requests_to p ds i log) (exchanges_of p log) (waiting_in (plan_of c ds) log answers) i f (get_or stations i d) (tally_at counts i)) begins
-    (serves laws (plan_of c ds) log answers stations i d refl fits within played.lived played.fit played.follows faithful.acts)))))
+    (served_so laws delivers steadies known idle losses c ds log (waiting_in (plan_of c ds) log answers) i
+    (get_or stations i d) (tally_at counts i) faithful small within
+    (subst (λ (f : Secondary). Serves p (requests_to p ds i log) (exchanges_of p log)
+    (waiting_in (plan_of c ds) log answers) i f (get_or stations i d) (tally_at counts i)) begins
+    (serves laws (plan_of c ds) log answers stations i d refl fits within played.lived played.fit played.follows
+    faithful.acts)))))

@@ -30,7 +30,8 @@ sent_by octets c n le = go (first_control octets == 0x07) (is_data octets) refl 
 received_by : (octets : List ℕ) (c : Centre) (n : ℕ) → c.received ≤ n → (after_sending octets c).received ≤ n + 1
 received_by octets c n le = go (first_control octets == 0x07) (is_data octets) refl refl
   where
-    go : (a b : Bool) → (first_control octets == 0x07) ≡ a → is_data octets ≡ b → (after_sending octets c).received ≤ n + 1
+    go : (a b : Bool) → (first_control octets == 0x07) ≡ a → is_data octets ≡ b
+        → (after_sending octets c).received ≤ n + 1
     go true b e f = rw e (omega arith)
     go false true e f = rw (e, f) (omega arith)
     go false false e f = rw (e, f) (omega arith)
@@ -51,7 +52,8 @@ received_after CutOff c n le = omega arith
 received_after Ticked c n le = omega arith
 received_after (WallIs number) c n le = omega arith
 
-waiting_after : (plan : Plan) (log : Log) (answers : List (Option Frame)) (now : ℕ) (event : Input) (at : Standing) → at.waiting ≡ waiting_in plan log answers →
+waiting_after : (plan : Plan) (log : Log) (answers : List (Option Frame)) (now : ℕ) (event : Input) (at : Standing)
+    → at.waiting ≡ waiting_in plan log answers →
     (standing_after plan (Came now event) at).waiting ≡ waiting_in plan (Came now event ∷ log) answers
 waiting_after plan log answers now (LineIn octets) at e = refl
 waiting_after plan log answers now Opened at e = e
@@ -63,12 +65,14 @@ waiting_after plan log answers now (WallIs number) at e = e
 -- What may still be answered
 
 -- once a moment has come
-awaits_timed : (ms now : ℕ) (c : Option OpenExchange) → awaited_timed ms now (awaited_in c) ≡ awaited_in (timed_current ms now c)
+awaits_timed : (ms now : ℕ) (c : Option OpenExchange) → awaited_timed ms now (awaited_in c)
+    ≡ awaited_in (timed_current ms now c)
 awaits_timed ms now None = refl
 awaits_timed ms now (Some x) = go x.closed x.octets (nat_le (x.since + ms) now) refl
   where
     go : (closed : Bool) (xs : List ℕ) (late : Bool) → nat_le (x.since + ms) now ≡ late →
-        awaited_timed ms now (if closed then None else awaited_with xs x) ≡ (if closed || late then None else awaited_with xs (timed ms now x))
+        awaited_timed ms now (if closed then None else awaited_with xs x)
+        ≡ (if closed || late then None else awaited_with xs (timed ms now x))
     go true xs late is = refl
     go false [] true is = ap (λ (b : Bool). if b then None else awaited_with [] x) is
     go false [] false is = ap (λ (b : Bool). if b then None else awaited_with [] x) is
@@ -76,12 +80,14 @@ awaits_timed ms now (Some x) = go x.closed x.octets (nat_le (x.since + ms) now) 
     go false (y ∷ ys) false is = refl
 
 -- and octets before it
-awaits_heard : (octets : List ℕ) (c : Option OpenExchange) → awaited_heard octets (awaited_in c) ≡ awaited_in (heard_current octets c)
+awaits_heard : (octets : List ℕ) (c : Option OpenExchange)
+    → awaited_heard octets (awaited_in c) ≡ awaited_in (heard_current octets c)
 awaits_heard [] None = refl
 awaits_heard (o ∷ os) None = refl
 awaits_heard [] (Some x) = go x.closed x.octets
   where
-    go : (closed : Bool) (xs : List ℕ) → (if closed then None else awaited_with xs x) ≡ (if closed then None else awaited_with (if closed then xs else xs ++ []) (heard_octets [] x))
+    go : (closed : Bool) (xs : List ℕ) → (if closed then None else awaited_with xs x)
+        ≡ (if closed then None else awaited_with (if closed then xs else xs ++ []) (heard_octets [] x))
     go true xs = refl
     go false [] = refl
     go false (y ∷ ys) = refl
@@ -90,12 +96,14 @@ awaits_heard (o ∷ os) (Some x) = go x.closed x.octets
     none : Option Awaited
     none = None
 
-    go : (closed : Bool) (xs : List ℕ) → none ≡ (if closed then None else awaited_with (if closed then xs else xs ++ o ∷ os) (heard_octets (o ∷ os) x))
+    go : (closed : Bool) (xs : List ℕ)
+        → none ≡ (if closed then None else awaited_with (if closed then xs else xs ++ o ∷ os) (heard_octets (o ∷ os) x))
     go true xs = refl
     go false [] = refl
     go false (y ∷ ys) = refl
 
-awaits_came : (p : Setup) (log : Log) (now : ℕ) (event : Input) (t : Tallied) → latest (Came now event ∷ log) ≡ now → t.awaited ≡ awaited_in (exchanges_of p log).current →
+awaits_came : (p : Setup) (log : Log) (now : ℕ) (event : Input) (t : Tallied) → latest (Came now event ∷ log) ≡ now
+    → t.awaited ≡ awaited_in (exchanges_of p log).current →
     (tallied_at p now event t).awaited ≡ awaited_in (exchanges_of p (Came now event ∷ log)).current
 awaits_came p log now (LineIn octets) t at is =
     let c : Option OpenExchange = (exchanges_of p log).current in
@@ -120,13 +128,15 @@ awaits_came p log now (WallIs number) t at is =
     ∙ ap (λ (n : ℕ). awaited_in (timed_current p.link.answer_ms n (exchanges_of p log).current)) (sym at)
 
 -- once a request has gone out
-awaits_begun : (now : ℕ) (m : Option Sending) (e : Exchanges) (a : Option Awaited) → a ≡ awaited_in e.current → awaited_asked now m a ≡ awaited_in (begun_by now m e).current
+awaits_begun : (now : ℕ) (m : Option Sending) (e : Exchanges) (a : Option Awaited) → a ≡ awaited_in e.current
+    → awaited_asked now m a ≡ awaited_in (begun_by now m e).current
 awaits_begun now None e a is = is
 awaits_begun now (Some s) e a is = refl
 
 -- What is counted
 
-counts_came : (plan : Plan) (log : Log) (answers : List (Option Frame)) (stations : List Secondary) (lived : AreLived plan log answers stations) (now : ℕ) (event : Input) (t : Tallied) →
+counts_came : (plan : Plan) (log : Log) (answers : List (Option Frame)) (stations : List Secondary)
+    (lived : AreLived plan log answers stations) (now : ℕ) (event : Input) (t : Tallied) →
     t.awaited ≡ awaited_in (exchanges_of plan.setup log).current → t.each ≡ tallies_of plan log answers stations lived →
     (tallied_at plan.setup now event t).each ≡ tallies_of plan (Came now event ∷ log) answers stations lived
 counts_came plan log answers stations lived now (LineIn octets) t is each =
@@ -138,8 +148,11 @@ counts_came plan log answers stations lived now CutOff t is each = each
 counts_came plan log answers stations lived now Ticked t is each = each
 counts_came plan log answers stations lived now (WallIs number) t is each = each
 
-came_with : (plan : Plan) (log : Log) (stations : List Secondary) (at : Standing) (now : ℕ) (event : Input) → event ≡ event_at plan.directives (at.call + 1) at.centre at.waiting →
-    now ≡ min (at.moment + lasting plan.answer_ms event) last_moment → at.call < turns_of plan.directives → Stands plan log stations at → Stands plan (Came now event ∷ log) stations (standing_after plan (Came now event) at)
+came_with : (plan : Plan) (log : Log) (stations : List Secondary) (at : Standing) (now : ℕ) (event : Input)
+    → event ≡ event_at plan.directives (at.call + 1) at.centre at.waiting →
+    now ≡ min (at.moment + lasting plan.answer_ms event) last_moment → at.call < turns_of plan.directives
+    → Stands plan log stations at → Stands plan (Came now event ∷ log) stations
+    (standing_after plan (Came now event) at)
 came_with plan log stations at now event e f few k = record {
   answers = k.answers;
   played = record {
@@ -162,18 +175,24 @@ came_with plan log stations at now event e f few k = record {
   awaited = awaits_came plan.setup log now event at.tallied moment_is k.awaited;
   each = counts_came plan log k.answers stations k.played.lived now event at.tallied k.awaited k.each;
   in_time = let le : now ≤ last_moment = omega arith in le;
-  sent = let le : (after_event event at.centre).sent ≤ length log + 1 = sent_after event at.centre (length log) k.sent in omega arith;
-  received = let le : (after_event event at.centre).received ≤ length log + 1 = received_after event at.centre (length log) k.received in omega arith;
+  sent = let le : (after_event event at.centre).sent ≤ length log + 1 = sent_after event at.centre (length log) k.sent
+      in omega arith;
+  received =
+      let le : (after_event event at.centre).received ≤ length log + 1 =
+      received_after event at.centre (length log) k.received in
+      omega arith;
   few = let le : at.requests ≤ length log = k.few in omega arith;
   in_turns = let le : at.call + 1 ≤ turns_of plan.directives = omega arith in le;
   sizes = k.sizes;
 }
   where
     moment_is : latest (Came now event ∷ log) ≡ now
-    moment_is = let before : latest log ≡ at.moment = k.latest in let within : at.moment ≤ last_moment = k.in_time in omega arith
+    moment_is = let before : latest log ≡ at.moment = k.latest in let within : at.moment ≤ last_moment = k.in_time in
+        omega arith
 
 -- the next event
-pub stands_came : (plan : Plan) (log : Log) (stations : List Secondary) (at : Standing) (entry : LogEntry) → entry ≡ coming plan at → at.call < turns_of plan.directives → Stands plan log stations at →
+pub stands_came : (plan : Plan) (log : Log) (stations : List Secondary) (at : Standing) (entry : LogEntry)
+    → entry ≡ coming plan at → at.call < turns_of plan.directives → Stands plan log stations at →
     Stands plan (entry ∷ log) stations (standing_after plan entry at)
 stands_came plan log stations at entry e few k =
     let event : Input = event_at plan.directives (at.call + 1) at.centre at.waiting in
@@ -181,14 +200,30 @@ stands_came plan log stations at entry e few k =
     (came_with plan log stations at (min (at.moment + lasting plan.answer_ms event) last_moment) event refl refl few k)
 
 -- a request
-pub stands_asked : (plan : Plan) (log : Log) (stations new : List Secondary) (at : Standing) (now : ℕ) (octets : List ℕ) (answer : Option Frame) →
-    IsPutOut (fate_of plan.directives (at.requests + 1)) octets stations answer new → AllByRecursion (λ s. s.size ≡ plan.size) new → IfSome answer (Fits plan.size) → Stands plan log stations at →
+pub stands_asked : (plan : Plan) (log : Log) (stations new : List Secondary) (at : Standing) (now : ℕ)
+    (octets : List ℕ) (answer : Option Frame) →
+    IsPutOut (fate_of plan.directives (at.requests + 1)) octets stations answer new
+    → AllByRecursion (λ s. s.size ≡ plan.size) new → IfSome answer (Fits plan.size) → Stands plan log stations at →
     Stands plan (Went now (LineOut octets) ∷ log) new
-    (record { waiting = arriving plan.size (fate_of plan.directives (at.requests + 1)) answer; centre = at.centre; call = at.call; moment = at.moment; requests = at.requests + 1; tallied = tallied_asked plan.setup now octets stations at.tallied })
+    (record {
+      waiting = arriving plan.size (fate_of plan.directives (at.requests + 1)) answer;
+      centre =
+          at.centre;
+      call = at.call;
+      moment = at.moment;
+      requests = at.requests + 1;
+      tallied =
+          tallied_asked plan.setup now octets stations at.tallied;
+    })
 stands_asked plan log stations new at now octets answer out sizes fits k = record {
   answers = answer ∷ k.answers;
   played = record {
-    lived = (stations, subst (λ (n : ℕ). IsPutOut (fate_of plan.directives (n + 1)) octets stations answer new) k.requests out, k.played.lived);
+    lived = (
+      stations,
+      subst (λ (n : ℕ). IsPutOut (fate_of plan.directives (n + 1)) octets stations answer new)
+          k.requests out,
+      k.played.lived,
+    );
     fit = (fits, k.played.fit);
     follows = k.played.follows;
   };
@@ -223,7 +258,8 @@ sent_same octets c = go (is_data octets) refl
     go false e = rw e refl
 
 -- an APDU
-pub stands_handed : (plan : Plan) (log : Log) (stations : List Secondary) (at : Standing) (now : ℕ) (octets : List ℕ) → Stands plan log stations at →
+pub stands_handed : (plan : Plan) (log : Log) (stations : List Secondary) (at : Standing) (now : ℕ) (octets : List ℕ)
+    → Stands plan log stations at →
     Stands plan (Went now (TcpOut octets) ∷ log) stations (record at { centre = after_receiving octets at.centre })
 stands_handed plan log stations at now octets k = record {
   answers = k.answers;
@@ -238,14 +274,18 @@ stands_handed plan log stations at now octets k = record {
   each = k.each;
   in_time = k.in_time;
   sent = let le : at.centre.sent ≤ length log = k.sent in omega (arith, sent_same octets at.centre);
-  received = let le : (after_receiving octets at.centre).received ≤ length log + 1 = received_more octets at.centre (length log) k.received in omega arith;
+  received =
+      let le : (after_receiving octets at.centre).received ≤ length log + 1 =
+      received_more octets at.centre (length log) k.received in
+      omega arith;
   few = let le : at.requests ≤ length log = k.few in omega arith;
   in_turns = k.in_turns;
   sizes = k.sizes;
 }
 
 -- a close
-pub stands_closed : (plan : Plan) (log : Log) (stations : List Secondary) (at : Standing) (now : ℕ) (cause : Close) → Stands plan log stations at →
+pub stands_closed : (plan : Plan) (log : Log) (stations : List Secondary) (at : Standing) (now : ℕ) (cause : Close)
+    → Stands plan log stations at →
     Stands plan (Went now (Closed cause) ∷ log) stations (record at { centre = shut })
 stands_closed plan log stations at now cause k = record {
   answers = k.answers;
@@ -267,7 +307,8 @@ stands_closed plan log stations at now cause k = record {
 }
 
 -- a gap
-pub stands_told : (plan : Plan) (log : Log) (stations : List Secondary) (at : Standing) (now station session : ℕ) → Stands plan log stations at →
+pub stands_told : (plan : Plan) (log : Log) (stations : List Secondary) (at : Standing) (now station session : ℕ)
+    → Stands plan log stations at →
     Stands plan (Went now (GapOut station session) ∷ log) stations at
 stands_told plan log stations at now station session k = record {
   answers = k.answers;
@@ -289,23 +330,42 @@ stands_told plan log stations at now station session k = record {
 }
 
 -- before the first call
-pub stands_fresh : (plan : Plan) (stations : List Secondary) (centre : Centre) → centre ≡ shut → stations ≡ plan.stations → AllByRecursion (λ s. s.size ≡ plan.size) plan.stations →
-    Stands plan [] stations (record { waiting = None; centre = centre; call = 0; moment = 0; requests = 0; tallied = record { awaited = None; each = replicate (length plan.stations) fresh_tally } })
-stands_fresh plan stations centre c e sizes = subst (λ (d : Centre). Stands plan [] stations (record { waiting = None; centre = d; call = 0; moment = 0; requests = 0; tallied = record { awaited = None; each = replicate (length plan.stations) fresh_tally } })) (sym c) (record {
-  answers = [];
-  played = record { lived = e; fit = tt; follows = tt };
-  waiting = refl;
-  centre = refl;
-  call = refl;
-  moment = refl;
-  requests = refl;
-  latest = refl;
-  awaited = refl;
-  each = refl;
-  in_time = omega arith;
-  sent = omega arith;
-  received = omega arith;
-  few = omega arith;
-  in_turns = omega arith;
-  sizes = subst (λ (ss : List Secondary). AllByRecursion (λ s. s.size ≡ plan.size) ss) (sym e) sizes;
-})
+pub stands_fresh : (plan : Plan) (stations : List Secondary) (centre : Centre) → centre ≡ shut
+    → stations ≡ plan.stations → AllByRecursion (λ s. s.size ≡ plan.size) plan.stations →
+    Stands plan [] stations (record {
+      waiting = None;
+      centre = centre;
+      call = 0;
+      moment = 0;
+      requests = 0;
+      tallied =
+          record { awaited = None; each = replicate (length plan.stations) fresh_tally };
+    })
+stands_fresh plan stations centre c e sizes =
+    subst (λ (d : Centre). Stands plan [] stations (record {
+      waiting = None;
+      centre = d;
+      call = 0;
+      moment =
+          0;
+      requests = 0;
+      tallied = record { awaited = None; each = replicate (length plan.stations) fresh_tally };
+    }))
+    (sym c) (record {
+      answers = [];
+      played = record { lived = e; fit = tt; follows = tt };
+      waiting = refl;
+      centre = refl;
+      call = refl;
+      moment = refl;
+      requests = refl;
+      latest = refl;
+      awaited = refl;
+      each = refl;
+      in_time = omega arith;
+      sent = omega arith;
+      received = omega arith;
+      few = omega arith;
+      in_turns = omega arith;
+      sizes = subst (λ (ss : List Secondary). AllByRecursion (λ s. s.size ≡ plan.size) ss) (sym e) sizes;
+    })

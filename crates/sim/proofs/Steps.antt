@@ -19,5 +19,6 @@ pub length-log : (xs : List Told) → length (log_of xs) ≡ length xs
 length-log xs = omega (arith, stored_length xs [])
 
 -- one more entry is stored
-pub pushed : (items new : List Told) (x : Told) (entry : LogEntry) → new ≡ items ++ x ∷ [] → told_of x ≡ entry → log_of new ≡ entry ∷ log_of items
+pub pushed : (items new : List Told) (x : Told) (entry : LogEntry) → new ≡ items ++ x ∷ [] → told_of x ≡ entry
+    → log_of new ≡ entry ∷ log_of items
 pushed items new x entry e told = ap log_of e ∙ stored_push items x ∙ ap (λ (t : LogEntry). t ∷ log_of items) told

@@ -17,15 +17,11 @@ use crate::script::Script;
 use crate::tallies::Tallies;
 use crate::tally::Tally;
 use arrayvec::ArrayVec;
-use gateway::{Action, Config, Entry, Next, Port, Told};
+use gateway::{Action, Config, Entry, LAST_MOMENT, Next, Port, Told, announce, keep};
 use link::{NoMemory, Station, station_is_an_outstation};
 use session::Close;
 use std::alloc::{AllocError, Global};
 use std::marker::Model;
-use traces::{announce, cause_number};
-
-/// The last moment that counts.
-const LAST_MOMENT: u64 = 999_999_999_999_999;
 
 /// A line whose stations and control centre do as a script says, as the port of a gateway. It
 /// stores its log.
@@ -81,15 +77,6 @@ impl<'a> Model for Sim<'a> {
           requests = a.requests;
           tallied = a.tallies;
         }) };
-}
-
-/// Adds to the log.
-fn keep(log: &mut Vec<Told>, told: Told) -> Result<(), AllocError>
-    ensures ok { OnOk result (log.new.items ≡ log.old.items ++ told ∷ []) }
-    ensures err { OnErr result (log.new.items ≡ log.old.items) }
-{
-    log.push(told)?;
-    Ok(())
 }
 
 /// What the control centre knows after an event.
@@ -230,6 +217,7 @@ impl<'a> Sim<'a> {
         ensures plan { self.new.plan ≡ self.old.plan }
         ensures failed { self.new.failed ≡ self.old.failed }
     {
+        // Room first: an event that finds none has changed nothing.
         self.log.try_reserve(1)?;
         let centre = centre_after(&entry, self.centre);
         let moment = moment_at(&entry);
@@ -252,6 +240,7 @@ impl<'a> Sim<'a> {
         ensures failed { self.new.failed ≡ self.old.failed }
     {
         station_is_an_outstation();
+        // Stored first: where memory is refused no station has heard the request.
         let copy = Vec::from_slice(self.alloc, octets)?;
         keep(&mut self.log, Told::Line(now, copy))?;
         self.requests += 1;
@@ -285,7 +274,7 @@ impl<'a> Sim<'a> {
         ensures plan { self.new.plan ≡ self.old.plan }
         ensures failed { self.new.failed ≡ self.old.failed }
     {
-        keep(&mut self.log, Told::Close(now, cause_number(cause)))?;
+        keep(&mut self.log, Told::Close(now, cause))?;
         self.centre = Centre::shut();
         Ok(())
     }
@@ -314,6 +303,7 @@ impl<'a> Sim<'a> {
         ensures plan { self.new.plan ≡ self.old.plan }
         ensures failed { self.new.failed ≡ self.old.failed }
     {
+        // Announced while it is borrowed: the log takes it with its octets.
         let entry = self.next_entry()?;
         let next = announce(&entry, buf);
         self.come(entry)?;

@@ -2,10 +2,9 @@
 use Rattle.std.specs.Prelude.{ℕ, ◌+◌, List, [], ◌∷◌, ◌++◌, codes}
 use Rattle.std.specs.Fmt.{decimal}
 use Rattle.hex.specs.Hex.{encode_upper}
-use Rattle.gateway.specs.Log.{Log, Output, LineOut, TcpOut, Closed, GapOut, Came, Went}
-use Rattle.gateway.specs.Entries.{number_of}
+use Rattle.gateway.specs.Log.{Log, LogEntry, Output, LineOut, TcpOut, Closed, GapOut, Came, Went}
+use Rattle.gateway.specs.Entries.{number_of, told_of}
 use Rattle.gateway.specs.declared.entries.Told.{Told}
-use Rattle.gateway.specs.declared.entries.Told.TheVariants as told
 
 -- octets to the line (S), an APDU to TCP (T), a close with the number of its cause (X), or a gap
 -- (G) with the number of the station, from 1, and that of the session that ended
@@ -28,13 +27,14 @@ line_of now (TcpOut octets) = apdu_line now octets
 line_of now (Closed cause) = close_line now (number_of cause)
 line_of now (GapOut station session) = gap_line now station session
 
--- the line of what is stored; an event has none
+-- the line of an entry of the log; an event has none
+abbrev pub entry_line : LogEntry → List ℕ
+entry_line (Came now event) = []
+entry_line (Went now action) = line_of now action
+
+-- the line of what is stored
 abbrev pub stored_line : Told → List ℕ
-stored_line (told.Came event) = []
-stored_line (told.Line now octets) = request_line now octets.items
-stored_line (told.Tcp now octets) = apdu_line now octets.items
-stored_line (told.Close now number) = close_line now number
-stored_line (told.Gap now station session) = gap_line now station session
+stored_line told = entry_line (told_of told)
 
 -- the lines of a log's actions, the oldest first; an event has none
 abbrev pub lines_of_actions : Log → List ℕ

@@ -3,10 +3,9 @@ use Rattle.std.specs.Prelude.{◌≡◌, ℕ, Bool, true, false, ◌&&◌, List,
 use Rattle.std.specs.List.{AllByRecursion}
 use Rattle.std.specs.Io.KnownBytes.{Appends}
 use Rattle.gateway.specs.Log.{Log, LogEntry, events_of}
-use Rattle.gateway.specs.Ports.{told_by, FitsBuffer, faults_of}
 use Rattle.gateway.specs.declared.ports.Next.{Next}
 use Rattle.gateway.specs.declared.ports.Next.TheVariants.{Done}
-use Rattle.gateway.specs.Entries.{FitsPort, event_of, script_of}
+use Rattle.gateway.specs.Entries.{FitsPort, event_of, script_of, IsAnnounced}
 use Rattle.gateway.specs.declared.entries.Entry.{Entry}
 use Rattle.traces.specs.declared.health.Health.{Health}
 use Rattle.traces.specs.declared.health.Health.TheVariants.{Good, Refused, Broken}
@@ -66,13 +65,6 @@ pub record IsTraced (before : Option (List ℕ)) (t : Traced) : Type 0 where
   pub fits : AllByRecursion FitsPort t.left
   pub lines : HasLines before t
   pub sound : t.failed ≡ 0 → t.health ≡ Good
-
--- an answer of a port tells this entry
-pub record IsAnnounced (entry : Entry) (next : Next) (buf : List ℕ) : Type 0 where
-  pub told : told_by next buf ≡ event_of entry ∷ []
-  pub fits : FitsBuffer next
-  pub healthy : faults_of next ≡ 0
-  pub some : next ≡ Done → ⊥
 
 -- The next entry, if there is one, is no longer to come, and stands in the log.
 abbrev pub TakesFrom : List Entry → Traced → Traced → Next → List ℕ → Type 0

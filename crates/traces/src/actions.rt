@@ -1,35 +1,13 @@
 //! The lines of actions.
-ghost use Rattle.std.specs.Prelude.{◌≡◌, ◌++◌, ◌∷◌, IfOk, OnOk, string_bytes};
+ghost use Rattle.std.specs.Prelude.{◌≡◌, ◌++◌, IfOk, OnOk, string_bytes};
 ghost use Rattle.gateway.specs.Log.{Went, GapOut};
 ghost use Rattle.gateway.specs.Ports.{output_of};
-ghost use Rattle.gateway.specs.Entries.{told_of, number_of};
 ghost use Rattle.hex.specs.Hex.{IsBytes, encode_upper};
 ghost use Rattle.traces.specs.Actions.{line_of, gap_line, stored_line};
 ghost use Rattle.traces.specs.Printed.{IsPrintable};
 
-use gateway::{Action, Told};
-use session::Close;
+use gateway::{Action, Told, cause_number};
 use std::alloc::{AllocError, Global};
-
-/// The number of a cause, 1 to 7, as it is printed.
-pub fn cause_number(cause: Close) -> u8
-    ensures { result ≡ number_of cause }
-{
-    cause as u8
-}
-
-/// An action as it is stored.
-pub(crate) fn stored(alloc: Global, now: u64, action: &Action<'_>) -> Result<Told, AllocError>
-    ensures told { IfOk result (λ told. told_of told ≡ Went now (output_of action.now)) }
-    ensures line { IfOk result (λ told. stored_line told ≡ line_of now (output_of action.now)) }
-{
-    match action {
-        Action::Line(octets) => Ok(Told::Line(now, Vec::from_slice(alloc, octets)?)),
-        Action::Tcp(octets) => Ok(Told::Tcp(now, Vec::from_slice(alloc, octets)?)),
-        Action::Close(cause) => Ok(Told::Close(now, cause_number(*cause))),
-        Action::Gap { station, session } => Ok(Told::Gap(now, *station, *session)),
-    }
-}
 
 /// Octets in hexadecimal, in upper case.
 fn digits_of(alloc: Global, octets: &[u8]) -> Result<String, AllocError>
@@ -93,7 +71,10 @@ pub fn append_line(alloc: Global, lines: &mut String, told: &Told) -> Result<(),
             let digits = hex::encode_upper(alloc, octets.as_slice())?;
             writeln!(lines, "{now} > T {digits}")
         }
-        Told::Close(now, number) => writeln!(lines, "{now} > X {number}"),
+        Told::Close(now, cause) => {
+            let number = cause_number(*cause);
+            writeln!(lines, "{now} > X {number}")
+        }
         Told::Gap(now, station, session) => append_gap(lines, *now, *station, *session),
     }
 }

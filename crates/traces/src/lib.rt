@@ -28,13 +28,13 @@ mod reading;
 mod recorded;
 mod text_port;
 
-pub use actions::{append_line, cause_number};
+pub use actions::append_line;
 pub use decimal::decimal as read_decimal;
 pub use judging::judge;
 pub use laws::printed_lines_read_back;
 pub use lines::{is_skipped, pieces};
 pub use octets::read_octets;
-pub use port::{Beginning, Trace, announce};
+pub use port::{Beginning, Trace};
 pub use reading::{TextFault, read_trace};
 pub use recorded::append_event;
 pub use text_port::TextPort;

@@ -1,15 +1,14 @@
 //! The port over the entries of a trace.
-ghost use Rattle.std.specs.Prelude.{◌≡◌, ℕ, ◌+◌, ◌<◌, ◌≤◌, Bool, true, false, List, [], ◌∷◌, ◌++◌, length, take, vec_len, vec_capacity, string_bytes, IfOk, OnOk, OnErr, Option, Some, None, if◌then◌else◌};
+ghost use Rattle.std.specs.Prelude.{◌≡◌, ℕ, ◌+◌, ◌<◌, ◌≤◌, Bool, true, false, List, [], ◌∷◌, ◌++◌, vec_len, vec_capacity, string_bytes, IfOk, OnOk, OnErr, Option, Some, None, if◌then◌else◌};
 ghost use Rattle.std.specs.List.{AllByRecursion};
 ghost use Rattle.gateway.specs.Log.{Came, Went, Ticked, tell, events_of};
-ghost use Rattle.gateway.specs.Ports.{told_by, output_of, FitsBuffer, faults_of};
+ghost use Rattle.gateway.specs.Ports.{output_of};
 ghost use Rattle.gateway.specs.Entries.{FitsPort, event_of, script_of, told_of};
 ghost use Rattle.traces.specs.Actions.{line_of};
-ghost use Rattle.traces.specs.Traced.{IsAnnounced};
 
-use crate::actions::{append_line, stored};
+use crate::actions::append_line;
 use crate::health::Health;
-use gateway::{Action, Entry, Next, Port, Told};
+use gateway::{Action, Entry, Next, Port, Told, announce};
 use std::alloc::{AllocError, Global};
 use std::io::Write;
 use std::marker::{Brand, Model, PhantomData};
@@ -72,36 +71,6 @@ impl<W: Write, B: Beginning> Model for Trace<W, B> {
       left = reverse a.entries.items;
       written = W.contents a.out;
     }) };
-}
-
-/// Copies the octets to the front.
-fn fill(buf: &mut [u8; 1024], octets: &[u8])
-    requires { length octets.now ≤ 1024 }
-    ensures { take (length octets.now) buf.new ≡ octets.now }
-{
-    buf[..octets.len()].copy_from_slice(octets);
-}
-
-/// What a port answers that gives this entry: its octets are copied to the front of the buffer.
-/// They are to be 1,024 at most.
-pub fn announce(entry: &Entry, buf: &mut [u8; 1024]) -> Next
-    requires { FitsPort entry.now }
-    ensures { IsAnnounced entry.now result buf.new }
-{
-    match entry {
-        Entry::Line(now, octets) => {
-            fill(buf, octets);
-            Next::Line(*now, octets.len())
-        }
-        Entry::Open(now) => Next::Open(*now),
-        Entry::Bytes(now, octets) => {
-            fill(buf, octets);
-            Next::Bytes(*now, octets.len())
-        }
-        Entry::Cut(now) => Next::Cut(*now),
-        Entry::Tick(now) => Next::Tick(*now),
-        Entry::Wall(now, number) => Next::Wall(*now, *number),
-    }
 }
 
 impl<W: Write, B: Beginning> Trace<W, B> {
@@ -222,7 +191,7 @@ fn prepare(
     ensures room { OnOk result (vec_len log.new < vec_capacity log.new) }
     ensures log { log.new.items ≡ log.old.items }
 {
-    let told = stored(alloc, now, action)?;
+    let told = Told::went(alloc, now, action)?;
     line.clear();
     append_line(alloc, line, &told)?;
     log.try_reserve(1)?;

@@ -12,9 +12,8 @@ ghost use Rattle.traces.specs.Trace.{first_wrong, lines_of};
 use crate::actions::append_action;
 use crate::event::event;
 use crate::lines::{cut, is_skipped};
-use crate::port::announce;
 use crate::reading::LINE_FEED;
-use gateway::{Action, Next, Port};
+use gateway::{Action, Next, Port, announce};
 use std::alloc::Global;
 use std::marker::Model;
 

@@ -5,6 +5,7 @@ use super::rules::Rules;
 use super::{POINT, config_with, octets};
 use asdu::IoaSize;
 use gateway::{Action, Entry, Event, Gateway, Next, Port, Told};
+use session::Close;
 use std::alloc::{AllocError, Global};
 use std::test::Fail;
 
@@ -89,9 +90,8 @@ impl Keeper {
             }
             Action::Close(cause) => {
                 // A connection that another replaces is closed as that one opens.
-                let cause = *cause as u8;
-                self.is_open = cause == 7;
-                Told::Close(now, cause)
+                self.is_open = *cause == Close::Replaced;
+                Told::Close(now, *cause)
             }
             Action::Gap { station, session } => Told::Gap(now, *station, *session),
         };
@@ -253,7 +253,7 @@ fn moment(entry: &Entry) -> u64 {
 fn closes(log: &[Told], number: u8) -> u64 {
     let mut count: u64 = 0;
     for told in log {
-        if matches!(told, Told::Close(_, cause) if *cause == number) {
+        if matches!(told, Told::Close(_, cause) if *cause as u8 == number) {
             count = count.wrapping_add(1);
         }
     }

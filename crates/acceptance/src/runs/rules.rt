@@ -287,7 +287,7 @@ fn tallied(actions: &[Told]) -> Tally {
             }
             Told::Close(_, cause) => {
                 tally.closes = tally.closes.wrapping_add(1);
-                tally.cause = *cause;
+                tally.cause = *cause as u8;
             }
             Told::Gap(_, _, _) => {}
         }

@@ -4,7 +4,7 @@ ghost use Rattle.std.specs.Prelude.{◌≡◌, ◌<◌, ◌≤◌, true, List, [
 ghost use Rattle.std.specs.Prelude.{Some, None, if◌then◌else◌};
 ghost use Rattle.apci.specs.Spelling.{Fits};
 ghost use Rattle.apci.specs.Borrowed.{owned};
-ghost use Rattle.session.specs.Session.{confirmed, pulled, may_send, is_open, is_running, outcome_of};
+ghost use Rattle.session.specs.Session.{confirmed, pulled, may_send, is_open, is_transferring, outcome_of};
 ghost use Rattle.session.specs.Session.{timed_out as answers_late};
 ghost use Rattle.events.specs.Pieces.{AreAsdus};
 ghost use Rattle.events.specs.Queue.{free_places, octets_of};
@@ -87,10 +87,10 @@ impl CentreSide {
     }
 
     /// Data transfer runs.
-    pub(super) fn runs(&self) -> bool
-        ensures { result ≡ is_running self.now.session }
+    pub(super) fn is_transferring(&self) -> bool
+        ensures { result ≡ is_transferring self.now.session }
     {
-        self.session.runs()
+        self.session.is_transferring()
     }
 
     /// The pieces of any report have places.

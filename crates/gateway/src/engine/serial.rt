@@ -106,6 +106,7 @@ fn offer_to(line: &mut Master, station: usize, octets: &[u8])
         Tells settings addresses line.old e → Tells settings addresses line.new e }
 {
     master_tells_the_log();
+    // `false` says that one is offered already; what waits is offered again at each step.
     let _is_new = line.offer(station, octets);
 }
 
@@ -159,17 +160,18 @@ impl SerialSide {
 
     /// A station answered a command: where data transfer runs the answer is passed on as own
     /// answers. `false` says that one of these found no place.
-    fn mirror(&mut self, asdu: &Asdu<'_>, moment: u64, runs: bool) -> bool
+    fn mirror(&mut self, asdu: &Asdu<'_>, moment: u64, is_transferring: bool) -> bool
         requires short { length asdu.now.octets.now ≤ 253 }
         requires found { IsAsdu asdu.now.sizes (value_of asdu.now) asdu.now.octets.now }
         requires plain { monitor_objects_of asdu.now.sizes asdu.now.octets.now ≡ [] }
-        ensures { Mirrors asdu.now.sizes moment runs self.old asdu.now.octets.now result self.new }
+        ensures { Mirrors asdu.now.sizes moment is_transferring self.old asdu.now.octets.now
+            result self.new }
     {
         objects_are_those_of_the_asdu();
         let tag = self.commands.mirror(asdu, moment);
         let plain = translate(asdu);
         let pieces = with_tag(plain, tag);
-        if runs {
+        if is_transferring {
             return keep_all(&mut self.commands, &pieces);
         }
         self.counts.mirror();
@@ -290,6 +292,7 @@ impl SerialSide {
         if !centre.may_send() {
             return None;
         }
+        // It is taken off the list only once its frame is made: no answer is lost in between.
         let asdu = self.commands.own_answer()?;
         let frame = centre.own_frame(asdu, moment);
         self.commands.own_sent();
@@ -386,8 +389,8 @@ impl Gateway {
             return true;
         }
         let moment = self.moment;
-        let runs = self.centre.runs();
-        self.serial.mirror(&asdu, moment, runs)
+        let is_transferring = self.centre.is_transferring();
+        self.serial.mirror(&asdu, moment, is_transferring)
     }
 
     /// Ends the line's exchange where its time is over.

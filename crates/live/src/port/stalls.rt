@@ -82,7 +82,8 @@ fn the_wall_clock_is_told_each_second_between_the_looks(rt: HostRuntime) {
     tells_wall(&rt, &mut port, 5000);
 }
 
-/// A stall of 1.2 s in the write of a request, which goes out after it: the exchange has its whole time from then on.
+/// A stall of 1.2 s in the write of a request, which goes out after it: the exchange has its whole
+/// time from then on.
 #[test]
 fn a_stalled_request_has_its_whole_time(rt: HostRuntime) {
     let time = Time::new(0, 0);
@@ -96,7 +97,8 @@ fn a_stalled_request_has_its_whole_time(rt: HostRuntime) {
     assert!(rt; matches!(next(&rt, &mut port), Next::Tick(1402)));
 }
 
-/// The next two events after a request at 0, after which the gateway stalls for so long, and so long in its look at the line.
+/// The next two events after a request at 0, after which the gateway stalls for so long, and so
+/// long in its look at the line.
 fn after_stalls(rt: &impl Abort, answer_ms: u64, stall_ms: u64, look_ms: u64) -> (Next, Next) {
     let time = Time::new(0, 0);
     let mut port = ends(&time, answer_ms, true);
@@ -121,8 +123,8 @@ fn a_stall_is_no_late_answer(rt: HostRuntime) {
     assert!(rt; matches!(both, (Next::Tick(1201), Next::Open(_))));
 }
 
-/// The next event of a connected port after a request at 0, after which the gateway stalls for so long, and so long in its look at
-/// the connection.
+/// The next event of a connected port after a request at 0, after which the gateway stalls for so
+/// long, and so long in its look at the connection.
 fn connected_after(rt: &impl Abort, stall_ms: u64, look_ms: u64) -> (Next, Next) {
     let time = Time::new(0, 0);
     let mut port = ends(&time, 60000, true);
@@ -149,7 +151,8 @@ fn a_stall_makes_no_selection_longer(rt: HostRuntime) {
     assert!(rt; matches!(both, (Next::Bytes(999, 6), _)));
 }
 
-/// The gateway stalls before each so manieth call to an end, while the station answers in time: no request goes out twice.
+/// The gateway stalls before each so manieth call to an end, while the station answers in time: no
+/// request goes out twice.
 fn runs_without_repeat(
     rt: &impl Abort,
     alloc: Global,

@@ -72,7 +72,8 @@ fn start_link<P: Port>(
     hears(rt, station, &[0x10, 0x7B, 0x01, 0x7C, 0x16])
 }
 
-/// Another control centre takes the place of one, and gets nothing more than the answer to its start.
+/// Another control centre takes the place of one, and gets nothing more than the answer to its
+/// start.
 fn replace<R: Abort + Net<Stream = TcpStream>, P: Port>(
     rt: &R,
     address: SocketAddr,
@@ -108,7 +109,8 @@ fn a_report_goes_through_and_is_acknowledged(rt: HostRuntime) -> Result<(), Fail
 
     start_link(&rt, &mut gateway, &mut port, &mut station)?;
 
-    // A report, which goes out as an I frame, and again on a second connection, where it is acknowledged.
+    // A report, which goes out as an I frame, and again on a second connection, where it is
+    // acknowledged.
     let report = [0x68, 9, 9, 0x68, 8, 1, 1, 1, 3, 1, 0x64, 0, 1, 0x74, 0x16];
     station.write_all(&report)?;
     let centre = receiving(&rt, address, &mut gateway, &mut port)?;
@@ -193,7 +195,8 @@ fn of_all_who_wait_the_last_one_stays(rt: HostRuntime) -> Result<(), Fail> {
     assert!(rt; wire.write(&[0x68, 4, 0x0B, 0, 0, 0]));
     hears(&rt, &mut last, &[0x68, 4, 0x0B, 0, 0, 0])?;
 
-    // A control centre that never reads takes no more at some time, and then it isn't waited for long.
+    // A control centre that never reads takes no more at some time, and then it isn't waited for
+    // long.
     let start = Instant::now(&rt)?;
     let mut is_taken = true;
     for _ in 0..1_000_000 {

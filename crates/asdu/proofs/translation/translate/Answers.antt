@@ -9,7 +9,7 @@ use Rattle.asdu.specs.InformationObjects.{objects_of, value_objects, only_if, is
 use Rattle.asdu.specs.Fields.{number_at, is_sequence, ca_at}
 use Rattle.asdu.specs.Reading.{value_of}
 use Rattle.asdu.specs.Objects.{infos_left}
-use Rattle.asdu.specs.Translation.{AllButLast, IsFull, IsPiece, piece_size}
+use Rattle.asdu.specs.Translation.{AllButLast, IsLargest, IsPiece, piece_size}
 use Rattle.asdu.specs.Writing.{with_infos}
 use Rattle.asdu.proofs.Counts.{room, count-step, enough-step, tight-step, div_ceil-is}
 use Rattle.asdu.proofs.Joined.{joined-end, monitored-pieces, joined-step, some_monitored, lengths, All-push, AllButLast-push}
@@ -28,7 +28,8 @@ push-requires c =
     let some : 1 ≤ c.loop-left.left.left = omega arith in (
       omega arith,
       room asdu c.most_objects-most.result
-          (length c.loop-left.pieces.items) c.loop-left.left.left c.requires most some (c.loop-left.invariant.count some),
+          (length c.loop-left.pieces.items) c.loop-left.left.left c.requires most some
+          (c.loop-left.invariant.count some),
     )
 
 pub spell-requires : goal.spell-requires
@@ -86,8 +87,8 @@ loop-left-preserved c =
     let number : number_at p.items ≡ length (infos_left chunk) =
     number_at-IsAsdu tcp (with_infos v (infos_left chunk)) p.items spells in
     let Pieces : List (Stored ℕ) → Type 0 = λ ps. AllByRecursion (λ q. IsPiece v q.items) ps in
-    let Full : List (Stored ℕ) → Type 0 = λ ps. AllByRecursion (λ q. IsFull v q.items) ps in
-    let Last : List (Stored ℕ) → Type 0 = λ ps. AllButLast (λ q. IsFull v q.items) ps in
+    let Full : List (Stored ℕ) → Type 0 = λ ps. AllByRecursion (λ q. IsLargest v q.items) ps in
+    let Last : List (Stored ℕ) → Type 0 = λ ps. AllButLast (λ q. IsLargest v q.items) ps in
     let pushed = c.push.ensures.items in
     let here : IsPiece v p.items = record {
       infos = infos_left chunk;
@@ -107,9 +108,9 @@ loop-left-preserved c =
           (objects_of-IsAsdu tcp (with_infos v (infos_left chunk)) p.items spells) c.split_at.ensures.first
           c.split_at.ensures.others loop.joined;
       pieces = subst Pieces (sym pushed) (All-push (λ q. IsPiece v q.items) pieces p loop.pieces here);
-      full = λ more. subst Full (sym pushed) (All-push (λ q. IsFull v q.items) pieces p (loop.full some) (number
+      full = λ more. subst Full (sym pushed) (All-push (λ q. IsLargest v q.items) pieces p (loop.full some) (number
           ∙ count ∙ whole more ∙ most));
-      last = subst Last (sym pushed) (AllButLast-push (λ q. IsFull v q.items) pieces p (loop.full some));
+      last = subst Last (sym pushed) (AllButLast-push (λ q. IsLargest v q.items) pieces p (loop.full some));
       count = λ more.
           count-step (length pieces) (length c.push.new.self.items) c.most_objects-most.result left.left chunk.left
           others.left (number_at asdu.octets.now)

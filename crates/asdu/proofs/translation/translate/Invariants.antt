@@ -6,7 +6,7 @@ use Rattle.asdu.specs.InformationObjects.{objects_of, value_objects}
 use Rattle.asdu.specs.Fields.{is_sequence, number_at}
 use Rattle.asdu.specs.Reading.{value_of}
 use Rattle.asdu.specs.Objects.{infos_left}
-use Rattle.asdu.specs.Translation.{AllButLast, IsFull, IsPiece}
+use Rattle.asdu.specs.Translation.{AllButLast, IsLargest, IsPiece}
 use Rattle.asdu.specs.Writing.{with_infos}
 use Rattle.asdu.proofs.translation.translate.Given as goal
 
@@ -17,8 +17,8 @@ invariant-loop-left l = record {
   joined : flat_map (λ p. objects_of tcp p.items) l.pieces.items
       ++ value_objects (with_infos (value_of l.asdu) (infos_left l.left)) ≡ value_objects (value_of l.asdu);
   pieces : AllByRecursion (λ p. IsPiece (value_of l.asdu) p.items) l.pieces.items;
-  full : 1 ≤ l.left.left → AllByRecursion (λ p. IsFull (value_of l.asdu) p.items) l.pieces.items;
-  last : AllButLast (λ p. IsFull (value_of l.asdu) p.items) l.pieces.items;
+  full : 1 ≤ l.left.left → AllByRecursion (λ p. IsLargest (value_of l.asdu) p.items) l.pieces.items;
+  last : AllButLast (λ p. IsLargest (value_of l.asdu) p.items) l.pieces.items;
   count : 1 ≤ l.left.left → length l.pieces.items * l.most + l.left.left ≡ number_at l.asdu.octets.now;
   enough : number_at l.asdu.octets.now ≤ length l.pieces.items * l.most + l.left.left;
   tight : length l.pieces.items * l.most + l.left.left < number_at l.asdu.octets.now + l.most;

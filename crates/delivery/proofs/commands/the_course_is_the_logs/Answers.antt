@@ -26,13 +26,16 @@ returns c = λ p log course f set runs.
       silent = c.outcomes_are_answers.ensures.due;
       early = c.outcomes_are_answers.ensures.early;
     } in
-    let j : Joins p (exchanges_of p log) course.works = joins laws c.waiting_commands_stay.ensures.mirrored p set log course runs f.acts in
+    let j : Joins p (exchanges_of p log) course.works =
+    joins laws c.waiting_commands_stay.ensures.mirrored p set log course runs f.acts in
     record {
       tells = j.tells;
       steps = λ k. (j.told k).steps;
       all_told = j.left;
       sent = λ k. sent_alike k course.works.serial.silent course.works ∙ (j.told k).sent;
-      confirmed = λ k. confirmed_alike k course.works.serial.silent course.works ∙ ap (λ (steps : List LineStep). confirmed_by steps) (j.told k).steps ∙ confirmed_learnt p.link (address_at p.addresses k) 0 None (exchanges_with p k log);
+      confirmed = λ k. confirmed_alike k course.works.serial.silent course.works
+          ∙ ap (λ (steps : List LineStep). confirmed_by steps) (j.told k).steps
+          ∙ confirmed_learnt p.link (address_at p.addresses k) 0 None (exchanges_with p k log);
       mirrored = j.mirrors;
       skipped = j.skips;
       judged = judged_all c.one_front.ensures c.waiting_commands_stay.ensures.mirrored p log course runs;

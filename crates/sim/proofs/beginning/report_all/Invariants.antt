@@ -6,4 +6,6 @@ use Rattle.sim.specs.Lives.{with_reports}
 use Rattle.sim.proofs.beginning.report_all.Given as goal
 
 abbrev pub invariant-loop-directive : goal.invariant-loop-directive
-invariant-loop-directive l = l.station ≡ with_reports l.initial.station (flat_map (report_said l.index One) (take l.directive-index l.directives)) (flat_map (report_said l.index Two) (take l.directive-index l.directives))
+invariant-loop-directive l = l.station ≡ with_reports l.initial.station
+    (flat_map (report_said l.index One) (take l.directive-index l.directives))
+    (flat_map (report_said l.index Two) (take l.directive-index l.directives))

@@ -3,7 +3,10 @@ use Rattle.std.specs.Io.KnownBytes.{Appends}
 use Rattle.sim.proofs.simulation.write_octets.Given as goal
 
 abbrev pub invariant-loop-done : goal.invariant-loop-done
-invariant-loop-done g l = record { within : l.done ≤ length l.octets; written : Appends (g.W.Write.contents l.initial.out) (g.W.Write.contents l.out) (take l.done l.octets) }
+invariant-loop-done g l = record {
+  within : l.done ≤ length l.octets;
+  written : Appends (g.W.Write.contents l.initial.out) (g.W.Write.contents l.out) (take l.done l.octets);
+}
 
 abbrev pub decreases-loop-done : goal.decreases-loop-done
 decreases-loop-done g l = length l.octets - l.done

@@ -12,4 +12,5 @@ returns-then-opens c =
 pub returns : goal.returns
 returns c =
     let small : c.loop-told.objects < 2 ^ 64 = omega (arith, c.loop-told.invariant.few) in
-    until_end c.args.log.now c.loop-told.told-index c.loop-told.objects _ c.loop-told-test.false small c.loop-told.invariant.same
+    until_end c.args.log.now c.loop-told.told-index c.loop-told.objects _ c.loop-told-test.false small
+    c.loop-told.invariant.same

@@ -5,4 +5,5 @@ use Rattle.traces.specs.Actions.{stored_line}
 use Rattle.sim.proofs.text.push_actions.Given as goal
 
 abbrev pub invariant-loop-told : goal.invariant-loop-told
-invariant-loop-told l = string_bytes l.lines ≡ string_bytes l.initial.lines ++ flat_map stored_line (take l.told-index l.log)
+invariant-loop-told l = string_bytes l.lines ≡ string_bytes l.initial.lines
+    ++ flat_map stored_line (take l.told-index l.log)

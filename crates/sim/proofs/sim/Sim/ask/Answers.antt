@@ -16,28 +16,50 @@ use Rattle.sim.proofs.sim.Sim.ask.Goals as goal
 pub overflow_add-self : goal.overflow_add-self
 overflow_add-self c =
     let few : c.self.inside.requests ≤ length (log_of c.self.inside.log.items) = c.self.invariant.1.few in
-    omega (arith, length-log c.self.inside.log.items, c.self.inside.log.ok.0, c.self.inside.log.ok.1, c.self.inside.log.small)
+    omega (
+      arith,
+      length-log c.self.inside.log.items,
+      c.self.inside.log.ok.0,
+      c.self.inside.log.ok.1,
+      c.self.inside.log.small,
+    )
 
 pub arriving-self-inside-requires : goal.arriving-self-inside-requires
 arriving-self-inside-requires c =
     c.put_out-answer.ensures.fits c.line.result.now.link
     (subst (λ (l : LineSettings). AllByRecursion (λ s. s.size ≡ l.link) c.as_mut_slice.result.now) (sym c.line.ensures)
-    (subst (λ (ss : List Secondary). AllByRecursion (λ s. s.size ≡ c.self.inside.config.now.line.link) ss) (sym c.as_mut_slice.ensures.value) c.self.invariant.1.sizes))
+    (subst (λ (ss : List Secondary). AllByRecursion (λ s. s.size ≡ c.self.inside.config.now.line.link) ss)
+    (sym c.as_mut_slice.ensures.value) c.self.invariant.1.sizes))
 
 pub invariant_of-self-2 : goal.invariant_of-self-2
 invariant_of-self-2 c =
-    let fate : c.fate-fate.result ≡ fate_of c.self.inside.script.now (c.self.inside.requests + 1) = c.fate-fate.ensures in
-    let out : IsPutOut c.fate-fate.result c.args.octets.now c.self.inside.stations.items c.put_out-answer.result c.put_out-answer.new.stations =
-    subst (λ (ss : List Secondary). IsPutOut c.fate-fate.result c.args.octets.now ss c.put_out-answer.result c.put_out-answer.new.stations) c.as_mut_slice.ensures.value c.put_out-answer.ensures.out in
-    let same : length c.put_out-answer.new.stations ≡ length c.self.inside.stations.items = length_out c.fate-fate.result c.args.octets.now c.self.inside.stations.items c.put_out-answer.new.stations c.put_out-answer.result out in (
+    let fate : c.fate-fate.result ≡ fate_of c.self.inside.script.now (c.self.inside.requests + 1) =
+    c.fate-fate.ensures in
+    let out : IsPutOut c.fate-fate.result c.args.octets.now c.self.inside.stations.items c.put_out-answer.result
+    c.put_out-answer.new.stations =
+    subst (λ (ss : List Secondary). IsPutOut c.fate-fate.result c.args.octets.now ss c.put_out-answer.result
+    c.put_out-answer.new.stations) c.as_mut_slice.ensures.value c.put_out-answer.ensures.out in
+    let same : length c.put_out-answer.new.stations ≡ length c.self.inside.stations.items =
+    length_out c.fate-fate.result c.args.octets.now c.self.inside.stations.items c.put_out-answer.new.stations
+    c.put_out-answer.result out in (
       c.self.invariant.0,
-      ask_kept c.station_is_an_outstation.ensures.size (plan_of c.self.inside.config.now c.self.inside.script.now) c.self.inside.log.items _ c.self.inside.stations.items c.put_out-answer.new.stations _ _ c.args.now c.in_ok-copy.copy c.args.octets.now c.put_out-answer.result _ _
+      ask_kept c.station_is_an_outstation.ensures.size
+          (plan_of c.self.inside.config.now c.self.inside.script.now) c.self.inside.log.items _
+          c.self.inside.stations.items c.put_out-answer.new.stations _ _ c.args.now c.in_ok-copy.copy c.args.octets.now
+          c.put_out-answer.result _ _
           c.in_ok-keep.ensures.ok c.in_ok-copy.ensures.items
-          (subst (λ (f : Fate). IsPutOut f c.args.octets.now c.self.inside.stations.items c.put_out-answer.result c.put_out-answer.new.stations) fate out)
-          (written c.self.inside.stations.items c.put_out-answer.new.stations c.self.inside.stations.len (omega (arith, same, c.self.inside.stations.ok.0, c.self.inside.stations.ok.1)))
-          (c.arriving-self-inside.ensures ∙ ap (λ (l : LineSettings). arriving l.link c.fate-fate.result c.put_out-answer.result) c.line.ensures
+          (subst (λ (f : Fate). IsPutOut f c.args.octets.now c.self.inside.stations.items c.put_out-answer.result
+          c.put_out-answer.new.stations) fate out)
+          (written c.self.inside.stations.items c.put_out-answer.new.stations c.self.inside.stations.len
+          (omega (arith, same, c.self.inside.stations.ok.0, c.self.inside.stations.ok.1)))
+          (c.arriving-self-inside.ensures
+          ∙ ap (λ (l : LineSettings). arriving l.link c.fate-fate.result c.put_out-answer.result) c.line.ensures
           ∙ ap (λ (f : Fate). arriving c.self.inside.config.now.line.link f c.put_out-answer.result) fate)
-          (c.put_out-answer.ensures.fits c.self.inside.config.now.line.link (subst (λ (ss : List Secondary). AllByRecursion (λ s. s.size ≡ c.self.inside.config.now.line.link) ss) (sym c.as_mut_slice.ensures.value) c.self.invariant.1.sizes))
-          (c.ask.ensures ∙ ap (λ (ss : List Secondary). tallied_asked (setup_of c.self.inside.config.now) c.args.now c.args.octets.now ss c.self.inside.tallies) c.as_slice.ensures.value)
+          (c.put_out-answer.ensures.fits c.self.inside.config.now.line.link
+          (subst (λ (ss : List Secondary). AllByRecursion (λ s. s.size ≡ c.self.inside.config.now.line.link) ss)
+          (sym c.as_mut_slice.ensures.value) c.self.invariant.1.sizes))
+          (c.ask.ensures ∙ ap (λ (ss : List Secondary). tallied_asked
+          (setup_of c.self.inside.config.now) c.args.now c.args.octets.now ss c.self.inside.tallies)
+          c.as_slice.ensures.value)
           c.self.invariant.1,
     )

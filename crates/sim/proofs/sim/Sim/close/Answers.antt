@@ -4,5 +4,6 @@ use Rattle.sim.proofs.sim.Sim.close.Goals as goal
 pub invariant_of-self-2 : goal.invariant_of-self-2
 invariant_of-self-2 c = (
   c.self.invariant.0,
-  close_kept _ c.self.inside.log.items _ _ _ c.args.now _ c.args.cause _ c.in_ok-keep.ensures.ok c.cause_number.ensures c.shut-self-inside.ensures c.self.invariant.1,
+  close_kept _ c.self.inside.log.items _ _ _ c.args.now c.args.cause _ c.in_ok-keep.ensures.ok
+      c.shut-self-inside.ensures c.self.invariant.1,
 )

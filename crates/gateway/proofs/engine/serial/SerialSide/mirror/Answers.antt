@@ -11,8 +11,8 @@ use Rattle.gateway.proofs.Kept.{passed_on, mirrors}
 use Rattle.gateway.proofs.Tagged.{are_asdus}
 use Rattle.gateway.proofs.engine.serial.SerialSide.mirror.Goals as goal
 
-pub returns-then-runs : goal.returns-then-runs
-returns-then-runs c =
+pub returns-then-is_transferring : goal.returns-then-is_transferring
+returns-then-is_transferring c =
     let a = c.self.inside in
     let s : Serial = record {
       line = a.line;
@@ -30,7 +30,7 @@ returns-then-runs c =
     subst (λ tag. AreTagged tag (octets_of ps) (octets_of qs)) c.mirror-tag.ensures.tag
     c.with_tag-pieces.ensures.tagged in
     let at = c.args.moment in
-    rw (← c.self.view_is) (mirrors s _ at c.args.runs asdu.sizes v asdu.octets.now ps
+    rw (← c.self.view_is) (mirrors s _ at c.args.is_transferring asdu.sizes v asdu.octets.now ps
     (octets_of qs) c.keep_all.result c.objects_are_those_of_the_asdu.ensures.monitor_objects
     (passed_on asdu.sizes v asdu.octets.now ps c.requires.found c.translate-plain.ensures.joined
     c.translate-plain.ensures.pieces c.translate-plain.ensures.full c.translate-plain.ensures.number) tagged
@@ -38,10 +38,10 @@ returns-then-runs c =
     (ap (λ (k : tasks.State). let made : Serial = record s { commands = k } in made) (c.keep_all.ensures.state
     ∙ ap (λ xs. kept_until (octets_of xs) c.mirror-tag.new.self) c.deref.ensures.0
     ∙ ap (λ k. kept_until (octets_of qs) k) c.mirror-tag.ensures.state)
-    ∙ ap (λ b. mirrored at b v (octets_of qs) s) (sym c.if-runs.true))
+    ∙ ap (λ b. mirrored at b v (octets_of qs) s) (sym c.if-is_transferring.true))
     (c.keep_all.ensures.all ∙ ap (λ xs. all_kept (octets_of xs) c.mirror-tag.new.self) c.deref.ensures.0
     ∙ ap (λ k. all_kept (octets_of qs) k) c.mirror-tag.ensures.state
-    ∙ ap (λ b. mirror_fits at b v (octets_of qs) s) (sym c.if-runs.true)))
+    ∙ ap (λ b. mirror_fits at b v (octets_of qs) s) (sym c.if-is_transferring.true)))
 
 pub returns : goal.returns
 returns c =
@@ -62,7 +62,7 @@ returns c =
     subst (λ tag. AreTagged tag (octets_of ps) (octets_of qs)) c.mirror-tag.ensures.tag
     c.with_tag-pieces.ensures.tagged in
     let at = c.args.moment in
-    rw (← c.self.view_is) (mirrors s _ at c.args.runs asdu.sizes v asdu.octets.now ps
+    rw (← c.self.view_is) (mirrors s _ at c.args.is_transferring asdu.sizes v asdu.octets.now ps
     (octets_of qs) _ c.objects_are_those_of_the_asdu.ensures.monitor_objects
     (passed_on asdu.sizes v asdu.octets.now ps c.requires.found c.translate-plain.ensures.joined
     c.translate-plain.ensures.pieces c.translate-plain.ensures.full c.translate-plain.ensures.number) tagged
@@ -71,8 +71,8 @@ returns c =
     made) c.mirror-tag.ensures.state
     ∙ ap (λ (n : Tally). let made : Serial = record (mirrored at false v (octets_of qs) s) { counts = n } in
     made) c.mirror.ensures
-    ∙ ap (λ b. mirrored at b v (octets_of qs) s) (sym c.if-runs.false))
-    (ap (λ b. mirror_fits at b v (octets_of qs) s) (sym c.if-runs.false)))
+    ∙ ap (λ b. mirrored at b v (octets_of qs) s) (sym c.if-is_transferring.false))
+    (ap (λ b. mirror_fits at b v (octets_of qs) s) (sym c.if-is_transferring.false)))
 
 pub with_tag-pieces-requires-clause-asdus : goal.with_tag-pieces-requires-clause-asdus
 with_tag-pieces-requires-clause-asdus c =
