@@ -4,7 +4,7 @@
     bench/outputs.py [--program FILE]
 
 Standard output is a file that takes so many octets and no more (RLIMIT_FSIZE: a write that is cut short, then EFBIG), a device that is
-full, and a pipe whose reader is gone. A library in front of the C library's makes it take one octet a write and no more than so many,
+full, and a pipe whose reader is gone (with SIGPIPE ignored). A library in front of the C library's makes it take one octet a write and no more than so many,
 with a signal before each one or none. Each time a beginning of the whole output got out, as long as it could be, and the run ends with
 `device failed` and status 3, or well where all of it got out. A fault that can't be told keeps its status. The last line is `N passed,
 M failed`; the exit status is 1 where one failed. The program is the one that ./build makes.
@@ -107,7 +107,8 @@ def cases(program, folder, library):
             yield f"{words}, a full device", ran(program, words, folder, full), (3, "", "device failed\n")
         reader, writer = os.pipe()
         os.close(reader)
-        yield f"{words}, a pipe without a reader", ran(program, words, folder, writer), (3, "", "device failed\n")
+        came = ran(program, words, folder, writer, preexec_fn=lambda: signal.signal(signal.SIGPIPE, signal.SIG_IGN))
+        yield f"{words}, a pipe without a reader", came, (3, "", "device failed\n")
         os.close(writer)
     # A fault that can't be told.
     for words, status in (("check empty", 1), ("check nowhere", 3), ("check", 2)):
