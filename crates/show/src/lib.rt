@@ -8,11 +8,13 @@
 //!
 //! Proved: the lines and the outcome are those of the frame that stands at the front
 //! (`IsLineShown`, `IsTcpShown`), every field, object, value and time tag with its verdict; an
-//! `Err` is want of memory alone.
+//! `Err` is want of memory alone. Its texts have worked examples (`line_texts_by_example`,
+//! `connection_texts_by_example`).
 #![tactic(auto)]
 
 mod bits;
 mod control;
+mod examples;
 mod line;
 mod objects;
 mod outcome;
@@ -20,6 +22,7 @@ mod sizes;
 mod tcp;
 mod units;
 
+pub use examples::{connection_texts_by_example, line_texts_by_example};
 pub use line::show_line;
 pub use outcome::{Outcome, Shown};
 pub use sizes::{LineSizes, read_sizes};
