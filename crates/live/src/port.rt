@@ -141,12 +141,14 @@ impl<L: Wire, D: Door + Drop, C: Clock + Drop> Live<L, D, C> {
             self.is_cut_due = false;
             self.connection = None;
             self.why_cut = CutCause::NotTaken;
+            // A cut is an event of the connection: the round goes on behind that.
             self.first = Source::Connection.after();
             return Some(Found::Cut);
         }
         if self.timing.is_behind(begun) {
             return self.look(Source::Line, begun, buf);
         }
+        // From where the last round ended: no source that always has something hides another.
         let first = self.first;
         if let Some(found) = self.look(first, begun, buf) {
             return Some(found);
@@ -303,6 +305,7 @@ impl<L: Wire, D: Door + Drop, C: Clock + Drop> Port for Live<L, D, C> {
         ensures cause { self.new.failed ≡ self.old.failed + faults_of result }
         ensures turns { Turns self.old result self.new }
     {
+        // Before the looks: the line has been heard out only up to where a look begins.
         let begun = self.read_clock();
         if self.walled.is_due(begun) {
             return self.tell_wall(begun);
@@ -323,6 +326,7 @@ impl<L: Wire, D: Door + Drop, C: Clock + Drop> Port for Live<L, D, C> {
             // A request that the line doesn't take is lost.
             Action::Line(octets) => {
                 let _taken = self.line.write(*octets);
+                // Read behind the write, which may have waited.
                 self.timing.ask(now, self.clock.now_ms());
             }
             Action::Tcp(octets) => self.put_on_connection(*octets),

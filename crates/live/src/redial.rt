@@ -109,6 +109,7 @@ impl<D: Dialler + Drop, C: Clock + Drop> Redialled<D, C> {
     fn dial(&mut self, now: u64)
         ensures { IsTried now self.old self.new }
     {
+        // From the try's beginning, so that tries are a second apart however long each takes.
         self.tried = Some(now);
         match self.dialler.dial() {
             Some(wire) => self.wire = Some(wire),

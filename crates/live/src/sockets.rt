@@ -18,9 +18,12 @@ use std::time::{Duration, Instant, SystemTime};
 use std::{io, thread};
 
 /// How long a look at the line waits, in ms. A system may round it up to some ms.
+// Nothing else in the gateway's loop waits: so it doesn't spin, and a control centre's octets are
+// seen that soon.
 const LOOK_MS: u64 = 1;
 
 /// How long a write may wait, in ms.
+// Far below the time of an answer on a serial line: a peer that takes nothing holds up no other.
 const WRITE_MS: u64 = 20;
 
 /// How long it is tried to reach the line, in ms, before a run begins.
@@ -30,6 +33,7 @@ const REACH_MS: u64 = 5000;
 const REDIAL_MS: u64 = 500;
 
 /// How many visitors are taken in at the most at one look at the door.
+// An end where somebody knocks without a pause; who is left comes in at the next look.
 const VISITORS: u32 = 256;
 
 /// The line: a serial device server, by TCP or by a Unix socket.
@@ -67,6 +71,7 @@ impl LineSocket {
     }
 
     fn over_tcp(stream: TcpStream) -> io::Result<LineSocket> {
+        // A request is one small frame, which the system would hold back to join it with others.
         stream.set_nodelay(true)?;
         stream.set_read_timeout(Some(Duration::from_millis(LOOK_MS)))?;
         stream.set_write_timeout(Some(Duration::from_millis(WRITE_MS)))?;
@@ -86,6 +91,7 @@ fn connect_within<R: Net<Stream = TcpStream>>(
     address: &str,
     time: Duration,
 ) -> io::Result<TcpStream> {
+    // What is told of a name that has no address.
     let mut last = io::Error::from(ErrorKind::NotFound);
     for address in address.to_socket_addrs(rt)? {
         match TcpStream::connect_timeout(rt, &address, time) {
@@ -175,6 +181,7 @@ impl CentreSocket {
     fn write_in_time(&mut self, octets: &[u8]) -> io::Result<bool> {
         self.0.set_nonblocking(false)?;
         let is_taken = write_once(&mut self.0, octets);
+        // At once, since a read of it never waits.
         self.0.set_nonblocking(true)?;
         Ok(is_taken)
     }
@@ -188,6 +195,7 @@ impl Wire for CentreSocket {
     }
 
     fn write(&mut self, octets: &[u8]) -> bool {
+        // Nearly every APDU goes out so, without two calls more.
         let taken = write_some(&mut self.0, octets);
         if taken == octets.len() {
             return true;
@@ -265,6 +273,7 @@ impl<R: Net<Listener = TcpListener, Stream = TcpStream> + Eprint> Door for Centr
                     self.is_shut = false;
                     let address = address.ip().to_canonical();
                     if guests.lets_in(address) {
+                        // The newest: a control centre that comes again has left the ones before.
                         newest = Some((address, stream));
                     } else {
                         self.note_away(address);

@@ -9,8 +9,9 @@ use std::io::{ErrorKind, Read, Write};
 use std::net::TcpStream;
 use std::os::unix::net::UnixStream;
 
-/// How many pieces are dropped at the most before a request is written.
-const STALE_PIECES: u32 = 64;
+/// How often octets are read and dropped at the most before a request is written.
+// An end where octets never cease to come.
+const STALE_READS: u32 = 64;
 
 /// Octets both ways, as the system has them. A stream that tells its calls adds the answer of each.
 pub(crate) trait Stream {
@@ -109,13 +110,15 @@ pub(crate) fn write_some<S: Stream>(stream: &mut S, octets: &[u8]) -> usize
 /// Drops what has come and wasn't read, without a wait.
 pub(crate) fn drop_waiting<S: Stream>(stream: &mut S) {
     if stream.set_waiting(false).is_err() {
+        // A quiet line would be waited for, and the request is worth more than what is stale.
         return;
     }
     let mut stale = [0; 1024];
-    for _ in 0..STALE_PIECES {
+    for _ in 0..STALE_READS {
         let Got::Octets(_) = read_once(stream, &mut stale) else {
             break;
         };
     }
+    // A stream that refuses this has gone, as the next look at it tells.
     let _ = stream.set_waiting(true);
 }

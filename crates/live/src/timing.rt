@@ -3,6 +3,7 @@ ghost use Rattle.std.specs.Prelude.{◌≡◌};
 ghost use Rattle.live.specs.Timing.{moment_at, is_behind, heard_at, asked_at};
 
 /// How far the moment of what a control centre sends may be behind the clock, in ms.
+// A healthy machine stays below it, and a selection lasts for seconds.
 const LAG_MS: u64 = 50;
 
 /// A request that went out, in ms: the moment of its step, and the clock's once it was written.
@@ -39,6 +40,7 @@ impl Timing {
         if now.saturating_sub(request.moment) < self.answer_ms {
             return now;
         }
+        // The eve of that end, one ms before it.
         request.moment + self.answer_ms.saturating_sub(1)
     }
 

@@ -10,7 +10,8 @@ const APART_MS: u64 = 1000;
 pub(crate) struct Walled {
     /// The clock's moment then, in ms; none before the first time.
     told: Option<u64>,
-    /// An event of the ends has come since.
+    /// The ends have been looked at since.
+    // Else a gateway that stalls for a second at each call would tell nothing but the wall clock.
     has_looked: bool,
 }
 
