@@ -3,7 +3,7 @@ ghost use Rattle.std.specs.Prelude.{◌≡◌, ℕ, ◌+◌, ◌<◌, ◌≤◌,
 ghost use Rattle.std.specs.List.{AllByRecursion};
 ghost use Rattle.gateway.specs.Log.{Came, Went, Ticked, tell, events_of};
 ghost use Rattle.gateway.specs.Ports.{output_of};
-ghost use Rattle.gateway.specs.Entries.{FitsPort, event_of, script_of, told_of};
+ghost use Rattle.gateway.specs.Entries.{FitsPort, event_of, script_of, told_of, log_of};
 ghost use Rattle.traces.specs.Actions.{line_of};
 
 use crate::actions::append_line;
@@ -91,12 +91,45 @@ impl<W: Write, B: Beginning> Trace<W, B> {
           written = W.contents out;
         } }
     {
+        Trace::over(alloc, entries, out, false)
+    }
+
+    /// The same without the tick at moment 0: the entries are all events of a run that was
+    /// recorded.
+    pub fn without_tick(alloc: Global, entries: Vec<Entry>, out: W) -> Trace<W, B>
+        requires fits { AllByRecursion FitsPort entries.items }
+        requires held { Keeps B.held (W.contents out) }
+        ensures { result ≡ record {
+          log = [];
+          failed = 0;
+          health = Good;
+          started = true;
+          left = entries.items;
+          written = W.contents out;
+        } }
+    {
+        Trace::over(alloc, entries, out, true)
+    }
+
+    /// A port over these entries, which has given the tick at moment 0 if it is to be taken so.
+    fn over(alloc: Global, entries: Vec<Entry>, out: W, is_started: bool) -> Trace<W, B>
+        requires fits { AllByRecursion FitsPort entries.items }
+        requires held { Keeps B.held (W.contents out) }
+        ensures { result ≡ record {
+          log = [];
+          failed = 0;
+          health = Good;
+          started = is_started;
+          left = entries.items;
+          written = W.contents out;
+        } }
+    {
         let mut entries = entries;
         entries.reverse();
         Trace {
             alloc,
             entries,
-            is_started: false,
+            is_started,
             log: Vec::new(alloc),
             line: String::new(alloc),
             out,
@@ -104,6 +137,13 @@ impl<W: Write, B: Beginning> Trace<W, B> {
             health: Health::Good,
             beginning: PhantomData,
         }
+    }
+
+    /// The log so far, the oldest first.
+    pub fn told(&self) -> &[Told]
+        ensures { log_of result.now ≡ self.now.log }
+    {
+        self.log.as_slice()
     }
 
     /// The tick at moment 0 comes.

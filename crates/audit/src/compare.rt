@@ -1,0 +1,34 @@
+//! The comparison of two lists of lines.
+ghost use Rattle.std.specs.Prelude.{◌≡◌, MatchResult, map};
+ghost use Rattle.audit.specs.Audit.{IsMemory};
+ghost use Rattle.audit.specs.Record.{first_difference};
+
+use crate::record::is_cut;
+use traces::TextFault;
+
+/// The number, from 1, of the first of these lines that isn't that of the run, if there is one.
+pub(crate) fn first_difference(lines: &[&[u8]], run: &[&[u8]]) -> Result<Option<u64>, TextFault>
+    ensures { MatchResult result (λ place. place ≡ first_difference 1
+        (map (λ line. line.now) lines.now) (map (λ line. line.now) run.now)) IsMemory }
+{
+    let mut left = lines;
+    let mut others = run;
+    for number in 1..u64::MAX {
+        let [line, more @ ..] = left else {
+            return Ok(None);
+        };
+        left = more;
+        if is_cut(*line) {
+            continue;
+        }
+        let [other, rest @ ..] = others else {
+            return Ok(Some(number));
+        };
+        if *line != *other {
+            return Ok(Some(number));
+        }
+        others = rest;
+    }
+    // No memory holds so many lines.
+    Err(TextFault::NoMemory)
+}

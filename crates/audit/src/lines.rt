@@ -1,0 +1,78 @@
+//! The lines of a run.
+ghost use Rattle.std.specs.Prelude.{◌≡◌, ◌++◌, IfOk, OnOk, string_bytes};
+ghost use Rattle.std.specs.List.{flat_map};
+ghost use Rattle.gateway.specs.Entries.{event_of, number_of, cause_of, log_of};
+ghost use Rattle.traces.specs.Printed.{line_of_entry, lines_of_log};
+ghost use Rattle.audit.specs.Record.{told_line};
+
+use gateway::{Entry, Told};
+use std::alloc::{AllocError, Global};
+use traces::append_line;
+
+/// Appends the line of an event.
+fn append_entry(alloc: Global, lines: &mut String, entry: &Entry) -> Result<(), AllocError>
+    ensures { OnOk result (string_bytes lines.new
+        ≡ string_bytes lines.old ++ line_of_entry (event_of entry.now)) }
+{
+    match entry {
+        Entry::Line(now, octets) => {
+            let digits = hex::encode_upper(alloc, octets.as_slice())?;
+            writeln!(lines, "{now} S {digits}")
+        }
+        Entry::Open(now) => writeln!(lines, "{now} O"),
+        Entry::Bytes(now, octets) => {
+            let digits = hex::encode_upper(alloc, octets.as_slice())?;
+            writeln!(lines, "{now} R {digits}")
+        }
+        Entry::Cut(now) => writeln!(lines, "{now} C"),
+        Entry::Tick(now) => writeln!(lines, "{now} T"),
+        Entry::Wall(now, number) => writeln!(lines, "{now} W {number}"),
+    }
+}
+
+/// The number of the cause that a stored number stands for.
+fn cause(number: u8) -> u8
+    ensures { result ≡ number_of (cause_of number) }
+{
+    match number {
+        1 => 1,
+        2 => 2,
+        3 => 3,
+        4 => 4,
+        5 => 5,
+        6 => 6,
+        _ => 7,
+    }
+}
+
+/// Appends the line of an event or an action.
+fn append_told(alloc: Global, lines: &mut String, told: &Told) -> Result<(), AllocError>
+    ensures { OnOk result (string_bytes lines.new ≡ string_bytes lines.old ++ told_line told.now) }
+{
+    match told {
+        Told::Came(entry) => append_entry(alloc, lines, entry),
+        Told::Close(now, number) => append_line(alloc, lines, &Told::Close(*now, cause(*number))),
+        told => append_line(alloc, lines, told),
+    }
+}
+
+/// Appends the lines of what is stored of a run.
+fn append_all(alloc: Global, lines: &mut String, told: &[Told]) -> Result<(), AllocError>
+    ensures { OnOk result (string_bytes lines.new
+        ≡ string_bytes lines.old ++ flat_map told_line told.now) }
+{
+    for one in told {
+        append_told(alloc, lines, one)?;
+    }
+    Ok(())
+}
+
+/// The lines of a run that is stored.
+#[tactic(auto, using(crate::proofs::LineLemmas::lines_are_the_logs))]
+pub(crate) fn lines_of(alloc: Global, told: &[Told]) -> Result<String, AllocError>
+    ensures { IfOk result (λ lines. string_bytes lines ≡ lines_of_log (log_of told.now)) }
+{
+    let mut lines = String::new(alloc);
+    append_all(alloc, &mut lines, told)?;
+    Ok(lines)
+}

@@ -1,0 +1,68 @@
+//! The lines of a record.
+ghost use Rattle.std.specs.Prelude.{◌≡◌, ◌++◌, IfOk, OnOk, map, count_by};
+ghost use Rattle.std.specs.List.{flat_map};
+ghost use Rattle.audit.specs.Record.{whole_lines, is_cut, is_action, event_line};
+
+use std::alloc::{AllocError, Global};
+use traces::pieces;
+
+/// The whole lines of a text; what stands behind the last line feed is none.
+#[tactic(auto, using(crate::proofs::LineLemmas::cut_lines))]
+pub(crate) fn whole_lines<'a>(alloc: Global, text: &'a [u8]) -> Result<Vec<&'a [u8]>, AllocError>
+    ensures { IfOk result (λ v. map (λ line. line.now) v.items ≡ whole_lines text.entry.now) }
+{
+    let mut lines = pieces(alloc, text, b'\n')?;
+    lines.truncate(lines.len().saturating_sub(1));
+    Ok(lines)
+}
+
+/// Whether a line was cut short: it has the mark with which such a line is ended.
+pub(crate) fn is_cut(line: &[u8]) -> bool
+    ensures { result ≡ is_cut line.now }
+{
+    line.iter().any(|octet| *octet == b'!')
+}
+
+/// Whether a line tells an action: its second field is `>`.
+fn is_action(alloc: Global, line: &[u8]) -> Result<bool, AllocError>
+    ensures { IfOk result (λ is. is ≡ is_action line.now) }
+{
+    if is_cut(line) {
+        return Ok(false);
+    }
+    let fields = pieces(alloc, line, b' ')?;
+    match fields.as_slice() {
+        [_, second, ..] => Ok(*second == b">".as_slice()),
+        _ => Ok(false),
+    }
+}
+
+/// Appends the line of a trace that stands for this line; and whether it tells an action.
+fn push_event_line(alloc: Global, trace: &mut Vec<u8>, line: &[u8]) -> Result<bool, AllocError>
+    ensures appended { OnOk result (trace.new.items ≡ trace.old.items ++ event_line line.now) }
+    ensures action { IfOk result (λ is. is ≡ is_action line.now) }
+{
+    let is = is_action(alloc, line)?;
+    if !is && !is_cut(line) {
+        trace.extend_from_slice(line)?;
+    }
+    trace.push(b'\n')?;
+    Ok(is)
+}
+
+/// The trace of a record's lines, each event in its own line; and how many actions there are.
+pub(crate) fn trace_of(alloc: Global, lines: &[&[u8]]) -> Result<(Vec<u8>, u64), AllocError>
+    ensures trace { IfOk result (λ both. both.0.items
+        ≡ flat_map event_line (map (λ line. line.now) lines.now)) }
+    ensures counted { IfOk result (λ both. both.1
+        ≡ count_by is_action (map (λ line. line.now) lines.now)) }
+{
+    let mut trace = Vec::new(alloc);
+    let mut actions: u64 = 0;
+    for line in lines {
+        if push_event_line(alloc, &mut trace, line)? {
+            actions += 1;
+        }
+    }
+    Ok((trace, actions))
+}
