@@ -142,16 +142,6 @@ fn given(entry: &Entry, buf: &mut [u8; 1024]) -> Next
     }
 }
 
-/// An action as it is stored.
-fn stored(alloc: Global, now: u64, action: &Action<'_>) -> Result<Told, AllocError> {
-    Ok(match action {
-        Action::Line(octets) => Told::Line(now, Vec::from_slice(alloc, octets)?),
-        Action::Tcp(octets) => Told::Tcp(now, Vec::from_slice(alloc, octets)?),
-        Action::Close(cause) => Told::Close(now, *cause as u8),
-        Action::Gap { station, session } => Told::Gap(now, *station, *session),
-    })
-}
-
 /// A port that gives a tick at 0 and then stored entries, and stores what goes out. It tells no
 /// log.
 #[derive(Drop)]
@@ -177,7 +167,7 @@ impl<'a> Played<'a> {
     }
 
     fn store(&mut self, now: u64, action: &Action<'_>) -> Result<(), AllocError> {
-        let told = stored(self.alloc, now, action)?;
+        let told = Told::went(self.alloc, now, action)?;
         self.actions.push(told)?;
         Ok(())
     }

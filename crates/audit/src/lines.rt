@@ -1,7 +1,7 @@
 //! The lines of a run.
 ghost use Rattle.std.specs.Prelude.{◌≡◌, ◌++◌, IfOk, OnOk, string_bytes};
 ghost use Rattle.std.specs.List.{flat_map};
-ghost use Rattle.gateway.specs.Entries.{event_of, number_of, cause_of, log_of};
+ghost use Rattle.gateway.specs.Entries.{event_of, log_of};
 ghost use Rattle.traces.specs.Printed.{line_of_entry, lines_of_log};
 ghost use Rattle.audit.specs.Record.{told_line};
 
@@ -30,28 +30,12 @@ fn append_entry(alloc: Global, lines: &mut String, entry: &Entry) -> Result<(), 
     }
 }
 
-/// The number of the cause that a stored number stands for.
-fn cause(number: u8) -> u8
-    ensures { result ≡ number_of (cause_of number) }
-{
-    match number {
-        1 => 1,
-        2 => 2,
-        3 => 3,
-        4 => 4,
-        5 => 5,
-        6 => 6,
-        _ => 7,
-    }
-}
-
 /// Appends the line of an event or an action.
 fn append_told(alloc: Global, lines: &mut String, told: &Told) -> Result<(), AllocError>
     ensures { OnOk result (string_bytes lines.new ≡ string_bytes lines.old ++ told_line told.now) }
 {
     match told {
         Told::Came(entry) => append_entry(alloc, lines, entry),
-        Told::Close(now, number) => append_line(alloc, lines, &Told::Close(*now, cause(*number))),
         told => append_line(alloc, lines, told),
     }
 }
