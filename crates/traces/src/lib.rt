@@ -12,12 +12,13 @@
 //! events of `Trace`'s log and those still to come are always the tick and all entries; and unless
 //! a write failed, its writer has got the lines of the log's actions in their order, and nothing
 //! else; and each line that is printed, of an event or an action, reads back as that very entry
-//! ([`printed_lines_read_back`]).
+//! ([`printed_lines_read_back`], [`printed_lines_by_example`]).
 #![tactic(auto)]
 
 mod actions;
 mod decimal;
 mod event;
+mod examples;
 mod health;
 mod judging;
 mod laws;
@@ -30,6 +31,7 @@ mod text_port;
 
 pub use actions::append_line;
 pub use decimal::decimal as read_decimal;
+pub use examples::printed_lines_by_example;
 pub use judging::judge;
 pub use laws::printed_lines_read_back;
 pub use lines::{is_skipped, pieces};
