@@ -16,7 +16,10 @@ Apart moments = (limit : Limit) → AreSecondsApart limit.told (told_in limit mo
 apart_by : (b : Bool) (limit : Limit) (now : ℕ) (moments : List ℕ) → is_free limit now ≡ b → Apart moments →
     AreSecondsApart limit.told (told_by (asked_by b limit now).1 now (told_in (asked_by b limit now).0 moments))
 unfolding Apart
-apart_by true limit now moments free others = (second_after limit.told now free, others (record { told = Some now; left_out = 0 }))
+apart_by true limit now moments free others = (
+  second_after limit.told now free,
+  others (record { told = Some now; left_out = 0 }),
+)
 apart_by false limit now moments free others = others (record limit { left_out = one_more limit.left_out })
 
 apart_all : (moments : List ℕ) → Apart moments
@@ -29,25 +32,30 @@ unfolding Apart
 apart limit moments = apart_all moments limit
 
 Counted : List ℕ → Type 0
-Counted moments = (limit : Limit) → limit.left_out + length moments < 2 ^ 64 → told_of (told_in limit moments) + left_in limit moments ≡ limit.left_out + length moments
+Counted moments = (limit : Limit) → limit.left_out + length moments < 2 ^ 64
+    → told_of (told_in limit moments) + left_in limit moments ≡ limit.left_out + length moments
 
 no_more_than : (n m : ℕ) → n + (m + 1) < 2 ^ 64 → min (n + 1) (2 ^ 64 - 1) ≡ n + 1
 no_more_than n m small = grind (arith, small)
 
-counted_by : (b : Bool) (limit : Limit) (now : ℕ) (moments : List ℕ) → limit.left_out + length (now ∷ moments) < 2 ^ 64 → Counted moments →
-    told_of (told_by (asked_by b limit now).1 now (told_in (asked_by b limit now).0 moments)) + left_in (asked_by b limit now).0 moments ≡ limit.left_out + length (now ∷ moments)
+counted_by : (b : Bool) (limit : Limit) (now : ℕ) (moments : List ℕ) → limit.left_out + length (now ∷ moments) < 2 ^ 64
+    → Counted moments →
+    told_of (told_by (asked_by b limit now).1 now (told_in (asked_by b limit now).0 moments)) + left_in
+    (asked_by b limit now).0 moments ≡ limit.left_out + length (now ∷ moments)
 unfolding Counted
 counted_by true limit now moments small others =
     let rest = others (record { told = Some now; left_out = 0 }) (omega (arith, small)) in omega (arith, rest)
 counted_by false limit now moments small others =
     let more = no_more_than limit.left_out (length moments) (omega (arith, small)) in
-    let rest = others (record limit { left_out = one_more limit.left_out }) (omega (arith, small, more)) in omega (arith, rest, more)
+    let rest = others (record limit { left_out = one_more limit.left_out }) (omega (arith, small, more)) in
+    omega (arith, rest, more)
 
 counted_all : (moments : List ℕ) → Counted moments
 unfolding Counted
 counted_all [] limit small = omega arith
 counted_all (now ∷ moments) limit small = counted_by (is_free limit now) limit now moments small (counted_all moments)
 
-pub counted : (limit : Limit) (moments : List ℕ) → limit.left_out + length moments < 2 ^ 64 → told_of (told_in limit moments) + left_in limit moments ≡ limit.left_out + length moments
+pub counted : (limit : Limit) (moments : List ℕ) → limit.left_out + length moments < 2 ^ 64
+    → told_of (told_in limit moments) + left_in limit moments ≡ limit.left_out + length moments
 unfolding Counted
 counted limit moments small = counted_all moments limit small

@@ -1,8 +1,11 @@
 -- What is told of the stations, by the requests that go out to them (IEC 60870-5-2; the lines are
 -- this gateway's own profile).
-use Rattle.std.specs.Prelude.{◌≡◌, ℕ, ◌+◌, ◌*◌, ◌/◌, ◌%◌, ◌==◌, nat_lt, Bool, true, false, List, [], ◌∷◌, length, map, slice_get, slice_index, Option, Some, None, if◌then◌else◌}
+use Rattle.std.specs.Prelude.{◌≡◌, ℕ, ◌+◌, ◌*◌, ◌==◌, nat_lt, Bool, true, false, not, List, [], ◌∷◌, length, map, slice_get, slice_index, Option, Some, None, if◌then◌else◌}
+use Rattle.std.specs.Bool.{beq}
 use Rattle.ft12.specs.declared.frame.LinkSize.{LinkSize}
 use Rattle.ft12.specs.declared.frame.LinkSize.TheVariants.{One, Two}
+use Rattle.link.specs.Control.{is_primary, fcb_bit, fcv_bit, function_code, primary_code}
+use Rattle.link.specs.declared.control.PrimaryFunction.TheVariants.{LinkStatus}
 use Rattle.journal.specs.Ends.{changed, happened, new_limit}
 use Rattle.journal.specs.Limits.{one_more}
 use Rattle.journal.specs.declared.limit.Limit.{Limit}
@@ -28,19 +31,22 @@ address_of One octets = octet octets (control_place octets + 1)
 address_of Two octets =
     octet octets (control_place octets + 1) + 256 * octet octets (control_place octets + 2)
 
--- By the control octet: a request whose FCV bit is set is counted, by its FCB; one without it, of
--- function 9, asks for the status of the link.
+-- By the control octet: a request whose FCV is set is counted, by its FCB; one without it may ask
+-- for the status of the link. A secondary station's octet is no request.
+abbrev pub asking_by : (control : ℕ) → Asking
+asking_by control =
+    if not (is_primary control) then Other
+    else if fcv_bit control then Counted (fcb_bit control)
+    else if function_code control == primary_code LinkStatus then Status else Other
+
 abbrev pub asking_of : List ℕ → Asking
-asking_of octets =
-    let control = octet octets (control_place octets) in
-    if control / 16 % 2 == 1 then Counted (control / 32 % 2)
-    else if control % 16 == 9 then Status else Other
+asking_of octets = asking_by (octet octets (control_place octets))
 
 abbrev pub new_station : (tries : ℕ) → ℕ → StationWatch
 new_station tries address = record {
   address = address;
   tries = tries;
-  bit = 0;
+  bit = false;
   sent = 0;
   told = Nothing;
   asked = new_limit;
@@ -83,7 +89,7 @@ told_missed now w = let told = happened (note.Gap w.address) w.gap now in
 -- after a reset of the link, or a request for its status, the next one is new.
 abbrev pub counting : Asking → StationWatch → StationWatch
 counting (Counted bit) w =
-    record w { bit = bit; sent = if w.bit == bit then one_more w.sent else 1 }
+    record w { bit = bit; sent = if beq w.bit bit then one_more w.sent else 1 }
 counting Status w = record w { sent = 0 }
 counting Other w = record w { sent = 0 }
 counting Missed w = w

@@ -6,14 +6,15 @@ use crate::ends::{changed, happened};
 use crate::limit::Limit;
 use crate::note::{Line, Note};
 use ft12::LinkSize;
+use link::{Control, PrimaryFunction};
 
 /// What is asked of a station, or told of it.
 #[derive(Clone, Copy, Debug, PartialEq, Eq)]
 pub(crate) enum Asking {
     /// The status of its link.
     Status,
-    /// Something that is counted by the frame count bit, 0 or 1: its link was reset before.
-    Counted(u8),
+    /// Something that is counted by the frame count bit: its link was reset before.
+    Counted(bool),
     Other,
     /// Nothing: it is told that reports of it may be lost.
     Missed,
@@ -38,7 +39,7 @@ pub(crate) struct StationWatch {
     /// How often a request goes out before one that isn't answered counts as unanswered.
     tries: u64,
     /// The frame count bit of the latest counted request, and how often that went out.
-    bit: u8,
+    bit: bool,
     sent: u64,
     told: StationTold,
     asked: Limit,
@@ -83,13 +84,13 @@ fn address_of(size: LinkSize, octets: &[u8]) -> u16
 fn asking_of(octets: &[u8]) -> Asking
     ensures { result ≡ spec.asking_of octets.now }
 {
-    let control = octet(octets, control_place(octets));
-    if control / 16 % 2 == 1 {
-        Asking::Counted(control / 32 % 2)
-    } else if control % 16 == 9 {
-        Asking::Status
-    } else {
-        Asking::Other
+    match Control::from_octet(octet(octets, control_place(octets))) {
+        Control::Primary { fcv: true, fcb, .. } => Asking::Counted(fcb),
+        Control::Primary {
+            function: PrimaryFunction::LinkStatus,
+            ..
+        } => Asking::Status,
+        _ => Asking::Other,
     }
 }
 
@@ -101,7 +102,7 @@ impl StationWatch {
         StationWatch {
             address,
             tries,
-            bit: 0,
+            bit: false,
             sent: 0,
             told: StationTold::Nothing,
             asked: Limit::new(),
@@ -201,6 +202,7 @@ fn line_of(stations: &[StationWatch], address: u16, asking: Asking, now: u64) ->
     ensures { result ≡ spec.line_in address asking now stations.now }
 {
     for i in 0..stations.len() {
+        // A copy: here only the line is wanted, and all stations are changed by `note_asked`.
         let mut station = stations[i];
         if station.address == address {
             return station.ask(asking, now);

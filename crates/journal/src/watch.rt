@@ -14,9 +14,11 @@ use std::alloc::{AllocError, Global};
 use std::marker::Model;
 
 /// How long after a look at the queue the next one follows, in ms.
+// A look goes over all that is kept, and a line a second is told of it at the most.
 const LOOK_MS: u64 = 1000;
 
 /// How long after a line of counts the next one follows, in ms.
+// Often enough to see a line grow worse, and 1,440 lines a day at the most.
 const COUNTS_MS: u64 = 60_000;
 
 /// What has been told of a run, and what is needed to tell more.
