@@ -1,4 +1,5 @@
--- What a step does behind its timers leaves no selection that is over: what they left goes on, and a select that comes at the step's moment, or is confirmed then, begins there.
+-- What a step does behind its timers leaves no selection that is over: what they left goes on, and a select
+-- that comes at the step's moment, or is confirmed then, begins there.
 use Rattle.std.specs.Prelude.{◌==◌, ◌&&◌, nat_le, nat_lt, if◌then◌else◌}
 use Rattle.std.specs.List.{filter_map, AllByRecursion, cons_option}
 use Rattle.std.proofs.Common.{◌≡◌, ℕ, ◌-◌, ◌<◌, Bool, true, false, List, [], ◌∷◌, ◌++◌, Option, Some, None, refl, ap, sym, ◌∙◌, subst, le_refl, arith, rules}
@@ -41,21 +42,27 @@ Lasts at s = (0 < s.select_ms) × AllByRecursion (IsYoung s.select_ms at) s.sele
 -- ---- `due`
 
 -- leaves none whose time is over
-pub none_over : (at : ℕ) (s : tasks.State) (ys : List Selection) → AllByRecursion (IsYoung s.select_ms at) (tasks.timed at (record s { selections = ys })).selections
+pub none_over : (at : ℕ) (s : tasks.State) (ys : List Selection)
+    → AllByRecursion (IsYoung s.select_ms at) (tasks.timed at (record s { selections = ys })).selections
 none_over at s [] = tt
 none_over at s (y ∷ ys) = by (none_over at s ys) (nat_le s.select_ms (at - runs_from y y.stage)) refl
   where
-    by : AllByRecursion (IsYoung s.select_ms at) (tasks.timed at (record s { selections = ys })).selections → (b : Bool) →
+    by : AllByRecursion (IsYoung s.select_ms at) (tasks.timed at (record s { selections = ys })).selections
+        → (b : Bool) →
         nat_le s.select_ms (at - runs_from y y.stage) ≡ b →
-        AllByRecursion (IsYoung s.select_ms at) (cons_option (if b then None else Some y) (tasks.timed at (record s { selections = ys })).selections)
+        AllByRecursion (IsYoung s.select_ms at) (cons_option (if b then None else Some y)
+        (tasks.timed at (record s { selections = ys })).selections)
     by rest true e = rest
     by rest false e = (e, rest)
 
 -- and takes none away but those
-pub all_left : (at : ℕ) (s : tasks.State) (ys : List Selection) → AllByRecursion (IsYoung s.select_ms at) ys → (tasks.timed at (record s { selections = ys })).selections ≡ ys
+pub all_left : (at : ℕ) (s : tasks.State) (ys : List Selection) → AllByRecursion (IsYoung s.select_ms at) ys
+    → (tasks.timed at (record s { selections = ys })).selections ≡ ys
 all_left at s [] h = refl
 all_left at s (y ∷ ys) h =
-    ap (λ (b : Bool). cons_option (if b then None else Some y) (tasks.timed at (record s { selections = ys })).selections) h.0 ∙ ap (λ (l : List Selection). y ∷ l) (all_left at s ys h.1)
+    ap (λ (b : Bool). cons_option (if b then None else Some y)
+    (tasks.timed at (record s { selections = ys })).selections) h.0
+    ∙ ap (λ (l : List Selection). y ∷ l) (all_left at s ys h.1)
 
 -- ---- Signs
 
@@ -70,7 +77,8 @@ module _ (ms at : ℕ) (some : 0 < ms) where
   abbrev RunsOn : Selection → Stage → Type 0
   RunsOn y st = nat_le ms (at - runs_from y st) ≡ false
 
-  sending : (y : Selection) → IsYoung ms at y → (st : Stage) → RunsOn y st → (b : Bool) → IfYoung (if b then after_sending st y else Some y)
+  sending : (y : Selection) → IsYoung ms at y → (st : Stage) → RunsOn y st → (b : Bool)
+      → IfYoung (if b then after_sending st y else Some y)
   sending y h st o false = h
   sending y h (Queued n) o true = go (n == 0)
     where
@@ -81,14 +89,16 @@ module _ (ms at : ℕ) (some : 0 < ms) where
   sending y h Accepted o true = h
   sending y h (Live since) o true = h
 
-  accepting : (y : Selection) → IsYoung ms at y → (st : Stage) → RunsOn y st → (b : Bool) → IfYoung (if b then after_acceptance st y else Some y)
+  accepting : (y : Selection) → IsYoung ms at y → (st : Stage) → RunsOn y st → (b : Bool)
+      → IfYoung (if b then after_acceptance st y else Some y)
   accepting y h st o false = h
   accepting y h (Queued n) o true = h
   accepting y h Sent o true = o
   accepting y h Accepted o true = h
   accepting y h (Live since) o true = h
 
-  losing : (y : Selection) → IsYoung ms at y → (st : Stage) → (b : Bool) → IfYoung (if b then after_loss st y else Some y)
+  losing : (y : Selection) → IsYoung ms at y → (st : Stage) → (b : Bool)
+      → IfYoung (if b then after_loss st y else Some y)
   losing y h st false = h
   losing y h (Queued n) true = h
   losing y h Sent true = tt
@@ -99,7 +109,8 @@ module _ (ms at : ℕ) (some : 0 < ms) where
   ending y h true = tt
   ending y h false = h
 
-  confirming : (y : Selection) → IsYoung ms at y → (b : Bool) → IfYoung (if b then Some (with_stage (Live at) y) else Some y)
+  confirming : (y : Selection) → IsYoung ms at y → (b : Bool)
+      → IfYoung (if b then Some (with_stage (Live at) y) else Some y)
   confirming y h true = begins
   confirming y h false = h
 
@@ -107,7 +118,8 @@ module _ (ms at : ℕ) (some : 0 < ms) where
   abbrev LeavesYoung : (Selection → Option Selection) → Type 0
   LeavesYoung f = (y : Selection) → IsYoung ms at y → IfYoung (f y)
 
-  all_young : (f : Selection → Option Selection) → LeavesYoung f → (ys : List Selection) → AllByRecursion (IsYoung ms at) ys → AllByRecursion (IsYoung ms at) (filter_map f ys)
+  all_young : (f : Selection → Option Selection) → LeavesYoung f → (ys : List Selection)
+      → AllByRecursion (IsYoung ms at) ys → AllByRecursion (IsYoung ms at) (filter_map f ys)
   all_young f each [] h = tt
   all_young f each (y ∷ ys) h = by (all_young f each ys h.1) (f y) (each y h.0)
     where
@@ -116,7 +128,8 @@ module _ (ms at : ℕ) (some : 0 < ms) where
       by rest None e = rest
       by rest (Some z) e = (e, rest)
 
-  one_more : (y : Selection) → IsYoung ms at y → (ys : List Selection) → AllByRecursion (IsYoung ms at) ys → AllByRecursion (IsYoung ms at) (ys ++ y ∷ [])
+  one_more : (y : Selection) → IsYoung ms at y → (ys : List Selection) → AllByRecursion (IsYoung ms at) ys
+      → AllByRecursion (IsYoung ms at) (ys ++ y ∷ [])
   one_more y e [] h = (e, tt)
   one_more y e (z ∷ ys) h = (h.0, one_more y e ys h.1)
 
@@ -124,10 +137,18 @@ module _ (ms at : ℕ) (some : 0 < ms) where
 
 module _ (at : ℕ) where
   ends : (c : Command) (s : tasks.State) → Lasts at s → Lasts at (without_selection c s)
-  ends c s h = (h.0, all_young s.select_ms at h.0 _ (λ y e. ending s.select_ms at h.0 y e (same_target (target_of y.command) (target_of c))) s.selections h.1)
+  ends c s h = (
+    h.0,
+    all_young s.select_ms at h.0 _ (λ y e. ending s.select_ms at h.0 y e
+        (same_target (target_of y.command) (target_of c))) s.selections h.1,
+  )
 
   selects : (c : Command) (s : tasks.State) → Lasts at s → Lasts at (selected c at s)
-  selects c s h = (h.0, one_more s.select_ms at h.0 (selection_of c at s) (begins s.select_ms at h.0) (without_selection c s).selections (ends c s h).1)
+  selects c s h = (
+    h.0,
+    one_more s.select_ms at h.0 (selection_of c at s) (begins s.select_ms at h.0)
+        (without_selection c s).selections (ends c s h).1,
+  )
 
   places : (xs : List ℕ) (c : Command) (s : tasks.State) → Lasts at s → Lasts at (placed xs c at s).1
   places xs c s h = go (lacks_place c s)
@@ -147,7 +168,8 @@ module _ (at : ℕ) where
       left true = ends c s h
       left false = h
 
-      go : (b : Bool) → Lasts at (if b then refused (negative xs) xs (without_selection c s) else placed xs c at (if ends_selection c then without_selection c s else s)).1
+      go : (b : Bool) → Lasts at (if b then refused (negative xs) xs (without_selection c s) else placed xs c at
+          (if ends_selection c then without_selection c s else s)).1
       go true = ends c s h
       go false = places xs c (if ends_selection c then without_selection c s else s) (left (ends_selection c))
 
@@ -156,7 +178,11 @@ module _ (at : ℕ) where
   judges None xs s h = admits xs (command_at xs) s h
 
   ends_of : (v : AsduValue) (i : Info) (s : tasks.State) → Lasts at s → Lasts at (all_over v (i ∷ []) s)
-  ends_of v i s h = (h.0, all_young s.select_ms at h.0 _ (λ y e. ending s.select_ms at h.0 y e (same_target (target_of y.command) (target_at v i))) s.selections h.1)
+  ends_of v i s h = (
+    h.0,
+    all_young s.select_ms at h.0 _ (λ y e. ending s.select_ms at h.0 y e
+        (same_target (target_of y.command) (target_at v i))) s.selections h.1,
+  )
 
   all_end : (v : AsduValue) (is : List Info) (s : tasks.State) → Lasts at s → Lasts at (all_over v is s)
   all_end v [] s h = h
@@ -167,7 +193,8 @@ module _ (at : ℕ) where
   confirms (Some element) target s h = (
     h.0,
     all_young s.select_ms at h.0 _
-        (λ y e. confirming s.select_ms at h.0 y e (same_target (target_of y.command) target && same_element y.command.element element && is_accepted y.stage && nat_lt (at - y.came) s.select_ms))
+        (λ y e. confirming s.select_ms at h.0 y e (same_target (target_of y.command) target
+        && same_element y.command.element element && is_accepted y.stage && nat_lt (at - y.came) s.select_ms))
         s.selections h.1,
   )
 
@@ -186,23 +213,40 @@ module _ (at : ℕ) where
 
   puts : (o : Option Waiting) (k : ℕ) (s : tasks.State) → Lasts at s → Lasts at (put_out o k s)
   puts None k s h = h
-  puts (Some w) k s h = (h.0, all_young s.select_ms at h.0 _ (λ y e. sending s.select_ms at h.0 y e y.stage e (y.station == k)) s.selections h.1)
+  puts (Some w) k s h = (
+    h.0,
+    all_young s.select_ms at h.0 _ (λ y e. sending s.select_ms at h.0 y e y.stage e (y.station == k))
+        s.selections h.1,
+  )
 
   loses : (k : ℕ) (s : tasks.State) → Lasts at s → Lasts at (tasks.given_up k s)
-  loses k s h = (h.0, all_young s.select_ms at h.0 _ (λ y e. losing s.select_ms at h.0 y e y.stage (y.station == k)) s.selections h.1)
+  loses k s h = (
+    h.0,
+    all_young s.select_ms at h.0 _ (λ y e. losing s.select_ms at h.0 y e y.stage (y.station == k))
+        s.selections h.1,
+  )
 
   accepts : (k : ℕ) (s : tasks.State) → Lasts at s → Lasts at (tasks.accepted k s)
-  accepts k s h = (h.0, all_young s.select_ms at h.0 _ (λ y e. accepting s.select_ms at h.0 y e y.stage e (y.station == k)) s.selections h.1)
+  accepts k s h = (
+    h.0,
+    all_young s.select_ms at h.0 _
+        (λ y e. accepting s.select_ms at h.0 y e y.stage e (y.station == k)) s.selections h.1,
+  )
 
   times : (now : ℕ) (s : tasks.State) → Lasts at s → Lasts at (tasks.timed now s)
-  times now s h = (h.0, all_young s.select_ms at h.0 _ (λ y e. ending s.select_ms at h.0 y e (nat_le s.select_ms (now - runs_from y y.stage))) s.selections h.1)
+  times now s h = (
+    h.0,
+    all_young s.select_ms at h.0 _
+        (λ y e. ending s.select_ms at h.0 y e (nat_le s.select_ms (now - runs_from y y.stage))) s.selections h.1,
+  )
 
   -- a call at this moment, or at none
   pub lasts : (call : Call) (r : Run) → IsAt at call → Lasts at r.state → Lasts at (after_call call r).state
   lasts (Judge xs now wall) r when h =
       subst (λ (n : ℕ). Lasts at (judged xs n wall r.state).1) (sym (moment_is at now (when at (le_refl at))))
       (judges (fault r.state.sizes r.state.stations r.state.max_age_ms wall xs) xs r.state h)
-  lasts (Mirror v now) r when h = subst (λ (n : ℕ). Lasts at (mirrored v n r.state)) (sym (moment_is at now (when at (le_refl at)))) (mirrors v r.state h)
+  lasts (Mirror v now) r when h = subst (λ (n : ℕ). Lasts at (mirrored v n r.state))
+      (sym (moment_is at now (when at (le_refl at)))) (mirrors v r.state h)
   lasts (Due now) r when h = times now r.state h
   lasts (PutOnLine k) r when h = go (oldest_for k r.state)
     where
@@ -239,9 +283,15 @@ module _ (p : Setup) (stay : SettingLaw) (some : 0 < p.select_ms) where
   -- the timers leave none that is over
   settles : (at : ℕ) (w : Works) → IsMade p at w → Q at (tasks_of (settled_works at w))
   settles at w made =
-      let quiet : Run = record { state = (unless_silent w.serial.silent w.serial).commands; history = told_silent w.serial.silent w } in
+      let quiet : Run = record {
+        state = (unless_silent w.serial.silent w.serial).commands;
+        history =
+            told_silent w.serial.silent w;
+      } in
       let c : IsCalled p at quiet = silence p at (IsCalled p at) (called_more p at) w.serial.silent w made in
-      let same : quiet.state.select_ms ≡ p.select_ms = subst (λ (r : Run). r.state.select_ms ≡ p.select_ms) c.leave (stay p.stations p.sizes p.select_ms p.max_age_ms c.made) in
+      let same : quiet.state.select_ms ≡ p.select_ms =
+      subst (λ (r : Run). r.state.select_ms ≡ p.select_ms) c.leave
+      (stay p.stations p.sizes p.select_ms p.max_age_ms c.made) in
       (subst (λ (n : ℕ). 0 < n) (sym same) some, none_over at quiet.state quiet.state.selections)
 
   pub asked_lasts : (log : Log) (c : Course) → Runs p log c → is_asked log ≡ true → So log c
@@ -251,7 +301,8 @@ module _ (p : Setup) (stay : SettingLaw) (some : 0 < p.select_ms) where
       let at : ℕ = latest log in
       let ready : Works = ready_works at r.0.works in
       subst (λ (c : Course). Q at (tasks_of c.works)) (sym r.2.is)
-      (put p at (Q at) (lasts at) (is_first_command ready.serial.line r.2.request) r.2.request.station ready (settles at r.0.works (all_made p log r.0 r.1)))
+      (put p at (Q at) (lasts at) (is_first_command ready.serial.line r.2.request) r.2.request.station ready
+      (settles at r.0.works (all_made p log r.0 r.1)))
   asked_lasts (Went now (GapOut station session) ∷ log) c r h =
       subst (λ (c : Course). Q (latest log) (tasks_of c.works)) (sym r.2.is) (asked_lasts log r.0 r.1 h)
   asked_lasts (Went now (TcpOut octets) ∷ log) c r h =
@@ -269,6 +320,7 @@ module _ (p : Setup) (stay : SettingLaw) (some : 0 < p.select_ms) where
 pub stay_in_time : (p : Setup) → TimeLaw → SettingLaw → (log : Log) (c : Course) → Runs p log c → StayInTime p log c
 stay_in_time p law stay log c r asked some xs =
     let at : ℕ = latest log in
-    subst (λ (ys : List Selection). AllByRecursion (IsInTime p.sizes p.stations p.select_ms p.max_age_ms at c.works.history xs) ys)
+    subst (λ (ys : List Selection). AllByRecursion (IsInTime p.sizes p.stations p.select_ms p.max_age_ms at
+    c.works.history xs) ys)
     (all_left at c.works.serial.commands c.works.serial.commands.selections (asked_lasts p stay some log c r asked).1)
     (due_leaves p at law (tasks_of c.works) (all_made p log c r) xs)
