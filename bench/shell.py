@@ -31,9 +31,14 @@ LINES = (
 )
 LEFT = "left 01010300010064000001\n"
 COUNTS = "counts skipped 0 mirrors 0 lost 0 spoilt 0\n"
+RECORD = (
+    "0 W 1709210100000\n0 > S 1049014A16\n10 S 100B010C16\n10 > S 1040014116\n20 S E5\n20 > S 107B017C16\n"
+    "30 O\n40 R 680407000000\n40 > T 68040B000000\n50 S 680909680801010103016400017416\n50 > S 105B015C16\n"
+    "50 > T 680E0000000001010300010064000001\n"
+)
 STATION = "station 1 reports 0 given 0 accepted 0\n"
 ALLOW = "error: --allow takes the address of a host, as 192.0.2.7\n"
-COMMANDS = ("show101", "show104", "check", "replay", "sim", "run")
+COMMANDS = ("show101", "show104", "check", "replay", "sim", "audit", "run")
 
 # The words, standard output, standard error, the exit status. None stands for any text.
 ROWS = [
@@ -67,6 +72,12 @@ ROWS = [
     ("sim good.toml one.trace", "", "script: line 1\n", 1),
     ("sim good.toml nowhere", "", "cannot read nowhere\n", 3),
     ("run empty", "", "config: line.link\n", 1),
+    ("audit good.toml whole.record", "same, 6 events, 6 actions\n", "", 0),
+    ("audit good.toml cut.record", "same, 6 events, 5 actions\n", "", 0),
+    ("audit good.toml other.record", "line 2 differs\n", "", 1),
+    ("audit good.toml none.script", "", "record: line 1\n", 1),
+    ("audit empty whole.record", "", "config: line.link\n", 1),
+    ("audit good.toml nowhere", "", "cannot read nowhere\n", 3),
     ("run good.toml", "", "config: live.line\n", 1),
     ("run no-door.toml", "", "config: live.listen\n", 1),
     # Each flag of a live run, in front of its file and behind it.
@@ -123,6 +134,9 @@ FILES = {
     "one.trace": TRACE,
     "none.script": "turns 0\n",
     "no-door.toml": CONFIG + '[live]\nline = "unix:nowhere"\n',
+    "whole.record": RECORD,
+    "cut.record": RECORD[:-1],
+    "other.record": RECORD.replace("0 > S 1049014A16", "1 > S 1049014A16"),
     "no-line.toml": CONFIG + '[live]\nline = "unix:nowhere"\nlisten = "127.0.0.1:2404"\n',
 }
 

@@ -7,6 +7,7 @@ commands=(
     'check:checks a file of settings'
     'replay:runs the gateway over the events of a trace'
     'sim:runs the gateway over simulated stations'
+    'audit:compares a recorded run with the run over its events'
     'run:runs the gateway between a line and a control centre'
     'help:tells what a command does'
 )
@@ -27,6 +28,7 @@ case $words[2] in
             '--help[tells what the command does]' '2:settings:_files' '3:trace:_files'
         ;;
     sim) _arguments '--help[tells what the command does]' '2:settings:_files' '3:script:_files' ;;
+    audit) _arguments '--help[tells what the command does]' '2:settings:_files' '3:record:_files' ;;
     show101) _arguments '--help[tells what the command does]' '2:sizes:' '3:octets:' ;;
     show104) _arguments '--help[tells what the command does]' '2:octets:' ;;
     help) _describe command commands ;;

@@ -27,6 +27,7 @@ use Rattle.gateway.specs.Accounts.{IsAccounted}
 use Rattle.gateway.specs.Agrees.{Follows}
 use Rattle.gateway.specs.Order.{KeepsOrder}
 use Rattle.gateway.specs.State.{State}
+use Rattle.telegate.specs.Audits.{IsAuditedBy}
 use Rattle.telegate.specs.Closing.{closing_lines}
 use Rattle.telegate.specs.Faults.{status_of}
 use Rattle.telegate.specs.declared.closing.Closing.{Closing}
@@ -34,7 +35,7 @@ use Rattle.telegate.specs.declared.answer.Answer.{Answer}
 use Rattle.telegate.specs.declared.fault.Fault.{Fault}
 use Rattle.telegate.specs.declared.fault.Fault.TheVariants.{Config, Trace, Script, Sizes, Octets, NoMemory}
 use Rattle.telegate.specs.declared.job.Job.{Job}
-use Rattle.telegate.specs.declared.job.Job.TheVariants.{Show101, Show104, Check, Replay, Sim}
+use Rattle.telegate.specs.declared.job.Job.TheVariants.{Show101, Show104, Check, Replay, Sim, Audit}
 
 -- octets that are as they should be, 0, or not, 1
 abbrev pub status_by : Outcome → ℕ
@@ -193,6 +194,7 @@ IsAnsweredBy (Check config) result = IsChecked config.now result
 IsAnsweredBy (Replay config trace left counts) result =
     IsReplayed config.now trace.now (record { left = left; counts = counts }) result
 IsAnsweredBy (Sim config script) result = IsSimulatedBy config.now script.now result
+IsAnsweredBy (Audit config text) result = IsAuditedBy config.now text.now result
 
 -- the command is done: its answer's text was appended to the output, and the status is the answer's
 pub record IsDone (job : Job) (old new : Option (List ℕ)) (exit : ℕ) : Type 0 where

@@ -7,7 +7,7 @@ use Rattle.clap.specs.declared.builder.command.Command.{Command}
 use Rattle.clap.specs.declared.builder.command.Command.TheViews.{out-Command}
 use Rattle.clap.specs.declared.builder.action.ArgAction.TheVariants.{Append, Set, SetTrue}
 use Rattle.telegate.specs.declared.command_line.Request.{Request}
-use Rattle.telegate.specs.declared.command_line.Request.TheVariants.{Show101, Show104, Check, Replay, Sim, Run}
+use Rattle.telegate.specs.declared.command_line.Request.TheVariants.{Show101, Show104, Check, Replay, Sim, Audit, Run}
 
 -- What the commands take
 
@@ -47,6 +47,9 @@ replay = command (codes "replay") (word (codes "CONFIG") ∷ word (codes "TRACE"
 abbrev pub sim : App
 sim = command (codes "sim") (word (codes "CONFIG") ∷ word (codes "SCRIPT") ∷ [])
 
+abbrev pub audit : App
+audit = command (codes "audit") (word (codes "CONFIG") ∷ word (codes "RECORD") ∷ [])
+
 abbrev pub run : App
 run = command (codes "run") (word (codes "CONFIG") ∷ flag (codes "redial") ∷ flag (codes "log")
     ∷ option (codes "allow") ∷ [])
@@ -68,7 +71,7 @@ with_commands [] above = above
 with_commands (below ∷ commands) above = with_commands commands (with_subcommand above below.top)
 
 abbrev pub program : App
-program = with_commands (show101 ∷ show104 ∷ check ∷ replay ∷ sim ∷ run ∷ []) bare
+program = with_commands (show101 ∷ show104 ∷ check ∷ replay ∷ sim ∷ audit ∷ run ∷ []) bare
 
 -- What the code builds is that
 
@@ -109,6 +112,8 @@ AsksFor name rows (Replay config trace left counts) =
     × IsFlag rows (codes "counts") counts
 AsksFor name rows (Sim config script) = (name ≡ codes "sim")
     × IsGiven rows (codes "CONFIG") config.now × IsGiven rows (codes "SCRIPT") script.now
+AsksFor name rows (Audit config text) = (name ≡ codes "audit")
+    × IsGiven rows (codes "CONFIG") config.now × IsGiven rows (codes "RECORD") text.now
 AsksFor name rows (Run config redial log allow) =
     (name ≡ codes "run") × IsGiven rows (codes "CONFIG") config.now
     × IsFlag rows (codes "redial") redial

@@ -5,3 +5,4 @@ pub mod Running
 pub mod CommandLine
 pub mod Shell
 pub mod Guests
+pub mod Audits

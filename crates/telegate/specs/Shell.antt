@@ -12,7 +12,7 @@ use Rattle.telegate.specs.Faults.{status_of}
 use Rattle.telegate.specs.Guests.{AreGuests, IsGuestsFault}
 use Rattle.telegate.specs.declared.host.Wishes.{Wishes}
 use Rattle.telegate.specs.declared.command_line.Request.{Request}
-use Rattle.telegate.specs.declared.command_line.Request.TheVariants.{Show101, Show104, Check, Replay, Sim, Run}
+use Rattle.telegate.specs.declared.command_line.Request.TheVariants.{Show101, Show104, Check, Replay, Sim, Audit, Run}
 use Rattle.telegate.specs.declared.fault.Fault.{Fault}
 use Rattle.telegate.specs.declared.host.Unread.{Unread}
 use Rattle.telegate.specs.declared.host.Unread.TheVariants.{Unreadable, NoMemory}
@@ -29,6 +29,7 @@ IsJobOf has (Check config) (job.Check c) = has config.now c.now
 IsJobOf has (Replay config trace left counts) (job.Replay c t l n) =
     has config.now c.now × has trace.now t.now × (l ≡ left) × (n ≡ counts)
 IsJobOf has (Sim config script) (job.Sim c s) = has config.now c.now × has script.now s.now
+IsJobOf has (Audit config text) (job.Audit c t) = has config.now c.now × has text.now t.now
 IsJobOf has _ _ = ⊥
 
 -- the names of a request's files, in the order of the words
@@ -38,6 +39,7 @@ files_of (Show104 hex) = []
 files_of (Check config) = config.now ∷ []
 files_of (Replay config trace left counts) = config.now ∷ trace.now ∷ []
 files_of (Sim config script) = config.now ∷ script.now ∷ []
+files_of (Audit config text) = config.now ∷ text.now ∷ []
 files_of (Run config redial log allow) = config.now ∷ []
 
 -- this is the first of the files that can't be read

@@ -2,6 +2,7 @@
 ghost use Rattle.std.specs.Prelude.{◌≡◌};
 ghost use Rattle.telegate.specs.Answers.{IsAnsweredBy};
 
+use crate::auditing::audit;
 use crate::check::check;
 use crate::closing::Closing;
 use crate::fault::Fault;
@@ -39,5 +40,6 @@ pub(crate) fn answer_to(alloc: Global, job: &Job<'_>) -> Result<Answer, Fault>
             replay(alloc, *config, *trace, closing)
         }
         Job::Sim(config, script) => simulate(alloc, *config, *script),
+        Job::Audit(config, record) => audit(alloc, *config, *record),
     }
 }

@@ -34,6 +34,11 @@ pub(crate) enum Request<'m, 'a> {
         config: &'a str,
         script: &'a str,
     },
+    /// The names of two files.
+    Audit {
+        config: &'a str,
+        text: &'a str,
+    },
     /// The name of a file, whether a line that ends is reached again, whether it is told what
     /// happens, and the addresses of the control centres that may connect, if not all may.
     Run {
@@ -138,6 +143,16 @@ fn sim<'a>(alloc: Global) -> Result<Command<'a>, AllocError>
         ))
 }
 
+fn audit<'a>(alloc: Global) -> Result<Command<'a>, AllocError>
+    ensures { IfOk result (IsCommand line.audit) }
+{
+    Command::new(alloc, "audit")
+        .about("Runs the gateway over the events of a recorded run, and compares the actions")
+        .after_help(help::AUDIT)
+        .arg(word(alloc, "CONFIG", "A file of settings"))?
+        .arg(word(alloc, "RECORD", "A file of events and actions, one a line"))
+}
+
 fn run<'a>(alloc: Global) -> Result<Command<'a>, AllocError>
     ensures { IfOk result (IsCommand line.run) }
 {
@@ -190,6 +205,7 @@ fn program<'a>(alloc: Global) -> Result<Command<'a>, AllocError>
         .subcommand(check(alloc)?)?
         .subcommand(replay(alloc)?)?
         .subcommand(sim(alloc)?)?
+        .subcommand(audit(alloc)?)?
         .subcommand(run(alloc)?)
 }
 
@@ -279,6 +295,15 @@ fn sim_of<'m, 'a>(matches: &'m ArgMatches<'a>) -> Option<Request<'m, 'a>>
     })
 }
 
+fn audit_of<'m, 'a>(matches: &'m ArgMatches<'a>) -> Option<Request<'m, 'a>>
+    ensures { IsAsked (codes "audit") (rows_of (found_of matches.now)) result }
+{
+    Some(Request::Audit {
+        config: given(matches, "CONFIG")?,
+        text: given(matches, "RECORD")?,
+    })
+}
+
 fn run_of<'m, 'a>(matches: &'m ArgMatches<'a>) -> Option<Request<'m, 'a>>
     ensures { IsAsked (codes "run") (rows_of (found_of matches.now)) result }
 {
@@ -301,6 +326,7 @@ pub(crate) fn request_of<'m, 'a>(matches: &'m ArgMatches<'a>) -> Option<Request<
         "check" => check_of(matches),
         "replay" => replay_of(matches),
         "sim" => sim_of(matches),
+        "audit" => audit_of(matches),
         "run" => run_of(matches),
         _ => None,
     }

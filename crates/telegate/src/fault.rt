@@ -34,6 +34,9 @@ pub(crate) enum Fault {
     /// This line of the script is wrong.
     #[error("script: line {0}")]
     Script(u64),
+    /// This line of the record tells neither an event nor an action.
+    #[error("record: line {0}")]
+    Record(u64),
     /// The sizes of a line's addresses are no such four digits.
     #[error("bad sizes")]
     Sizes,
@@ -72,8 +75,12 @@ impl Fault {
         ensures { result ≡ status_of self.now }
     {
         match self {
-            Fault::Config(_) | Fault::Trace(_) | Fault::Script(_) | Fault::Sizes | Fault::Octets =>
-                BAD_CONTENT,
+            Fault::Config(_)
+            | Fault::Trace(_)
+            | Fault::Script(_)
+            | Fault::Record(_)
+            | Fault::Sizes
+            | Fault::Octets => BAD_CONTENT,
             Fault::Address => USAGE,
             Fault::Device => DEVICE_FAILED,
             Fault::NoMemory => NO_MEMORY,

@@ -36,6 +36,14 @@ SCRIPT has lines of these forms, others empty or a comment `#`; a number has 1 t
 Exit status: 0 done, 1 wrong settings or script, 2 usage, 3 a file or the output failed, \
 4 no memory";
 
+pub(crate) const AUDIT: &str = "\
+RECORD has a line for each event, as a trace has it, and one for each action, as replay prints it,
+in the order in which they came and went out. A last line that was cut short, and one with `!`, is
+left out.
+Printed: `same, N events, M actions`, or `line N differs` with the first line that isn't the run's.
+Exit status: 0 the same, 1 another, or wrong settings or record, 2 usage, 3 a file or the output \
+failed, 4 no memory";
+
 pub(crate) const RUN: &str = "\
 CONFIG has a table `live` with two keys:
   line = \"tcp:HOST:PORT\"    a serial device server, or \"unix:PATH\"

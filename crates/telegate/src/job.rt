@@ -21,4 +21,6 @@ pub enum Job<'a> {
     /// A run of the gateway over simulated stations and a simulated control centre: the settings,
     /// and the script.
     Sim(&'a [u8], &'a [u8]),
+    /// The audit of a recorded run: the settings, and the record.
+    Audit(&'a [u8], &'a [u8]),
 }

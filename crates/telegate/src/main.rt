@@ -15,6 +15,7 @@
 #![tactic(auto)]
 
 mod answer;
+mod auditing;
 mod check;
 mod closing;
 mod command_line;

@@ -101,6 +101,13 @@ pub(crate) fn respond<H: Host, W: Write, E: Write>(
             }
             Err(status) => status,
         },
+        Request::Audit { config, text } => match read_files(host, *config, *text, err) {
+            Ok((config, text)) => {
+                let job = Job::Audit(config.as_slice(), text.as_slice());
+                perform(alloc, &job, out, err)
+            }
+            Err(status) => status,
+        },
         Request::Run {
             config,
             redial,

@@ -15,6 +15,10 @@ pub returns-in-Err-read_files-2 : goal.returns-in-Err-read_files-2
 returns-in-Err-read_files-2 g c =
     unanswered (g.H.Host.has c.args.host.now) (g.H.Host.lacks c.args.host.now) (g.H.Host.ran c.args.host.now) c.args.request.now _ (g.W.Write.contents c.args.out.now) c.in-Err-read_files-2.status (ap files_of c.in-Sim.is) c.in-Err-read_files-2.ensures.unread
 
+pub returns-in-Err-read_files-3 : goal.returns-in-Err-read_files-3
+returns-in-Err-read_files-3 g c =
+    unanswered (g.H.Host.has c.args.host.now) (g.H.Host.lacks c.args.host.now) (g.H.Host.ran c.args.host.now) c.args.request.now _ (g.W.Write.contents c.args.out.now) c.in-Err-read_files-3.status (ap files_of c.in-Audit.is) c.in-Err-read_files-3.ensures.unread
+
 pub returns-in-Ok-guests_of : goal.returns-in-Ok-guests_of
 returns-in-Ok-guests_of g c =
     has_run (g.H.Host.has c.args.host.now) (g.H.Host.lacks c.args.host.now) (g.H.Host.ran c.args.host.now) c.args.request.now c.in-Run.config c.in-Run.redial c.in-Run.log c.in-Run.allow
