@@ -12,7 +12,7 @@ use Rattle.command.specs.declared.selection.Stage.{Stage}
 use Rattle.command.specs.declared.selection.Stage.TheVariants.{Queued, Sent, Accepted, Live}
 use Rattle.command.specs.declared.waiting.Waiting.{Waiting}
 use Rattle.command.specs.Octets.{negative}
-use Rattle.command.specs.Selection.{runs_from, with_stage, after_sending, after_acceptance, after_loss, target_of, same_target, same_element, is_accepted}
+use Rattle.command.specs.Selection.{lasts_from, with_stage, after_sending, after_acceptance, after_loss, target_of, same_target, same_element, is_accepted}
 use Rattle.command.specs.State as tasks
 use Rattle.command.specs.State.{has_room, kept, first_answer, oldest_for, put_out}
 use Rattle.command.specs.Judging.{refused, placed, admitted, by_fault, judged, fault, forwarded, queued, selected, selection_of, without_selection, lacks_selection, lacks_place, ends_selection, makes_selection}
@@ -34,7 +34,7 @@ use Rattle.delivery.proofs.InTime.{IsAt, moment_is, IsCalled, IsMade, TimeLaw, a
 
 -- its time isn't over
 abbrev pub IsYoung : (ms at : ℕ) → Selection → Type 0
-IsYoung ms at y = nat_le ms (at - runs_from y y.stage) ≡ false
+IsYoung ms at y = nat_le ms (at - lasts_from y y.stage) ≡ false
 
 abbrev pub Lasts : ℕ → tasks.State → Type 0
 Lasts at s = (0 < s.select_ms) × AllByRecursion (IsYoung s.select_ms at) s.selections
@@ -45,11 +45,11 @@ Lasts at s = (0 < s.select_ms) × AllByRecursion (IsYoung s.select_ms at) s.sele
 pub none_over : (at : ℕ) (s : tasks.State) (ys : List Selection)
     → AllByRecursion (IsYoung s.select_ms at) (tasks.timed at (record s { selections = ys })).selections
 none_over at s [] = tt
-none_over at s (y ∷ ys) = by (none_over at s ys) (nat_le s.select_ms (at - runs_from y y.stage)) refl
+none_over at s (y ∷ ys) = by (none_over at s ys) (nat_le s.select_ms (at - lasts_from y y.stage)) refl
   where
     by : AllByRecursion (IsYoung s.select_ms at) (tasks.timed at (record s { selections = ys })).selections
         → (b : Bool) →
-        nat_le s.select_ms (at - runs_from y y.stage) ≡ b →
+        nat_le s.select_ms (at - lasts_from y y.stage) ≡ b →
         AllByRecursion (IsYoung s.select_ms at) (cons_option (if b then None else Some y)
         (tasks.timed at (record s { selections = ys })).selections)
     by rest true e = rest
@@ -75,7 +75,7 @@ module _ (ms at : ℕ) (some : 0 < ms) where
   IfYoung (Some y) = IsYoung ms at y
 
   abbrev RunsOn : Selection → Stage → Type 0
-  RunsOn y st = nat_le ms (at - runs_from y st) ≡ false
+  RunsOn y st = nat_le ms (at - lasts_from y st) ≡ false
 
   sending : (y : Selection) → IsYoung ms at y → (st : Stage) → RunsOn y st → (b : Bool)
       → IfYoung (if b then after_sending st y else Some y)
@@ -237,7 +237,7 @@ module _ (at : ℕ) where
   times now s h = (
     h.0,
     all_young s.select_ms at h.0 _
-        (λ y e. ending s.select_ms at h.0 y e (nat_le s.select_ms (now - runs_from y y.stage))) s.selections h.1,
+        (λ y e. ending s.select_ms at h.0 y e (nat_le s.select_ms (now - lasts_from y y.stage))) s.selections h.1,
   )
 
   -- a call at this moment, or at none
