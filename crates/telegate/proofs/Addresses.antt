@@ -30,14 +30,17 @@ text_at (w ∷ words) zero d = refl
 text_at (w ∷ words) (suc i) d = text_at words i d
 
 -- one more word, with its address
-one_more : (words : List Text) (addresses : List IpAddr) (word : Text) (address : IpAddr) → AreAddresses words addresses → Writes word address →
+one_more : (words : List Text) (addresses : List IpAddr) (word : Text) (address : IpAddr)
+    → AreAddresses words addresses → Writes word address →
     AreAddresses (words ++ word ∷ []) (addresses ++ address ∷ [])
 one_more [] [] word address so_far writes = (writes, tt)
 one_more [] (a ∷ addresses) word address so_far writes = absurd so_far
 one_more (w ∷ words) [] word address so_far writes = absurd so_far
-one_more (w ∷ words) (a ∷ addresses) word address so_far writes = (so_far.0, one_more words addresses word address so_far.1 writes)
+one_more (w ∷ words) (a ∷ addresses) word address so_far writes =
+    (so_far.0, one_more words addresses word address so_far.1 writes)
 
-pub more : (words : List (Bor Text)) (i : ℕ) (d : Bor Text) (addresses : List IpAddr) (address : IpAddr) → i < length words →
+pub more : (words : List (Bor Text)) (i : ℕ) (d : Bor Text) (addresses : List IpAddr) (address : IpAddr)
+    → i < length words →
     AreAddresses (map (λ word. word.now) (take i words)) addresses → Writes (get_or words i d).now address →
     AreAddresses (map (λ word. word.now) (take (i + 1) words)) (addresses ++ address ∷ [])
 unfolding texts
@@ -46,13 +49,15 @@ more words i d addresses address within so_far writes =
     subst P (sym (ap texts (take_more words i d within) ∙ texts_more (take i words) (get_or words i d)))
     (one_more (texts (take i words)) addresses (get_or words i d).now address so_far writes)
 
-among : (words : List (Bor Text)) (i : ℕ) (d : Bor Text) → i < length words → Contains (texts words) (get_or words i d).now
+among : (words : List (Bor Text)) (i : ℕ) (d : Bor Text) → i < length words
+    → Contains (texts words) (get_or words i d).now
 among words i d within =
     let P : Text → Type 0 = λ word. Contains (texts words) word in
     subst P (text_at words i d) (Contains-get_or (texts words) i d.now (omega (arith, within, texts_length words)))
 
 -- a word that writes no address
-pub refused : (given : Option (Bor (List (Bor Text)))) (words : Bor (List (Bor Text))) (i : ℕ) (d : Bor Text) → given ≡ Some words → i < length words.now →
+pub refused : (given : Option (Bor (List (Bor Text)))) (words : Bor (List (Bor Text))) (i : ℕ) (d : Bor Text)
+    → given ≡ Some words → i < length words.now →
     WritesNone (get_or words.now i d).now → IsGuestsFault (texts_of given) Address
 unfolding texts
 refused given words i d is within none =

@@ -7,19 +7,22 @@ use Rattle.gateway.specs.Runs.{MoreEvents, events_told}
 use Rattle.gateway.specs.State.{State}
 
 -- at first nothing has come
-none_more : (events : Option (List LogEntry)) → option_map length events ≡ option_map (λ (es : List LogEntry). length es + 0) events
+none_more : (events : Option (List LogEntry)) → option_map length events
+    ≡ option_map (λ (es : List LogEntry). length es + 0) events
 none_more None = refl
 none_more (Some es) = ap Some (omega arith)
 
 pub no_events_yet : (told : Option Log) → MoreEvents 0 told told
 no_events_yet told = none_more (events_told told)
 
-plus_one : (events : Option (List LogEntry)) → option_map (λ (es : List LogEntry). length es + 1) events ≡ option_map (λ (m : ℕ). m + 1) (option_map length events)
+plus_one : (events : Option (List LogEntry)) → option_map (λ (es : List LogEntry). length es + 1) events
+    ≡ option_map (λ (m : ℕ). m + 1) (option_map length events)
 plus_one None = refl
 plus_one (Some es) = refl
 
 plus_more : (n : ℕ) (events : Option (List LogEntry)) →
-    option_map (λ (m : ℕ). m + 1) (option_map (λ (es : List LogEntry). length es + n) events) ≡ option_map (λ (es : List LogEntry). length es + (n + 1)) events
+    option_map (λ (m : ℕ). m + 1) (option_map (λ (es : List LogEntry). length es + n) events)
+    ≡ option_map (λ (es : List LogEntry). length es + (n + 1)) events
 plus_more n None = refl
 plus_more n (Some es) = ap Some (omega arith)
 
@@ -29,7 +32,8 @@ one_more_event n a b c before turn =
     turn ∙ (plus_one (events_told b) ∙ (ap (option_map (λ (m : ℕ). m + 1)) before ∙ plus_more n (events_told a)))
 
 -- a gateway that may begin with an empty log
-pub begun : (p : Setup) (s : State) (told : Option Log) → Follows p s (Some []) → told ≡ Some [] → Follows p s told × Rests p told
+pub begun : (p : Setup) (s : State) (told : Option Log) → Follows p s (Some []) → told ≡ Some []
+    → Follows p s told × Rests p told
 begun p s told begins empty =
     let P : Option Log → Type 0 = λ t. Follows p s t in
     let Q : Option Log → Type 0 = λ t. Rests p t in

@@ -5,5 +5,8 @@ use Rattle.telegate.proofs.command_line.is_given.Goals as goal
 
 pub returns : goal.returns
 returns c =
-    let same = one_text-rows (found_of c.args.matches.now) c.args.name.now in
-    (λ e. c.get_flag.ensures.none (same ∙ e), λ e. c.get_flag.ensures.value (same ∙ e), λ e. c.get_flag.ensures.other (same ∙ e))
+    let same = one_text-rows (found_of c.args.matches.now) c.args.name.now in (
+      λ e. c.get_flag.ensures.none (same ∙ e),
+      λ e. c.get_flag.ensures.value (same ∙ e),
+      λ e. c.get_flag.ensures.other (same ∙ e),
+    )

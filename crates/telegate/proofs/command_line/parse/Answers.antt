@@ -17,7 +17,9 @@ pub returns-clause-named : goal.returns-clause-named
 returns-clause-named c =
     let is : app_of c.in_ok-program.field-0 ≡ program = c.in_ok-program.ensures.0 in
     IfOk-weaker c.try_get_matches_from.result _ _
-    (λ m h. (h (ap is_simple is ∙ program_is_simple)).1 ∙ ap (λ (a : App). subcommand_of a (map string_bytes c.args.words.now)) is) c.try_get_matches_from.ensures.matches
+    (λ m h. (h (ap is_simple is ∙ program_is_simple)).1
+    ∙ ap (λ (a : App). subcommand_of a (map string_bytes c.args.words.now)) is)
+    c.try_get_matches_from.ensures.matches
 
 pub returns-clause-fails : goal.returns-clause-fails
 returns-clause-fails c =

@@ -10,8 +10,11 @@ use Rattle.telegate.proofs.command_line.run.Goals as goal
 pub returns : goal.returns
 returns c =
     let begun : IsCommand (new_app (codes "run")) c.after_help.result = search rules in
-    let first = with_argument _ (word (codes "CONFIG")) _ c.in_ok-arg.field-0 c.word.result begun c.word.ensures c.in_ok-arg.ensures in
-    let second = with_argument _ (flag (codes "redial")) _ c.in_ok-arg-2.field-0 c.flag.result first c.flag.ensures c.in_ok-arg-2.ensures in
-    let third = with_argument _ (flag (codes "log")) _ c.in_ok-arg-3.field-0 c.flag-2.result second c.flag-2.ensures c.in_ok-arg-3.ensures in
+    let first = with_argument _ (word (codes "CONFIG")) _ c.in_ok-arg.field-0 c.word.result begun c.word.ensures
+    c.in_ok-arg.ensures in
+    let second = with_argument _ (flag (codes "redial")) _ c.in_ok-arg-2.field-0 c.flag.result first c.flag.ensures
+    c.in_ok-arg-2.ensures in
+    let third = with_argument _ (flag (codes "log")) _ c.in_ok-arg-3.field-0 c.flag-2.result second c.flag-2.ensures
+    c.in_ok-arg-3.ensures in
     IfOk-weaker c.arg-4.result (AddsArg c.in_ok-arg-3.field-0 c.option.result) (IsCommand line.run)
     (λ r adds. with_argument _ (option (codes "allow")) _ r c.option.result third c.option.ensures adds) c.arg-4.ensures

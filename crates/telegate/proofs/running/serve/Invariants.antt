@@ -10,6 +10,8 @@ invariant-turning g l = record {
   healthy : g.P.Port.failed l.journal.port ≡ g.P.Port.failed l.initial.journal.port;
   more : MoreEvents l.counter (g.P.Port.log l.initial.journal.port) (g.P.Port.log l.journal.port);
   faithful : g.P.Port.log l.initial.journal.port ≡ Some [] →
-      Follows (setup_of l.config) l.gateway (g.P.Port.log l.journal.port) × Rests (setup_of l.config) (g.P.Port.log l.journal.port);
-  told : g.P.Port.log l.initial.journal.port ≡ Some [] → 0 < l.counter → IsRunTold l.config (g.P.Port.log l.journal.port);
+      Follows (setup_of l.config) l.gateway (g.P.Port.log l.journal.port)
+      × Rests (setup_of l.config) (g.P.Port.log l.journal.port);
+  told : g.P.Port.log l.initial.journal.port ≡ Some [] → 0 < l.counter
+      → IsRunTold l.config (g.P.Port.log l.journal.port);
 }

@@ -5,27 +5,42 @@ use Rattle.telegate.proofs.shell.respond.Goals as goal
 
 pub returns-in-Err : goal.returns-in-Err
 returns-in-Err g c =
-    unanswered (g.H.Host.has c.args.host.now) (g.H.Host.lacks c.args.host.now) (g.H.Host.ran c.args.host.now) c.args.request.now _ (g.W.Write.contents c.args.out.now) c.in-Err.status (ap files_of c.in-Check.is) c.in-Err.ensures.unread
+    unanswered (g.H.Host.has c.args.host.now) (g.H.Host.lacks c.args.host.now)
+    (g.H.Host.ran c.args.host.now) c.args.request.now _ (g.W.Write.contents c.args.out.now) c.in-Err.status
+    (ap files_of c.in-Check.is) c.in-Err.ensures.unread
 
 pub returns-in-Err-read_files : goal.returns-in-Err-read_files
 returns-in-Err-read_files g c =
-    unanswered (g.H.Host.has c.args.host.now) (g.H.Host.lacks c.args.host.now) (g.H.Host.ran c.args.host.now) c.args.request.now _ (g.W.Write.contents c.args.out.now) c.in-Err-read_files.status (ap files_of c.in-Replay.is) c.in-Err-read_files.ensures.unread
+    unanswered (g.H.Host.has c.args.host.now) (g.H.Host.lacks c.args.host.now)
+    (g.H.Host.ran c.args.host.now) c.args.request.now _
+    (g.W.Write.contents c.args.out.now) c.in-Err-read_files.status
+    (ap files_of c.in-Replay.is) c.in-Err-read_files.ensures.unread
 
 pub returns-in-Err-read_files-2 : goal.returns-in-Err-read_files-2
 returns-in-Err-read_files-2 g c =
-    unanswered (g.H.Host.has c.args.host.now) (g.H.Host.lacks c.args.host.now) (g.H.Host.ran c.args.host.now) c.args.request.now _ (g.W.Write.contents c.args.out.now) c.in-Err-read_files-2.status (ap files_of c.in-Sim.is) c.in-Err-read_files-2.ensures.unread
+    unanswered (g.H.Host.has c.args.host.now) (g.H.Host.lacks c.args.host.now)
+    (g.H.Host.ran c.args.host.now) c.args.request.now _
+    (g.W.Write.contents c.args.out.now) c.in-Err-read_files-2.status
+    (ap files_of c.in-Sim.is) c.in-Err-read_files-2.ensures.unread
 
 pub returns-in-Err-read_files-3 : goal.returns-in-Err-read_files-3
 returns-in-Err-read_files-3 g c =
-    unanswered (g.H.Host.has c.args.host.now) (g.H.Host.lacks c.args.host.now) (g.H.Host.ran c.args.host.now) c.args.request.now _ (g.W.Write.contents c.args.out.now) c.in-Err-read_files-3.status (ap files_of c.in-Audit.is) c.in-Err-read_files-3.ensures.unread
+    unanswered (g.H.Host.has c.args.host.now) (g.H.Host.lacks c.args.host.now)
+    (g.H.Host.ran c.args.host.now) c.args.request.now _
+    (g.W.Write.contents c.args.out.now) c.in-Err-read_files-3.status
+    (ap files_of c.in-Audit.is) c.in-Err-read_files-3.ensures.unread
 
 pub returns-in-Ok-guests_of : goal.returns-in-Ok-guests_of
 returns-in-Ok-guests_of g c =
-    has_run (g.H.Host.has c.args.host.now) (g.H.Host.lacks c.args.host.now) (g.H.Host.ran c.args.host.now) c.args.request.now c.in-Run.config c.in-Run.redial c.in-Run.log c.in-Run.allow
-    (record { redial = c.in-Run.redial; log = c.in-Run.log; guests = c.in-Ok-guests_of.guests }) (g.W.Write.contents c.args.out.now) c.run_file.result c.in-Run.is
+    has_run (g.H.Host.has c.args.host.now) (g.H.Host.lacks c.args.host.now)
+    (g.H.Host.ran c.args.host.now) c.args.request.now c.in-Run.config c.in-Run.redial c.in-Run.log c.in-Run.allow
+    (record { redial = c.in-Run.redial; log = c.in-Run.log; guests = c.in-Ok-guests_of.guests })
+    (g.W.Write.contents c.args.out.now) c.run_file.result c.in-Run.is
     (record { redials = refl; logs = refl; guests = c.in-Ok-guests_of.ensures.guests }) c.run_file.ensures
 
 pub returns-in-Err-guests_of : goal.returns-in-Err-guests_of
 returns-in-Err-guests_of g c =
-    no_guests (g.H.Host.has c.args.host.now) (g.H.Host.lacks c.args.host.now) (g.H.Host.ran c.args.host.now) c.args.request.now c.in-Run.config c.in-Run.redial c.in-Run.log c.in-Run.allow
-    c.in-Err-guests_of.fault (g.W.Write.contents c.args.out.now) c.tell.result c.in-Run.is c.in-Err-guests_of.ensures.fault c.tell.ensures
+    no_guests (g.H.Host.has c.args.host.now) (g.H.Host.lacks c.args.host.now)
+    (g.H.Host.ran c.args.host.now) c.args.request.now c.in-Run.config c.in-Run.redial c.in-Run.log c.in-Run.allow
+    c.in-Err-guests_of.fault (g.W.Write.contents c.args.out.now) c.tell.result c.in-Run.is
+    c.in-Err-guests_of.ensures.fault c.tell.ensures
