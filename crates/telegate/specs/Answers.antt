@@ -10,15 +10,14 @@ use Rattle.show.specs.declared.outcome.Outcome.{Outcome}
 use Rattle.show.specs.declared.outcome.Outcome.TheVariants.{Good, Faulty}
 use Rattle.traces.specs.Fields.{octets_of}
 use Rattle.traces.specs.Actions.{lines_of_actions}
-use Rattle.traces.specs.Trace.{IsTraceOf}
+use Rattle.traces.specs.Progress.{script_in}
+use Rattle.traces.specs.Trace.{lines_of, first_wrong}
 use Rattle.traces.specs.declared.reading.TextFault.TheVariants.{Line as WrongLine}
 use Rattle.gateway.specs.Config.{Settings}
-use Rattle.gateway.specs.Entries.{script_of}
 use Rattle.gateway.specs.Log.{Log, events_of}
 use Rattle.gateway.specs.Setups.{setup_of}
 use Rattle.gateway.specs.Traffic.{IsFaithful, HasRested}
 use Rattle.delivery.specs.Delivery.{Delivers}
-use Rattle.gateway.specs.declared.entries.Entry.{Entry}
 use Rattle.sim.specs.Scripts.{IsScriptOf}
 use Rattle.sim.specs.Runs.{IsBegun, IsSimulated}
 use Rattle.sim.specs.declared.directive.Directive.{Directive}
@@ -105,16 +104,16 @@ pub record IsCheckAnswer (config : List ℕ) (answer : Answer) : Type 0 where
 abbrev pub IsChecked : List ℕ → Result Answer Fault → Type 0
 IsChecked config result = MatchResult result (IsCheckAnswer config) (IsConfigFault config)
 
--- The lines of the actions of the log of a run over these entries, and those with which the run
--- ends: the events of the log are a tick at moment 0 and the entries, the log keeps every promise
+-- The lines of the actions of the log of a run over this trace, and those with which the run ends:
+-- the events of the log are a tick at moment 0 and those of the trace, the log keeps every promise
 -- of a gateway with these settings, and so delivers what the outstations reported. What is left and
 -- was counted is that of a gateway whose state agrees with this log: of the reports that went out
 -- on the open connection the very ASDUs that aren't acknowledged, then as many pieces of the others
 -- as have places.
-pub record IsRun (settings : Settings) (entries : List Entry) (closing : Closing)
+pub record IsRun (settings : Settings) (trace : List ℕ) (closing : Closing)
     (answer : Answer) : Type 0 where
   pub log : Log
-  pub events : events_of log ≡ script_of entries
+  pub events : events_of log ≡ script_in trace
   pub faithful : IsFaithful (setup_of settings) log
   pub rests : HasRested (setup_of settings) log
   pub ordered : KeepsOrder log
@@ -128,10 +127,9 @@ pub record IsRun (settings : Settings) (entries : List Entry) (closing : Closing
 
 pub record IsRunAnswer (config trace : List ℕ) (closing : Closing) (answer : Answer) : Type 0 where
   pub settings : Settings
-  pub entries : Vec Entry Global
   pub read_config : IsReadOfText config (Ok settings)
-  pub read_trace : IsTraceOf trace (Ok entries)
-  pub run : IsRun settings entries.items closing answer
+  pub read_trace : first_wrong 1 (lines_of trace) ≡ None
+  pub run : IsRun settings trace closing answer
 
 -- a run that is started stops by want of memory alone
 abbrev pub IsMemory : Fault → Type 0
@@ -141,15 +139,15 @@ IsMemory _ = ⊥
 abbrev pub IsGood : Result Answer Fault → Type 0
 IsGood result = MatchResult result TellsGood IsMemory
 
-abbrev pub IsRunOf : Settings → List Entry → Closing → Result Answer Fault → Type 0
-IsRunOf settings entries closing result =
-    MatchResult result (IsRun settings entries closing) IsMemory
+abbrev pub IsRunOf : Settings → List ℕ → Closing → Result Answer Fault → Type 0
+IsRunOf settings trace closing result =
+    MatchResult result (IsRun settings trace closing) IsMemory
 
 -- settings are judged before the trace
 abbrev pub IsRunFault : List ℕ → List ℕ → Fault → Type 0
 IsRunFault config trace (Config why) = IsReadOfText config (Err why)
 IsRunFault config trace (Trace n) = ((s : Settings) × IsReadOfText config (Ok s))
-    × IsTraceOf trace (Err (WrongLine n))
+    × (first_wrong 1 (lines_of trace) ≡ Some n)
 IsRunFault config trace NoMemory = Unit {0}
 IsRunFault config trace _ = ⊥
 
