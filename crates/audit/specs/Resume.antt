@@ -30,8 +30,8 @@ abbrev pub last_moment : ℕ → List Entry → ℕ
 last_moment moment [] = moment
 last_moment moment (entry ∷ entries) = last_moment (moment_of entry) entries
 
--- The gateway is that of the run over the record's events, whose log keeps every promise, and what is
--- missing of the record of that run is its rest; or a line of the record isn't the run's.
+-- The gateway is that of the run over the record's events, whose log keeps every promise, and what
+-- is missing of the record of that run is its rest; or a line of the record isn't the run's.
 abbrev pub IsGoing : Settings → (text : List ℕ) → (entries : List Entry) → Log → State → Resumption
     → Type 0
 IsGoing settings text entries log gateway (Goes run) =

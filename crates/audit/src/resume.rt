@@ -71,9 +71,9 @@ fn append_lines(lines: &[&[u8]], text: &mut Vec<u8>) -> Result<(), AllocError>
     Ok(())
 }
 
-/// Runs a new gateway over the events of a record, with nothing sent, so that the run can go on with
-/// it. Where the record isn't that of this run, or is refused, the gateway is given up. A line that
-/// is neither an event nor an action is a fault, with its number from 1.
+/// Runs a new gateway over the events of a record, with nothing sent, so that the run can go on
+/// with it. Where the record isn't that of this run, or is refused, the gateway is given up. A line
+/// that is neither an event nor an action is a fault, with its number from 1.
 pub fn resume_record(
     alloc: Global,
     gateway: &mut Gateway,
