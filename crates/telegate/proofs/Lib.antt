@@ -5,3 +5,4 @@ pub mod Files
 pub mod Printing
 pub mod Addresses
 pub mod Turning
+pub mod AuditLemmas
