@@ -87,9 +87,19 @@ ROWS = [
     ("run --allow 192.0.2.7 good.toml", "", "config: live.line\n", 1),
     ("run --allow 192.0.2.7 good.toml --allow ::1", "", "config: live.line\n", 1),
     ("run --allow 192.0.2.7 --allow 192.0.2.256 nowhere", "", ALLOW, 2),
+    ("run --record good.toml", "", "config: live.line\n", 1),
+    ("run --record no-line.toml", "", "device failed\n", 3),
+    ("run --resume nowhere good.toml", "", "cannot read nowhere\n", 3),
+    ("run nowhere --resume elsewhere", "", "cannot read nowhere\n", 3),
+    ("run --resume none.script good.toml", "", "config: live.line\n", 1),
+    ("run --resume none.script no-line.toml", "", "record: line 1\n", 1),
+    ("run --resume other.record no-line.toml", "", "record: line 2 differs\n", 1),
+    ("run --resume empty no-line.toml", "", "device failed\n", 3),
+    ("run --record --resume cut.record no-line.toml", "", "device failed\n", 3),
     ("run nowhere", "", "cannot read nowhere\n", 3),
     ("run no-line.toml", "", "device failed\n", 3),
     ("run good.toml --allow", "", None, 2),
+    ("run good.toml --resume", "", None, 2),
     ("--help", None, "", 0),
     ("-h", None, "", 0),
     ("help", None, "", 0),
@@ -114,6 +124,8 @@ WRONG = [
     "replay --left --left good.toml one.trace",
     "sim good.toml",
     "run",
+    "run --record --record good.toml",
+    "run --resume empty --resume empty good.toml",
 ]
 
 # Questions, and the constant of crates/telegate/src/help.rt that their answers end with.
@@ -124,6 +136,7 @@ QUESTIONS = {
     "replay --help": "REPLAY",
     "help replay": "REPLAY",
     "sim --help": "SIM",
+    "audit --help": "AUDIT",
     "run -h": "RUN",
     "--version": "VERSION",
 }

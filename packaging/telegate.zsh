@@ -20,7 +20,8 @@ case $words[2] in
     check) _arguments '--help[tells what the command does]' '2:settings:_files' ;;
     run)
         _arguments '--redial[reaches the line again where it ends]' \
-            '--log[tells what happens]' '*--allow[lets in this address]:address:' \
+            '--log[tells what happens]' '--record[prints each event and each action]' \
+            '--resume[goes on where a record ends]:record:_files' '*--allow[lets in this address]:address:' \
             '--help[tells what the command does]' '2:settings:_files'
         ;;
     replay)

@@ -1,6 +1,6 @@
 -- The text of a recorded run, line by line (this gateway's own profile).
 use Rattle.std.specs.Prelude.{ℕ, ◌+◌, ◌-◌, ◌==◌, Bool, false, if◌then◌else◌, List, [], ◌∷◌, ◌++◌, codes, length, take, Option, Some, None}
-use Rattle.std.specs.List.{slice_split, flat_map, list_any}
+use Rattle.std.specs.List.{slice_split, slice_get, flat_map, list_any}
 use Rattle.std.specs.Str.{bytes_eq}
 use Rattle.gateway.specs.Entries.{told_of}
 use Rattle.gateway.specs.declared.entries.Told.{Told}
@@ -54,3 +54,26 @@ first_difference n (line ∷ lines) run =
     if is_cut line then first_difference (n + 1) lines run
     else if is_first line run then first_difference (n + 1) lines (behind_first run)
     else Some n
+
+-- the lines of the run behind as many as these without those that were cut short
+abbrev pub rest_behind : (lines run : List (List ℕ)) → List (List ℕ)
+rest_behind [] run = run
+rest_behind (line ∷ lines) run =
+    if is_cut line then rest_behind lines run else rest_behind lines (behind_first run)
+
+-- a line with its line feed
+abbrev pub ended : List ℕ → List ℕ
+ended line = line ++ 10 ∷ []
+
+-- what ends a text whose last octet this is
+abbrev pub mark_after : Option ℕ → List ℕ
+mark_after None = []
+mark_after (Some octet) = if octet == 10 then [] else codes "!\n"
+
+-- what ends the last line of a text where it was cut short
+abbrev pub mark_behind : (text : List ℕ) → List ℕ
+mark_behind text = mark_after (slice_get text (length text - 1))
+
+-- what makes a record the whole text of a run with these lines
+abbrev pub rest_of : (text : List ℕ) → (run : List (List ℕ)) → List ℕ
+rest_of text run = mark_behind text ++ flat_map ended (rest_behind (whole_lines text) run)

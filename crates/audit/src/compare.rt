@@ -1,7 +1,7 @@
 //! The comparison of two lists of lines.
 ghost use Rattle.std.specs.Prelude.{◌≡◌, MatchResult, map};
 ghost use Rattle.audit.specs.Audit.{IsMemory};
-ghost use Rattle.audit.specs.Record.{first_difference};
+ghost use Rattle.audit.specs.Record.{first_difference, rest_behind};
 
 use crate::record::is_cut;
 use traces::TextFault;
@@ -31,4 +31,20 @@ pub(crate) fn first_difference(lines: &[&[u8]], run: &[&[u8]]) -> Result<Option<
     }
     // No memory holds so many lines.
     Err(TextFault::NoMemory)
+}
+
+/// The lines of the run behind as many as these are.
+pub(crate) fn rest_behind<'r, 't>(lines: &[&[u8]], run: &'r [&'t [u8]]) -> &'r [&'t [u8]]
+    ensures { map (λ line. line.now) result.now ≡ rest_behind
+        (map (λ line. line.now) lines.now) (map (λ line. line.now) run.entry.now) }
+{
+    let mut rest = run;
+    for line in lines {
+        if !is_cut(*line)
+            && let [_, more @ ..] = rest
+        {
+            rest = more;
+        }
+    }
+    rest
 }

@@ -1,7 +1,7 @@
 //! The lines of a record.
 ghost use Rattle.std.specs.Prelude.{◌≡◌, ◌++◌, IfOk, OnOk, map, count_by};
 ghost use Rattle.std.specs.List.{flat_map};
-ghost use Rattle.audit.specs.Record.{whole_lines, is_cut, is_action, event_line};
+ghost use Rattle.audit.specs.Record.{whole_lines, is_cut, is_action, event_line, mark_behind};
 
 use std::alloc::{AllocError, Global};
 use traces::pieces;
@@ -21,6 +21,16 @@ pub(crate) fn is_cut(line: &[u8]) -> bool
     ensures { result ≡ is_cut line.now }
 {
     line.iter().any(|octet| *octet == b'!')
+}
+
+/// What ends a text, if its last line was cut short.
+pub(crate) fn mark_behind(text: &[u8]) -> &'static [u8]
+    ensures { result.now ≡ mark_behind text.now }
+{
+    match text.last() {
+        None | Some(b'\n') => b"",
+        Some(_) => b"!\n",
+    }
 }
 
 /// Whether a line tells an action: its second field is `>`.

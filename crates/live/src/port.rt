@@ -101,6 +101,16 @@ impl<L: Wire, D: Door + Drop, C: Clock + Drop> Live<L, D, C> {
         }
     }
 
+    /// The same port, of a run that goes on after a restart: the connection that was open then is
+    /// cut, which is its first event but the wall clock.
+    pub fn cut_first(mut self) -> Live<L, D, C>
+        ensures { result ≡ record self { is_cut_due = true } }
+    {
+        self.is_cut_due = true;
+        self.why_cut = CutCause::Restarted;
+        self
+    }
+
     /// Whose connection is open.
     pub(crate) fn peer(&self) -> Option<IpAddr>
         ensures { result ≡ option_map (λ (p : Peer). p.address) self.now.connection }
@@ -140,7 +150,6 @@ impl<L: Wire, D: Door + Drop, C: Clock + Drop> Live<L, D, C> {
         if self.is_cut_due {
             self.is_cut_due = false;
             self.connection = None;
-            self.why_cut = CutCause::NotTaken;
             // A cut is an event of the connection: the round goes on behind that.
             self.first = Source::Connection.after();
             return Some(Found::Cut);
@@ -274,6 +283,9 @@ impl<L: Wire, D: Door + Drop, C: Clock + Drop> Live<L, D, C> {
         }
         if let Some(visitor) = self.connection.as_mut() {
             self.is_cut_due = !visitor.wire.write(octets);
+            if self.is_cut_due {
+                self.why_cut = CutCause::NotTaken;
+            }
         }
     }
 }

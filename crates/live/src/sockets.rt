@@ -300,26 +300,38 @@ impl<R: Net<Listener = TcpListener, Stream = TcpStream> + Eprint> Door for Centr
     }
 }
 
-/// The system's clock that never goes back, from 0 at its start. Where it can't be read the last
-/// moment is told again.
+/// The system's clock that never goes back, from a first moment at its start. Where it can't be
+/// read the last moment is told again.
 #[derive(Drop)]
 pub struct SystemClock<'a, R> {
     rt: &'a R,
     start: Instant,
+    /// The moment at its start, in ms.
+    first: u64,
     now: u64,
 }
 
 impl<'a, R: std::rt::Clock> SystemClock<'a, R> {
-    /// Starts it.
+    /// Starts it at 0.
     ///
     /// # Errors
     ///
     /// Those of the system.
     pub fn start(rt: &'a R) -> io::Result<SystemClock<'a, R>> {
+        SystemClock::start_at(rt, 0)
+    }
+
+    /// Starts it at a moment, in ms, as a run does that goes on after a restart.
+    ///
+    /// # Errors
+    ///
+    /// Those of the system.
+    pub fn start_at(rt: &'a R, first: u64) -> io::Result<SystemClock<'a, R>> {
         Ok(SystemClock {
             rt,
             start: Instant::now(rt)?,
-            now: 0,
+            first,
+            now: first,
         })
     }
 }
@@ -331,7 +343,8 @@ impl<R: std::rt::Clock> Clock for SystemClock<'_, R> {
 
     fn now_ms(&mut self) -> u64 {
         if let Ok(passed) = self.start.elapsed(self.rt) {
-            self.now = u64::try_from(passed.as_millis()).unwrap_or(u64::MAX);
+            let passed = u64::try_from(passed.as_millis()).unwrap_or(u64::MAX);
+            self.now = self.first.saturating_add(passed);
         }
         self.now
     }

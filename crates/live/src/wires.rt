@@ -41,6 +41,8 @@ pub enum CutCause {
     NotTaken,
     /// What came on it would have been told too late.
     Late,
+    /// The run goes on after a restart, which it didn't outlive.
+    Restarted,
 }
 
 /// A wire that may be away.

@@ -1,7 +1,6 @@
 -- The text of a record (this gateway's own profile).
 use Rattle.gateway.specs.Ports.{told_by}
 use Rattle.gateway.specs.declared.ports.Next.{Next}
-use Rattle.gateway.specs.declared.ports.Next.TheVariants.{Done}
 use Rattle.traces.specs.Printed.{lines_of_log}
 use Rattle.std.specs.Prelude.{◌≡◌, ℕ, Bool, true, false, List, [], ◌++◌, Option, Some, None, if◌then◌else◌}
 
@@ -45,16 +44,11 @@ pub record Notes (old : Recording) (line : List ℕ) (new : Recording) : Type 0 
   pub has_memory : Bool
   pub done : new ≡ unless_over old (held_by has_memory line old)
 
--- Once the sheet was given what was held, an event was asked for and written down, or, where the
--- record was over, none.
-abbrev pub heard_by : (is_over : Bool) → Recording → Next → List ℕ → Recording → Type 0
-heard_by true given next buf new = (next ≡ Done) × (new ≡ given)
-heard_by false given next buf new = Notes given (lines_of_log (told_by next buf)) new
-
+-- an event was written down, and the sheet was given what is held
 pub record Hears (old : Recording) (next : Next) (buf : List ℕ) (new : Recording) : Type 0 where
-  pub given : Recording
-  pub gives : Gives old given
-  pub heard : heard_by given.is_over given next buf new
+  pub noted : Recording
+  pub notes : Notes old (lines_of_log (told_by next buf)) noted
+  pub gives : Gives noted new
 
 -- an action was written down, where it went out
 abbrev pub Puts : (has_gone : Bool) → Recording → List ℕ → Recording → Type 0

@@ -4,8 +4,8 @@ ghost use Rattle.record.specs.Law.{grows_by};
 ghost use Rattle.record.specs.Recording.{Recording, Gives, Notes, text_of};
 
 /// The text of a record grows by the line of what passed, and by nothing else. Once the record is
-/// over it stays as it is; until then, when an event is asked for, the sheet has taken the text of
-/// all that passed before.
+/// over it stays as it is; until then, when an event is passed on, the sheet has taken the text of
+/// all that passed before, and the event's line.
 pub fn a_record_is_the_text_of_what_passed()
     ensures notes { (old new : Recording) (line : List ℕ) → Notes old line new →
         grows_by new.is_over old line new }

@@ -2,15 +2,14 @@
 //!
 //! [`Recorder`] is a port around any port: it passes each event and each action on unchanged, so
 //! what is proved of a run over a port holds of a run over it, and writes them down: an event as a
-//! trace has it, an action as a run over a trace prints it. The lines of a step go to a [`Sheet`]
-//! together, before the next event is asked for.
+//! trace has it, an action as a run over a trace prints it. The line of an event goes to a
+//! [`Sheet`] before the gateway hears of the event, with the lines of the step before it.
 //!
 //! Proved, for any port and any sheet that tells what it took: the recorder's log, script and
 //! failures are those of the port inside; what was taken and what is held are the lines of all that
 //! passed, in their order, until the record is over; it is over where the sheet takes no more or
-//! memory ran out, and the text stays as it is from then on, at the end of a line. Then no event is
-//! asked for any more: a run over the recorder ends as one without events does, and whoever drives
-//! it goes on over the port inside. That each line reads back as what passed is
+//! memory ran out, and the text stays as it is from then on, at the end of a line, while events and
+//! actions pass as before. That each line reads back as what passed is
 //! `traces::printed_lines_read_back`.
 #![tactic(auto)]
 
@@ -23,4 +22,4 @@ mod sheet;
 pub use laws::a_record_is_the_text_of_what_passed;
 pub use pen::Pen;
 pub use recorder::Recorder;
-pub use sheet::Sheet;
+pub use sheet::{Sheet, StandardOutput};

@@ -1,5 +1,5 @@
 //! Lines that are held, and given to a sheet.
-ghost use Rattle.std.specs.Prelude.{◌≡◌, [], false};
+ghost use Rattle.std.specs.Prelude.{◌≡◌, [], true, false};
 ghost use Rattle.gateway.specs.Ports.{FitsBuffer, output_of, told_by};
 ghost use Rattle.record.specs.Recording.{Gives, Notes};
 ghost use Rattle.traces.specs.Actions.{line_of};
@@ -17,33 +17,45 @@ pub struct Pen<W: Sheet + Drop> {
     alloc: Global,
     pub(crate) sheet: W,
     /// The lines that the sheet hasn't been given yet.
-    held: String,
+    held: Vec<u8>,
     is_over: bool,
 }
 
 impl<W: Sheet + Drop> Model for Pen<W> {
-    ghost use Rattle.std.specs.Prelude.{string_bytes};
     ghost use Rattle.record.specs.Recording.{Recording};
 
     ghost Value = { Recording };
 
     ghost view = { λ p. record {
       taken = W.taken p.sheet;
-      held = string_bytes p.held;
+      held = p.held.items;
       is_over = p.is_over;
     } };
 }
 
 impl<W: Sheet + Drop> Pen<W> {
-    /// One that writes to this sheet.
-    pub fn new(alloc: Global, sheet: W) -> Pen<W>
-        ensures { result ≡ record { taken = W.taken sheet; held = []; is_over = false } }
+    /// One that writes to this sheet, at first these lines.
+    pub fn new(alloc: Global, sheet: W, first: Vec<u8>) -> Pen<W>
+        ensures { result
+            ≡ record { taken = W.taken sheet; held = first.items; is_over = false } }
     {
         Pen {
             alloc,
             sheet,
-            held: String::new(alloc),
+            held: first,
             is_over: false,
+        }
+    }
+
+    /// One that writes nothing.
+    pub fn idle(alloc: Global, sheet: W) -> Pen<W>
+        ensures { result ≡ record { taken = W.taken sheet; held = []; is_over = true } }
+    {
+        Pen {
+            alloc,
+            sheet,
+            held: Vec::new(alloc),
+            is_over: true,
         }
     }
 
@@ -61,11 +73,19 @@ impl<W: Sheet + Drop> Pen<W> {
         if self.is_over {
             return;
         }
-        if self.sheet.take(self.held.as_bytes()) {
+        if self.sheet.take(self.held.as_slice()) {
             self.held.clear();
         } else {
-            self.is_over = true;
+            self.end();
         }
+    }
+
+    /// The record is over.
+    fn end(&mut self)
+        ensures { self.new ≡ record self.old { is_over = true } }
+    {
+        self.sheet.end();
+        self.is_over = true;
     }
 
     /// Holds a line. Where there is no memory for it the record is over.
@@ -73,8 +93,8 @@ impl<W: Sheet + Drop> Pen<W> {
         requires { self.old.is_over ≡ false }
         ensures { Notes self.old line.now self.new }
     {
-        if self.held.push_str(line).is_err() {
-            self.is_over = true;
+        if self.held.extend_from_slice(line.as_bytes()).is_err() {
+            self.end();
         }
     }
 
@@ -88,7 +108,7 @@ impl<W: Sheet + Drop> Pen<W> {
         }
         match event_line(self.alloc, next, buf) {
             Ok(line) => self.hold(line.as_str()),
-            Err(_) => self.is_over = true,
+            Err(_) => self.end(),
         }
     }
 
@@ -101,7 +121,7 @@ impl<W: Sheet + Drop> Pen<W> {
         }
         match action_line(self.alloc, now, action) {
             Ok(line) => self.hold(line.as_str()),
-            Err(_) => self.is_over = true,
+            Err(_) => self.end(),
         }
     }
 }

@@ -1,17 +1,18 @@
 //! A port that records what passes it.
-ghost use Rattle.std.specs.Prelude.{◌≡◌, ◌+◌, ◌<◌, ◌||◌, ◌∷◌, [], true, if◌then◌else◌};
+ghost use Rattle.std.specs.Prelude.{◌≡◌, ◌+◌, ◌<◌, ◌∷◌, [], true, if◌then◌else◌};
 ghost use Rattle.gateway.specs.Log.{Went, tell};
 ghost use Rattle.gateway.specs.Ports.{FitsBuffer, faults_of, output_of, told_by};
 ghost use Rattle.gateway.specs.declared.ports.Next.TheVariants.{Done};
-ghost use Rattle.record.specs.Recording.{Gives, Hears, Puts};
+ghost use Rattle.record.specs.Recording.{Hears, Puts};
 ghost use Rattle.traces.specs.Actions.{line_of};
 
 use crate::pen::Pen;
 use crate::sheet::Sheet;
 use gateway::{Action, Next, Port};
+use live::{Sight, Watched};
 
 /// A port that passes each event and each action of another one on unchanged, and writes them down.
-/// Once the record is over it has no more events.
+/// Once the record is over they pass unwritten.
 #[derive(Drop)]
 pub struct Recorder<P: Port + Drop, W: Sheet + Drop> {
     port: P,
@@ -26,26 +27,11 @@ impl<P: Port + Drop, W: Sheet + Drop> Recorder<P, W> {
         Recorder { port, pen }
     }
 
-    /// Gives the sheet what is held: the lines of the last step.
-    pub fn close(&mut self)
-        ensures passes { self.new.port ≡ self.old.port }
-        ensures gives { Gives self.old.pen self.new.pen }
-    {
-        self.pen.give();
-    }
-
     /// The record is over.
     pub fn is_over(&self) -> bool
         ensures { result ≡ self.now.pen.is_over }
     {
         self.pen.is_over()
-    }
-
-    /// The port inside, as it is.
-    pub fn into_port(self) -> P
-        ensures { result ≡ self.port }
-    {
-        self.port
     }
 }
 
@@ -54,30 +40,27 @@ impl<P: Port + Drop, W: Sheet + Drop> Port for Recorder<P, W> {
 
     ghost failed = { λ r. P.failed r.port };
 
-    ghost ended = { λ r. r.pen.is_over || P.ended r.port };
+    ghost ended = { λ r. P.ended r.port };
 
     ghost Fixed = { P.Fixed };
 
     ghost script = { λ r. P.script r.port };
 
-    /// The lines of the step before are given to the sheet; where the record is over no event
-    /// comes.
-    #[tactic(auto, using(crate::proofs::Passing::nothing_told, crate::proofs::Passing::hears_none, crate::proofs::Passing::hears_one))]
+    /// The line of the event is given to the sheet, with those of the step before, and only then is
+    /// the event passed on: whoever reads the record knows each event that an action came from.
+    #[tactic(auto, using(crate::proofs::Passing::hears))]
     fn next(&mut self, buf: &mut [u8; 1024]) -> Next
         requires { P.failed self.old.port < u64.MAX }
         ensures told { P.log self.new.port ≡ tell (P.log self.old.port) (told_by result buf.new) }
         ensures fits { FitsBuffer result }
-        ensures done { result ≡ Done → (self.new.pen.is_over || P.ended self.new.port) ≡ true }
+        ensures done { result ≡ Done → P.ended self.new.port ≡ true }
         ensures script { P.script self.new.port ≡ P.script self.old.port }
         ensures cause { P.failed self.new.port ≡ P.failed self.old.port + faults_of result }
         ensures hears { Hears self.old.pen result buf.new self.new.pen }
     {
-        self.pen.give();
-        if self.pen.is_over() {
-            return Next::Done;
-        }
         let next = self.port.next(buf);
         self.pen.note_event(next, buf);
+        self.pen.give();
         next
     }
 
@@ -100,6 +83,12 @@ impl<P: Port + Drop, W: Sheet + Drop> Port for Recorder<P, W> {
 
     fn failures(&self) -> u64 {
         self.port.failures()
+    }
+}
+
+impl<P: Watched + Drop, W: Sheet + Drop> Watched for Recorder<P, W> {
+    fn sight(&self) -> Sight {
+        self.port.sight()
     }
 }
 

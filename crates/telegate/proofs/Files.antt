@@ -3,8 +3,8 @@ use Rattle.std.proofs.Common.{◌≡◌, ℕ, List, [], ◌∷◌, Option, inl, 
 use Rattle.std.specs.Prelude.{Bool, Result}
 use Rattle.std.specs.Borrow.{Bor}
 use Rattle.clap.specs.Words.{Text}
-use Rattle.telegate.specs.Shell.{IsUnread, IsNotRead, Responds, RunsFile, AreWishes, files_of}
-use Rattle.telegate.specs.CommandLine.{texts_of}
+use Rattle.telegate.specs.Shell.{IsUnread, IsNotRead, Responds, RunsFiles, AreWishes, files_of}
+use Rattle.telegate.specs.CommandLine.{text_of, texts_of}
 use Rattle.telegate.specs.Faults.{status_of}
 use Rattle.telegate.specs.Guests.{IsGuestsFault}
 use Rattle.telegate.specs.declared.host.Wishes.{Wishes}
@@ -67,21 +67,22 @@ module _ (has : Text → List ℕ → Type 0) (lacks : Text → Type 0) where
     unanswered request files known exit are h =
         inr (subst (λ (fs : List Text). IsNotRead has lacks fs exit) (sym are) h, keeps_same known)
 
-    pub has_run : (request : Request) (config : Bor Text) (redial log : Bool) (allow : Option (Bor (List (Bor Text))))
-        (wishes : Wishes) (known : Option (List ℕ)) (exit : ℕ) →
-        request ≡ Run config redial log allow → AreWishes redial log (texts_of allow) wishes
-        → RunsFile has lacks ran config.now wishes exit →
+    pub has_run : (request : Request) (config : Bor Text) (redial log recorded : Bool) (resumed : Option (Bor Text))
+        (allow : Option (Bor (List (Bor Text)))) (wishes : Wishes) (known : Option (List ℕ)) (exit : ℕ) →
+        request ≡ Run config redial log recorded resumed allow → AreWishes redial log recorded (texts_of allow) wishes
+        → RunsFiles has lacks ran config.now (text_of resumed) wishes exit →
         Responds has lacks ran request known known exit
-    has_run request config redial log allow wishes known exit is wished h =
+    has_run request config redial log recorded resumed allow wishes known exit is wished h =
         subst (λ (r : Request). Responds has lacks ran r known known exit) (sym is) (elim h [
           | inl live ↦ inl (inl (record { wishes = wishes; wished = wished; live = live }), keeps_same known)
           | inr none ↦ inr (none, keeps_same known)
         ])
 
-    pub no_guests : (request : Request) (config : Bor Text) (redial log : Bool)
-        (allow : Option (Bor (List (Bor Text)))) (fault : Fault) (known : Option (List ℕ)) (exit : ℕ) →
-        request ≡ Run config redial log allow → IsGuestsFault (texts_of allow) fault → exit ≡ status_of fault
+    pub no_guests : (request : Request) (config : Bor Text) (redial log recorded : Bool)
+        (resumed : Option (Bor Text)) (allow : Option (Bor (List (Bor Text)))) (fault : Fault)
+        (known : Option (List ℕ)) (exit : ℕ) → request ≡ Run config redial log recorded resumed allow
+        → IsGuestsFault (texts_of allow) fault → exit ≡ status_of fault
         → Responds has lacks ran request known known exit
-    no_guests request config redial log allow fault known exit is none status =
+    no_guests request config redial log recorded resumed allow fault known exit is none status =
         subst (λ (r : Request). Responds has lacks ran r known known exit) (sym is)
         (inl (inr (record { fault = fault; is = none; status = status }), keeps_same known))

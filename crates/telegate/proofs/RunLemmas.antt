@@ -27,7 +27,7 @@ use Rattle.telegate.specs.Answers.{IsMemory, IsGood, IsChecked, IsRunOf, IsRepla
 use Rattle.telegate.specs.declared.answer.Answer.{Answer}
 use Rattle.telegate.specs.declared.closing.Closing.{Closing}
 use Rattle.telegate.specs.declared.fault.Fault.{Fault}
-use Rattle.telegate.specs.declared.fault.Fault.TheVariants.{Config, Trace, Script, Record, Sizes, Octets, Address, Device, NoMemory}
+use Rattle.telegate.specs.declared.fault.Fault.TheVariants.{Config, Trace, Script, Record, Differs, Sizes, Octets, Address, Device, NoMemory}
 
 same_number : (m n : ℕ) → Some m ≡ Some n → m ≡ n
 same_number m n e = cc
@@ -115,6 +115,7 @@ replayed config trace closing settings (Err (Config why)) read told run = absurd
 replayed config trace closing settings (Err (Trace n)) read told run = absurd run
 replayed config trace closing settings (Err (Script n)) read told run = absurd run
 replayed config trace closing settings (Err (Record n)) read told run = absurd run
+replayed config trace closing settings (Err (Differs n)) read told run = absurd run
 replayed config trace closing settings (Err Sizes) read told run = absurd run
 replayed config trace closing settings (Err Octets) read told run = absurd run
 replayed config trace closing settings (Err Address) read told run = absurd run
@@ -131,6 +132,7 @@ simulated config text settings script (Err (Config why)) read said run = absurd 
 simulated config text settings script (Err (Trace n)) read said run = absurd run
 simulated config text settings script (Err (Script n)) read said run = absurd run
 simulated config text settings script (Err (Record n)) read said run = absurd run
+simulated config text settings script (Err (Differs n)) read said run = absurd run
 simulated config text settings script (Err Sizes) read said run = absurd run
 simulated config text settings script (Err Octets) read said run = absurd run
 simulated config text settings script (Err Address) read said run = absurd run
@@ -145,6 +147,7 @@ checked config settings (Err (Config why)) read told = absurd told
 checked config settings (Err (Trace n)) read told = absurd told
 checked config settings (Err (Script n)) read told = absurd told
 checked config settings (Err (Record n)) read told = absurd told
+checked config settings (Err (Differs n)) read told = absurd told
 checked config settings (Err Sizes) read told = absurd told
 checked config settings (Err Octets) read told = absurd told
 checked config settings (Err Address) read told = absurd told

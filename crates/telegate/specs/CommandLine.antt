@@ -19,6 +19,10 @@ word name = record (new_rule name) { action = Some Set; required = true }
 abbrev pub flag : Text → Rule
 flag name = record (new_rule name) { long = Some name; action = Some SetTrue }
 
+-- `--name WORD`, anywhere behind the command, at most once
+abbrev pub named_file : Text → Rule
+named_file name = record (new_rule name) { long = Some name; action = Some Set }
+
 -- `--name WORD`, anywhere behind the command, any number of times
 abbrev pub option : Text → Rule
 option name = record (new_rule name) { long = Some name; action = Some Append }
@@ -52,7 +56,7 @@ audit = command (codes "audit") (word (codes "CONFIG") ∷ word (codes "RECORD")
 
 abbrev pub run : App
 run = command (codes "run") (word (codes "CONFIG") ∷ flag (codes "redial") ∷ flag (codes "log")
-    ∷ option (codes "allow") ∷ [])
+    ∷ flag (codes "record") ∷ named_file (codes "resume") ∷ option (codes "allow") ∷ [])
 
 -- the program, of whose commands one has to be named
 abbrev pub bare : App
@@ -87,6 +91,13 @@ IsCommand app c = (app_of c ≡ app) × ((out-Command c).has_globals ≡ false)
 abbrev pub IsGiven : List Row → (name text : Text) → Type 0
 IsGiven rows name text = first_of name rows ≡ Some text
 
+-- the word given under a name, if one is
+abbrev pub IsNamed : List Row → (name : Text) → Option Text → Type 0
+IsNamed rows name text = text ≡ first_of name rows
+
+abbrev pub text_of : Option (Bor Text) → Option Text
+text_of word = option_map (λ w. w.now) word
+
 -- whether a flag is given
 abbrev pub IsFlag : List Row → (name : Text) → Bool → Type 0
 IsFlag rows name flag = (one_of name rows ≡ None → flag ≡ false)
@@ -114,10 +125,12 @@ AsksFor name rows (Sim config script) = (name ≡ codes "sim")
     × IsGiven rows (codes "CONFIG") config.now × IsGiven rows (codes "SCRIPT") script.now
 AsksFor name rows (Audit config text) = (name ≡ codes "audit")
     × IsGiven rows (codes "CONFIG") config.now × IsGiven rows (codes "RECORD") text.now
-AsksFor name rows (Run config redial log allow) =
+AsksFor name rows (Run config redial log recorded resumed allow) =
     (name ≡ codes "run") × IsGiven rows (codes "CONFIG") config.now
-    × IsFlag rows (codes "redial") redial
-    × IsFlag rows (codes "log") log × AreGiven rows (codes "allow") (texts_of allow)
+    × IsFlag rows (codes "redial") redial × IsFlag rows (codes "log") log
+    × IsFlag rows (codes "record") recorded
+    × IsNamed rows (codes "resume") (text_of resumed)
+    × AreGiven rows (codes "allow") (texts_of allow)
 
 -- the request, or none where none is asked for
 abbrev pub IsAsked : (name : Text) → List Row → Option Request → Type 0

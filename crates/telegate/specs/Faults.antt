@@ -1,7 +1,7 @@
 -- The exit statuses of faults (this gateway's own profile).
 use Rattle.std.specs.Prelude.{ℕ}
 use Rattle.telegate.specs.declared.fault.Fault.{Fault}
-use Rattle.telegate.specs.declared.fault.Fault.TheVariants.{Config, Trace, Script, Record, Sizes, Octets, Address, Device, NoMemory}
+use Rattle.telegate.specs.declared.fault.Fault.TheVariants.{Config, Trace, Script, Record, Differs, Sizes, Octets, Address, Device, NoMemory}
 
 -- 1 wrong content, 2 a wrong word, 3 a device that failed, 4 no memory
 abbrev pub status_of : Fault → ℕ
@@ -9,6 +9,7 @@ status_of (Config why) = 1
 status_of (Trace line) = 1
 status_of (Script line) = 1
 status_of (Record line) = 1
+status_of (Differs line) = 1
 status_of Sizes = 1
 status_of Octets = 1
 status_of Address = 2

@@ -1,14 +1,23 @@
 -- What the command that runs live answers (this gateway's own profile).
-use Rattle.std.specs.Prelude.{◌≡◌, ◌⊎◌, ℕ, ◌+◌, Bool, true, List, Option, IfSome, Result, Ok, Err, MatchResult}
+use Rattle.std.specs.Prelude.{◌≡◌, ◌⊎◌, ℕ, ◌+◌, Bool, true, List, [], Option, Some, None, IfSome, Result, Ok, Err, MatchResult}
+use Rattle.audit.specs.Audit.{IsAuditFault}
+use Rattle.audit.specs.Resume.{IsResumption}
+use Rattle.audit.specs.declared.resume.Resumed.{Resumed}
+use Rattle.audit.specs.declared.resume.Resumption.TheVariants.{Goes, Differs}
+use Rattle.gateway.specs.Agrees.{Follows}
 use Rattle.gateway.specs.Config.{Settings}
 use Rattle.gateway.specs.Log.{Log}
+use Rattle.gateway.specs.Reports.{Setup}
 use Rattle.gateway.specs.Runs.{MoreEvents}
 use Rattle.gateway.specs.Setups.{setup_of}
+use Rattle.gateway.specs.State.{State}
 use Rattle.gateway.specs.Traffic.{IsFaithful, HasRested}
 use Rattle.settings.specs.Settings.{IsLiveReadOfText}
 use Rattle.settings.specs.declared.live.LiveSettings.{LiveSettings}
 use Rattle.telegate.specs.declared.fault.Fault.{Fault}
-use Rattle.telegate.specs.declared.fault.Fault.TheVariants.{Config, NoMemory}
+use Rattle.telegate.specs.declared.fault.Fault.TheVariants.{Config, Record, NoMemory}
+use Rattle.telegate.specs.declared.fault.Fault.TheVariants as fault
+use Rattle.traces.specs.declared.reading.TextFault.TheVariants.{Line}
 use Rattle.telegate.specs.declared.running.Stop.{Stop}
 use Rattle.telegate.specs.declared.running.Stop.TheVariants as stop
 
@@ -35,18 +44,37 @@ HasRun before after result = MatchResult result (λ _. after ≡ before) (HasSto
 abbrev pub HasEnded : Bool → (before after : Option Log) → Type 0
 HasEnded ended before after = (ended ≡ true) ⊎ MoreEvents 18446744073709551615 before after
 
--- What a log of the run shows, where it is told, keeps every promise of a gateway with these
--- settings; and where the device didn't fail, nothing that may be sent is left. Where memory was
--- refused there was no run.
-abbrev pub IsRunTold : Settings → Option Log → Type 0
-IsRunTold settings told = IfSome told (IsFaithful (setup_of settings))
+-- What a log of the run shows, where it is told, keeps every promise of such a gateway; and where
+-- the device didn't fail, nothing that may be sent is left. Where memory was refused there was no
+-- run.
+abbrev pub IsRunTold : Setup → Option Log → Type 0
+IsRunTold p told = IfSome told (IsFaithful p)
 
-abbrev pub HasRunTo : Settings → Option Log → Stop → Type 0
-HasRunTo settings told stop.Device = IsRunTold settings told
-HasRunTo settings told stop.NoMemory = Unit {0}
+abbrev pub HasRunTo : Setup → Option Log → Stop → Type 0
+HasRunTo p told stop.Device = IsRunTold p told
+HasRunTo p told stop.NoMemory = Unit {0}
 
-abbrev pub HasRunFaithfully : {A : Type 0} → Settings → Option Log → Result A Stop → Type 0
-HasRunFaithfully settings told result =
-    MatchResult result
-    (λ _. IsRunTold settings told × IfSome told (HasRested (setup_of settings)))
-    (HasRunTo settings told)
+abbrev pub HasRunFaithfully : {A : Type 0} → Setup → Option Log → Result A Stop → Type 0
+HasRunFaithfully p told result =
+    MatchResult result (λ _. IsRunTold p told × IfSome told (HasRested p)) (HasRunTo p told)
+
+-- A run begins anew, with an empty log, or it goes on where a record ends: with the gateway of the
+-- run over its events, whose log keeps every promise.
+abbrev pub IsStart : Settings → (earlier : Option (List ℕ)) → State → Option Resumed → Type 0
+IsStart settings None gateway None = Follows (setup_of settings) gateway (Some [])
+IsStart settings (Some text) gateway (Some resumed) =
+    IsResumption settings text gateway (Goes resumed)
+IsStart settings _ gateway _ = ⊥
+
+-- the record is refused by its first line that tells nothing, or that isn't the run's
+abbrev pub IsStartFault : Settings → (earlier : Option (List ℕ)) → State → Fault → Type 0
+IsStartFault settings earlier gateway NoMemory = Unit {0}
+IsStartFault settings (Some text) gateway (Record n) = IsAuditFault text (Line n)
+IsStartFault settings (Some text) gateway (fault.Differs n) =
+    IsResumption settings text gateway (Differs n)
+IsStartFault settings earlier gateway _ = ⊥
+
+abbrev pub IsStartBy : Settings → (earlier : Option (List ℕ)) → State
+    → Result (Option Resumed) Fault → Type 0
+IsStartBy settings earlier gateway result =
+    MatchResult result (IsStart settings earlier gateway) (IsStartFault settings earlier gateway)

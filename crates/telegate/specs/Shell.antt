@@ -1,13 +1,14 @@
 -- What the program does with its words and with the files that they name (this gateway's own
 -- profile).
-use Rattle.std.specs.Prelude.{◌≡◌, ◌⊎◌, ℕ, Bool, List, [], ◌∷◌, ◌++◌, Option, Some, None, Result, Ok, Err, codes}
+use Rattle.std.specs.Prelude.{◌≡◌, ◌⊎◌, ℕ, Bool, List, [], ◌∷◌, ◌++◌, Option, Some, None, Result, Ok, Err, Vec, codes}
+use Rattle.std.specs.declared.alloc.Global.{Global}
 use Rattle.std.specs.Io.KnownBytes.{Keeps}
 use Rattle.clap.specs.Words.{Text, HasKind, fault_of, kind_of, subcommand_of}
 use Rattle.clap.specs.declared.error.Error.{Error}
 use Rattle.clap.specs.declared.error.kind.ErrorKind.{ErrorKind}
 use Rattle.clap.specs.declared.error.kind.ErrorKind.TheVariants as kind
 use Rattle.telegate.specs.Answers.{Performs}
-use Rattle.telegate.specs.CommandLine.{IsRequestOf, texts_of, program}
+use Rattle.telegate.specs.CommandLine.{IsRequestOf, text_of, texts_of, program}
 use Rattle.telegate.specs.Faults.{status_of}
 use Rattle.telegate.specs.Guests.{AreGuests, IsGuestsFault}
 use Rattle.telegate.specs.declared.host.Wishes.{Wishes}
@@ -32,7 +33,11 @@ IsJobOf has (Sim config script) (job.Sim c s) = has config.now c.now × has scri
 IsJobOf has (Audit config text) (job.Audit c t) = has config.now c.now × has text.now t.now
 IsJobOf has _ _ = ⊥
 
--- the names of a request's files, in the order of the words
+abbrev pub named : Option Text → List Text
+named None = []
+named (Some name) = name ∷ []
+
+-- the names of a request's files, in the order of the words; the one of a record is the last
 abbrev pub files_of : Request → List Text
 files_of (Show101 sizes hex) = []
 files_of (Show104 hex) = []
@@ -40,7 +45,7 @@ files_of (Check config) = config.now ∷ []
 files_of (Replay config trace left counts) = config.now ∷ trace.now ∷ []
 files_of (Sim config script) = config.now ∷ script.now ∷ []
 files_of (Audit config text) = config.now ∷ text.now ∷ []
-files_of (Run config redial log allow) = config.now ∷ []
+files_of (Run config redial log recorded resumed allow) = config.now ∷ named (text_of resumed)
 
 -- this is the first of the files that can't be read
 abbrev pub IsFirstUnread : (has : Text → List ℕ → Type 0) → (lacks : Text → Type 0) → List Text
@@ -84,37 +89,56 @@ abbrev pub status_of_run : Result (Unit {0}) Fault → ℕ
 status_of_run (Ok done) = 0
 status_of_run (Err fault) = status_of fault
 
--- The gateway ran live by the settings of a file, and the exit status says how that ended.
-pub record HasRunLive (has : Text → List ℕ → Type 0)
-    (ran : List ℕ → Wishes → Result (Unit {0}) Fault → Type 0)
-    (config : Text) (wishes : Wishes) (exit : ℕ) : Type 0 where
-  pub octets : List ℕ
-  pub read : has config octets
+-- The gateway ran live by settings of these octets, behind a record of these, if one is given, and
+-- the exit status says how that ended.
+pub record HasEndedLive (ran : List ℕ → Wishes → Result (Unit {0}) Fault → Type 0)
+    (config : List ℕ) (earlier : Option (Vec ℕ Global)) (wishes : Wishes) (exit : ℕ)
+    : Type 0 where
   pub ended : Result (Unit {0}) Fault
-  pub run : ran octets wishes ended
+  pub run : ran config (record wishes { earlier = earlier }) ended
   pub status : exit ≡ status_of_run ended
 
--- the same, or the file couldn't be read
-abbrev pub RunsFile : (has : Text → List ℕ → Type 0) → (lacks : Text → Type 0)
+-- the record of a run that goes on is that of the file that is named, if one is
+abbrev pub IsEarlier : (has : Text → List ℕ → Type 0) → Option Text → Option (Vec ℕ Global)
+    → Type 0
+IsEarlier has None None = Unit {0}
+IsEarlier has (Some name) (Some octets) = has name octets.items
+IsEarlier has _ _ = ⊥
+
+-- the same by the octets of these files
+pub record HasRunLive (has : Text → List ℕ → Type 0)
+    (ran : List ℕ → Wishes → Result (Unit {0}) Fault → Type 0)
+    (config : Text) (resumed : Option Text) (wishes : Wishes) (exit : ℕ) : Type 0 where
+  pub octets : List ℕ
+  pub read : has config octets
+  pub earlier : Option (Vec ℕ Global)
+  pub is_earlier : IsEarlier has resumed earlier
+  pub live : HasEndedLive ran octets earlier wishes exit
+
+-- the same, or a file couldn't be read
+abbrev pub RunsFiles : (has : Text → List ℕ → Type 0) → (lacks : Text → Type 0)
     → (ran : List ℕ → Wishes → Result (Unit {0}) Fault → Type 0) →
-    (config : Text) → (wishes : Wishes) → (exit : ℕ) → Type 0
-RunsFile has lacks ran config wishes exit =
-    HasRunLive has ran config wishes exit ⊎ IsNotRead has lacks (config ∷ []) exit
+    (config : Text) → (resumed : Option Text) → (wishes : Wishes) → (exit : ℕ) → Type 0
+RunsFiles has lacks ran config resumed wishes exit =
+    HasRunLive has ran config resumed wishes exit
+    ⊎ IsNotRead has lacks (config ∷ named resumed) exit
 
 -- the wishes are those of the words
-pub record AreWishes (redial log : Bool) (allow : Option (List Text)) (wishes : Wishes)
+pub record AreWishes (redial log recorded : Bool) (allow : Option (List Text)) (wishes : Wishes)
     : Type 0 where
   pub redials : wishes.redial ≡ redial
   pub logs : wishes.log ≡ log
+  pub records : wishes.«record» ≡ recorded
   pub guests : AreGuests allow wishes.guests
 
 -- the gateway ran live as the words wish
 pub record HasRunAsWished (has : Text → List ℕ → Type 0)
-    (ran : List ℕ → Wishes → Result (Unit {0}) Fault → Type 0)
-    (config : Text) (redial log : Bool) (allow : Option (List Text)) (exit : ℕ) : Type 0 where
+    (ran : List ℕ → Wishes → Result (Unit {0}) Fault → Type 0) (config : Text)
+    (redial log recorded : Bool) (resumed : Option Text) (allow : Option (List Text)) (exit : ℕ)
+    : Type 0 where
   pub wishes : Wishes
-  pub wished : AreWishes redial log allow wishes
-  pub live : HasRunLive has ran config wishes exit
+  pub wished : AreWishes redial log recorded allow wishes
+  pub live : HasRunLive has ran config resumed wishes exit
 
 -- a word behind `--allow` is no address, and no file was read
 pub record HasNoGuests (allow : Option (List Text)) (exit : ℕ) : Type 0 where
@@ -122,12 +146,13 @@ pub record HasNoGuests (allow : Option (List Text)) (exit : ℕ) : Type 0 where
   pub is : IsGuestsFault allow fault
   pub status : exit ≡ status_of fault
 
--- what a command is to do where its files can be read; a live run prints nothing
+-- What a command is to do where its files can be read; a live run prints nothing but its record,
+-- which the host writes.
 abbrev pub IsDone : (has : Text → List ℕ → Type 0)
     → (ran : List ℕ → Wishes → Result (Unit {0}) Fault → Type 0) → Request →
     (old new : Option (List ℕ)) → (exit : ℕ) → Type 0
-IsDone has ran (Run config redial log allow) old new exit =
-    (HasRunAsWished has ran config.now redial log (texts_of allow) exit
+IsDone has ran (Run config redial log recorded resumed allow) old new exit =
+    (HasRunAsWished has ran config.now redial log recorded (text_of resumed) (texts_of allow) exit
     ⊎ HasNoGuests (texts_of allow) exit) × Keeps old new
 IsDone has ran request old new exit = IsJobDone has request old new exit
 

@@ -1,5 +1,5 @@
 //! The command line.
-ghost use Rattle.std.specs.Prelude.{◌≡◌, IfOk, codes, map, option_map, string_bytes};
+ghost use Rattle.std.specs.Prelude.{◌≡◌, [], IfOk, codes, map, option_map, string_bytes};
 ghost use Rattle.clap.specs.Words.{FailsBy, fault_of, found_of, first_of, rows_of, subcommand_of, subcommand_rows_of};
 ghost use Rattle.telegate.specs.CommandLine as line;
 ghost use Rattle.telegate.specs.CommandLine.{AreGiven, texts_of, IsArgument, IsAsked, IsCommand, IsFlag, IsRequestOf};
@@ -40,11 +40,14 @@ pub(crate) enum Request<'m, 'a> {
         text: &'a str,
     },
     /// The name of a file, whether a line that ends is reached again, whether it is told what
-    /// happens, and the addresses of the control centres that may connect, if not all may.
+    /// happens, whether it is recorded, the name of the file with the record of the run that goes
+    /// on, if one does, and the addresses of the control centres that may connect, if not all may.
     Run {
         config: &'a str,
         redial: bool,
         log: bool,
+        record: bool,
+        resume: Option<&'a str>,
         allow: Option<&'m [&'a str]>,
     },
 }
@@ -64,6 +67,15 @@ fn flag<'a>(alloc: Global, name: &'a str, help: &'a str) -> Arg<'a>
     Arg::new(alloc, name)
         .long(name)
         .action(ArgAction::SetTrue)
+        .help(help)
+}
+
+fn named_file<'a>(alloc: Global, name: &'a str, help: &'a str) -> Arg<'a>
+    ensures { IsArgument (line.named_file name.entry.now) result }
+{
+    Arg::new(alloc, name)
+        .long(name)
+        .action(ArgAction::Set)
         .help(help)
 }
 
@@ -153,12 +165,19 @@ fn audit<'a>(alloc: Global) -> Result<Command<'a>, AllocError>
         .arg(word(alloc, "RECORD", "A file of events and actions, one a line"))
 }
 
-fn run<'a>(alloc: Global) -> Result<Command<'a>, AllocError>
-    ensures { IfOk result (IsCommand line.run) }
+/// The command of a live run, without its words.
+fn bare_run<'a>(alloc: Global) -> Command<'a>
+    ensures { IsCommand (line.command (codes "run") []) result }
 {
     Command::new(alloc, "run")
         .about("Runs the gateway between a line and a control centre, until the line ends")
         .after_help(help::RUN)
+}
+
+fn run<'a>(alloc: Global) -> Result<Command<'a>, AllocError>
+    ensures { IfOk result (IsCommand line.run) }
+{
+    bare_run(alloc)
         .arg(word(
             alloc,
             "CONFIG",
@@ -173,6 +192,12 @@ fn run<'a>(alloc: Global) -> Result<Command<'a>, AllocError>
             alloc,
             "log",
             "Tells on standard error what happens, one line each",
+        ))?
+        .arg(flag(alloc, "record", "Prints each event and each action"))?
+        .arg(named_file(
+            alloc,
+            "resume",
+            "A file with the record of a run, which goes on where it ends",
         ))?
         .arg(option(
             alloc,
@@ -311,6 +336,8 @@ fn run_of<'m, 'a>(matches: &'m ArgMatches<'a>) -> Option<Request<'m, 'a>>
         config: given(matches, "CONFIG")?,
         redial: is_given(matches, "redial"),
         log: is_given(matches, "log"),
+        record: is_given(matches, "record"),
+        resume: given(matches, "resume"),
         allow: all_given(matches, "allow"),
     })
 }

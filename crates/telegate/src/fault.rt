@@ -37,6 +37,9 @@ pub(crate) enum Fault {
     /// This line of the record tells neither an event nor an action.
     #[error("record: line {0}")]
     Record(u64),
+    /// The record isn't that of a gateway with these settings: the first line that isn't the run's.
+    #[error("record: line {0} differs")]
+    Differs(u64),
     /// The sizes of a line's addresses are no such four digits.
     #[error("bad sizes")]
     Sizes,
@@ -79,6 +82,7 @@ impl Fault {
             | Fault::Trace(_)
             | Fault::Script(_)
             | Fault::Record(_)
+            | Fault::Differs(_)
             | Fault::Sizes
             | Fault::Octets => BAD_CONTENT,
             Fault::Address => USAGE,

@@ -26,6 +26,10 @@ pub(crate) struct Wishes {
     pub(crate) redial: bool,
     /// What happens is told on standard error.
     pub(crate) log: bool,
+    /// Each event and each action is printed.
+    pub(crate) record: bool,
+    /// The octets of the record of a run that goes on.
+    pub(crate) earlier: Option<Vec<u8>>,
     /// Who may connect.
     pub(crate) guests: Guests,
 }
@@ -58,7 +62,12 @@ pub(crate) struct System<'r, R>(pub(crate) &'r R);
 
 impl<R> Host for System<'_, R>
 where
-    R: Files + Eprint + AllocGlobal + Clock + Net<Listener = TcpListener, Stream = TcpStream>,
+    R: Files
+        + Print
+        + Eprint
+        + AllocGlobal
+        + Clock
+        + Net<Listener = TcpListener, Stream = TcpStream>,
 {
     ghost has = { λ _ _ _. Unit {0} };
 

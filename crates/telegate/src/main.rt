@@ -50,7 +50,13 @@ fn main(rt: HostRuntime) -> ExitCode {
 /// Does what the process's words ask for, and answers the exit status.
 fn run<R, W: Write, E: Write>(rt: &R, out: &mut W, err: &mut E) -> u8
 where
-    R: Env + Files + Eprint + AllocGlobal + Clock + Net<Listener = TcpListener, Stream = TcpStream>,
+    R: Env
+        + Files
+        + Print
+        + Eprint
+        + AllocGlobal
+        + Clock
+        + Net<Listener = TcpListener, Stream = TcpStream>,
 {
     match words_of(rt) {
         Ok(words) => obey(rt.alloc(), &System(rt), words.as_slice(), out, err),

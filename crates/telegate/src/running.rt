@@ -1,21 +1,28 @@
 //! The command that runs the gateway between a line and a control centre.
-ghost use Rattle.std.specs.Prelude.{◌≡◌, ◌<◌, [], OnOk, Some};
-ghost use Rattle.telegate.specs.Running.{IsReadLiveConfig, HasEnded, HasRun, HasRunFaithfully};
+ghost use Rattle.std.specs.Prelude.{◌≡◌, ◌<◌, [], OnOk, Some, option_map};
+ghost use Rattle.gateway.specs.Agrees.{Follows, Rests};
+ghost use Rattle.gateway.specs.Config.{Settings};
+ghost use Rattle.gateway.specs.Reports.{Setup};
+ghost use Rattle.gateway.specs.Setups.{setup_of};
+ghost use Rattle.telegate.specs.Running.{IsReadLiveConfig, IsStartBy, HasEnded, HasRun, HasRunFaithfully};
 
 use crate::fault::Fault;
 use crate::host::Wishes;
+use audit::{Resumed, Resumption, resume_record};
 use gateway::{Config, End, Gateway, drive_on};
 use journal::{Journal, Note, Sink, StandardError, Teller, Trouble, Watch};
 use live::{
     CentreListener, Door, Guests, LineDialler, LineSocket, Live, Reached, Redialled, SystemClock,
     Watched, Wire,
 };
+use record::{Pen, Recorder, Sheet, StandardOutput};
 use settings::{ConfigFault, LiveSettings, read_live_config};
 use std::alloc::Global;
 use std::io;
-use std::io::{Eprint, ErrorKind};
+use std::io::{Eprint, ErrorKind, Print};
 use std::net::{Net, TcpListener, TcpStream};
 use std::rt::Clock;
+use traces::TextFault;
 
 /// Why a live run stops.
 #[derive(Clone, Copy, Debug, PartialEq, Eq)]
@@ -34,29 +41,112 @@ impl From<Stop> for Fault {
     }
 }
 
+/// The gateway of a run, and the moment, in ms, where it goes on after a restart, if it does.
+#[derive(Drop)]
+struct Start {
+    gateway: Gateway,
+    resumed: Option<u64>,
+}
+
+/// What is told of a run: what happens, and its record.
+#[derive(Drop)]
+struct Scribes<S: Sink + Drop, W: Sheet + Drop> {
+    teller: Teller<S>,
+    pen: Pen<W>,
+}
+
+/// Where a run begins: anew, or where the record of an earlier run ends, to which a new gateway is
+/// brought. Where that is refused the gateway is given up.
+fn start_of(
+    alloc: Global,
+    gateway: &mut Gateway,
+    earlier: Option<&[u8]>,
+) -> Result<Option<Resumed>, Fault>
+    ensures { (settings : Settings) → Follows (setup_of settings) gateway.old (Some []) →
+        IsStartBy settings (option_map (λ octets. octets.now) earlier.entry) gateway.new result }
+{
+    let Some(earlier) = earlier else {
+        return Ok(None);
+    };
+    match resume_record(alloc, gateway, earlier) {
+        Ok(Resumption::Goes(resumed)) => Ok(Some(resumed)),
+        Ok(Resumption::Differs(line)) => Err(Fault::Differs(line)),
+        Err(TextFault::Line(line)) => Err(Fault::Record(line)),
+        Err(TextFault::NoMemory) => Err(Fault::NoMemory),
+    }
+}
+
 /// Runs the gateway on the line and at the door that a file of settings names. The settings are
-/// judged first, then the line is reached, then the door is opened. A line that is to be reached
-/// again every second is tried first once the gateway looks at it.
+/// judged first, then the record of an earlier run, if there is one, then the line is reached, then
+/// the door is opened. A line that is to be reached again every second is tried first once the
+/// gateway looks at it.
 pub(crate) fn run_live<R>(rt: &R, config: &[u8], wishes: Wishes) -> Result<(), Fault>
 where
-    R: Net<Listener = TcpListener, Stream = TcpStream> + Clock + Eprint + AllocGlobal,
+    R: Net<Listener = TcpListener, Stream = TcpStream> + Clock + Print + Eprint + AllocGlobal,
 {
+    let Wishes {
+        redial,
+        log,
+        record,
+        earlier,
+        guests,
+    } = wishes;
     let (config, places) = read_live(rt.alloc(), config)?;
+    let mut gateway = Gateway::new(rt.alloc(), &config)?;
+    let resumed = start_of(rt.alloc(), &mut gateway, octets_of(&earlier))?;
+    let start = Start {
+        gateway,
+        resumed: match &resumed {
+            Some(resumed) => Some(resumed.moment),
+            None => None,
+        },
+    };
     let watch = Watch::new(rt.alloc(), &config)?;
-    let mut teller = Teller::new(watch, StandardError::new(rt), wishes.log);
-    if wishes.redial {
+    let mut scribes = Scribes {
+        teller: Teller::new(watch, StandardError::new(rt), log),
+        pen: pen_of(rt, record, resumed),
+    };
+    if redial {
         let line = redialled(rt, places.line.as_str()).map_err(stop_of)?;
-        open(rt, &config, &places, line, wishes.guests, teller)?;
+        open(rt, &config, &places, line, guests, start, scribes)?;
         return Ok(());
     }
     match LineSocket::reach(rt, places.line.as_str()) {
-        Ok(line) => open(rt, &config, &places, line, wishes.guests, teller)?,
+        Ok(line) => open(rt, &config, &places, line, guests, start, scribes)?,
         Err(fault) => {
-            teller.note(Note::Trouble(line_trouble(&fault)));
+            scribes.teller.note(Note::Trouble(line_trouble(&fault)));
             return Err(Fault::from(stop_of(fault)));
         }
     }
     Ok(())
+}
+
+/// The octets of a record, if there is one.
+fn octets_of(earlier: &Option<Vec<u8>>) -> Option<&[u8]>
+    ensures { option_map (λ octets. octets.now) result
+        ≡ option_map (λ octets. octets.items) earlier.now }
+{
+    match earlier {
+        Some(octets) => Some(octets.as_slice()),
+        None => None,
+    }
+}
+
+/// What writes the record of a run, if it is to have one: at first what an earlier one lacks.
+fn pen_of<R: Print + Eprint + AllocGlobal>(
+    rt: &R,
+    record: bool,
+    resumed: Option<Resumed>,
+) -> Pen<StandardOutput<'_, R>> {
+    let sheet = StandardOutput::new(rt);
+    if !record {
+        return Pen::idle(rt.alloc(), sheet);
+    }
+    let first = match resumed {
+        Some(resumed) => resumed.rest,
+        None => Vec::new(rt.alloc()),
+    };
+    Pen::new(rt.alloc(), sheet, first)
 }
 
 /// A line at this place, which is reached again where it ends.
@@ -72,51 +162,58 @@ where
 }
 
 /// Opens the door, and runs the gateway between it and a line.
-fn open<R, L, S>(
+fn open<R, L, S, W>(
     rt: &R,
     config: &Config,
     places: &LiveSettings,
     line: L,
     guests: Guests,
-    mut teller: Teller<S>,
+    start: Start,
+    mut scribes: Scribes<S, W>,
 ) -> Result<(), Stop>
 where
-    R: Net<Listener = TcpListener, Stream = TcpStream> + Clock + Eprint + AllocGlobal,
+    R: Net<Listener = TcpListener, Stream = TcpStream> + Clock + Eprint,
     L: Wire + Reached,
     S: Sink + Drop,
+    W: Sheet + Drop,
 {
     let door = match CentreListener::listen(rt, places.listen.as_str()) {
         Ok(door) => door,
         Err(fault) => {
-            teller.note(Note::Trouble(port_trouble(&fault)));
+            scribes.teller.note(Note::Trouble(port_trouble(&fault)));
             return Err(stop_of(fault));
         }
     };
     if let Ok(address) = door.address() {
-        teller.note(Note::Listening(address));
+        scribes.teller.note(Note::Listening(address));
     }
-    let clock = SystemClock::start(rt).map_err(stop_of)?;
-    serve_live(rt.alloc(), config, line, door, clock, guests, teller)
+    let clock = SystemClock::start_at(rt, start.resumed.unwrap_or(0)).map_err(stop_of)?;
+    serve_live(config, line, door, clock, guests, start, scribes)
 }
 
 /// Runs the gateway between these ends.
-fn serve_live<L, D, C, S>(
-    alloc: Global,
+fn serve_live<L, D, C, S, W>(
     config: &Config,
     line: L,
     door: D,
     clock: C,
     guests: Guests,
-    teller: Teller<S>,
+    start: Start,
+    scribes: Scribes<S, W>,
 ) -> Result<(), Stop>
 where
     L: Wire + Reached,
     D: Door + Drop,
     C: live::Clock + Drop,
     S: Sink + Drop,
+    W: Sheet + Drop,
 {
-    let port = Live::new(line, door, clock, guests, config.line().answer_ms);
-    serve(alloc, config, &mut Journal::new(port, teller))
+    let mut port = Live::new(line, door, clock, guests, config.line().answer_ms);
+    if start.resumed.is_some() {
+        port = port.cut_first();
+    }
+    let recorder = Recorder::new(port, scribes.pen);
+    serve(start.gateway, &mut Journal::new(recorder, scribes.teller))
 }
 
 /// The settings of a file for a live run.
@@ -132,10 +229,9 @@ fn read_live(alloc: Global, config: &[u8]) -> Result<(Config, LiveSettings), Fau
 
 /// Runs the gateway over a port until its device fails, or has no more events, or all turns that
 /// can be counted are used up. Between two events the journal may look at the gateway.
-#[tactic(auto, using(crate::proofs::Turning::no_events_yet, crate::proofs::Turning::begun))]
+#[tactic(auto, using(crate::proofs::Turning::no_events_yet))]
 fn serve<P: Watched + Drop, S: Sink + Drop>(
-    alloc: Global,
-    config: &Config,
+    mut gateway: Gateway,
     journal: &mut Journal<P, S>,
 ) -> Result<(), Stop>
     requires { P.failed journal.old.port < u64.MAX }
@@ -143,11 +239,12 @@ fn serve<P: Watched + Drop, S: Sink + Drop>(
     // It ended well only after all of its events.
     ensures over { OnOk result (HasEnded (P.ended journal.new.port) (P.log journal.old.port)
         (P.log journal.new.port)) }
-    // What the log shows keeps every promise of a gateway with these settings.
-    ensures faithful { P.log journal.old.port ≡ Some [] →
-        HasRunFaithfully config.now (P.log journal.new.port) result }
+    // Where the gateway begins with the state that the log so far leads to, what the log then shows
+    // keeps every promise of a gateway with these settings.
+    ensures faithful { (p : Setup) → Follows p gateway (P.log journal.old.port) →
+        Rests p (P.log journal.old.port) →
+        HasRunFaithfully p (P.log journal.new.port) result }
 {
-    let mut gateway = Gateway::new(alloc, config).map_err(|_| Stop::NoMemory)?;
     'turning: for _ in 0..u64::MAX {
         match drive_on(&mut gateway, journal, 1) {
             End::Turns => journal.look(&gateway),

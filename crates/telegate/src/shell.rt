@@ -3,7 +3,8 @@
 ghost use Rattle.std.specs.Prelude.{◌≡◌, ◌∷◌, [], IfErr, IfOk, OnOk, map, string_bytes};
 ghost use Rattle.std.specs.Io.KnownBytes.{Appends};
 ghost use Rattle.clap.specs.Words.{kind_of};
-ghost use Rattle.telegate.specs.Shell.{IsNotRead, IsTold, Obeys, Responds, RunsFile, unreadable_line};
+ghost use Rattle.telegate.specs.CommandLine.{text_of};
+ghost use Rattle.telegate.specs.Shell.{HasEndedLive, IsNotRead, IsTold, Obeys, Responds, RunsFiles, unreadable_line};
 
 use crate::command_line::{Request, parse, request_of};
 use crate::fault::{DEVICE_FAILED, DONE, Fault, USAGE};
@@ -112,32 +113,65 @@ pub(crate) fn respond<H: Host, W: Write, E: Write>(
             config,
             redial,
             log,
+            record,
+            resume,
             allow,
         } => match guests_of(alloc, *allow) {
             Ok(guests) => {
                 let wishes = Wishes {
                     redial: *redial,
                     log: *log,
+                    record: *record,
+                    earlier: None,
                     guests,
                 };
-                run_file(host, *config, wishes, err)
+                run_files(host, *config, *resume, wishes, err)
             }
             Err(fault) => tell(&fault, err),
         },
     }
 }
 
-/// Runs the gateway live by the settings of a file, and answers the exit status.
-fn run_file<H: Host, E: Write>(host: &H, config: &str, wishes: Wishes, err: &mut E) -> u8
-    ensures { RunsFile (H.has host.now) (H.lacks host.now)
-        (H.ran host.now) config.now wishes result }
+/// Runs the gateway live by the settings of a file, from the end of a record if there is one, and
+/// answers the exit status.
+fn run_files<H: Host, E: Write>(
+    host: &H,
+    config: &str,
+    resume: Option<&str>,
+    wishes: Wishes,
+    err: &mut E,
+) -> u8
+    ensures { RunsFiles (H.has host.now) (H.lacks host.now)
+        (H.ran host.now) config.now (text_of resume.entry) wishes result }
 {
-    match read_file(host, config, err) {
-        Ok(config) => match host.run(config.as_slice(), wishes) {
-            Ok(()) => DONE,
-            Err(fault) => tell(&fault, err),
+    match resume {
+        None => match read_file(host, config, err) {
+            Ok(config) => run_live(host, config.as_slice(), None, wishes, err),
+            Err(status) => status,
         },
-        Err(status) => status,
+        Some(record) => match read_files(host, config, record, err) {
+            Ok((config, earlier)) => {
+                run_live(host, config.as_slice(), Some(earlier), wishes, err)
+            }
+            Err(status) => status,
+        },
+    }
+}
+
+/// Runs the gateway live by settings of these octets, behind a record of these, if one is given.
+fn run_live<H: Host, E: Write>(
+    host: &H,
+    config: &[u8],
+    earlier: Option<Vec<u8>>,
+    mut wishes: Wishes,
+    err: &mut E,
+) -> u8
+    ensures { HasEndedLive (H.ran host.now) config.now earlier wishes result }
+{
+    wishes.earlier = earlier;
+    match host.run(config, wishes) {
+        Ok(()) => DONE,
+        Err(fault) => tell(&fault, err),
     }
 }
 

@@ -12,6 +12,8 @@ use std::test::Fail;
 struct FewTexts {
     text: String,
     takes: u32,
+    /// How often the record ended.
+    ends: u32,
 }
 
 impl Sheet for FewTexts {
@@ -28,6 +30,10 @@ impl Sheet for FewTexts {
             Ok(text) => self.text.push_str(text).is_ok(),
             Err(_) => false,
         }
+    }
+
+    fn end(&mut self) {
+        self.ends = self.ends.saturating_add(1);
     }
 }
 
@@ -61,23 +67,42 @@ impl Port for Ticks {
 }
 
 #[test]
-fn lines_of_a_step_go_out_before_the_next_event(rt: HostRuntime) -> Result<(), Fail> {
+fn the_line_of_an_event_goes_out_before_it_is_passed_on(rt: HostRuntime) -> Result<(), Fail> {
     let sheet = FewTexts {
         text: String::new(rt.alloc()),
         takes: 2,
+        ends: 0,
     };
-    let mut port = Recorder::new(Ticks(0), Pen::new(rt.alloc(), sheet));
+    let first = Vec::from_slice(rt.alloc(), b"0 T\n")?;
+    let mut port = Recorder::new(Ticks(0), Pen::new(rt.alloc(), sheet, first));
     assert!(rt; matches!(port.next(&mut [0; 1024]), Next::Tick(1)));
+    assert_eq!(rt; port.pen.sheet.text.as_str(), "0 T\n1 T\n");
     assert!(rt; port.put(1, &Action::Line(&[0x10, 0xAB])));
     assert!(rt; port.put(1, &Action::Close(Close::Stopped)));
     assert!(rt; matches!(port.next(&mut [0; 1024]), Next::Tick(2)));
-    let text = "1 T\n1 > S 10AB\n1 > X 4\n";
+    let text = "0 T\n1 T\n1 > S 10AB\n1 > X 4\n2 T\n";
     assert_eq!(rt; port.pen.sheet.text.as_str(), text);
-    // The sheet takes no more: the record is over, and the port inside gives what comes next.
-    assert!(rt; matches!(port.next(&mut [0; 1024]), Next::Done));
+    assert!(rt; !port.is_over());
+    // The sheet takes no more: the record is over, and the port goes on.
+    assert!(rt; matches!(port.next(&mut [0; 1024]), Next::Tick(3)));
     assert!(rt; port.is_over());
+    assert!(rt; matches!(port.next(&mut [0; 1024]), Next::Tick(4)));
     assert_eq!(rt; port.pen.sheet.text.as_str(), text);
-    let mut inside = port.into_port();
-    assert!(rt; matches!(inside.next(&mut [0; 1024]), Next::Tick(3)));
+    assert_eq!(rt; port.pen.sheet.ends, 1);
     Ok(())
+}
+
+#[test]
+fn an_idle_pen_writes_nothing(rt: HostRuntime) {
+    let sheet = FewTexts {
+        text: String::new(rt.alloc()),
+        takes: 9,
+        ends: 0,
+    };
+    let mut port = Recorder::new(Ticks(0), Pen::idle(rt.alloc(), sheet));
+    assert!(rt; matches!(port.next(&mut [0; 1024]), Next::Tick(1)));
+    assert!(rt; port.put(1, &Action::Line(&[0x10, 0xAB])));
+    assert!(rt; matches!(port.next(&mut [0; 1024]), Next::Tick(2)));
+    assert_eq!(rt; port.pen.sheet.text.as_str(), "");
+    assert_eq!(rt; port.pen.sheet.ends, 0);
 }

@@ -8,7 +8,7 @@ pub returns-in-Some : goal.returns-in-Some
 returns-in-Some c =
     let trace : c.in_ok-trace.trace.items ≡ trace_of c.args.text.now =
     search (rules, c.in_ok-trace.ensures.trace, c.as_slice.ensures.value, c.in_ok-lines.ensures) in
-    let run = c.in_ok-run.ensures in
+    let run = c.in_ok-run.ensures c.args.config.now c.in-Ok.ensures.begins in
     let found : first_difference 1 (whole_lines c.args.text.now) (whole_lines (lines_of_log run.0))
     ≡ Some c.in-Some.line = search (
       rules,
@@ -34,7 +34,7 @@ pub returns : goal.returns
 returns c =
     let trace : c.in_ok-trace.trace.items ≡ trace_of c.args.text.now =
     search (rules, c.in_ok-trace.ensures.trace, c.as_slice.ensures.value, c.in_ok-lines.ensures) in
-    let run = c.in_ok-run.ensures in
+    let run = c.in_ok-run.ensures c.args.config.now c.in-Ok.ensures.begins in
     let found : first_difference 1 (whole_lines c.args.text.now) (whole_lines (lines_of_log run.0)) ≡ None =
     search (
       rules,

@@ -1,20 +1,23 @@
 use Rattle.std.proofs.lemmas.Result.{IfOk-weaker}
-use Rattle.std.proofs.Common.{rules}
 use Rattle.clap.specs.Words.{AddsArg, new_app}
 use Rattle.std.specs.Prelude.{codes}
-use Rattle.telegate.specs.CommandLine.{IsCommand, word, flag, option}
+use Rattle.telegate.specs.CommandLine.{IsCommand, word, flag, named_file, option}
 use Rattle.telegate.specs.CommandLine as line
 use Rattle.telegate.proofs.Commands.{with_argument}
 use Rattle.telegate.proofs.command_line.run.Goals as goal
 
 pub returns : goal.returns
 returns c =
-    let begun : IsCommand (new_app (codes "run")) c.after_help.result = search rules in
+    let begun : IsCommand (new_app (codes "run")) c.bare_run.result = c.bare_run.ensures in
     let first = with_argument _ (word (codes "CONFIG")) _ c.in_ok-arg.field-0 c.word.result begun c.word.ensures
     c.in_ok-arg.ensures in
     let second = with_argument _ (flag (codes "redial")) _ c.in_ok-arg-2.field-0 c.flag.result first c.flag.ensures
     c.in_ok-arg-2.ensures in
     let third = with_argument _ (flag (codes "log")) _ c.in_ok-arg-3.field-0 c.flag-2.result second c.flag-2.ensures
     c.in_ok-arg-3.ensures in
-    IfOk-weaker c.arg-4.result (AddsArg c.in_ok-arg-3.field-0 c.option.result) (IsCommand line.run)
-    (λ r adds. with_argument _ (option (codes "allow")) _ r c.option.result third c.option.ensures adds) c.arg-4.ensures
+    let fourth = with_argument _ (flag (codes "record")) _ c.in_ok-arg-4.field-0 c.flag-3.result third
+    c.flag-3.ensures c.in_ok-arg-4.ensures in
+    let fifth = with_argument _ (named_file (codes "resume")) _ c.in_ok-arg-5.field-0 c.named_file.result fourth
+    c.named_file.ensures c.in_ok-arg-5.ensures in
+    IfOk-weaker c.arg-6.result (AddsArg c.in_ok-arg-5.field-0 c.option.result) (IsCommand line.run)
+    (λ r adds. with_argument _ (option (codes "allow")) _ r c.option.result fifth c.option.ensures adds) c.arg-6.ensures

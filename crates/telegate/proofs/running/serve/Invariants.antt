@@ -1,7 +1,7 @@
-use Rattle.std.proofs.Common.{◌≡◌, ◌<◌, [], Some}
+use Rattle.std.proofs.Common.{◌≡◌, ◌<◌}
 use Rattle.gateway.specs.Agrees.{Follows, Rests}
+use Rattle.gateway.specs.Reports.{Setup}
 use Rattle.gateway.specs.Runs.{MoreEvents}
-use Rattle.gateway.specs.Setups.{setup_of}
 use Rattle.telegate.specs.Running.{IsRunTold}
 use Rattle.telegate.proofs.running.serve.Given as goal
 
@@ -9,9 +9,10 @@ abbrev pub invariant-turning : goal.invariant-turning
 invariant-turning g l = record {
   healthy : g.P.Port.failed l.journal.port ≡ g.P.Port.failed l.initial.journal.port;
   more : MoreEvents l.counter (g.P.Port.log l.initial.journal.port) (g.P.Port.log l.journal.port);
-  faithful : g.P.Port.log l.initial.journal.port ≡ Some [] →
-      Follows (setup_of l.config) l.gateway (g.P.Port.log l.journal.port)
-      × Rests (setup_of l.config) (g.P.Port.log l.journal.port);
-  told : g.P.Port.log l.initial.journal.port ≡ Some [] → 0 < l.counter
-      → IsRunTold l.config (g.P.Port.log l.journal.port);
+  faithful : (p : Setup) → Follows p l.initial.gateway (g.P.Port.log l.initial.journal.port)
+      → Rests p (g.P.Port.log l.initial.journal.port)
+      → Follows p l.gateway (g.P.Port.log l.journal.port) × Rests p (g.P.Port.log l.journal.port);
+  told : (p : Setup) → Follows p l.initial.gateway (g.P.Port.log l.initial.journal.port)
+      → Rests p (g.P.Port.log l.initial.journal.port) → 0 < l.counter
+      → IsRunTold p (g.P.Port.log l.journal.port);
 }

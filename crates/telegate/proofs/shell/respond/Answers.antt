@@ -1,4 +1,4 @@
-use Rattle.std.proofs.Common.{ap, refl}
+use Rattle.std.proofs.Common.{None, ap, refl}
 use Rattle.telegate.specs.Shell.{files_of}
 use Rattle.telegate.proofs.Files.{has_run, no_guests, unanswered}
 use Rattle.telegate.proofs.shell.respond.Goals as goal
@@ -33,14 +33,22 @@ returns-in-Err-read_files-3 g c =
 pub returns-in-Ok-guests_of : goal.returns-in-Ok-guests_of
 returns-in-Ok-guests_of g c =
     has_run (g.H.Host.has c.args.host.now) (g.H.Host.lacks c.args.host.now)
-    (g.H.Host.ran c.args.host.now) c.args.request.now c.in-Run.config c.in-Run.redial c.in-Run.log c.in-Run.allow
-    (record { redial = c.in-Run.redial; log = c.in-Run.log; guests = c.in-Ok-guests_of.guests })
-    (g.W.Write.contents c.args.out.now) c.run_file.result c.in-Run.is
-    (record { redials = refl; logs = refl; guests = c.in-Ok-guests_of.ensures.guests }) c.run_file.ensures
+    (g.H.Host.ran c.args.host.now) c.args.request.now c.in-Run.config c.in-Run.redial c.in-Run.log c.in-Run.record
+    c.in-Run.resume c.in-Run.allow
+    (record {
+      redial = c.in-Run.redial;
+      log = c.in-Run.log;
+      «record» = c.in-Run.record;
+      earlier = None;
+      guests = c.in-Ok-guests_of.guests;
+    }) (g.W.Write.contents c.args.out.now) c.run_files.result c.in-Run.is
+    (record { redials = refl; logs = refl; records = refl; guests = c.in-Ok-guests_of.ensures.guests })
+    c.run_files.ensures
 
 pub returns-in-Err-guests_of : goal.returns-in-Err-guests_of
 returns-in-Err-guests_of g c =
     no_guests (g.H.Host.has c.args.host.now) (g.H.Host.lacks c.args.host.now)
-    (g.H.Host.ran c.args.host.now) c.args.request.now c.in-Run.config c.in-Run.redial c.in-Run.log c.in-Run.allow
-    c.in-Err-guests_of.fault (g.W.Write.contents c.args.out.now) c.tell.result c.in-Run.is
+    (g.H.Host.ran c.args.host.now) c.args.request.now c.in-Run.config c.in-Run.redial c.in-Run.log c.in-Run.record
+    c.in-Run.resume c.in-Run.allow c.in-Err-guests_of.fault
+    (g.W.Write.contents c.args.out.now) c.tell.result c.in-Run.is
     c.in-Err-guests_of.ensures.fault c.tell.ensures

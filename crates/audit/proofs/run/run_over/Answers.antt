@@ -4,15 +4,13 @@ use Rattle.gateway.specs.Setups.{setup_of}
 use Rattle.traces.specs.Printed.{lines_of_log}
 use Rattle.traces.specs.Traced.{has_ended, whole_script}
 use Rattle.audit.proofs.RunLemmas.{turns_are_left, all_came, at_first}
-use Rattle.audit.proofs.audit.run_lines.Goals as goal
+use Rattle.audit.proofs.run.run_over.Goals as goal
 
-pub returns-in-Finished : goal.returns-in-Finished
-returns-in-Finished c =
-    let settings = c.args.config.now in
+pub returns-in_ok-lines-in-Finished : goal.returns-in_ok-lines-in-Finished
+returns-in_ok-lines-in-Finished c = λ settings begins.
     let p = setup_of settings in
     let new = c.drive_on-end.new.port in
-    let begun = at_first p c.in-Ok.gateway c.without_tick-port.result c.without_tick-port.ensures
-    c.in-Ok.ensures.begins in
+    let begun = at_first p _ c.without_tick-port.result c.without_tick-port.ensures begins in
     let whole : whole_script new ≡ map event_of c.args.entries.items =
     search (rules, c.drive_on-end.ensures.script, c.without_tick-port.ensures) in
     let over : has_ended new ≡ true = c.drive_on-end.ensures.finished c.in-Finished.is in
@@ -28,6 +26,7 @@ returns-in-Finished c =
         delivers = c.nothing_is_lost.ensures p new.log faithful;
       },
       lines,
+      c.in-Finished.ensures.kept p begun.0 begun.1,
     )
 
 pub unreachable-requires : goal.unreachable-requires
