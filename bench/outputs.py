@@ -110,8 +110,8 @@ def cases(program, folder, library):
         came = ran(program, words, folder, writer, preexec_fn=lambda: signal.signal(signal.SIGPIPE, signal.SIG_IGN))
         yield f"{words}, a pipe without a reader", came, (3, "", "device failed\n")
         os.close(writer)
-    # A fault that can't be told.
-    for words, status in (("check empty", 1), ("check nowhere", 3), ("check", 2)):
+    # A fault that can't be told keeps its status; the text of wrong words is an output that fails.
+    for words, status in (("check empty", 1), ("check nowhere", 3), ("check", 3)):
         with open("/dev/full", "wb") as full:
             done = subprocess.run([program, *words.split()], cwd=folder, stdin=subprocess.DEVNULL, stdout=subprocess.PIPE, stderr=full)
         yield f"{words}, no standard error", (done.returncode, done.stdout), (status, b"")

@@ -15,10 +15,12 @@ use Rattle.link.specs.Primary.{open_octets}
 use Rattle.link.specs.Holding.{frame_after, so_far_after}
 
 abbrev pub IsComputed : Type 0
-IsComputed = (size : LinkSize) (octets : List ℕ) (front : Front) → IsFront size octets front → front ≡ front_of size octets
+IsComputed = (size : LinkSize) (octets : List ℕ) (front : Front) → IsFront size octets front
+    → front ≡ front_of size octets
 
 -- what is said of a piece that was fed
-pub record IsFed (size : LinkSize) (so_far : Option (List ℕ)) (piece : List ℕ) (n : ℕ) (told : Heard) (after : Option (List ℕ)) : Type 0 where
+pub record IsFed (size : LinkSize) (so_far : Option (List ℕ)) (piece : List ℕ) (n : ℕ) (told : Heard)
+    (after : Option (List ℕ)) : Type 0 where
   pub listening : IfSome so_far (λ (before : List ℕ). Hears size before piece n told after)
   pub deaf : IfNone so_far ((n ≡ length piece) × (told ≡ heard.Deaf) × (after ≡ None))
 
@@ -29,7 +31,8 @@ frame_of heard.More = None
 frame_of (heard.Never place why) = None
 frame_of heard.Deaf = None
 
-pub fed_so : IsComputed → (size : LinkSize) (so_far : Option (List ℕ)) (piece : List ℕ) (n : ℕ) (told : Heard) (after : Option (List ℕ)) →
+pub fed_so : IsComputed → (size : LinkSize) (so_far : Option (List ℕ)) (piece : List ℕ) (n : ℕ) (told : Heard)
+    (after : Option (List ℕ)) →
     IsFed size so_far piece n told after →
     (frame_of told ≡ frame_after (front_of size) so_far piece) × (after ≡ so_far_after (front_of size) so_far piece)
 fed_so law size None piece n told after fed = (ap frame_of fed.deaf.1, fed.deaf.2)
@@ -45,7 +48,8 @@ fed_so law size (Some before) piece n (heard.Never place why) after fed =
 fed_so law size (Some before) piece n heard.Deaf after fed = absurd fed.listening
 
 -- no frame was heard
-pub quiet : (told : Heard) → (told ≡ heard.More) ⊎ ((place : ℕ) × (why : Why) × (told ≡ heard.Never place why)) ⊎ (told ≡ heard.Deaf) → frame_of told ≡ None
+pub quiet : (told : Heard) → (told ≡ heard.More) ⊎ ((place : ℕ) × (why : Why) × (told ≡ heard.Never place why))
+    ⊎ (told ≡ heard.Deaf) → frame_of told ≡ None
 quiet told (inl more) = ap frame_of more
 quiet told (inr (inl never)) = ap frame_of never.2
 quiet told (inr (inr deaf)) = ap frame_of deaf

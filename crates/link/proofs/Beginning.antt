@@ -23,19 +23,23 @@ pub record IsBegun (p : Primary) : Type 0 where
 
 -- ---- `next`
 
-goes_on_with : (burst : ℕ) (may_poll again : Bool) (s : StationState) (link : Link) (phase : Phase) → link ≡ Available → phase ≡ Starting →
+goes_on_with : (burst : ℕ) (may_poll again : Bool) (s : StationState) (link : Link) (phase : Phase) → link ≡ Available
+    → phase ≡ Starting →
     wanted_by burst may_poll again s link phase ≡ wants Reset Over
 goes_on_with burst may_poll again s link phase is starts =
-    ap (λ (l : Link). wanted_by burst may_poll again s l phase) is ∙ ap (λ (f : Phase). wanted_by burst may_poll again s Available f) starts
+    ap (λ (l : Link). wanted_by burst may_poll again s l phase) is
+    ∙ ap (λ (f : Phase). wanted_by burst may_poll again s Available f) starts
 
 -- where the present turn is over, no link is so
 pub none_known : (p : Primary) (may_poll : Bool) → p.outstanding ≡ None → present p may_poll ≡ None → IsBegun p →
     (i : ℕ) → (station_at p.stations i).link ≡ Available → ⊥
 none_known p may_poll free is b i known =
-    let here : (station_at p.stations p.turn).link ≡ Available = subst (λ (n : ℕ). (station_at p.stations n).link ≡ Available) (b.away i known) known in
+    let here : (station_at p.stations p.turn).link ≡ Available =
+    subst (λ (n : ℕ). (station_at p.stations n).link ≡ Available) (b.away i known) known in
     let along : IsAlong None p.phase (station_at p.stations p.turn).link =
     subst (λ (o : Option Outstanding). IsAlong o p.phase (station_at p.stations p.turn).link) free b.here in
-    let goes : present p may_poll ≡ wants Reset Over = goes_on_with p.settings.burst may_poll p.again (station_at p.stations p.turn) _ p.phase here (along here) in
+    let goes : present p may_poll ≡ wants Reset Over =
+    goes_on_with p.settings.burst may_poll p.again (station_at p.stations p.turn) _ p.phase here (along here) in
     let bad : wants Reset Over ≡ None = sym goes ∙ is in
     cc
 
@@ -53,33 +57,40 @@ wanted_along burst may_poll again s Down (Class1Polling sent) w is may = cc
 wanted_along burst may_poll again s Down Over w is may = cc
 wanted_along burst may_poll again s Available Starting w is may =
     let one : Wanted = record { request = Reset; following = Over } in
-    let same : one ≡ w = cc in
-    ((λ e. let bad : Reset ≡ Status = ap (λ (v : Wanted). v.request) same ∙ e in cc), λ e. ap (λ (v : Wanted). v.request) (sym same))
+    let same : one ≡ w = cc in (
+      (λ e. let bad : Reset ≡ Status = ap (λ (v : Wanted). v.request) same ∙ e in cc),
+      λ e. ap (λ (v : Wanted). v.request) (sym same),
+    )
 wanted_along burst may_poll again s Available Commanding w is may = cc
 wanted_along burst may_poll again s Available Polling w is may = cc
 wanted_along burst may_poll again s Available (Class1Polling sent) w is may = cc
 wanted_along burst may_poll again s Available Over w is may = cc
-wanted_along burst may_poll again s (Next fcb) phase w is may = ((λ e. absurd (subst (λ (r : Asked). MaySend (Next fcb) r) e may)), λ e. cc)
+wanted_along burst may_poll again s (Next fcb) phase w is may =
+    ((λ e. absurd (subst (λ (r : Asked). MaySend (Next fcb) r) e may)), λ e. cc)
 wanted_along burst may_poll again s (Held fcb service missed) phase w is may =
     ((λ e. absurd (subst (λ (r : Asked). MaySend (Held fcb service missed) r) e may)), λ e. cc)
 
 pub begun_choice : (p : Primary) (now : ℕ) (may_poll again : Bool) (phase : Phase) (c : Chosen) →
-    wanted_by p.settings.burst may_poll again (station_at p.stations c.station) (station_at p.stations c.station).link phase ≡ Some c.wanted →
+    wanted_by p.settings.burst may_poll again (station_at p.stations c.station)
+    (station_at p.stations c.station).link phase ≡ Some c.wanted →
     MaySend (station_at p.stations c.station).link c.wanted.request →
     ((i : ℕ) → (station_at p.stations i).link ≡ Available → i ≡ c.station) → IsBegun (after_choice p now (Some c))
 begun_choice p now may_poll again phase c is may away =
     let s : StationState = station_asked (station_at p.stations c.station) c.wanted.request in
     let link = set_view (λ (r : StationState). r.link) p.stations c.station s refl in
-    let along = wanted_along p.settings.burst may_poll again (station_at p.stations c.station) (station_at p.stations c.station).link phase c.wanted is may in
+    let along = wanted_along p.settings.burst may_poll again (station_at p.stations c.station)
+    (station_at p.stations c.station).link phase c.wanted is may in
     record {
       here = (along.0, λ known. along.1 (sym (link c.station) ∙ known));
       away = λ i known. away i (sym (link i) ∙ known);
     }
 
-pub begun_none : (p : Primary) (now : ℕ) → p.outstanding ≡ None → ((i : ℕ) → (station_at p.stations i).link ≡ Available → ⊥) →
+pub begun_none : (p : Primary) (now : ℕ) → p.outstanding ≡ None
+    → ((i : ℕ) → (station_at p.stations i).link ≡ Available → ⊥) →
     IsBegun (after_choice p now None)
 begun_none p now free none = record {
-  here = subst (λ (o : Option Outstanding). IsAlong o Over (station_at p.stations p.turn).link) (sym free) (λ known. absurd (none p.turn known));
+  here = subst (λ (o : Option Outstanding). IsAlong o Over (station_at p.stations p.turn).link) (sym free)
+      (λ known. absurd (none p.turn known));
   away = λ i known. absurd (none i known);
 }
 
@@ -94,40 +105,48 @@ reset_confirmed a (Fixed control address) answer is = go (comes_from a control a
     go true true e = cc
     go true false e = cc
     go false c e = cc
-reset_confirmed a (Data control address body) answer is = go (comes_from a control address && (function_code control == 8)) is
+reset_confirmed a (Data control address body) answer is =
+    go (comes_from a control address && (function_code control == 8)) is
   where
     go : (b : Bool) → (if b then None else None) ≡ Some answer → answer ≡ Confirmed
     go true e = cc
     go false e = cc
 
 -- to a status that it is ready, or that it can't be served
-status_answers : (a : ℕ) (frame : Frame) (answer : Answer) → answer_of a Status frame ≡ Some answer → (answer ≡ Ready) ⊎ (answer ≡ Unable)
+status_answers : (a : ℕ) (frame : Frame) (answer : Answer) → answer_of a Status frame ≡ Some answer
+    → (answer ≡ Ready) ⊎ (answer ≡ Unable)
 status_answers a Single answer is = cc
 status_answers a (Fixed control address) answer is =
-    go (comes_from a control address) (function_code control == 11) ((function_code control == 14) || (function_code control == 15)) is
+    go (comes_from a control address) (function_code control == 11) ((function_code control == 14)
+    || (function_code control == 15)) is
   where
-    go : (b c d : Bool) → (if b then (if c then Some Ready else (if d then Some Unable else None)) else None) ≡ Some answer →
+    go : (b c d : Bool) → (if b then (if c then Some Ready else (if d then Some Unable else None)) else None)
+        ≡ Some answer →
         (answer ≡ Ready) ⊎ (answer ≡ Unable)
     go true true d e = inl cc
     go true false true e = inr cc
     go true false false e = cc
     go false c d e = cc
-status_answers a (Data control address body) answer is = go (comes_from a control address && (function_code control == 8)) is
+status_answers a (Data control address body) answer is =
+    go (comes_from a control address && (function_code control == 8)) is
   where
     go : (b : Bool) → (if b then None else None) ≡ Some answer → (answer ≡ Ready) ⊎ (answer ≡ Unable)
     go true e = cc
     go false e = cc
 
 -- A link is available after an answer only where that tells its status, or it was before.
-pub known_after : (a : ℕ) (request : Asked) (frame : Frame) (answer : Answer) (link : Link) → answer_of a request frame ≡ Some answer →
+pub known_after : (a : ℕ) (request : Asked) (frame : Frame) (answer : Answer) (link : Link)
+    → answer_of a request frame ≡ Some answer →
     after_answer request answer link ≡ Available → (request ≡ Status) × (answer ≡ Ready)
 known_after a Status frame answer link is known = go (status_answers a frame answer is)
   where
     go : (answer ≡ Ready) ⊎ (answer ≡ Unable) → (Status ≡ Status) × (answer ≡ Ready)
     go (inl ready) = (refl, ready)
-    go (inr unable) = let bad : Down ≡ Available = sym (ap (λ (m : Answer). after_answer Status m link) unable) ∙ known in cc
+    go (inr unable) = let bad : Down ≡ Available = sym (ap (λ (m : Answer). after_answer Status m link) unable) ∙ known
+        in cc
 known_after a Reset frame answer link is known =
-    let bad : Next true ≡ Available = sym (ap (λ (m : Answer). after_answer Reset m link) (reset_confirmed a frame answer is)) ∙ known in cc
+    let bad : Next true ≡ Available =
+    sym (ap (λ (m : Answer). after_answer Reset m link) (reset_confirmed a frame answer is)) ∙ known in cc
 known_after a (Counted fcb service) frame Ready link is known = cc
 known_after a (Counted fcb service) frame Confirmed link is known = cc
 known_after a (Counted fcb service) frame Busy link is known = cc
@@ -136,19 +155,23 @@ known_after a (Counted fcb service) frame NoData link is known = cc
 known_after a (Counted fcb service) frame Unable link is known = cc
 
 -- and never after a silence
-pub unknown_after : (settings : LinkSettings) (request : Asked) (closed : Bool) (link : Link) → after_silence settings request closed link ≡ Available → ⊥
+pub unknown_after : (settings : LinkSettings) (request : Asked) (closed : Bool) (link : Link)
+    → after_silence settings request closed link ≡ Available → ⊥
 unknown_after settings Status closed link known = cc
 unknown_after settings Reset closed link known = cc
 unknown_after settings (Counted fcb service) false link known = cc
-unknown_after settings (Counted fcb service) true link known = go (nat_lt settings.retries (suc (missed_so_far link))) settings.hold known
+unknown_after settings (Counted fcb service) true link known =
+    go (nat_lt settings.retries (suc (missed_so_far link))) settings.hold known
   where
     go : (b hold : Bool) →
-        (if b then (if hold then Held fcb service (suc settings.retries) else Down) else Held fcb service (suc (missed_so_far link))) ≡ Available → ⊥
+        (if b then (if hold then Held fcb service (suc settings.retries) else Down) else Held fcb service
+        (suc (missed_so_far link))) ≡ Available → ⊥
     go true true e = cc
     go true false e = cc
     go false hold e = cc
 
-pub begun_awaits : (p : Primary) (q : Outstanding) (octets : List ℕ) (heard : Option (List ℕ)) → p.outstanding ≡ Some q → IsBegun p →
+pub begun_awaits : (p : Primary) (q : Outstanding) (octets : List ℕ) (heard : Option (List ℕ)) → p.outstanding ≡ Some q
+    → IsBegun p →
     IsBegun (awaits p (with_octets octets q) heard)
 begun_awaits p q octets heard is b = record {
   here = subst (λ (o : Option Outstanding). IsAlong o p.phase (station_at p.stations p.turn).link) is b.here;
@@ -156,29 +179,42 @@ begun_awaits p q octets heard is b = record {
 }
 
 -- the station whose turn it is has another link, and the turn goes on where its status is known
-moved : (p : Primary) (s : StationState) (phase : Phase) (again : Bool) (spoilt : ℕ) → p.turn < length p.stations → IsBegun p →
+moved : (p : Primary) (s : StationState) (phase : Phase) (again : Bool) (spoilt : ℕ) → p.turn < length p.stations
+    → IsBegun p →
     (s.link ≡ Available → phase ≡ Starting) →
-    IsBegun (record p { stations = slice_set p.stations p.turn s; phase = phase; again = again; outstanding = None; spoilt = spoilt })
+    IsBegun (record p {
+      stations = slice_set p.stations p.turn s;
+      phase = phase;
+      again = again;
+      outstanding =
+          None;
+      spoilt = spoilt;
+    })
 moved p s phase again spoilt within b along = record {
-  here = λ known. along (ap (λ (r : StationState). r.link) (sym (get_or-set_same p.stations p.turn s no_station within)) ∙ known);
+  here = λ known. along (ap (λ (r : StationState). r.link)
+      (sym (get_or-set_same p.stations p.turn s no_station within)) ∙ known);
   away = λ i known. go i known (set_at p.stations p.turn i s);
 }
   where
     go : (i : ℕ) → (station_at (slice_set p.stations p.turn s) i).link ≡ Available →
-        (i ≡ p.turn) × (station_at (slice_set p.stations p.turn s) i ≡ s) ⊎ (station_at (slice_set p.stations p.turn s) i ≡ station_at p.stations i) → i ≡ p.turn
+        (i ≡ p.turn) × (station_at (slice_set p.stations p.turn s) i ≡ s)
+        ⊎ (station_at (slice_set p.stations p.turn s) i ≡ station_at p.stations i) → i ≡ p.turn
     go i known (inl at) = at.0
     go i known (inr same) = b.away i (ap (λ (r : StationState). r.link) (sym same) ∙ known)
 
-pub begun_answered : (p : Primary) (q : Outstanding) (a : ℕ) (frame : Frame) (answer : Answer) → p.turn < length p.stations → p.outstanding ≡ Some q →
+pub begun_answered : (p : Primary) (q : Outstanding) (a : ℕ) (frame : Frame) (answer : Answer)
+    → p.turn < length p.stations → p.outstanding ≡ Some q →
     answer_of a q.request frame ≡ Some answer → IsBegun p → IsBegun (answered p q.request frame answer)
 begun_answered p q a frame answer within is says b =
-    moved p (station_answered (station_at p.stations p.turn) q.request frame answer) (phase_after answer p.phase) p.again p.spoilt within b
+    moved p (station_answered (station_at p.stations p.turn) q.request frame answer)
+    (phase_after answer p.phase) p.again p.spoilt within b
     (λ known.
     let told = known_after a q.request frame answer (station_at p.stations p.turn).link says known in
     let along = subst (λ (o : Option Outstanding). IsAlong o p.phase (station_at p.stations p.turn).link) is b.here in
     ap (λ (m : Answer). phase_after m p.phase) told.1 ∙ along.0 told.0)
 
-pub begun_unanswered : (p : Primary) (q : Outstanding) → p.turn < length p.stations → IsBegun p → IsBegun (unanswered p q)
+pub begun_unanswered : (p : Primary) (q : Outstanding) → p.turn < length p.stations → IsBegun p
+    → IsBegun (unanswered p q)
 begun_unanswered p q within b =
     moved p (station_unanswered p.settings (station_at p.stations p.turn) q.request) _ _ _ within b
     (λ known. absurd (unknown_after p.settings q.request true (station_at p.stations p.turn).link known))
@@ -186,14 +222,16 @@ begun_unanswered p q within b =
 -- ---- the other calls
 
 -- the links are as they were
-pub begun_linked : (p : Primary) (stations : List StationState) → ((i : ℕ) → (station_at stations i).link ≡ (station_at p.stations i).link) → IsBegun p →
+pub begun_linked : (p : Primary) (stations : List StationState)
+    → ((i : ℕ) → (station_at stations i).link ≡ (station_at p.stations i).link) → IsBegun p →
     IsBegun (record p { stations = stations })
 begun_linked p stations same b = record {
   here = subst (λ (l : Link). IsAlong p.outstanding p.phase l) (sym (same p.turn)) b.here;
   away = λ i known. b.away i (sym (same i) ∙ known);
 }
 
-pub withdrawn_link : (ss : List StationState) (i : ℕ) → (station_at (map without_offer ss) i).link ≡ (station_at ss i).link
+pub withdrawn_link : (ss : List StationState) (i : ℕ) → (station_at (map without_offer ss) i).link
+    ≡ (station_at ss i).link
 withdrawn_link [] i = refl
 withdrawn_link (s ∷ ss) zero = refl
 withdrawn_link (s ∷ ss) (suc i) = withdrawn_link ss i

@@ -8,7 +8,8 @@ use Rattle.link.specs.Delivery.{learnt_by, IsTrueFront, pending_by, MayOwe, is_r
 use Rattle.link.proofs.Refusals.{refused_service, refused_reset}
 
 -- what the outstation has kept of a service that it has heard
-pub record HasServed (station : ℕ) (fcb : Bool) (service : Service) (state : Outstation) (owed : List Effect) : Type 0 where
+pub record HasServed (station : ℕ) (fcb : Bool) (service : Service) (state : Outstation)
+    (owed : List Effect) : Type 0 where
   pub frame : Frame
   pub answer : Answer
   pub bit : state.bit ≡ Some fcb
@@ -32,7 +33,8 @@ Agrees station (Held fcb service missed) pending state owed =
     (pending ≡ Some service) × (AwaitsBit fcb state owed ⊎ HasServed station fcb service state owed)
 
 -- An exchange with this answer leaves the outstation and the link so.
-pub record Leaves (settings : LinkSettings) (station : ℕ) (link : Link) (pending : Option Service) (x : Exchange) (m : Option Answer) (owed done : List Effect) (new : Outstation) : Type 0 where
+pub record Leaves (settings : LinkSettings) (station : ℕ) (link : Link) (pending : Option Service) (x : Exchange)
+    (m : Option Answer) (owed done : List Effect) (new : Outstation) : Type 0 where
   pub owed' : List Effect
   pub agrees : Agrees station (after_outcome settings m x link) (pending_by x.request m pending) new owed'
   pub sum : owed ++ done ≡ learnt_by x.request m ++ owed'
@@ -74,11 +76,14 @@ owes_effects (Command c) Unable = inl refl
 -- what is owed for a service that was sent
 owes_service : (station : ℕ) (fcb : Bool) (service : Service) (state : Outstation) (owed : List Effect) →
     AwaitsBit fcb state owed ⊎ HasServed station fcb service state owed → MayOwe (Some service) owed
-owes_service station fcb service state owed (inl a) = subst (λ (o : List Effect). MayOwe (Some service) o) (sym a.owes) (owes_nothing (Some service))
-owes_service station fcb service state owed (inr h) = subst (λ (o : List Effect). MayOwe (Some service) o) (sym h.owes) (owes_effects service h.answer)
+owes_service station fcb service state owed (inl a) = subst (λ (o : List Effect). MayOwe (Some service) o) (sym a.owes)
+    (owes_nothing (Some service))
+owes_service station fcb service state owed (inr h) = subst (λ (o : List Effect). MayOwe (Some service) o) (sym h.owes)
+    (owes_effects service h.answer)
 
 -- what is owed, whatever the link
-pub owes_of : (station : ℕ) (link : Link) (pending : Option Service) (state : Outstation) (owed : List Effect) → Agrees station link pending state owed → MayOwe pending owed
+pub owes_of : (station : ℕ) (link : Link) (pending : Option Service) (state : Outstation) (owed : List Effect)
+    → Agrees station link pending state owed → MayOwe pending owed
 owes_of station Down pending state owed a = a
 owes_of station Available pending state owed a = a
 owes_of station (Next fcb) pending state owed a =
@@ -87,7 +92,8 @@ owes_of station (Held fcb service missed) pending state owed a =
     subst (λ (p : Option Service). MayOwe p owed) (sym a.0) (owes_service station fcb service state owed a.1)
 
 -- a service that isn't answered, or is answered by another answer than Unable
-answered_next : (fcb : Bool) (service : Service) (answer : Answer) (link : Link) → answer ≢ Unable → after_answer (Counted fcb service) answer link ≡ Next (not fcb)
+answered_next : (fcb : Bool) (service : Service) (answer : Answer) (link : Link) → answer ≢ Unable
+    → after_answer (Counted fcb service) answer link ≡ Next (not fcb)
 answered_next fcb service Ready link h = refl
 answered_next fcb service Confirmed link h = refl
 answered_next fcb service Busy link h = refl
@@ -95,7 +101,8 @@ answered_next fcb service (Report asdu) link h = refl
 answered_next fcb service NoData link h = refl
 answered_next fcb service Unable link h = absurd (h refl)
 
-answered_pending : (fcb : Bool) (service : Service) (answer : Answer) (pending : Option Service) → answer ≢ Unable → pending_by (Counted fcb service) (Some answer) pending ≡ None
+answered_pending : (fcb : Bool) (service : Service) (answer : Answer) (pending : Option Service) → answer ≢ Unable
+    → pending_by (Counted fcb service) (Some answer) pending ≡ None
 answered_pending fcb service Ready pending h = refl
 answered_pending fcb service Confirmed pending h = refl
 answered_pending fcb service Busy pending h = refl
@@ -108,7 +115,8 @@ append-nil [] = refl
 append-nil (x ∷ xs) = ap (λ (ys : List Effect). x ∷ ys) (append-nil xs)
 
 -- an unanswered service, of which the outstation is known to have heard it or not
-silence_agrees : (settings : LinkSettings) (station : ℕ) (fcb : Bool) (service : Service) (closed : Bool) (link : Link) (state : Outstation) (owed : List Effect) →
+silence_agrees : (settings : LinkSettings) (station : ℕ) (fcb : Bool) (service : Service) (closed : Bool) (link : Link)
+    (state : Outstation) (owed : List Effect) →
     AwaitsBit fcb state owed ⊎ HasServed station fcb service state owed →
     Agrees station (after_silence settings (Counted fcb service) closed link) (Some service) state owed
 silence_agrees settings station fcb service false link state owed a = (refl, a)
@@ -116,7 +124,8 @@ silence_agrees settings station fcb service true link state owed a =
     go (nat_lt settings.retries (suc (missed_so_far link))) settings.hold
   where
     go : (b hold : Bool) → Agrees station
-        (if b then (if hold then Held fcb service (suc settings.retries) else Down) else Held fcb service (suc (missed_so_far link))) (Some service) state owed
+        (if b then (if hold then Held fcb service (suc settings.retries) else Down) else Held fcb service
+        (suc (missed_so_far link))) (Some service) state owed
     go true true = (refl, a)
     go true false = owes_service station fcb service state owed a
     go false hold = (refl, a)
@@ -127,15 +136,18 @@ unable_effects Class2 = refl
 unable_effects (Command c) = refl
 
 -- One sending of a service that is new to the outstation, or that it has served already.
-module _ (settings : LinkSettings) (station : ℕ) (fcb : Bool) (service : Service) (closed : Bool) (link : Link) (pending : Option Service)
+module _ (settings : LinkSettings) (station : ℕ) (fcb : Bool) (service : Service) (closed : Bool) (link : Link)
+    (pending : Option Service)
     (old new : Outstation) (turn : Turn) (owed : List Effect) where
   sending : Option Frame → Exchange
   sending front = record { request = Counted fcb service; front = front; closed = closed }
 
   -- it was answered by what the outstation keeps now
-  when_answered : (f frame : Frame) (answer : Answer) → frame ≡ f → Says station (Counted fcb service) answer frame → answer ≢ Unable →
+  when_answered : (f frame : Frame) (answer : Answer) → frame ≡ f → Says station (Counted fcb service) answer frame
+      → answer ≢ Unable →
       new.bit ≡ Some fcb → owed ++ turn.done ≡ effects_of service answer →
-      Leaves settings station link pending (sending (Some f)) (answer_of station (Counted fcb service) f) owed turn.done new
+      Leaves settings station link pending (sending (Some f))
+      (answer_of station (Counted fcb service) f) owed turn.done new
   unfolding sending
   when_answered f frame answer same says able bit sum =
       subst (λ (m : Option Answer). Leaves settings station link pending (sending (Some f)) m owed turn.done new)
@@ -143,8 +155,10 @@ module _ (settings : LinkSettings) (station : ℕ) (fcb : Bool) (service : Servi
       (record {
         owed' = [];
         agrees = subst (λ (l : Link). Agrees station l (pending_by (Counted fcb service) (Some answer) pending) new [])
-            (sym (answered_next fcb service answer link able))
-            (answered_pending fcb service answer pending able, record { bit = bit ∙ ap (λ (b : Bool). Some b) (not-not fcb); owes = refl });
+            (sym (answered_next fcb service answer link able)) (
+              answered_pending fcb service answer pending able,
+              record { bit = bit ∙ ap (λ (b : Bool). Some b) (not-not fcb); owes = refl },
+            );
         sum = sum ∙ sym (append-nil (effects_of service answer));
       })
 
@@ -159,8 +173,10 @@ module _ (settings : LinkSettings) (station : ℕ) (fcb : Bool) (service : Servi
   }
 
   -- the outstation couldn't serve it
-  when_unable : (f frame : Frame) → frame ≡ f → Says station (Counted fcb service) Unable frame → MayOwe (Some service) owed → turn.done ≡ [] →
-      Leaves settings station link pending (sending (Some f)) (answer_of station (Counted fcb service) f) owed turn.done new
+  when_unable : (f frame : Frame) → frame ≡ f → Says station (Counted fcb service) Unable frame
+      → MayOwe (Some service) owed → turn.done ≡ [] →
+      Leaves settings station link pending (sending (Some f))
+      (answer_of station (Counted fcb service) f) owed turn.done new
   unfolding sending
   when_unable f frame same says owes idle =
       subst (λ (m : Option Answer). Leaves settings station link pending (sending (Some f)) m owed turn.done new)
@@ -168,20 +184,24 @@ module _ (settings : LinkSettings) (station : ℕ) (fcb : Bool) (service : Servi
       (record {
         owed' = owed;
         agrees = owes;
-        sum = ap (λ (d : List Effect). owed ++ d) idle ∙ append-nil owed ∙ ap (λ (d : List Effect). d ++ owed) (sym (unable_effects service));
+        sum = ap (λ (d : List Effect). owed ++ d) idle ∙ append-nil owed
+            ∙ ap (λ (d : List Effect). d ++ owed) (sym (unable_effects service));
       })
 
 -- whether the outstation still awaits the service, or has served it, it does so after a turn that changes nothing
-stays : (station : ℕ) (fcb : Bool) (service : Service) (old new : Outstation) (owed done : List Effect) → new ≡ old → done ≡ [] →
+stays : (station : ℕ) (fcb : Bool) (service : Service) (old new : Outstation) (owed done : List Effect) → new ≡ old
+    → done ≡ [] →
     AwaitsBit fcb old owed ⊎ HasServed station fcb service old owed →
     AwaitsBit fcb new (owed ++ done) ⊎ HasServed station fcb service new (owed ++ done)
 stays station fcb service old new owed done same idle a =
-    subst (λ (s : Outstation). AwaitsBit fcb s (owed ++ done) ⊎ HasServed station fcb service s (owed ++ done)) (sym same)
+    subst (λ (s : Outstation). AwaitsBit fcb s (owed ++ done) ⊎ HasServed station fcb service s (owed ++ done))
+    (sym same)
     (subst (λ (d : List Effect). AwaitsBit fcb old d ⊎ HasServed station fcb service old d)
     (sym (append-nil owed) ∙ ap (λ (d : List Effect). owed ++ d) (sym idle)) a)
 
 -- One exchange of a service, whatever is lost.
-pub service_step : (settings : LinkSettings) (station : ℕ) (fcb : Bool) (service : Service) (closed : Bool) (link : Link) (pending : Option Service)
+pub service_step : (settings : LinkSettings) (station : ℕ) (fcb : Bool) (service : Service) (closed : Bool)
+    (link : Link) (pending : Option Service)
     (old new : Outstation) (turn : Turn) (owed : List Effect) (front : Option Frame) →
     AwaitsBit fcb old owed ⊎ HasServed station fcb service old owed →
     OutstationStep station old (Counted fcb service) turn new → IsTrueFront front turn →
@@ -194,20 +214,24 @@ service_step settings station fcb service closed link pending old new turn owed 
 service_step settings station fcb service closed link pending old new turn owed (Some f) a (unheard quiet same) front =
     let none : turn.answer ≡ None = ap (λ (t : Turn). t.answer) quiet in
     cc
-service_step settings station fcb service closed link pending old new turn owed None a (unable frame refuses quiet same) front =
+service_step settings station fcb service closed link pending old new turn owed None a
+    (unable frame refuses quiet same) front =
     when_silent settings station fcb service closed link pending old new turn owed
     (stays station fcb service old new owed turn.done same (ap (λ (t : Turn). t.done) quiet) a)
-service_step settings station fcb service closed link pending old new turn owed (Some f) a (unable frame refuses quiet same) front =
+service_step settings station fcb service closed link pending old new turn owed (Some f) a
+    (unable frame refuses quiet same) front =
     let some : turn.answer ≡ Some frame = ap (λ (t : Turn). t.answer) quiet in
     let eq : frame ≡ f = cc in
-    when_unable settings station fcb service closed link pending old new turn owed f frame eq (refused_service station fcb service frame refuses)
+    when_unable settings station fcb service closed link pending old new turn owed f frame eq
+    (refused_service station fcb service frame refuses)
     (owes_service station fcb service old owed a) (ap (λ (t : Turn). t.done) quiet)
 service_step settings station fcb service closed link pending old new turn owed front (inl a) (heard h) true_front =
     go front true_front (subst (λ (b : Option Bool). Serves station b old fcb service turn new) a.bit h)
   where
     go : (front : Option Frame) → IsTrueFront front turn → Serves station (Some (not fcb)) old fcb service turn new →
         Leaves settings station link pending (record { request = Counted fcb service; front = front; closed = closed })
-        (answer_to station (record { request = Counted fcb service; front = front; closed = closed })) owed turn.done new
+        (answer_to station (record { request = Counted fcb service; front = front; closed = closed })) owed turn.done
+        new
     go front true_front (inl same) = absurd (not-self fcb same.0)
     go None true_front (inr s) =
         when_silent settings station fcb service closed link pending old new turn owed
@@ -230,7 +254,8 @@ service_step settings station fcb service closed link pending old new turn owed 
   where
     go : (front : Option Frame) → IsTrueFront front turn → Serves station (Some fcb) old fcb service turn new →
         Leaves settings station link pending (record { request = Counted fcb service; front = front; closed = closed })
-        (answer_to station (record { request = Counted fcb service; front = front; closed = closed })) owed turn.done new
+        (answer_to station (record { request = Counted fcb service; front = front; closed = closed })) owed turn.done
+        new
     go front true_front (inr s) = absurd (s.0 refl)
     go None true_front (inl s) =
         when_silent settings station fcb service closed link pending old new turn owed
@@ -243,18 +268,21 @@ service_step settings station fcb service closed link pending old new turn owed 
         (ap (λ (d : List Effect). owed ++ d) (ap (λ (t : Turn). t.done) s.1) ∙ append-nil owed ∙ a.owes)
 
 -- A status or reset request does no service.
-pub idle_status : (station : ℕ) (old new : Outstation) (turn : Turn) → OutstationStep station old Status turn new → turn.done ≡ []
+pub idle_status : (station : ℕ) (old new : Outstation) (turn : Turn) → OutstationStep station old Status turn new
+    → turn.done ≡ []
 idle_status station old new turn (unheard quiet same) = ap (λ (t : Turn). t.done) quiet
 idle_status station old new turn (unable frame refuses quiet same) = ap (λ (t : Turn). t.done) quiet
 idle_status station old new turn (heard h) = ap (λ (t : Turn). t.done) h.2
 
-pub idle_reset : (station : ℕ) (old new : Outstation) (turn : Turn) → OutstationStep station old Reset turn new → turn.done ≡ []
+pub idle_reset : (station : ℕ) (old new : Outstation) (turn : Turn) → OutstationStep station old Reset turn new
+    → turn.done ≡ []
 idle_reset station old new turn (unheard quiet same) = ap (λ (t : Turn). t.done) quiet
 idle_reset station old new turn (unable frame refuses quiet same) = ap (λ (t : Turn). t.done) quiet
 idle_reset station old new turn (heard h) = ap (λ (t : Turn). t.done) h.2
 
 -- An outstation whose reset was confirmed is reset.
-pub reset_taken : (station : ℕ) (front : Option Frame) (old new : Outstation) (turn : Turn) → OutstationStep station old Reset turn new →
+pub reset_taken : (station : ℕ) (front : Option Frame) (old new : Outstation) (turn : Turn)
+    → OutstationStep station old Reset turn new →
     IsTrueFront front turn → option_and_then (answer_of station Reset) front ≡ Some Confirmed → new ≡ reset_link
 reset_taken station None old new turn step true_front confirmed = cc
 reset_taken station (Some f) old new turn (unheard quiet same) true_front confirmed =
@@ -262,7 +290,8 @@ reset_taken station (Some f) old new turn (unheard quiet same) true_front confir
 reset_taken station (Some f) old new turn (unable frame refuses quiet same) true_front confirmed =
     let some : turn.answer ≡ Some frame = ap (λ (t : Turn). t.answer) quiet in
     let eq : frame ≡ f = cc in
-    let two : answer_of station Reset f ≡ None = ap (λ (g : Frame). answer_of station Reset g) (sym eq) ∙ refused_reset station frame refuses in
+    let two : answer_of station Reset f ≡ None = ap (λ (g : Frame). answer_of station Reset g) (sym eq)
+    ∙ refused_reset station frame refuses in
     cc
 reset_taken station (Some f) old new turn (heard h) true_front confirmed = h.3
 
@@ -270,8 +299,10 @@ pub no_more : (owed done : List Effect) → done ≡ [] → owed ++ done ≡ owe
 no_more owed done idle = ap (λ (d : List Effect). owed ++ d) idle ∙ append-nil owed
 
 -- what a status request leaves
-status_leaves : (settings : LinkSettings) (station : ℕ) (link : Link) (pending : Option Service) (front : Option Frame) (closed : Bool)
-    (m : Option Answer) (owed done : List Effect) (new : Outstation) → is_up link ≡ false → MayOwe pending owed → done ≡ [] →
+status_leaves : (settings : LinkSettings) (station : ℕ) (link : Link) (pending : Option Service) (front : Option Frame)
+    (closed : Bool)
+    (m : Option Answer) (owed done : List Effect) (new : Outstation) → is_up link ≡ false → MayOwe pending owed
+    → done ≡ [] →
     Leaves settings station link pending (record { request = Status; front = front; closed = closed }) m owed done new
 status_leaves settings station link pending front closed None owed done new down owes idle =
     record { owed' = owed; agrees = owes; sum = no_more owed done idle }
@@ -284,12 +315,15 @@ status_leaves settings station Down pending front closed (Some answer) owed done
 status_leaves settings station Available pending front closed (Some answer) owed done new down owes idle =
     record { owed' = owed; agrees = owes; sum = no_more owed done idle }
 status_leaves settings station (Next fcb) pending front closed (Some answer) owed done new down owes idle = cc
-status_leaves settings station (Held fcb service missed) pending front closed (Some answer) owed done new down owes idle = cc
+status_leaves settings station (Held fcb service missed) pending front closed
+    (Some answer) owed done new down owes idle = cc
 
 -- what a reset request leaves that isn't confirmed
 reset_leaves : (settings : LinkSettings) (station : ℕ) (pending : Option Service) (front : Option Frame) (closed : Bool)
-    (m : Option Answer) (owed done : List Effect) (new : Outstation) → is_reset Reset m ≡ false → MayOwe pending owed → done ≡ [] →
-    Leaves settings station Available pending (record { request = Reset; front = front; closed = closed }) m owed done new
+    (m : Option Answer) (owed done : List Effect) (new : Outstation) → is_reset Reset m ≡ false → MayOwe pending owed
+    → done ≡ [] →
+    Leaves settings station Available pending (record { request = Reset; front = front; closed = closed }) m owed done
+    new
 reset_leaves settings station pending front closed None owed done new other owes idle =
     record { owed' = owed; agrees = owes; sum = no_more owed done idle }
 reset_leaves settings station pending front closed (Some Confirmed) owed done new other owes idle = cc
@@ -297,29 +331,40 @@ reset_leaves settings station pending front closed (Some answer) owed done new o
     record { owed' = owed; agrees = owes; sum = no_more owed done idle }
 
 -- One exchange that is no confirmed reset.
-pub exchange_step : (settings : LinkSettings) (station : ℕ) (link : Link) (pending : Option Service) (request : Asked) (front : Option Frame) (closed : Bool)
+pub exchange_step : (settings : LinkSettings) (station : ℕ) (link : Link) (pending : Option Service) (request : Asked)
+    (front : Option Frame) (closed : Bool)
     (old new : Outstation) (turn : Turn) (owed : List Effect) →
-    Agrees station link pending old owed → MaySend link request → OutstationStep station old request turn new → IsTrueFront front turn →
+    Agrees station link pending old owed → MaySend link request → OutstationStep station old request turn new
+    → IsTrueFront front turn →
     is_reset request (option_and_then (answer_of station request) front) ≡ false →
     Leaves settings station link pending (record { request = request; front = front; closed = closed })
     (option_and_then (answer_of station request) front) owed turn.done new
 exchange_step settings station Down pending Status front closed old new turn owed agrees may step true_front other =
-    status_leaves settings station Down pending front closed _ owed turn.done new refl agrees (idle_status station old new turn step)
-exchange_step settings station Available pending Status front closed old new turn owed agrees may step true_front other =
-    status_leaves settings station Available pending front closed _ owed turn.done new refl agrees (idle_status station old new turn step)
+    status_leaves settings station Down pending front closed _ owed turn.done new refl agrees
+    (idle_status station old new turn step)
+exchange_step settings station Available pending Status front closed old new turn owed agrees may step true_front
+    other =
+    status_leaves settings station Available pending front closed _ owed turn.done new refl agrees
+    (idle_status station old new turn step)
 exchange_step settings station Available pending Reset front closed old new turn owed agrees may step true_front other =
-    reset_leaves settings station pending front closed _ owed turn.done new other agrees (idle_reset station old new turn step)
-exchange_step settings station (Next fcb) pending (Counted sent service) front closed old new turn owed agrees may step true_front other =
+    reset_leaves settings station pending front closed _ owed turn.done new other agrees
+    (idle_reset station old new turn step)
+exchange_step settings station (Next fcb) pending (Counted sent service) front closed old new turn owed agrees may step
+    true_front other =
     service_step settings station sent service closed (Next fcb) pending old new turn owed front
     (inl (subst (λ (b : Bool). AwaitsBit b old owed) (sym may) agrees.1)) step true_front
-exchange_step settings station (Held fcb service missed) pending (Counted sent again) front closed old new turn owed agrees may step true_front other =
+exchange_step settings station (Held fcb service missed) pending
+    (Counted sent again) front closed old new turn owed agrees may step true_front other =
     service_step settings station sent again closed (Held fcb service missed) pending old new turn owed front
     (subst (λ (b : Bool). AwaitsBit b old owed ⊎ HasServed station b again old owed) (sym may.0)
-    (subst (λ (s : Service). AwaitsBit fcb old owed ⊎ HasServed station fcb s old owed) (sym may.1) agrees.1)) step true_front
-exchange_step settings station link pending request front closed old new turn owed agrees may step true_front other = absurd may
+    (subst (λ (s : Service). AwaitsBit fcb old owed ⊎ HasServed station fcb s old owed) (sym may.1) agrees.1)) step
+    true_front
+exchange_step settings station link pending request front closed old new turn owed agrees may step true_front other =
+    absurd may
 
 -- a confirmed reset
-pub confirmed_reset : (request : Asked) (m : Option Answer) → is_reset request m ≡ true → (request ≡ Reset) × (m ≡ Some Confirmed)
+pub confirmed_reset : (request : Asked) (m : Option Answer) → is_reset request m ≡ true
+    → (request ≡ Reset) × (m ≡ Some Confirmed)
 confirmed_reset Reset (Some Confirmed) h = (refl, refl)
 confirmed_reset Reset None h = cc
 confirmed_reset Reset (Some Ready) h = cc

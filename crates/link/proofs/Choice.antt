@@ -15,32 +15,38 @@ abbrev pub MayWant : LinkSize → Link → Option Wanted → Type 0
 MayWant size link None = Unit {0}
 MayWant size link (Some w) = FitsAsked size w.request × MaySend link w.request
 
-poll_may : (size : LinkSize) (burst : ℕ) (fcb acd : Bool) (phase : Phase) → MayWant size (Next fcb) (wanted_poll burst fcb acd phase)
+poll_may : (size : LinkSize) (burst : ℕ) (fcb acd : Bool) (phase : Phase)
+    → MayWant size (Next fcb) (wanted_poll burst fcb acd phase)
 poll_may size burst fcb true Polling = (tt, refl)
 poll_may size burst fcb false Polling = (tt, refl)
 poll_may size burst fcb acd (Class1Polling sent) = go (acd && nat_lt sent burst)
   where
-    go : (b : Bool) → MayWant size (Next fcb) (if b then wants (Counted fcb Class1) (Class1Polling (suc sent)) else None)
+    go : (b : Bool) → MayWant size (Next fcb) (if b then wants (Counted fcb Class1)
+        (Class1Polling (suc sent)) else None)
     go true = (tt, refl)
     go false = tt
 poll_may size burst fcb acd Starting = tt
 poll_may size burst fcb acd Commanding = tt
 poll_may size burst fcb acd Over = tt
 
-polls_may : (size : LinkSize) (burst : ℕ) (may_poll fcb : Bool) (s : StationState) (phase : Phase) → MayWant size (Next fcb) (polls_from burst may_poll fcb s phase)
+polls_may : (size : LinkSize) (burst : ℕ) (may_poll fcb : Bool) (s : StationState) (phase : Phase)
+    → MayWant size (Next fcb) (polls_from burst may_poll fcb s phase)
 polls_may size burst true fcb s phase = poll_may size burst fcb s.acd phase
 polls_may size burst false fcb s phase = tt
 
-commands_may : (size : LinkSize) (burst : ℕ) (may_poll fcb : Bool) (s : StationState) (offered : Option (List ℕ)) → FitsOffer size offered →
+commands_may : (size : LinkSize) (burst : ℕ) (may_poll fcb : Bool) (s : StationState) (offered : Option (List ℕ))
+    → FitsOffer size offered →
     MayWant size (Next fcb) (commands_from burst may_poll fcb s offered)
 commands_may size burst may_poll fcb s None fits = polls_may size burst may_poll fcb s Polling
 commands_may size burst may_poll fcb s (Some asdu) fits = go s.dfc
   where
-    go : (b : Bool) → MayWant size (Next fcb) (if b then polls_from burst may_poll fcb s Polling else wants (Counted fcb (Command asdu)) Polling)
+    go : (b : Bool) → MayWant size (Next fcb) (if b then polls_from burst may_poll fcb s Polling else wants
+        (Counted fcb (Command asdu)) Polling)
     go true = polls_may size burst may_poll fcb s Polling
     go false = (fits, refl)
 
-next_may : (size : LinkSize) (burst : ℕ) (may_poll fcb : Bool) (s : StationState) (phase : Phase) → FitsOffer size s.offered →
+next_may : (size : LinkSize) (burst : ℕ) (may_poll fcb : Bool) (s : StationState) (phase : Phase)
+    → FitsOffer size s.offered →
     MayWant size (Next fcb) (next_of burst may_poll fcb s phase)
 next_may size burst may_poll fcb s Starting fits = commands_may size burst may_poll fcb s s.offered fits
 next_may size burst may_poll fcb s Commanding fits = commands_may size burst may_poll fcb s s.offered fits
@@ -48,14 +54,17 @@ next_may size burst may_poll fcb s Polling fits = polls_may size burst may_poll 
 next_may size burst may_poll fcb s (Class1Polling sent) fits = polls_may size burst may_poll fcb s (Class1Polling sent)
 next_may size burst may_poll fcb s Over fits = tt
 
-pub wanted_may : (size : LinkSize) (burst : ℕ) (may_poll again : Bool) (s : StationState) (link : Link) (phase : Phase) → FitsLink size link → FitsOffer size s.offered →
+pub wanted_may : (size : LinkSize) (burst : ℕ) (may_poll again : Bool) (s : StationState) (link : Link) (phase : Phase)
+    → FitsLink size link → FitsOffer size s.offered →
     MayWant size link (wanted_by burst may_poll again s link phase)
 wanted_may size burst may_poll again s Down Starting held fits = (tt, tt)
 wanted_may size burst may_poll again s Available Starting held fits = (tt, tt)
 wanted_may size burst may_poll again s (Next fcb) phase held fits = next_may size burst may_poll fcb s phase fits
-wanted_may size burst may_poll again s (Held fcb service missed) Starting held fits = go (may_poll || not (is_poll service))
+wanted_may size burst may_poll again s (Held fcb service missed) Starting held fits =
+    go (may_poll || not (is_poll service))
   where
-    go : (b : Bool) → MayWant size (Held fcb service missed) (if b then wants (Counted fcb service) Commanding else None)
+    go : (b : Bool) → MayWant size (Held fcb service missed)
+        (if b then wants (Counted fcb service) Commanding else None)
     go true = (held, (refl, refl))
     go false = tt
 wanted_may size burst may_poll true s (Held fcb service missed) Commanding held fits = (held, (refl, refl))
@@ -85,8 +94,10 @@ abbrev pub MayChooseIt : LinkSize → List StationState → Option Chosen → Ty
 MayChooseIt size stations None = Unit {0}
 MayChooseIt size stations (Some c) = MayChoose size stations c
 
-or_may : (size : LinkSize) (stations : List StationState) (w : Option Wanted) (place : ℕ) (other : Option Chosen) → place < length stations →
-    MayWant size (station_at stations place).link w → MayChooseIt size stations other → MayChooseIt size stations (chosen_or w place other)
+or_may : (size : LinkSize) (stations : List StationState) (w : Option Wanted) (place : ℕ) (other : Option Chosen)
+    → place < length stations →
+    MayWant size (station_at stations place).link w → MayChooseIt size stations other
+    → MayChooseIt size stations (chosen_or w place other)
 or_may size stations None place other within may rest = rest
 or_may size stations (Some w) place other within may rest = record { within = within; fits = may.0; may = may.1 }
 
@@ -97,14 +108,18 @@ place_fits count place some = go (nat_lt (suc place) count) refl
     go true e = ltb-true (suc place) count e
     go false e = some
 
-pub at_may : (size : LinkSize) (burst : ℕ) (may_poll again : Bool) (stations : List StationState) (place : ℕ) (phase : Phase) → FitStations size stations →
+pub at_may : (size : LinkSize) (burst : ℕ) (may_poll again : Bool) (stations : List StationState) (place : ℕ)
+    (phase : Phase) → FitStations size stations →
     place < length stations →
-    MayWant size (station_at stations place).link (wanted_by burst may_poll again (station_at stations place) (station_at stations place).link phase)
+    MayWant size (station_at stations place).link (wanted_by burst may_poll again (station_at stations place)
+    (station_at stations place).link phase)
 at_may size burst may_poll again stations place phase fits within =
     let s = station_fits size stations place within fits in
-    wanted_may size burst may_poll again (station_at stations place) (station_at stations place).link phase s.link s.offered
+    wanted_may size burst may_poll again (station_at stations place)
+    (station_at stations place).link phase s.link s.offered
 
-pub first_may : (size : LinkSize) (burst : ℕ) (may_poll : Bool) (stations : List StationState) (many place : ℕ) → FitStations size stations → 0 < length stations →
+pub first_may : (size : LinkSize) (burst : ℕ) (may_poll : Bool) (stations : List StationState) (many place : ℕ)
+    → FitStations size stations → 0 < length stations →
     MayChooseIt size stations (first_after burst may_poll stations many place)
 first_may size burst may_poll stations zero place fits some = tt
 first_may size burst may_poll stations (suc many) place fits some =
@@ -113,15 +128,18 @@ first_may size burst may_poll stations (suc many) place fits some =
     (at_may size burst may_poll false stations (place_after (length stations) place) Starting fits within)
     (first_may size burst may_poll stations many (place_after (length stations) place) fits some)
 
-pub choice_may : (p : Primary) (may_poll : Bool) → IsFitting p → MayChooseIt p.settings.size p.stations (choice p may_poll)
+pub choice_may : (p : Primary) (may_poll : Bool) → IsFitting p
+    → MayChooseIt p.settings.size p.stations (choice p may_poll)
 choice_may p may_poll fits =
     or_may p.settings.size p.stations _ p.turn _ fits.turn
     (at_may p.settings.size p.settings.burst may_poll p.again p.stations p.turn p.phase fits.stations fits.turn)
-    (first_may p.settings.size p.settings.burst may_poll p.stations (length p.stations) p.turn fits.stations (omega (arith, fits.turn)))
+    (first_may p.settings.size p.settings.burst may_poll p.stations (length p.stations) p.turn fits.stations
+    (omega (arith, fits.turn)))
 
 pub choice_fits : (p : Primary) (may_poll : Bool) → IsFitting p → IsFittingChoice p (choice p may_poll)
 choice_fits p may_poll fits = go (choice p may_poll) (choice_may p may_poll fits)
   where
     go : (c : Option Chosen) → MayChooseIt p.settings.size p.stations c → IsFittingChoice p c
     go None may = tt
-    go (Some c) may = (may.within, (station_fits p.settings.size p.stations c.station may.within fits.stations).address, may.fits)
+    go (Some c) may =
+        (may.within, (station_fits p.settings.size p.stations c.station may.within fits.stations).address, may.fits)

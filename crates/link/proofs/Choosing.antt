@@ -5,20 +5,27 @@ use Rattle.link.specs.Turns.{StationState, Starting, station_at, Wanted, wanted,
 -- one more station is looked at
 pub look_one : (burst : ℕ) (may_poll : Bool) (stations : List StationState) (many place next : ℕ) (w : Option Wanted) →
     next ≡ place_after (length stations) place → w ≡ wanted burst may_poll false (station_at stations next) Starting →
-    chosen_or w next (first_after burst may_poll stations many next) ≡ first_after burst may_poll stations (suc many) place
+    chosen_or w next (first_after burst may_poll stations many next)
+    ≡ first_after burst may_poll stations (suc many) place
 look_one burst may_poll stations many place next w e is =
     ap (λ (v : Option Wanted). chosen_or v next (first_after burst may_poll stations many next)) is
-    ∙ ap (λ (n : ℕ). chosen_or (wanted burst may_poll false (station_at stations n) Starting) n (first_after burst may_poll stations many n)) e
+    ∙ ap (λ (n : ℕ). chosen_or (wanted burst may_poll false (station_at stations n) Starting) n
+    (first_after burst may_poll stations many n)) e
 
 -- a turn of the loop that looks at the stations, by what it found
-pub looked : (burst : ℕ) (may_poll : Bool) (stations : List StationState) (seen place next turn : ℕ) (s : StationState) (w found : Option Wanted) →
+pub looked : (burst : ℕ) (may_poll : Bool) (stations : List StationState) (seen place next turn : ℕ) (s : StationState)
+    (w found : Option Wanted) →
     seen < length stations →
-    next ≡ place_after (length stations) place → s ≡ station_at stations next → w ≡ wanted burst may_poll false s Starting → w ≡ found →
-    first_after burst may_poll stations (length stations - seen) place ≡ first_after burst may_poll stations (length stations) turn →
-    chosen_or found next (first_after burst may_poll stations (length stations - (seen + 1)) next) ≡ first_after burst may_poll stations (length stations) turn
+    next ≡ place_after (length stations) place → s ≡ station_at stations next
+    → w ≡ wanted burst may_poll false s Starting → w ≡ found →
+    first_after burst may_poll stations (length stations - seen) place
+    ≡ first_after burst may_poll stations (length stations) turn →
+    chosen_or found next (first_after burst may_poll stations (length stations - (seen + 1)) next)
+    ≡ first_after burst may_poll stations (length stations) turn
 looked burst may_poll stations seen place next turn s w found more at is wants same rest =
     let count : suc (length stations - (seen + 1)) ≡ length stations - seen = omega arith in
-    ap (λ (v : Option Wanted). chosen_or v next (first_after burst may_poll stations (length stations - (seen + 1)) next)) (sym same)
+    ap (λ (v : Option Wanted). chosen_or v next (first_after burst may_poll stations
+    (length stations - (seen + 1)) next)) (sym same)
     ∙ look_one burst may_poll stations (length stations - (seen + 1)) place next w at
     (wants ∙ ap (λ (t : StationState). wanted burst may_poll false t Starting) is)
     ∙ ap (λ (m : ℕ). first_after burst may_poll stations m place) count ∙ rest

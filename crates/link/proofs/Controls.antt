@@ -56,7 +56,8 @@ small true = omega arith
 small false = omega arith
 
 primary_fields : (r fcb fcv : Bool) (code : ℕ) → code < 16 → (n : ℕ) → n ≡ primary_octet fcb fcv code + weight 128 r →
-    ((n / 128 % 2 == 1) ≡ r) × ((n / 64 % 2 == 1) ≡ true) × ((n / 32 % 2 == 1) ≡ fcb) × ((n / 16 % 2 == 1) ≡ fcv) × (n % 16 ≡ code)
+    ((n / 128 % 2 == 1) ≡ r) × ((n / 64 % 2 == 1) ≡ true) × ((n / 32 % 2 == 1) ≡ fcb) × ((n / 16 % 2 == 1) ≡ fcv)
+    × (n % 16 ≡ code)
 primary_fields r fcb fcv code lt n e =
     let is : n ≡ 64 + 32 * weight 1 fcb + 16 * weight 1 fcv + code + 128 * weight 1 r =
     omega (arith, e, weighed 32 fcb, weighed 16 fcv, weighed 128 r) in (
@@ -67,8 +68,10 @@ primary_fields r fcb fcv code lt n e =
       omega (arith, is, lt, small r, small fcb, small fcv),
     )
 
-secondary_fields : (r acd dfc : Bool) (code : ℕ) → code < 16 → (n : ℕ) → n ≡ secondary_octet acd dfc code + weight 128 r →
-    ((n / 128 % 2 == 1) ≡ r) × ((n / 64 % 2 == 1) ≡ false) × ((n / 32 % 2 == 1) ≡ acd) × ((n / 16 % 2 == 1) ≡ dfc) × (n % 16 ≡ code)
+secondary_fields : (r acd dfc : Bool) (code : ℕ) → code < 16 → (n : ℕ)
+    → n ≡ secondary_octet acd dfc code + weight 128 r →
+    ((n / 128 % 2 == 1) ≡ r) × ((n / 64 % 2 == 1) ≡ false) × ((n / 32 % 2 == 1) ≡ acd) × ((n / 16 % 2 == 1) ≡ dfc)
+    × (n % 16 ≡ code)
 secondary_fields r acd dfc code lt n e =
     let is : n ≡ 32 * weight 1 acd + 16 * weight 1 dfc + code + 128 * weight 1 r =
     omega (arith, e, weighed 32 acd, weighed 16 dfc, weighed 128 r) in (

@@ -15,11 +15,13 @@ use Rattle.link.specs.Holding.{FitsLink, FitsOffer, FitsStation}
 abbrev pub FitStations : LinkSize → List StationState → Type 0
 FitStations size stations = All (FitsStation size) stations
 
-pub station_fits : (size : LinkSize) (stations : List StationState) (i : ℕ) → i < length stations → FitStations size stations → FitsStation size (station_at stations i)
+pub station_fits : (size : LinkSize) (stations : List StationState) (i : ℕ) → i < length stations
+    → FitStations size stations → FitsStation size (station_at stations i)
 station_fits size stations i within fits = fits i _ within
 
 -- one station is another
-pub set_fits : (size : LinkSize) (stations : List StationState) (k : ℕ) (s : StationState) → k < length stations → FitStations size stations → FitsStation size s →
+pub set_fits : (size : LinkSize) (stations : List StationState) (k : ℕ) (s : StationState) → k < length stations
+    → FitStations size stations → FitsStation size s →
     FitStations size (slice_set stations k s)
 set_fits size stations k s within fits fits_s i d more = go (cases_eq i k)
   where
@@ -32,7 +34,8 @@ set_fits size stations k s within fits fits_s i d more = go (cases_eq i k)
         (fits i d (subst (λ (n : ℕ). i < n) (length-set stations k s) more))
 
 -- all are down
-pub down_fits : (size : LinkSize) (addresses : List ℕ) → All (FitsAddress size) addresses → FitStations size (map station_down addresses)
+pub down_fits : (size : LinkSize) (addresses : List ℕ) → All (FitsAddress size) addresses
+    → FitStations size (map station_down addresses)
 down_fits size [] fits = All-nil (FitsStation size)
 down_fits size (a ∷ rest) fits =
     All-cons (FitsStation size) (station_down a) (map station_down rest)
@@ -40,27 +43,38 @@ down_fits size (a ∷ rest) fits =
     (down_fits size rest (All-tail (FitsAddress size) a rest fits))
 
 -- no command is offered
-pub withdrawn_fits : (size : LinkSize) (stations : List StationState) → FitStations size stations → FitStations size (map without_offer stations)
+pub withdrawn_fits : (size : LinkSize) (stations : List StationState) → FitStations size stations
+    → FitStations size (map without_offer stations)
 withdrawn_fits size [] fits = fits
 withdrawn_fits size (s ∷ ss) fits =
     let first = All-head (FitsStation size) s ss fits in
     All-cons (FitsStation size) (without_offer s) (map without_offer ss)
-    (record { address = first.address; link = first.link; offered = tt }) (withdrawn_fits size ss (All-tail (FitsStation size) s ss fits))
+    (record { address = first.address; link = first.link; offered = tt })
+    (withdrawn_fits size ss (All-tail (FitsStation size) s ss fits))
 
-offer_left_fits : (size : LinkSize) (request : Asked) (offered : Option (List ℕ)) → FitsOffer size offered → FitsOffer size (offer_left request offered)
+offer_left_fits : (size : LinkSize) (request : Asked) (offered : Option (List ℕ)) → FitsOffer size offered
+    → FitsOffer size (offer_left request offered)
 offer_left_fits size Status offered fits = fits
 offer_left_fits size Reset offered fits = fits
 offer_left_fits size (Counted fcb Class1) offered fits = fits
 offer_left_fits size (Counted fcb Class2) offered fits = fits
 offer_left_fits size (Counted fcb (Command asdu)) offered fits = tt
 
-pub asked_fits : (size : LinkSize) (s : StationState) (request : Asked) → FitsStation size s → FitsStation size (station_asked s request)
-asked_fits size s request fits = record { address = fits.address; link = fits.link; offered = offer_left_fits size request s.offered fits.offered }
+pub asked_fits : (size : LinkSize) (s : StationState) (request : Asked) → FitsStation size s
+    → FitsStation size (station_asked s request)
+asked_fits size s request fits = record {
+  address = fits.address;
+  link = fits.link;
+  offered =
+      offer_left_fits size request s.offered fits.offered;
+}
 
-pub offered_fits : (size : LinkSize) (s : StationState) (asdu : List ℕ) → FitsStation size s → IsUserData size asdu → FitsStation size (with_offer s (Some asdu))
+pub offered_fits : (size : LinkSize) (s : StationState) (asdu : List ℕ) → FitsStation size s → IsUserData size asdu
+    → FitsStation size (with_offer s (Some asdu))
 offered_fits size s asdu fits carried = record { address = fits.address; link = fits.link; offered = carried }
 
-answer_fits : (size : LinkSize) (request : Asked) (answer : Answer) (link : Link) → FitsLink size link → FitsLink size (after_answer request answer link)
+answer_fits : (size : LinkSize) (request : Asked) (answer : Answer) (link : Link) → FitsLink size link
+    → FitsLink size (after_answer request answer link)
 answer_fits size Status Ready link fits = tt
 answer_fits size Status Confirmed link fits = fits
 answer_fits size Status Busy link fits = fits
@@ -80,22 +94,28 @@ answer_fits size (Counted fcb service) (Report asdu) link fits = tt
 answer_fits size (Counted fcb service) NoData link fits = tt
 answer_fits size (Counted fcb service) Unable link fits = tt
 
-pub answered_fits : (size : LinkSize) (s : StationState) (request : Asked) (frame : Frame) (answer : Answer) → FitsStation size s →
+pub answered_fits : (size : LinkSize) (s : StationState) (request : Asked) (frame : Frame) (answer : Answer)
+    → FitsStation size s →
     FitsStation size (station_answered s request frame answer)
 answered_fits size s request frame answer fits =
     record { address = fits.address; link = answer_fits size request answer s.link fits.link; offered = fits.offered }
 
-silence_fits : (settings : LinkSettings) (size : LinkSize) (request : Asked) (link : Link) → FitsAsked size request → FitsLink size (after_silence settings request true link)
+silence_fits : (settings : LinkSettings) (size : LinkSize) (request : Asked) (link : Link) → FitsAsked size request
+    → FitsLink size (after_silence settings request true link)
 silence_fits settings size Status link fits = tt
 silence_fits settings size Reset link fits = tt
-silence_fits settings size (Counted fcb service) link fits = go (nat_lt settings.retries (suc (missed_so_far link))) settings.hold
+silence_fits settings size (Counted fcb service) link fits =
+    go (nat_lt settings.retries (suc (missed_so_far link))) settings.hold
   where
-    go : (b hold : Bool) → FitsLink size (if b then (if hold then Held fcb service (suc settings.retries) else Down) else Held fcb service (suc (missed_so_far link)))
+    go : (b hold : Bool)
+        → FitsLink size (if b then (if hold then Held fcb service (suc settings.retries) else Down) else Held fcb
+        service (suc (missed_so_far link)))
     go true true = fits
     go true false = tt
     go false hold = fits
 
-pub unanswered_fits : (settings : LinkSettings) (size : LinkSize) (s : StationState) (request : Asked) → FitsAsked size request → FitsStation size s →
+pub unanswered_fits : (settings : LinkSettings) (size : LinkSize) (s : StationState) (request : Asked)
+    → FitsAsked size request → FitsStation size s →
     FitsStation size (station_unanswered settings s request)
 unanswered_fits settings size s request asked fits =
     record { address = fits.address; link = silence_fits settings size request s.link asked; offered = fits.offered }

@@ -26,13 +26,16 @@ flags_in_all front a i xs = flags_after a clear (with_station i (views front xs)
 
 one_flags : (front : List ℕ → Front) (a : ℕ) (ended : List OpenExchange) (x : OpenExchange) (i : ℕ) →
     flags_in_all front a i (ended ++ x ∷ [])
-    ≡ (if x.station == i then flags_by (answer_to a (view front x).exchange) (whole_of (front x.octets)) (flags_in_all front a i ended)
+    ≡ (if x.station == i then flags_by (answer_to a (view front x).exchange) (whole_of (front x.octets))
+    (flags_in_all front a i ended)
     else flags_in_all front a i ended)
-one_flags front a ended x i = ap (λ (es : List Exchange). flags_after a clear es) (with_one front ended x i) ∙ go (x.station == i)
+one_flags front a ended x i = ap (λ (es : List Exchange). flags_after a clear es) (with_one front ended x i)
+    ∙ go (x.station == i)
   where
     go : (b : Bool) →
         flags_after a clear (with_station i (views front ended) ++ (if b then (view front x).exchange ∷ [] else []))
-        ≡ (if b then flags_by (answer_to a (view front x).exchange) (whole_of (front x.octets)) (flags_in_all front a i ended)
+        ≡ (if b then flags_by (answer_to a (view front x).exchange) (whole_of (front x.octets))
+        (flags_in_all front a i ended)
         else flags_in_all front a i ended)
     go true = flags_push a clear (with_station i (views front ended)) (view front x).exchange
     go false = ap (λ (es : List Exchange). flags_after a clear es) (nil (with_station i (views front ended)))
@@ -40,48 +43,66 @@ one_flags front a ended x i = ap (λ (es : List Exchange). flags_after a clear e
 -- an exchange that isn't answered
 pub unanswered_flags : (front : List ℕ → Front) (addresses : List ℕ) (ended : List OpenExchange) (x : OpenExchange) →
     answer_to (slice_index addresses x.station) (view front x).exchange ≡ None → (i : ℕ) →
-    flags_in_all front (slice_index addresses i) i (ended ++ x ∷ []) ≡ flags_in_all front (slice_index addresses i) i ended
-unanswered_flags front addresses ended x none i = one_flags front (slice_index addresses i) ended x i ∙ go (x.station == i) refl
+    flags_in_all front (slice_index addresses i) i (ended ++ x ∷ [])
+    ≡ flags_in_all front (slice_index addresses i) i ended
+unanswered_flags front addresses ended x none i = one_flags front (slice_index addresses i) ended x i
+    ∙ go (x.station == i) refl
   where
     go : (b : Bool) → (x.station == i) ≡ b →
-        (if b then flags_by (answer_to (slice_index addresses i) (view front x).exchange) (whole_of (front x.octets)) (flags_in_all front (slice_index addresses i) i ended)
-        else flags_in_all front (slice_index addresses i) i ended) ≡ flags_in_all front (slice_index addresses i) i ended
+        (if b then flags_by (answer_to (slice_index addresses i) (view front x).exchange) (whole_of (front x.octets))
+        (flags_in_all front (slice_index addresses i) i ended)
+        else flags_in_all front (slice_index addresses i) i ended)
+        ≡ flags_in_all front (slice_index addresses i) i ended
     go false e = refl
     go true e =
-        ap (λ (m : Option Answer). flags_by m (whole_of (front x.octets)) (flags_in_all front (slice_index addresses i) i ended))
-        (subst (λ (j : ℕ). answer_to (slice_index addresses j) (view front x).exchange ≡ None) (eqb-true x.station i e) none)
+        ap (λ (m : Option Answer). flags_by m (whole_of (front x.octets))
+        (flags_in_all front (slice_index addresses i) i ended))
+        (subst (λ (j : ℕ). answer_to (slice_index addresses j) (view front x).exchange ≡ None)
+        (eqb-true x.station i e) none)
 
 -- an exchange that shows the same
-pub alike_flags : (front : List ℕ → Front) (addresses : List ℕ) (ended : List OpenExchange) (x y : OpenExchange) → y.station ≡ x.station →
+pub alike_flags : (front : List ℕ → Front) (addresses : List ℕ) (ended : List OpenExchange) (x y : OpenExchange)
+    → y.station ≡ x.station →
     y.request ≡ x.request → whole_of (front y.octets) ≡ whole_of (front x.octets) → (i : ℕ) →
-    flags_in_all front (slice_index addresses i) i (ended ++ y ∷ []) ≡ flags_in_all front (slice_index addresses i) i (ended ++ x ∷ [])
+    flags_in_all front (slice_index addresses i) i (ended ++ y ∷ [])
+    ≡ flags_in_all front (slice_index addresses i) i (ended ++ x ∷ [])
 alike_flags front addresses ended x y station request shows i =
     let a = slice_index addresses i in
     let before = flags_in_all front a i ended in
     one_flags front a ended y i
-    ∙ ap (λ (j : ℕ). if j == i then flags_by (option_and_then (answer_of a y.request) (whole_of (front y.octets))) (whole_of (front y.octets)) before else before) station
-    ∙ ap (λ (r : Asked). if x.station == i then flags_by (option_and_then (answer_of a r) (whole_of (front y.octets))) (whole_of (front y.octets)) before else before) request
-    ∙ ap (λ (f : Option Frame). if x.station == i then flags_by (option_and_then (answer_of a x.request) f) f before else before) shows
+    ∙ ap (λ (j : ℕ). if j == i then flags_by (option_and_then (answer_of a y.request) (whole_of (front y.octets)))
+    (whole_of (front y.octets)) before else before) station
+    ∙ ap (λ (r : Asked). if x.station == i then flags_by (option_and_then (answer_of a r) (whole_of (front y.octets)))
+    (whole_of (front y.octets)) before else before) request
+    ∙ ap (λ (f : Option Frame). if x.station == i then flags_by
+    (option_and_then (answer_of a x.request) f) f before else before) shows
     ∙ sym (one_flags front a ended x i)
 
 -- an exchange of the station whose turn it is, answered by a frame
-pub answered_flags : (front : List ℕ → Front) (addresses : List ℕ) (stations : List StationState) (turn : ℕ) (ended : List OpenExchange)
-    (x : OpenExchange) (s : StationState) (answer : Answer) (frame : Frame) → turn < length stations → AreFlags front addresses stations ended →
-    x.station ≡ turn → answer_to (slice_index addresses x.station) (view front x).exchange ≡ Some answer → whole_of (front x.octets) ≡ Some frame →
+pub answered_flags : (front : List ℕ → Front) (addresses : List ℕ) (stations : List StationState) (turn : ℕ)
+    (ended : List OpenExchange)
+    (x : OpenExchange) (s : StationState) (answer : Answer) (frame : Frame) → turn < length stations
+    → AreFlags front addresses stations ended →
+    x.station ≡ turn → answer_to (slice_index addresses x.station) (view front x).exchange ≡ Some answer
+    → whole_of (front x.octets) ≡ Some frame →
     flags_in frame ≡ flags_of s → AreFlags front addresses (slice_set stations turn s) (ended ++ x ∷ [])
 answered_flags front addresses stations turn ended x s answer frame fits flags at said shows same i =
     one_flags front (slice_index addresses i) ended x i ∙ go (x.station == i) refl
   where
     go : (b : Bool) → (x.station == i) ≡ b →
-        (if b then flags_by (answer_to (slice_index addresses i) (view front x).exchange) (whole_of (front x.octets)) (flags_in_all front (slice_index addresses i) i ended)
+        (if b then flags_by (answer_to (slice_index addresses i) (view front x).exchange) (whole_of (front x.octets))
+        (flags_in_all front (slice_index addresses i) i ended)
         else flags_in_all front (slice_index addresses i) i ended) ≡ flags_of (station_at (slice_set stations turn s) i)
     go false e =
         let other : i ≢ turn = λ (q : i ≡ turn). eqb-false x.station i e (at ∙ sym q) in
         flags i ∙ ap flags_of (sym (get_or-set_other stations turn i s no_station other))
     go true e =
         let here : turn ≡ i = sym at ∙ eqb-true x.station i e in
-        ap (λ (m : Option Answer). flags_by m (whole_of (front x.octets)) (flags_in_all front (slice_index addresses i) i ended))
-        (subst (λ (j : ℕ). answer_to (slice_index addresses j) (view front x).exchange ≡ Some answer) (eqb-true x.station i e) said)
-        ∙ ap (λ (f : Option Frame). flags_by (Some answer) f (flags_in_all front (slice_index addresses i) i ended)) shows
+        ap (λ (m : Option Answer). flags_by m (whole_of (front x.octets))
+        (flags_in_all front (slice_index addresses i) i ended))
+        (subst (λ (j : ℕ). answer_to (slice_index addresses j) (view front x).exchange ≡ Some answer)
+        (eqb-true x.station i e) said)
+        ∙ ap (λ (f : Option Frame). flags_by (Some answer) f (flags_in_all front (slice_index addresses i) i ended))
+        shows
         ∙ same ∙ ap flags_of (sym (get_or-set_same stations turn s no_station fits))
         ∙ ap (λ (j : ℕ). flags_of (station_at (slice_set stations turn s) j)) here

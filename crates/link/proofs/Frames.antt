@@ -11,22 +11,30 @@ use Rattle.ft12.specs.Reading.{IsFront}
 use Rattle.link.specs.Requests.{FitsFrame}
 use Rattle.link.specs.Secondary.{data_frame, Secondary, HearsOctets}
 
-length-user : (size : LinkSize) (c a : ℕ) (body : List ℕ) → length (user size c a body) ≡ 1 + address_len size + length body
+length-user : (size : LinkSize) (c a : ℕ) (body : List ℕ)
+    → length (user size c a body) ≡ 1 + address_len size + length body
 length-user One c a body = omega arith
 length-user Two c a body = omega arith
 
-pub data_fits : (size : LinkSize) (c a : ℕ) (body : List ℕ) → c < 256 → a < 256 ^ address_len size → All IsOctet body → FitsFrame size body →
+pub data_fits : (size : LinkSize) (c a : ℕ) (body : List ℕ) → c < 256 → a < 256 ^ address_len size → All IsOctet body
+    → FitsFrame size body →
     Fits size (data_frame c a body)
-data_fits size c a body control address octets short = (record { control = control; address = address }, octets, omega (arith, length-user size c a body, short))
+data_fits size c a body control address octets short =
+    (record { control = control; address = address }, octets, omega (arith, length-user size c a body, short))
 
 -- the front tells each whole frame
-pub told_whole : (size : LinkSize) (octets : List ℕ) (result : Front) → ((other : Front) → IsFront size octets other → other ≡ result) →
+pub told_whole : (size : LinkSize) (octets : List ℕ) (result : Front)
+    → ((other : Front) → IsFront size octets other → other ≡ result) →
     (frame : Frame) → IsLineFrame size frame octets → Whole frame (length octets) ≡ result
-told_whole size octets result only frame line = only (Whole frame (length octets)) (subst (IsLineFrame size frame) (sym (take_all (length octets) octets (omega arith))) line, omega arith)
+told_whole size octets result only frame line = only (Whole frame (length octets))
+    (subst (IsLineFrame size frame) (sym (take_all (length octets) octets (omega arith))) line, omega arith)
 
-pub not_heard : (s : Secondary) (octets : List ℕ) (result : Front) → ((other : Front) → IsFront s.size octets other → other ≡ result) →
+pub not_heard : (s : Secondary) (octets : List ℕ) (result : Front)
+    → ((other : Front) → IsFront s.size octets other → other ≡ result) →
     ((frame : Frame) → Whole frame (length octets) ≡ result → ⊥) → HearsOctets s octets None s
-not_heard s octets result only no_whole = inr ((λ frame line. no_whole frame (told_whole s.size octets result only frame line)), refl, refl)
+not_heard s octets result only no_whole =
+    inr ((λ frame line. no_whole frame (told_whole s.size octets result only frame line)), refl, refl)
 
-pub whole_all : (size : LinkSize) (octets : List ℕ) (frame : Frame) (n : ℕ) → n ≡ length octets → IsFront size octets (Whole frame n) → IsLineFrame size frame octets
+pub whole_all : (size : LinkSize) (octets : List ℕ) (frame : Frame) (n : ℕ) → n ≡ length octets
+    → IsFront size octets (Whole frame n) → IsLineFrame size frame octets
 whole_all size octets frame n e front = subst (IsLineFrame size frame) (take_all n octets (omega arith)) front.0

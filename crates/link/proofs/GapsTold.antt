@@ -22,11 +22,13 @@ none (x ∷ xs) = ap (λ (ys : List ℕ). x ∷ ys) (none xs)
 
 -- ---- one more exchange
 
-from_push : (a : ℕ) (before xs : List Exchange) (x : Exchange) → gaps_from a before (xs ++ x ∷ []) ≡ gaps_from a before xs ++ gap_by a (before ++ xs) x
+from_push : (a : ℕ) (before xs : List Exchange) (x : Exchange)
+    → gaps_from a before (xs ++ x ∷ []) ≡ gaps_from a before xs ++ gap_by a (before ++ xs) x
 from_push a before [] x = none (gap_by a before x) ∙ ap (λ (ys : List Exchange). gap_by a ys x) (sym (nil before))
 from_push a before (y ∷ ys) x =
     ap (λ (l : List ℕ). gap_by a before y ++ l) (from_push a (before ++ y ∷ []) ys x)
-    ∙ ap (λ (es : List Exchange). gap_by a before y ++ (gaps_from a (before ++ y ∷ []) ys ++ gap_by a es x)) (append_assoc before (y ∷ []) ys)
+    ∙ ap (λ (es : List Exchange). gap_by a before y ++ (gaps_from a (before ++ y ∷ []) ys ++ gap_by a es x))
+    (append_assoc before (y ∷ []) ys)
     ∙ sym (append_assoc (gap_by a before y) (gaps_from a (before ++ y ∷ []) ys) (gap_by a (before ++ y ∷ ys) x))
 
 -- the gaps of a station by these exchanges of its line
@@ -35,18 +37,22 @@ gaps_of front a i xs = gaps_in a (with_station i (views front xs))
 
 -- the gap that the latest one ends
 abbrev pub ends : (front : List ℕ → Front) → (a i : ℕ) → List OpenExchange → (request : Asked) → Option Answer → List ℕ
-ends front a i ended request m = if is_reset request m then as_numbers (gap_in a (with_station i (views front ended))) else []
+ends front a i ended request m = if is_reset request m then as_numbers
+    (gap_in a (with_station i (views front ended))) else []
 
 one_gap : (front : List ℕ → Front) (a i : ℕ) (ended : List OpenExchange) (x : OpenExchange) →
     gaps_of front a i (ended ++ x ∷ [])
-    ≡ gaps_of front a i ended ++ (if x.station == i then ends front a i ended x.request (answer_to a (view front x).exchange) else [])
+    ≡ gaps_of front a i ended
+    ++ (if x.station == i then ends front a i ended x.request (answer_to a (view front x).exchange) else [])
 one_gap front a i ended x = ap (λ (es : List Exchange). gaps_in a es) (with_one front ended x i) ∙ go (x.station == i)
   where
     go : (b : Bool) →
         gaps_in a (with_station i (views front ended) ++ (if b then (view front x).exchange ∷ [] else []))
-        ≡ gaps_of front a i ended ++ (if b then ends front a i ended x.request (answer_to a (view front x).exchange) else [])
+        ≡ gaps_of front a i ended
+        ++ (if b then ends front a i ended x.request (answer_to a (view front x).exchange) else [])
     go true = from_push a [] (with_station i (views front ended)) (view front x).exchange
-    go false = ap (λ (es : List Exchange). gaps_in a es) (nil (with_station i (views front ended))) ∙ sym (none (gaps_of front a i ended))
+    go false = ap (λ (es : List Exchange). gaps_in a es) (nil (with_station i (views front ended)))
+        ∙ sym (none (gaps_of front a i ended))
 
 -- what isn't answered is no confirmed reset
 none_reset : (request : Asked) → is_reset request None ≡ false
@@ -67,60 +73,82 @@ quiet_gaps front addresses ended x unanswered i =
     a = slice_index addresses i
 
     go : (b : Bool) → (x.station == i) ≡ b →
-        (if b then ends front (slice_index addresses i) i ended x.request (answer_to (slice_index addresses i) (view front x).exchange) else []) ≡ []
+        (if b then ends front (slice_index addresses i) i ended x.request
+        (answer_to (slice_index addresses i) (view front x).exchange) else []) ≡ []
     go false e = refl
     go true e =
         ap (λ (m : Option Answer). ends front a i ended x.request m)
-        (subst (λ (j : ℕ). answer_to (slice_index addresses j) (view front x).exchange ≡ None) (eqb-true x.station i e) unanswered)
-        ∙ ap (λ (b : Bool). if b then as_numbers (gap_in a (with_station i (views front ended))) else []) (none_reset x.request)
+        (subst (λ (j : ℕ). answer_to (slice_index addresses j) (view front x).exchange ≡ None)
+        (eqb-true x.station i e) unanswered)
+        ∙ ap (λ (b : Bool). if b then as_numbers (gap_in a (with_station i (views front ended))) else [])
+        (none_reset x.request)
 
 -- an exchange that is answered alike
-alike_gaps : (front : List ℕ → Front) (addresses : List ℕ) (ended : List OpenExchange) (x y : OpenExchange) → y.station ≡ x.station →
+alike_gaps : (front : List ℕ → Front) (addresses : List ℕ) (ended : List OpenExchange) (x y : OpenExchange)
+    → y.station ≡ x.station →
     y.request ≡ x.request →
-    answer_to (slice_index addresses x.station) (view front y).exchange ≡ answer_to (slice_index addresses x.station) (view front x).exchange →
-    (i : ℕ) → gaps_of front (slice_index addresses i) i (ended ++ y ∷ []) ≡ gaps_of front (slice_index addresses i) i (ended ++ x ∷ [])
+    answer_to (slice_index addresses x.station) (view front y).exchange
+    ≡ answer_to (slice_index addresses x.station) (view front x).exchange →
+    (i : ℕ) → gaps_of front (slice_index addresses i) i (ended ++ y ∷ [])
+    ≡ gaps_of front (slice_index addresses i) i (ended ++ x ∷ [])
 alike_gaps front addresses ended x y station request says i =
     one_gap front (slice_index addresses i) i ended y
     ∙ ap (λ (j : ℕ). gaps_of front (slice_index addresses i) i ended
-    ++ (if j == i then ends front (slice_index addresses i) i ended y.request (answer_to (slice_index addresses i) (view front y).exchange) else [])) station
+    ++ (if j == i then ends front (slice_index addresses i) i ended y.request
+    (answer_to (slice_index addresses i) (view front y).exchange) else [])) station
     ∙ ap (λ (l : List ℕ). gaps_of front (slice_index addresses i) i ended ++ l) (go (x.station == i) refl)
     ∙ sym (one_gap front (slice_index addresses i) i ended x)
   where
     go : (b : Bool) → (x.station == i) ≡ b →
-        (if b then ends front (slice_index addresses i) i ended y.request (answer_to (slice_index addresses i) (view front y).exchange) else [])
-        ≡ (if b then ends front (slice_index addresses i) i ended x.request (answer_to (slice_index addresses i) (view front x).exchange) else [])
+        (if b then ends front (slice_index addresses i) i ended y.request
+        (answer_to (slice_index addresses i) (view front y).exchange) else [])
+        ≡ (if b then ends front (slice_index addresses i) i ended x.request
+        (answer_to (slice_index addresses i) (view front x).exchange) else [])
     go false e = refl
     go true e =
-        ap (λ (r : Asked). ends front (slice_index addresses i) i ended r (answer_to (slice_index addresses i) (view front y).exchange)) request
+        ap (λ (r : Asked). ends front (slice_index addresses i) i ended r
+        (answer_to (slice_index addresses i) (view front y).exchange)) request
         ∙ ap (λ (m : Option Answer). ends front (slice_index addresses i) i ended x.request m)
-        (subst (λ (j : ℕ). answer_to (slice_index addresses j) (view front y).exchange ≡ answer_to (slice_index addresses j) (view front x).exchange)
+        (subst (λ (j : ℕ). answer_to (slice_index addresses j) (view front y).exchange
+        ≡ answer_to (slice_index addresses j) (view front x).exchange)
         (eqb-true x.station i e) says)
 
 -- ---- `due` and `next`
 
-same_answer : (front : List ℕ → Front) (a i : ℕ) (ended : List OpenExchange) (x y : OpenExchange) → y.station ≡ x.station → y.request ≡ x.request →
+same_answer : (front : List ℕ → Front) (a i : ℕ) (ended : List OpenExchange) (x y : OpenExchange)
+    → y.station ≡ x.station → y.request ≡ x.request →
     y.octets ≡ x.octets → gaps_of front a i (ended ++ y ∷ []) ≡ gaps_of front a i (ended ++ x ∷ [])
 same_answer front a i ended x y station request octets =
     one_gap front a i ended y
-    ∙ ap (λ (j : ℕ). gaps_of front a i ended ++ (if j == i then ends front a i ended y.request (option_and_then (answer_of a y.request) (whole_of (front y.octets))) else [])) station
-    ∙ ap (λ (r : Asked). gaps_of front a i ended ++ (if x.station == i then ends front a i ended r (option_and_then (answer_of a r) (whole_of (front y.octets))) else [])) request
-    ∙ ap (λ (o : List ℕ). gaps_of front a i ended ++ (if x.station == i then ends front a i ended x.request (option_and_then (answer_of a x.request) (whole_of (front o))) else [])) octets
+    ∙ ap (λ (j : ℕ). gaps_of front a i ended
+    ++ (if j == i then ends front a i ended y.request
+    (option_and_then (answer_of a y.request) (whole_of (front y.octets))) else [])) station
+    ∙ ap (λ (r : Asked). gaps_of front a i ended
+    ++ (if x.station == i then ends front a i ended r
+    (option_and_then (answer_of a r) (whole_of (front y.octets))) else [])) request
+    ∙ ap (λ (o : List ℕ). gaps_of front a i ended
+    ++ (if x.station == i then ends front a i ended x.request
+    (option_and_then (answer_of a x.request) (whole_of (front o))) else [])) octets
     ∙ sym (one_gap front a i ended x)
 
 pub due_gaps : (front : List ℕ → Front) (addresses : List ℕ) (answer_ms at : ℕ) (e : Exchanges) (i : ℕ) →
-    gaps_at front addresses i (record { ended = e.ended; current = timed_current answer_ms at e.current }) ≡ gaps_at front addresses i e
+    gaps_at front addresses i (record { ended = e.ended; current = timed_current answer_ms at e.current })
+    ≡ gaps_at front addresses i e
 due_gaps front addresses answer_ms at e i = go e.current
   where
     go : (c : Option OpenExchange) →
-        gaps_of front (slice_index addresses i) i (e.ended ++ as_list (timed_current answer_ms at c)) ≡ gaps_of front (slice_index addresses i) i (e.ended ++ as_list c)
+        gaps_of front (slice_index addresses i) i (e.ended ++ as_list (timed_current answer_ms at c))
+        ≡ gaps_of front (slice_index addresses i) i (e.ended ++ as_list c)
     go None = refl
     go (Some x) = same_answer front (slice_index addresses i) i e.ended x _ refl refl refl
 
-pub next_gaps : (front : List ℕ → Front) (addresses : List ℕ) (now : ℕ) (s : Option Sending) (e : Exchanges) (i : ℕ) → front [] ≡ More →
+pub next_gaps : (front : List ℕ → Front) (addresses : List ℕ) (now : ℕ) (s : Option Sending) (e : Exchanges) (i : ℕ)
+    → front [] ≡ More →
     gaps_at front addresses i (begun_by now s e) ≡ gaps_at front addresses i e
 next_gaps front addresses now None e i nothing = refl
 next_gaps front addresses now (Some s) e i nothing =
-    quiet_gaps front addresses (e.ended ++ as_list e.current) (record { station = s.station; request = s.request; since = now; octets = []; closed = false })
+    quiet_gaps front addresses (e.ended ++ as_list e.current)
+    (record { station = s.station; request = s.request; since = now; octets = []; closed = false })
     (ap (λ (f : Front). option_and_then (answer_of (slice_index addresses s.station) s.request) (whole_of f)) nothing) i
 
 -- ---- `octets`
@@ -129,13 +157,15 @@ nothing : (b : Bool) → ◌≡◌ {A = List ℕ} [] (if b then [] else [])
 nothing true = refl
 nothing false = refl
 
-start_tells : (station i : ℕ) (gap : Option ℕ) → gap_in_outcome i (started station gap) ≡ (if station == i then as_numbers gap else [])
+start_tells : (station i : ℕ) (gap : Option ℕ) → gap_in_outcome i (started station gap)
+    ≡ (if station == i then as_numbers gap else [])
 start_tells station i None = nothing (station == i)
 start_tells station i (Some session) = refl
 
 -- what is told of an answer, where it is an answer to the request
 told_gap : (station i : ℕ) (gap : Option ℕ) (request : Asked) (m : Option Answer) →
-    gap_in_outcome i (with_gap gap (outcome_of station request m)) ≡ (if station == i then (if is_reset request m then as_numbers gap else []) else [])
+    gap_in_outcome i (with_gap gap (outcome_of station request m))
+    ≡ (if station == i then (if is_reset request m then as_numbers gap else []) else [])
 told_gap station i gap Status None = nothing (station == i)
 told_gap station i gap Status (Some Ready) = nothing (station == i)
 told_gap station i gap Status (Some Confirmed) = nothing (station == i)
@@ -161,7 +191,8 @@ told_gap station i gap (Counted fcb service) (Some Unable) = nothing (station ==
 -- While a reset is outstanding the session is the one before it.
 reset_gap : (front : List ℕ → Front) (a : ℕ) (ended : List OpenExchange) (x : OpenExchange) (m : Option Answer) →
     answer_to a (view front x).exchange ≡ None →
-    (if is_reset x.request m then as_numbers (gap_in a (with_station x.station (views front (ended ++ x ∷ [])))) else [])
+    (if is_reset x.request m then as_numbers (gap_in a (with_station x.station (views front (ended ++ x ∷ [])))) else
+    [])
     ≡ ends front a x.station ended x.request m
 reset_gap front a ended x m unanswered = go x.request refl m
   where
@@ -169,7 +200,8 @@ reset_gap front a ended x m unanswered = go x.request refl m
     by_none = one_session front a ended x x.station ∙ here (x.station == x.station) refl
       where
         here : (b : Bool) → (x.station == x.station) ≡ b →
-            (if b then step x.request (answer_to a (view front x).exchange) (session_of front a x.station ended) else session_of front a x.station ended)
+            (if b then step x.request (answer_to a (view front x).exchange)
+            (session_of front a x.station ended) else session_of front a x.station ended)
             ≡ step x.request None (session_of front a x.station ended)
         here true e = ap (λ (m : Option Answer). step x.request m (session_of front a x.station ended)) unanswered
         here false e = absurd (eqb-false x.station x.station e refl)
@@ -183,87 +215,117 @@ reset_gap front a ended x m unanswered = go x.request refl m
         ap (λ (s : SessionState). if is_reset Reset m then as_numbers (gap_of s) else [])
         (by_none ∙ ap (λ (r : Asked). step r None (session_of front a x.station ended)) e)
 
-pub hear_gaps : (front : List ℕ → Front) (settings : LinkSettings) (addresses : List ℕ) (p : Primary) (ended : List OpenExchange) (cur : Option OpenExchange) (octets : List ℕ) (i : ℕ) →
+pub hear_gaps : (front : List ℕ → Front) (settings : LinkSettings) (addresses : List ℕ) (p : Primary)
+    (ended : List OpenExchange) (cur : Option OpenExchange) (octets : List ℕ) (i : ℕ) →
     TellsBy front settings addresses p (record { ended = ended; current = cur }) →
     gaps_of front (slice_index addresses i) i (ended ++ as_list (heard_current octets cur))
-    ≡ gaps_of front (slice_index addresses i) i (ended ++ as_list cur) ++ gap_in_outcome i (received_outcome front p octets)
+    ≡ gaps_of front (slice_index addresses i) i (ended ++ as_list cur)
+    ++ gap_in_outcome i (received_outcome front p octets)
 hear_gaps front settings addresses p ended cur octets i t = go p.outstanding cur t t.current
   where
     a : ℕ
     a = slice_index addresses i
 
-    go : (o : Option Outstanding) (c : Option OpenExchange) → TellsBy front settings addresses p (record { ended = ended; current = c }) →
+    go : (o : Option Outstanding) (c : Option OpenExchange)
+        → TellsBy front settings addresses p (record { ended = ended; current = c }) →
         IsCurrent front addresses p.turn o c →
         gaps_of front (slice_index addresses i) i (ended ++ as_list (heard_current octets c))
-        ≡ gaps_of front (slice_index addresses i) i (ended ++ as_list c) ++ gap_in_outcome i (outcome_from front p o octets)
+        ≡ gaps_of front (slice_index addresses i) i (ended ++ as_list c)
+        ++ gap_in_outcome i (outcome_from front p o octets)
     go None None t so = sym (none (gaps_of front (slice_index addresses i) i (ended ++ [])))
     go (Some o) None t so = absurd so
-    go None (Some x) t over = by_closed x.closed refl over ∙ sym (none (gaps_of front (slice_index addresses i) i (ended ++ x ∷ [])))
+    go None (Some x) t over = by_closed x.closed refl over
+        ∙ sym (none (gaps_of front (slice_index addresses i) i (ended ++ x ∷ [])))
       where
         by_closed : (b : Bool) → x.closed ≡ b → IsOver front (slice_index addresses x.station) x →
-            gaps_of front (slice_index addresses i) i (ended ++ heard_octets octets x ∷ []) ≡ gaps_of front (slice_index addresses i) i (ended ++ x ∷ [])
-        by_closed true e so = ap (λ (z : OpenExchange). gaps_of front (slice_index addresses i) i (ended ++ z ∷ [])) (heard_closed octets x e)
+            gaps_of front (slice_index addresses i) i (ended ++ heard_octets octets x ∷ [])
+            ≡ gaps_of front (slice_index addresses i) i (ended ++ x ∷ [])
+        by_closed true e so = ap (λ (z : OpenExchange). gaps_of front (slice_index addresses i) i (ended ++ z ∷ []))
+            (heard_closed octets x e)
         by_closed false e (inl closed) = cc
         by_closed false e (inr said) =
-            ap (λ (z : OpenExchange). gaps_of front (slice_index addresses i) i (ended ++ z ∷ [])) (heard_open octets x e)
+            ap (λ (z : OpenExchange). gaps_of front (slice_index addresses i) i (ended ++ z ∷ []))
+            (heard_open octets x e)
             ∙ alike_gaps front addresses ended x (grown x octets) refl refl
             (said.1 octets ∙ sym (said_now front (slice_index addresses x.station) x (Some said.0) said.1)) i
     go (Some q) (Some x) t w =
-        ap (λ (z : OpenExchange). gaps_of front (slice_index addresses i) i (ended ++ z ∷ [])) (heard_open octets x w.waits)
+        ap (λ (z : OpenExchange). gaps_of front (slice_index addresses i) i (ended ++ z ∷ []))
+        (heard_open octets x w.waits)
         ∙ one_gap front (slice_index addresses i) i ended (grown x octets)
-        ∙ ap (λ (l : List ℕ). gaps_of front (slice_index addresses i) i ended ++ l) (sym (by_heard q.heard w.heard ∙ here (x.station == i) refl))
-        ∙ ap (λ (l : List ℕ). l ++ gap_in_outcome i (outcome_after front p q q.heard octets)) (sym (quiet_gaps front addresses ended x unanswered i))
+        ∙ ap (λ (l : List ℕ). gaps_of front (slice_index addresses i) i ended ++ l)
+        (sym (by_heard q.heard w.heard ∙ here (x.station == i) refl))
+        ∙ ap (λ (l : List ℕ). l ++ gap_in_outcome i (outcome_after front p q q.heard octets))
+        (sym (quiet_gaps front addresses ended x unanswered i))
       where
         unanswered : answer_to (slice_index addresses x.station) (view front x).exchange ≡ None
         unanswered =
-            ap (λ (j : ℕ). answer_to (slice_index addresses j) (view front x).exchange) w.station ∙ unheard front (slice_index addresses p.turn) x q.heard w.heard
+            ap (λ (j : ℕ). answer_to (slice_index addresses j) (view front x).exchange) w.station
+            ∙ unheard front (slice_index addresses p.turn) x q.heard w.heard
 
         -- what comes of the exchange
         says : Option Answer
-        says = option_and_then (answer_of (slice_index addresses x.station) x.request) (whole_of (front (x.octets ++ octets)))
+        says = option_and_then (answer_of (slice_index addresses x.station) x.request)
+            (whole_of (front (x.octets ++ octets)))
 
         -- by the station whose turn it is
-        at_turn : (f : Front) → option_and_then (answer_of (slice_index addresses p.turn) x.request) (whole_of f) ≡ option_and_then (answer_of (slice_index addresses x.station) x.request) (whole_of f)
-        at_turn f = ap (λ (j : ℕ). option_and_then (answer_of (slice_index addresses j) x.request) (whole_of f)) (sym w.station)
+        at_turn : (f : Front) → option_and_then (answer_of (slice_index addresses p.turn) x.request) (whole_of f)
+            ≡ option_and_then (answer_of (slice_index addresses x.station) x.request) (whole_of f)
+        at_turn f = ap (λ (j : ℕ). option_and_then (answer_of (slice_index addresses j) x.request) (whole_of f))
+            (sym w.station)
 
-        gap : turn_gap p ≡ gap_in (slice_index addresses x.station) (with_station x.station (views front (ended ++ x ∷ [])))
+        gap : turn_gap p ≡ gap_in (slice_index addresses x.station)
+            (with_station x.station (views front (ended ++ x ∷ [])))
         gap =
             ap gap_of (sym (t.sessions p.turn))
-            ∙ ap (λ (j : ℕ). gap_in (slice_index addresses j) (with_station j (views front (ended ++ x ∷ [])))) (sym w.station)
+            ∙ ap (λ (j : ℕ). gap_in (slice_index addresses j) (with_station j (views front (ended ++ x ∷ []))))
+            (sym w.station)
 
         tells : (m : Option Answer) → gap_in_outcome i (with_gap (turn_gap p) (outcome_of p.turn x.request m))
             ≡ (if x.station == i then ends front (slice_index addresses x.station) x.station ended x.request m else [])
         tells m =
             told_gap p.turn i (turn_gap p) x.request m
-            ∙ ap (λ (j : ℕ). if j == i then (if is_reset x.request m then as_numbers (turn_gap p) else []) else []) (sym w.station)
-            ∙ ap (λ (g : Option ℕ). if x.station == i then (if is_reset x.request m then as_numbers g else []) else []) gap
-            ∙ ap (λ (l : List ℕ). if x.station == i then l else []) (reset_gap front (slice_index addresses x.station) ended x m unanswered)
+            ∙ ap (λ (j : ℕ). if j == i then (if is_reset x.request m then as_numbers (turn_gap p) else []) else [])
+            (sym w.station)
+            ∙ ap (λ (g : Option ℕ). if x.station == i then (if is_reset x.request m then as_numbers g else []) else [])
+            gap
+            ∙ ap (λ (l : List ℕ). if x.station == i then l else [])
+            (reset_gap front (slice_index addresses x.station) ended x m unanswered)
 
         by_front : (f : Front) →
-            gap_in_outcome i (outcome_at p q (whole_of f)) ≡ gap_in_outcome i (with_gap (turn_gap p) (outcome_of p.turn x.request (option_and_then (answer_of (slice_index addresses p.turn) x.request) (whole_of f))))
+            gap_in_outcome i (outcome_at p q (whole_of f))
+            ≡ gap_in_outcome i (with_gap (turn_gap p)
+            (outcome_of p.turn x.request (option_and_then (answer_of (slice_index addresses p.turn) x.request)
+            (whole_of f))))
         by_front More = refl
         by_front (Never place why) = refl
         by_front (Whole frame n) =
-            ap (λ (b : ℕ). gap_in_outcome i (with_gap (turn_gap p) (outcome_of p.turn q.request (answer_of b q.request frame)))) (t.address p.turn)
-            ∙ ap (λ (r : Asked). gap_in_outcome i (with_gap (turn_gap p) (outcome_of p.turn r (answer_of (slice_index addresses p.turn) r frame)))) (sym w.request)
+            ap (λ (b : ℕ). gap_in_outcome i (with_gap (turn_gap p)
+            (outcome_of p.turn q.request (answer_of b q.request frame)))) (t.address p.turn)
+            ∙ ap (λ (r : Asked). gap_in_outcome i (with_gap (turn_gap p)
+            (outcome_of p.turn r (answer_of (slice_index addresses p.turn) r frame)))) (sym w.request)
 
         by_heard : (h : Option (List ℕ)) → IsHeard front (slice_index addresses p.turn) x h →
             gap_in_outcome i (outcome_after front p q h octets)
-            ≡ (if x.station == i then ends front (slice_index addresses x.station) x.station ended x.request says else [])
+            ≡ (if x.station == i then ends front (slice_index addresses x.station) x.station ended x.request says else
+            [])
         by_heard None said =
             tells None
-            ∙ ap (λ (m : Option Answer). if x.station == i then ends front (slice_index addresses x.station) x.station ended x.request m else [])
+            ∙ ap (λ (m : Option Answer). if x.station == i then ends front
+            (slice_index addresses x.station) x.station ended x.request m else [])
             (sym (said octets) ∙ at_turn (front (x.octets ++ octets)))
         by_heard (Some before) so =
             ap (λ (b : List ℕ). gap_in_outcome i (outcome_at p q (whole_of (front (b ++ octets))))) so.0
             ∙ by_front (front (x.octets ++ octets))
-            ∙ ap (λ (m : Option Answer). gap_in_outcome i (with_gap (turn_gap p) (outcome_of p.turn x.request m))) (at_turn (front (x.octets ++ octets)))
+            ∙ ap (λ (m : Option Answer). gap_in_outcome i (with_gap (turn_gap p) (outcome_of p.turn x.request m)))
+            (at_turn (front (x.octets ++ octets)))
             ∙ tells says
 
         here : (b : Bool) → (x.station == i) ≡ b →
             (if b then ends front (slice_index addresses x.station) x.station ended x.request says else [])
-            ≡ (if b then ends front (slice_index addresses i) i ended x.request (answer_to (slice_index addresses i) (view front (grown x octets)).exchange) else [])
+            ≡ (if b then ends front (slice_index addresses i) i ended x.request
+            (answer_to (slice_index addresses i) (view front (grown x octets)).exchange) else [])
         here false e = refl
         here true e =
             ap (λ (j : ℕ). ends front (slice_index addresses j) j ended x.request
-            (option_and_then (answer_of (slice_index addresses j) x.request) (whole_of (front (x.octets ++ octets))))) (eqb-true x.station i e)
+            (option_and_then (answer_of (slice_index addresses j) x.request) (whole_of (front (x.octets ++ octets)))))
+            (eqb-true x.station i e)

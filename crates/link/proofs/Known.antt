@@ -15,26 +15,31 @@ IsKnownWant link offered (Some w) = IsKnownCommand link offered w.request
 
 abbrev pub IsKnownChoice : List StationState → Option Chosen → Type 0
 IsKnownChoice stations None = Unit {0}
-IsKnownChoice stations (Some c) = IsKnownCommand (station_at stations c.station).link (station_at stations c.station).offered c.wanted.request
+IsKnownChoice stations (Some c) = IsKnownCommand (station_at stations c.station).link
+    (station_at stations c.station).offered c.wanted.request
 
-held_known : (fcb : Bool) (service : Service) (missed : ℕ) (offered : Option (List ℕ)) → IsKnownCommand (Held fcb service missed) offered (Counted fcb service)
+held_known : (fcb : Bool) (service : Service) (missed : ℕ) (offered : Option (List ℕ))
+    → IsKnownCommand (Held fcb service missed) offered (Counted fcb service)
 held_known fcb Class1 missed offered = tt
 held_known fcb Class2 missed offered = tt
 held_known fcb (Command asdu) missed offered = inl refl
 
-poll_known : (link : Link) (offered : Option (List ℕ)) (burst : ℕ) (fcb acd : Bool) (phase : Phase) → IsKnownWant link offered (wanted_poll burst fcb acd phase)
+poll_known : (link : Link) (offered : Option (List ℕ)) (burst : ℕ) (fcb acd : Bool) (phase : Phase)
+    → IsKnownWant link offered (wanted_poll burst fcb acd phase)
 poll_known link offered burst fcb true Polling = tt
 poll_known link offered burst fcb false Polling = tt
 poll_known link offered burst fcb acd (Class1Polling sent) = go (acd && nat_lt sent burst)
   where
-    go : (b : Bool) → IsKnownWant link offered (if b then wants (Counted fcb Class1) (Class1Polling (suc sent)) else None)
+    go : (b : Bool) → IsKnownWant link offered (if b then wants (Counted fcb Class1)
+        (Class1Polling (suc sent)) else None)
     go true = tt
     go false = tt
 poll_known link offered burst fcb acd Starting = tt
 poll_known link offered burst fcb acd Commanding = tt
 poll_known link offered burst fcb acd Over = tt
 
-polls_known : (link : Link) (offered : Option (List ℕ)) (burst : ℕ) (may_poll fcb : Bool) (s : StationState) (phase : Phase) →
+polls_known : (link : Link) (offered : Option (List ℕ)) (burst : ℕ) (may_poll fcb : Bool) (s : StationState)
+    (phase : Phase) →
     IsKnownWant link offered (polls_from burst may_poll fcb s phase)
 polls_known link offered burst true fcb s phase = poll_known link offered burst fcb s.acd phase
 polls_known link offered burst false fcb s phase = tt
@@ -44,22 +49,27 @@ commands_known : (link : Link) (burst : ℕ) (may_poll fcb : Bool) (s : StationS
 commands_known link burst may_poll fcb s None = polls_known link None burst may_poll fcb s Polling
 commands_known link burst may_poll fcb s (Some asdu) = go s.dfc
   where
-    go : (b : Bool) → IsKnownWant link (Some asdu) (if b then polls_from burst may_poll fcb s Polling else wants (Counted fcb (Command asdu)) Polling)
+    go : (b : Bool) → IsKnownWant link (Some asdu) (if b then polls_from burst may_poll fcb s Polling else wants
+        (Counted fcb (Command asdu)) Polling)
     go true = polls_known link (Some asdu) burst may_poll fcb s Polling
     go false = inr refl
 
-next_known : (link : Link) (burst : ℕ) (may_poll fcb : Bool) (s : StationState) (phase : Phase) → IsKnownWant link s.offered (next_of burst may_poll fcb s phase)
+next_known : (link : Link) (burst : ℕ) (may_poll fcb : Bool) (s : StationState) (phase : Phase)
+    → IsKnownWant link s.offered (next_of burst may_poll fcb s phase)
 next_known link burst may_poll fcb s Starting = commands_known link burst may_poll fcb s s.offered
 next_known link burst may_poll fcb s Commanding = commands_known link burst may_poll fcb s s.offered
 next_known link burst may_poll fcb s Polling = polls_known link s.offered burst may_poll fcb s Polling
-next_known link burst may_poll fcb s (Class1Polling sent) = polls_known link s.offered burst may_poll fcb s (Class1Polling sent)
+next_known link burst may_poll fcb s (Class1Polling sent) =
+    polls_known link s.offered burst may_poll fcb s (Class1Polling sent)
 next_known link burst may_poll fcb s Over = tt
 
-again_known : (burst : ℕ) (may_poll again fcb : Bool) (service : Service) (missed : ℕ) (s : StationState) (phase : Phase) →
+again_known : (burst : ℕ) (may_poll again fcb : Bool) (service : Service) (missed : ℕ) (s : StationState)
+    (phase : Phase) →
     IsKnownWant (Held fcb service missed) s.offered (wanted_by burst may_poll again s (Held fcb service missed) phase)
 again_known burst may_poll again fcb service missed s Starting = go (may_poll || not (is_poll service))
   where
-    go : (b : Bool) → IsKnownWant (Held fcb service missed) s.offered (if b then wants (Counted fcb service) Commanding else None)
+    go : (b : Bool) → IsKnownWant (Held fcb service missed) s.offered
+        (if b then wants (Counted fcb service) Commanding else None)
     go true = held_known fcb service missed s.offered
     go false = tt
 again_known burst may_poll true fcb service missed s Commanding = held_known fcb service missed s.offered
@@ -74,7 +84,8 @@ again_known burst may_poll false fcb service missed s Over = tt
 wanted_known : (burst : ℕ) (may_poll again : Bool) (s : StationState) (link : Link) (phase : Phase) →
     IsKnownWant link s.offered (wanted_by burst may_poll again s link phase)
 wanted_known burst may_poll again s (Next fcb) phase = next_known (Next fcb) burst may_poll fcb s phase
-wanted_known burst may_poll again s (Held fcb service missed) phase = again_known burst may_poll again fcb service missed s phase
+wanted_known burst may_poll again s (Held fcb service missed) phase =
+    again_known burst may_poll again fcb service missed s phase
 wanted_known burst may_poll again s Down Starting = tt
 wanted_known burst may_poll again s Down Commanding = tt
 wanted_known burst may_poll again s Down Polling = tt
@@ -87,14 +98,17 @@ wanted_known burst may_poll again s Available (Class1Polling sent) = tt
 wanted_known burst may_poll again s Available Over = tt
 
 or_known : (stations : List StationState) (w : Option Wanted) (place : ℕ) (other : Option Chosen) →
-    IsKnownWant (station_at stations place).link (station_at stations place).offered w → IsKnownChoice stations other → IsKnownChoice stations (chosen_or w place other)
+    IsKnownWant (station_at stations place).link (station_at stations place).offered w → IsKnownChoice stations other
+    → IsKnownChoice stations (chosen_or w place other)
 or_known stations None place other known rest = rest
 or_known stations (Some w) place other known rest = known
 
-at_known : (burst : ℕ) (may_poll again : Bool) (s : StationState) (phase : Phase) → IsKnownWant s.link s.offered (wanted burst may_poll again s phase)
+at_known : (burst : ℕ) (may_poll again : Bool) (s : StationState) (phase : Phase)
+    → IsKnownWant s.link s.offered (wanted burst may_poll again s phase)
 at_known burst may_poll again s phase = wanted_known burst may_poll again s s.link phase
 
-first_known : (burst : ℕ) (may_poll : Bool) (stations : List StationState) (many place : ℕ) → IsKnownChoice stations (first_after burst may_poll stations many place)
+first_known : (burst : ℕ) (may_poll : Bool) (stations : List StationState) (many place : ℕ)
+    → IsKnownChoice stations (first_after burst may_poll stations many place)
 first_known burst may_poll stations zero place = tt
 first_known burst may_poll stations (suc many) place =
     or_known stations _ (place_after (length stations) place) _

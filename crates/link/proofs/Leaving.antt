@@ -17,22 +17,27 @@ use Rattle.link.proofs.Turning.{present, goes_on, passes_on}
 -- ---- what is wanted without leave
 
 -- a request that is wanted is a poll where it is one
-poll_is : (r : Asked) (following : Phase) (w : Wanted) → wants r following ≡ Some w → is_poll_request w.request ≡ is_poll_request r
-poll_is r following w is = (let same : record { request = r; following = following } ≡ w = cc in ap (λ (v : Wanted). is_poll_request v.request) (sym same))
+poll_is : (r : Asked) (following : Phase) (w : Wanted) → wants r following ≡ Some w
+    → is_poll_request w.request ≡ is_poll_request r
+poll_is r following w is = (let same : record { request = r; following = following } ≡ w = cc in
+    ap (λ (v : Wanted). is_poll_request v.request) (sym same))
 
 no_poll : (w : Wanted) → is_poll_request w.request ≡ false → is_poll_request w.request ≡ true → ⊥
 no_poll w e poll = (let both : false ≡ true = sym e ∙ poll in cc)
 
-no_offered_poll : (burst : ℕ) (fcb : Bool) (s : StationState) (offered : Option (List ℕ)) (w : Wanted) → commands_from burst false fcb s offered ≡ Some w →
+no_offered_poll : (burst : ℕ) (fcb : Bool) (s : StationState) (offered : Option (List ℕ)) (w : Wanted)
+    → commands_from burst false fcb s offered ≡ Some w →
     is_poll_request w.request ≡ true → ⊥
 no_offered_poll burst fcb s None w is poll = cc
 no_offered_poll burst fcb s (Some asdu) w is poll = go s.dfc is
   where
-    go : (b : Bool) → (if b then polls_from burst false fcb s Polling else wants (Counted fcb (Command asdu)) Polling) ≡ Some w → ⊥
+    go : (b : Bool) → (if b then polls_from burst false fcb s Polling else wants (Counted fcb (Command asdu)) Polling)
+        ≡ Some w → ⊥
     go true e = cc
     go false e = no_poll w (poll_is (Counted fcb (Command asdu)) Polling w e) poll
 
-no_next_poll : (burst : ℕ) (fcb : Bool) (s : StationState) (phase : Phase) (w : Wanted) → next_of burst false fcb s phase ≡ Some w →
+no_next_poll : (burst : ℕ) (fcb : Bool) (s : StationState) (phase : Phase) (w : Wanted)
+    → next_of burst false fcb s phase ≡ Some w →
     is_poll_request w.request ≡ true → ⊥
 no_next_poll burst fcb s Starting w is poll = no_offered_poll burst fcb s s.offered w is poll
 no_next_poll burst fcb s Commanding w is poll = no_offered_poll burst fcb s s.offered w is poll
@@ -41,7 +46,8 @@ no_next_poll burst fcb s (Class1Polling sent) w is poll = cc
 no_next_poll burst fcb s Over w is poll = cc
 
 -- Only an unanswered poll is wanted, and only at once.
-pub repeated : (burst : ℕ) (again : Bool) (s : StationState) (link : Link) (phase : Phase) (w : Wanted) → wanted_by burst false again s link phase ≡ Some w →
+pub repeated : (burst : ℕ) (again : Bool) (s : StationState) (link : Link) (phase : Phase) (w : Wanted)
+    → wanted_by burst false again s link phase ≡ Some w →
     is_poll_request w.request ≡ true → (again && holds_poll link) ≡ true
 repeated burst again s Down Starting w is poll = absurd (no_poll w (poll_is Status Starting w is) poll)
 repeated burst again s Down Commanding w is poll = cc
@@ -56,13 +62,17 @@ repeated burst again s Available Over w is poll = cc
 repeated burst again s (Next fcb) phase w is poll = absurd (no_next_poll burst fcb s phase w is poll)
 repeated burst again s (Held fcb service missed) Starting w is poll = go (is_poll service) refl is
   where
-    go : (b : Bool) → is_poll service ≡ b → (if false || not b then wants (Counted fcb service) Commanding else None) ≡ Some w →
+    go : (b : Bool) → is_poll service ≡ b → (if false || not b then wants (Counted fcb service) Commanding else None)
+        ≡ Some w →
         (again && is_poll service) ≡ true
     go true e none = cc
     go false e some = absurd (no_poll w (poll_is (Counted fcb service) Commanding w some ∙ e) poll)
-repeated burst true s (Held fcb service missed) Commanding w is poll = sym (poll_is (Counted fcb service) Commanding w is) ∙ poll
-repeated burst true s (Held fcb service missed) Polling w is poll = sym (poll_is (Counted fcb service) Polling w is) ∙ poll
-repeated burst true s (Held fcb service missed) (Class1Polling sent) w is poll = sym (poll_is (Counted fcb service) (Class1Polling sent) w is) ∙ poll
+repeated burst true s (Held fcb service missed) Commanding w is poll =
+    sym (poll_is (Counted fcb service) Commanding w is) ∙ poll
+repeated burst true s (Held fcb service missed) Polling w is poll = sym (poll_is (Counted fcb service) Polling w is)
+    ∙ poll
+repeated burst true s (Held fcb service missed) (Class1Polling sent) w is poll =
+    sym (poll_is (Counted fcb service) (Class1Polling sent) w is) ∙ poll
 repeated burst true s (Held fcb service missed) Over w is poll = sym (poll_is (Counted fcb service) Over w is) ∙ poll
 repeated burst false s (Held fcb service missed) Commanding w is poll = cc
 repeated burst false s (Held fcb service missed) Polling w is poll = cc
@@ -71,23 +81,27 @@ repeated burst false s (Held fcb service missed) Over w is poll = cc
 
 -- ---- `next`
 
-without_free : (p : Primary) (s : Sending) → p.outstanding ≡ None → sending p false ≡ Some s → is_poll_request s.request ≡ true → is_polling p ≡ true
+without_free : (p : Primary) (s : Sending) → p.outstanding ≡ None → sending p false ≡ Some s
+    → is_poll_request s.request ≡ true → is_polling p ≡ true
 without_free p s free sent poll = ap (λ (o : Option Outstanding). is_polling_by p o) free ∙ go (present p false) refl
   where
     go : (v : Option Wanted) → present p false ≡ v → (p.again && holds_poll (station_at p.stations p.turn).link) ≡ true
     go (Some w) is =
         let there = goes_on p false w free is in
         let same : record { station = p.turn; request = w.request } ≡ s = cc in
-        repeated p.settings.burst p.again (station_at p.stations p.turn) (station_at p.stations p.turn).link p.phase w is
+        repeated p.settings.burst p.again (station_at p.stations p.turn)
+        (station_at p.stations p.turn).link p.phase w is
         (ap (λ (z : Sending). is_poll_request z.request) same ∙ poll)
     go None is =
         let b = passes_on p false s free is sent in
         let none : (false && holds_poll (station_at p.stations s.station).link) ≡ true =
-        repeated p.settings.burst false (station_at p.stations s.station) (station_at p.stations s.station).link Starting b.wanted b.first
+        repeated p.settings.burst false (station_at p.stations s.station)
+        (station_at p.stations s.station).link Starting b.wanted b.first
         (ap is_poll_request (sym b.request) ∙ poll) in
         cc
 
-pub without : (p : Primary) (s : Sending) → sending p false ≡ Some s → is_poll_request s.request ≡ true → is_polling p ≡ true
+pub without : (p : Primary) (s : Sending) → sending p false ≡ Some s → is_poll_request s.request ≡ true
+    → is_polling p ≡ true
 without p s sent poll = go p.outstanding refl sent
   where
     go : (o : Option Outstanding) → p.outstanding ≡ o → sending_from p o false ≡ Some s → is_polling p ≡ true
@@ -97,31 +111,38 @@ without p s sent poll = go p.outstanding refl sent
 asked_without : (p : Primary) (now : ℕ) → is_polling (asked p now false) ≡ true → is_polling p ≡ true
 asked_without p now poll = go p.outstanding refl poll
   where
-    by : p.outstanding ≡ None → (c : Option Chosen) → choice p false ≡ c → is_polling (after_choice p now c) ≡ true → is_polling p ≡ true
+    by : p.outstanding ≡ None → (c : Option Chosen) → choice p false ≡ c → is_polling (after_choice p now c) ≡ true
+        → is_polling p ≡ true
     by free None is h =
-        let none : false ≡ true = ap (λ (o : Option Outstanding). is_polling_by (record p { phase = Over; again = false }) o) (sym free) ∙ h in cc
+        let none : false ≡ true =
+        ap (λ (o : Option Outstanding). is_polling_by (record p { phase = Over; again = false }) o) (sym free)
+        ∙ h in cc
     by free (Some c) is h =
         without_free p (record { station = c.station; request = c.wanted.request }) free
         (ap (λ (o : Option Outstanding). sending_from p o false) free ∙ ap sending_by is) h
 
-    go : (o : Option Outstanding) → p.outstanding ≡ o → is_polling (asked_from p o now false) ≡ true → is_polling p ≡ true
+    go : (o : Option Outstanding) → p.outstanding ≡ o → is_polling (asked_from p o now false) ≡ true
+        → is_polling p ≡ true
     go (Some x) e h = h
     go None e h = by e (choice p false) refl h
 
-pub next : (p : Primary) (now : ℕ) (may_poll : Bool) → is_polling (asked p now may_poll) ≡ true → (is_polling p ≡ true) ⊎ (may_poll ≡ true)
+pub next : (p : Primary) (now : ℕ) (may_poll : Bool) → is_polling (asked p now may_poll) ≡ true
+    → (is_polling p ≡ true) ⊎ (may_poll ≡ true)
 next p now true poll = inr refl
 next p now false poll = inl (asked_without p now poll)
 
 -- ---- `octets` and `due`
 
 -- the station whose turn it is holds no poll
-set_none : (f : StationState → Bool) (stations : List StationState) (k : ℕ) (s : StationState) → f s ≡ false → f no_station ≡ false →
+set_none : (f : StationState → Bool) (stations : List StationState) (k : ℕ) (s : StationState) → f s ≡ false
+    → f no_station ≡ false →
     f (station_at (slice_set stations k s) k) ≡ false
 set_none f stations k s is none = go (cases_lt k (length stations))
   where
     go : (k < length stations) ⊎ (length stations ≤ k) → f (station_at (slice_set stations k s) k) ≡ false
     go (inl within) = ap f (get_or-set_same stations k s no_station within) ∙ is
-    go (inr past) = ap (λ (l : List StationState). f (station_at l k)) (set_past stations k s past) ∙ ap f (get_or_past stations k no_station past) ∙ none
+    go (inr past) = ap (λ (l : List StationState). f (station_at l k)) (set_past stations k s past)
+        ∙ ap f (get_or_past stations k no_station past) ∙ none
 
 and_none : (a b : Bool) → b ≡ false → (a && b) ≡ false
 and_none true b e = e
@@ -134,14 +155,18 @@ Ends request link m = (answer : Answer) → m ≡ Some answer → holds_poll (af
 no_answer : (request : Asked) (link : Link) → Ends request link None
 no_answer request link answer e = cc
 
-one_answer : (request : Asked) (link : Link) (a : Answer) → holds_poll (after_answer request a link) ≡ false → Ends request link (Some a)
-one_answer request link a h answer e = (let same : a ≡ answer = cc in subst (λ (x : Answer). holds_poll (after_answer request x link) ≡ false) same h)
+one_answer : (request : Asked) (link : Link) (a : Answer) → holds_poll (after_answer request a link) ≡ false
+    → Ends request link (Some a)
+one_answer request link a h answer e = (let same : a ≡ answer = cc in
+    subst (λ (x : Answer). holds_poll (after_answer request x link) ≡ false) same h)
 
-either : (request : Asked) (link : Link) (b : Bool) (x y : Option Answer) → Ends request link x → Ends request link y → Ends request link (if b then x else y)
+either : (request : Asked) (link : Link) (b : Bool) (x y : Option Answer) → Ends request link x → Ends request link y
+    → Ends request link (if b then x else y)
 either request link true x y h k = h
 either request link false x y h k = k
 
-service_ends : (fcb : Bool) (service : Service) (link : Link) (answer : Answer) → holds_poll (after_answer (Counted fcb service) answer link) ≡ false
+service_ends : (fcb : Bool) (service : Service) (link : Link) (answer : Answer)
+    → holds_poll (after_answer (Counted fcb service) answer link) ≡ false
 service_ends fcb service link Ready = refl
 service_ends fcb service link Confirmed = refl
 service_ends fcb service link Busy = refl
@@ -150,59 +175,76 @@ service_ends fcb service link NoData = refl
 service_ends fcb service link Unable = refl
 
 -- the answers to a status are that it is ready or unable, to a reset that it is confirmed
-answer_ends : (address : ℕ) (request : Asked) (link : Link) (frame : Frame) → Ends request link (answer_of address request frame)
+answer_ends : (address : ℕ) (request : Asked) (link : Link) (frame : Frame)
+    → Ends request link (answer_of address request frame)
 answer_ends address Status link Single = no_answer Status link
 answer_ends address Status link (Fixed c a) =
     either Status link (comes_from address c a) _ None
     (either Status link (c % 16 == 11) (Some Ready) (unable_answer (c % 16)) (one_answer Status link Ready refl)
-    (either Status link ((c % 16 == 14) || (c % 16 == 15)) (Some Unable) None (one_answer Status link Unable refl) (no_answer Status link)))
+    (either Status link ((c % 16 == 14) || (c % 16 == 15)) (Some Unable) None (one_answer Status link Unable refl)
+    (no_answer Status link)))
     (no_answer Status link)
-answer_ends address Status link (Data c a body) = either Status link (comes_from address c a && (c % 16 == 8)) None None (no_answer Status link) (no_answer Status link)
+answer_ends address Status link (Data c a body) = either Status link (comes_from address c a
+    && (c % 16 == 8)) None None (no_answer Status link) (no_answer Status link)
 answer_ends address Reset link Single = one_answer Reset link Confirmed refl
 answer_ends address Reset link (Fixed c a) =
-    either Reset link (comes_from address c a) _ None (either Reset link (c % 16 == 0) (Some Confirmed) None (one_answer Reset link Confirmed refl) (no_answer Reset link))
+    either Reset link (comes_from address c a) _ None (either Reset link (c % 16 == 0) (Some Confirmed) None
+    (one_answer Reset link Confirmed refl) (no_answer Reset link))
     (no_answer Reset link)
-answer_ends address Reset link (Data c a body) = either Reset link (comes_from address c a && (c % 16 == 8)) None None (no_answer Reset link) (no_answer Reset link)
+answer_ends address Reset link (Data c a body) = either Reset link (comes_from address c a && (c % 16 == 8)) None None
+    (no_answer Reset link) (no_answer Reset link)
 answer_ends address (Counted fcb service) link frame = λ answer e. service_ends fcb service link answer
 
 answered_none : (p : Primary) (request : Asked) (frame : Frame) (answer : Answer) →
-    holds_poll (after_answer request answer (station_at p.stations p.turn).link) ≡ false → is_polling (answered p request frame answer) ≡ false
+    holds_poll (after_answer request answer (station_at p.stations p.turn).link) ≡ false
+    → is_polling (answered p request frame answer) ≡ false
 answered_none p request frame answer e =
-    and_none p.again _ (set_none (λ (s : StationState). holds_poll s.link) p.stations p.turn (station_answered (station_at p.stations p.turn) request frame answer) e refl)
+    and_none p.again _ (set_none (λ (s : StationState). holds_poll s.link) p.stations p.turn
+    (station_answered (station_at p.stations p.turn) request frame answer) e refl)
 
-pub octets : (front : List ℕ → Front) (p : Primary) (octets : List ℕ) → is_polling (received front p octets) ≡ true → is_polling p ≡ true
+pub octets : (front : List ℕ → Front) (p : Primary) (octets : List ℕ) → is_polling (received front p octets) ≡ true
+    → is_polling p ≡ true
 octets front p came poll = go p.outstanding refl poll
   where
     back : (o : Outstanding) → p.outstanding ≡ Some o → is_poll_request o.request ≡ true → is_polling p ≡ true
     back o e h = ap (λ (x : Option Outstanding). is_polling_by p x) e ∙ h
 
-    said : (o : Outstanding) → p.outstanding ≡ Some o → (frame : Frame) (m : Option Answer) → answer_at p o frame ≡ m → is_polling (said_by p (with_octets came o) frame m) ≡ true →
+    said : (o : Outstanding) → p.outstanding ≡ Some o → (frame : Frame) (m : Option Answer) → answer_at p o frame ≡ m
+        → is_polling (said_by p (with_octets came o) frame m) ≡ true →
         is_polling p ≡ true
     said o e frame None is h = back o e h
     said o e frame (Some answer) is h =
         let none : is_polling (answered p o.request frame answer) ≡ false =
-        answered_none p o.request frame answer (answer_ends (station_at p.stations p.turn).address o.request (station_at p.stations p.turn).link frame answer is) in
+        answered_none p o.request frame answer (answer_ends (station_at p.stations p.turn).address o.request
+        (station_at p.stations p.turn).link frame answer is) in
         let both : false ≡ true = sym none ∙ h in cc
 
-    is_taken : (o : Outstanding) → p.outstanding ≡ Some o → (so_far : Option (List ℕ)) (m : Option Frame) → is_polling (took p (with_octets came o) so_far m) ≡ true → is_polling p ≡ true
+    is_taken : (o : Outstanding) → p.outstanding ≡ Some o → (so_far : Option (List ℕ)) (m : Option Frame)
+        → is_polling (took p (with_octets came o) so_far m) ≡ true → is_polling p ≡ true
     is_taken o e so_far None h = back o e h
     is_taken o e so_far (Some frame) h = said o e frame (answer_at p o frame) refl h
 
-    heard : (o : Outstanding) → p.outstanding ≡ Some o → (before : Option (List ℕ)) → is_polling (received_after front p (with_octets came o) before came) ≡ true → is_polling p ≡ true
+    heard : (o : Outstanding) → p.outstanding ≡ Some o → (before : Option (List ℕ))
+        → is_polling (received_after front p (with_octets came o) before came) ≡ true → is_polling p ≡ true
     heard o e None h = back o e h
-    heard o e (Some before) h = is_taken o e (open_octets (before ++ came) (front (before ++ came))) (whole_of (front (before ++ came))) h
+    heard o e (Some before) h = is_taken o e (open_octets (before ++ came) (front (before ++ came)))
+        (whole_of (front (before ++ came))) h
 
-    go : (o : Option Outstanding) → p.outstanding ≡ o → is_polling (received_from front p o came) ≡ true → is_polling p ≡ true
+    go : (o : Option Outstanding) → p.outstanding ≡ o → is_polling (received_from front p o came) ≡ true
+        → is_polling p ≡ true
     go None e h = h
     go (Some o) e h = heard o e o.heard h
 
 -- after silence a poll is held only where it was sent
-silent : (settings : LinkSettings) (request : Asked) (link : Link) → is_poll_request request ≡ false → holds_poll (after_silence settings request true link) ≡ false
+silent : (settings : LinkSettings) (request : Asked) (link : Link) → is_poll_request request ≡ false
+    → holds_poll (after_silence settings request true link) ≡ false
 silent settings Status link e = refl
 silent settings Reset link e = refl
 silent settings (Counted fcb service) link e = go (nat_lt settings.retries (suc (missed_so_far link))) settings.hold
   where
-    go : (b hold : Bool) → holds_poll (if b then (if hold then Held fcb service (suc settings.retries) else Down) else Held fcb service (suc (missed_so_far link))) ≡ false
+    go : (b hold : Bool)
+        → holds_poll (if b then (if hold then Held fcb service (suc settings.retries) else Down) else Held fcb service
+        (suc (missed_so_far link))) ≡ false
     go true true = e
     go true false = refl
     go false hold = e
@@ -210,15 +252,19 @@ silent settings (Counted fcb service) link e = go (nat_lt settings.retries (suc 
 pub due : (p : Primary) (at : ℕ) → is_polling (timed_out p at) ≡ true → is_polling p ≡ true
 due p at poll = go p.outstanding refl poll
   where
-    by : (o : Outstanding) → p.outstanding ≡ Some o → is_polling (unanswered p o) ≡ true → (b : Bool) → is_poll_request o.request ≡ b → is_polling p ≡ true
+    by : (o : Outstanding) → p.outstanding ≡ Some o → is_polling (unanswered p o) ≡ true → (b : Bool)
+        → is_poll_request o.request ≡ b → is_polling p ≡ true
     by o e h true is = ap (λ (x : Option Outstanding). is_polling_by p x) e ∙ is
     by o e h false is =
         let s = station_unanswered p.settings (station_at p.stations p.turn) o.request in
         let none : is_polling (unanswered p o) ≡ false =
-        and_none (has_repeats p.settings s.link) _ (set_none (λ (t : StationState). holds_poll t.link) p.stations p.turn s (silent p.settings o.request (station_at p.stations p.turn).link is) refl) in
+        and_none (has_repeats p.settings s.link) _ (set_none
+        (λ (t : StationState). holds_poll t.link) p.stations p.turn s
+        (silent p.settings o.request (station_at p.stations p.turn).link is) refl) in
         let both : false ≡ true = sym none ∙ h in cc
 
-    late : (o : Outstanding) → p.outstanding ≡ Some o → (b : Bool) → is_polling (if b then unanswered p o else p) ≡ true → is_polling p ≡ true
+    late : (o : Outstanding) → p.outstanding ≡ Some o → (b : Bool)
+        → is_polling (if b then unanswered p o else p) ≡ true → is_polling p ≡ true
     late o e true h = by o e h (is_poll_request o.request) refl
     late o e false h = h
 
@@ -229,7 +275,8 @@ due p at poll = go p.outstanding refl poll
 -- ---- `offer` and `withdraw`
 
 -- the links are the same
-same_polling : (p : Primary) (stations : List StationState) → (station_at stations p.turn).link ≡ (station_at p.stations p.turn).link →
+same_polling : (p : Primary) (stations : List StationState)
+    → (station_at stations p.turn).link ≡ (station_at p.stations p.turn).link →
     (o : Option Outstanding) → is_polling_by (record p { stations = stations }) o ≡ is_polling_by p o
 same_polling p stations same (Some o) = refl
 same_polling p stations same None = ap (λ (l : Link). p.again && holds_poll l) same
@@ -237,10 +284,14 @@ same_polling p stations same None = ap (λ (l : Link). p.again && holds_poll l) 
 pub offer : (p : Primary) (station : ℕ) (asdu : List ℕ) → is_polling (offered_to p station asdu) ≡ is_polling p
 offer p station asdu = go (may_offer p station)
   where
-    go : (b : Bool) → is_polling (if b then record p { stations = slice_set p.stations station (with_offer (station_at p.stations station) (Some asdu)) } else p) ≡ is_polling p
+    go : (b : Bool) → is_polling (if b then record p {
+      stations =
+          slice_set p.stations station (with_offer (station_at p.stations station) (Some asdu));
+    } else p) ≡ is_polling p
     go true =
         same_polling p (slice_set p.stations station (with_offer (station_at p.stations station) (Some asdu)))
-        (set_view (λ (s : StationState). s.link) p.stations station (with_offer (station_at p.stations station) (Some asdu)) refl p.turn) p.outstanding
+        (set_view (λ (s : StationState). s.link) p.stations station
+        (with_offer (station_at p.stations station) (Some asdu)) refl p.turn) p.outstanding
     go false = refl
 
 without_links : (ss : List StationState) (i : ℕ) → (station_at (map without_offer ss) i).link ≡ (station_at ss i).link
@@ -260,7 +311,8 @@ unable_report code asdu e = go ((code == 14) || (code == 15)) e
     go true h = cc
     go false h = cc
 
-one_report : (b : Bool) (answer : Answer) (code : ℕ) (asdu : List ℕ) → (answer ≡ Report asdu → ⊥) → (if b then Some answer else unable_answer code) ≡ Some (Report asdu) → ⊥
+one_report : (b : Bool) (answer : Answer) (code : ℕ) (asdu : List ℕ) → (answer ≡ Report asdu → ⊥)
+    → (if b then Some answer else unable_answer code) ≡ Some (Report asdu) → ⊥
 one_report true answer code asdu other e = (let same : answer ≡ Report asdu = cc in other same)
 one_report false answer code asdu other e = unable_report code asdu e
 
@@ -275,11 +327,13 @@ code_report (Counted fcb Class1) code asdu e = one_report (code == 9) NoData cod
 code_report (Counted fcb Class2) code asdu e = one_report (code == 9) NoData code asdu (λ h. cc) e
 code_report (Counted fcb (Command body)) code asdu e = go (code == 0) e
   where
-    go : (b : Bool) → (if b then Some Confirmed else if code == 1 then Some Busy else unable_answer code) ≡ Some (Report asdu) → ⊥
+    go : (b : Bool) → (if b then Some Confirmed else if code == 1 then Some Busy else unable_answer code)
+        ≡ Some (Report asdu) → ⊥
     go true h = cc
     go false h = one_report (code == 1) Busy code asdu (λ g. cc) h
 
-data_report : (request : Asked) (body asdu : List ℕ) → data_answer request body ≡ Some (Report asdu) → is_poll_request request ≡ true
+data_report : (request : Asked) (body asdu : List ℕ) → data_answer request body ≡ Some (Report asdu)
+    → is_poll_request request ≡ true
 data_report Status body asdu e = cc
 data_report Reset body asdu e = cc
 data_report (Counted fcb Class1) body asdu e = refl
@@ -294,21 +348,25 @@ single_report (Counted fcb Class2) asdu e = cc
 single_report (Counted fcb (Command other)) asdu e = cc
 
 -- only a poll is answered by a report
-polled : (address : ℕ) (request : Asked) (frame : Frame) (asdu : List ℕ) → answer_of address request frame ≡ Some (Report asdu) → is_poll_request request ≡ true
+polled : (address : ℕ) (request : Asked) (frame : Frame) (asdu : List ℕ)
+    → answer_of address request frame ≡ Some (Report asdu) → is_poll_request request ≡ true
 polled address request Single asdu e = absurd (single_report request asdu e)
 polled address request (Fixed control a) asdu e = go (comes_from address control a) e
   where
-    go : (b : Bool) → (if b then code_answer request (control % 16) else None) ≡ Some (Report asdu) → is_poll_request request ≡ true
+    go : (b : Bool) → (if b then code_answer request (control % 16) else None) ≡ Some (Report asdu)
+        → is_poll_request request ≡ true
     go true h = absurd (code_report request (control % 16) asdu h)
     go false h = cc
 polled address request (Data control a body) asdu e = go (comes_from address control a && (control % 16 == 8)) e
   where
-    go : (b : Bool) → (if b then data_answer request body.items else None) ≡ Some (Report asdu) → is_poll_request request ≡ true
+    go : (b : Bool) → (if b then data_answer request body.items else None) ≡ Some (Report asdu)
+        → is_poll_request request ≡ true
     go true h = data_report request body.items asdu h
     go false h = cc
 
 -- the answer of an outcome that is a report
-reported : (station : ℕ) (request : Asked) (answer : Answer) → is_report (outcome_by station request answer) ≡ true → (asdu : List ℕ) × (answer ≡ Report asdu)
+reported : (station : ℕ) (request : Asked) (answer : Answer) → is_report (outcome_by station request answer) ≡ true
+    → (asdu : List ℕ) × (answer ≡ Report asdu)
 reported station request (Report asdu) h = (asdu, refl)
 reported station Status Ready h = cc
 reported station Status Confirmed h = cc
@@ -341,30 +399,38 @@ gap_no gap (outcome.Accepted station) = refl
 gap_no gap (outcome.Busy station) = refl
 gap_no gap (outcome.Down station) = refl
 
-pub report : (front : List ℕ → Front) (p : Primary) (octets : List ℕ) → is_report (received_outcome front p octets) ≡ true →
+pub report : (front : List ℕ → Front) (p : Primary) (octets : List ℕ)
+    → is_report (received_outcome front p octets) ≡ true →
     (is_polling p ≡ true) × (is_polling (received front p octets) ≡ false)
 report front p octets is = go p.outstanding refl is
   where
-    said : (o : Outstanding) → p.outstanding ≡ Some o → (frame : Frame) (m : Option Answer) → answer_at p o frame ≡ m → is_report (outcome_of p.turn o.request m) ≡ true →
+    said : (o : Outstanding) → p.outstanding ≡ Some o → (frame : Frame) (m : Option Answer) → answer_at p o frame ≡ m
+        → is_report (outcome_of p.turn o.request m) ≡ true →
         (is_polling p ≡ true) × (is_polling (said_by p (with_octets octets o) frame m) ≡ false)
     said o e frame None answers h = cc
     said o e frame (Some answer) answers h =
         let r = reported p.turn o.request answer h in
-        let poll : is_poll_request o.request ≡ true = polled (station_at p.stations p.turn).address o.request frame r.0 (answers ∙ ap (λ (a : Answer). Some a) r.1) in (
+        let poll : is_poll_request o.request ≡ true = polled (station_at p.stations p.turn).address o.request frame r.0
+        (answers ∙ ap (λ (a : Answer). Some a) r.1) in (
           ap (λ (x : Option Outstanding). is_polling_by p x) e ∙ poll,
-          answered_none p o.request frame answer (answer_ends (station_at p.stations p.turn).address o.request (station_at p.stations p.turn).link frame answer answers),
+          answered_none p o.request frame answer (answer_ends (station_at p.stations p.turn).address o.request
+              (station_at p.stations p.turn).link frame answer answers),
         )
 
-    is_taken : (o : Outstanding) → p.outstanding ≡ Some o → (so_far : Option (List ℕ)) (m : Option Frame) → is_report (outcome_at p o m) ≡ true →
+    is_taken : (o : Outstanding) → p.outstanding ≡ Some o → (so_far : Option (List ℕ)) (m : Option Frame)
+        → is_report (outcome_at p o m) ≡ true →
         (is_polling p ≡ true) × (is_polling (took p (with_octets octets o) so_far m) ≡ false)
     is_taken o e so_far None h = cc
     is_taken o e so_far (Some frame) h =
-        said o e frame (answer_at p o frame) refl (sym (gap_no (turn_gap p) (outcome_of p.turn o.request (answer_at p o frame))) ∙ h)
+        said o e frame (answer_at p o frame) refl (sym
+        (gap_no (turn_gap p) (outcome_of p.turn o.request (answer_at p o frame))) ∙ h)
 
-    heard : (o : Outstanding) → p.outstanding ≡ Some o → (before : Option (List ℕ)) → is_report (outcome_after front p o before octets) ≡ true →
+    heard : (o : Outstanding) → p.outstanding ≡ Some o → (before : Option (List ℕ))
+        → is_report (outcome_after front p o before octets) ≡ true →
         (is_polling p ≡ true) × (is_polling (received_after front p (with_octets octets o) before octets) ≡ false)
     heard o e None h = cc
-    heard o e (Some before) h = is_taken o e (open_octets (before ++ octets) (front (before ++ octets))) (whole_of (front (before ++ octets))) h
+    heard o e (Some before) h = is_taken o e (open_octets (before ++ octets) (front (before ++ octets)))
+        (whole_of (front (before ++ octets))) h
 
     go : (o : Option Outstanding) → p.outstanding ≡ o → is_report (outcome_from front p o octets) ≡ true →
         (is_polling p ≡ true) × (is_polling (received_from front p o octets) ≡ false)

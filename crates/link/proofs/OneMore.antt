@@ -81,7 +81,8 @@ stepped (Counted fcb service) (Some (Report asdu)) n pending = made _ _ _ _ (kee
 stepped (Counted fcb service) (Some NoData) n pending = made _ _ _ _ (keep n) refl
 stepped (Counted fcb service) (Some Unable) n pending = made _ _ _ _ (keep n) (gap_is_poll service)
 
-session_push : (a : ℕ) (xs : List Exchange) (x : Exchange) → session_in a (xs ++ x ∷ []) ≡ step x.request (answer_to a x) (session_in a xs)
+session_push : (a : ℕ) (xs : List Exchange) (x : Exchange)
+    → session_in a (xs ++ x ∷ []) ≡ step x.request (answer_to a x) (session_in a xs)
 session_push a xs x =
     made _ _ _ _ (ap saturated (resets_push a xs x)) (ap is_gap (pending_push a None xs x))
     ∙ stepped x.request (answer_to a x) (resets_in a xs) (pending_after a None xs)
@@ -99,7 +100,8 @@ step_at front a x s = step x.request (answer_to a (view front x).exchange) s
 pub one_session : (front : List ℕ → Front) (a : ℕ) (ended : List OpenExchange) (x : OpenExchange) (i : ℕ) →
     session_of front a i (ended ++ x ∷ [])
     ≡ (if x.station == i then step_at front a x (session_of front a i ended) else session_of front a i ended)
-one_session front a ended x i = ap (λ (es : List Exchange). session_in a es) (with_one front ended x i) ∙ go (x.station == i)
+one_session front a ended x i = ap (λ (es : List Exchange). session_in a es) (with_one front ended x i)
+    ∙ go (x.station == i)
   where
     go : (b : Bool) →
         session_in a (with_station i (views front ended) ++ (if b then (view front x).exchange ∷ [] else []))
@@ -108,10 +110,13 @@ one_session front a ended x i = ap (λ (es : List Exchange). session_in a es) (w
     go false = ap (λ (es : List Exchange). session_in a es) (nil (with_station i (views front ended)))
 
 -- an exchange that is answered alike
-pub alike_sessions : (front : List ℕ → Front) (addresses : List ℕ) (ended : List OpenExchange) (x y : OpenExchange) → y.station ≡ x.station →
+pub alike_sessions : (front : List ℕ → Front) (addresses : List ℕ) (ended : List OpenExchange) (x y : OpenExchange)
+    → y.station ≡ x.station →
     y.request ≡ x.request →
-    answer_to (slice_index addresses x.station) (view front y).exchange ≡ answer_to (slice_index addresses x.station) (view front x).exchange →
-    (i : ℕ) → session_of front (slice_index addresses i) i (ended ++ y ∷ []) ≡ session_of front (slice_index addresses i) i (ended ++ x ∷ [])
+    answer_to (slice_index addresses x.station) (view front y).exchange
+    ≡ answer_to (slice_index addresses x.station) (view front x).exchange →
+    (i : ℕ) → session_of front (slice_index addresses i) i (ended ++ y ∷ [])
+    ≡ session_of front (slice_index addresses i) i (ended ++ x ∷ [])
 alike_sessions front addresses ended x y station request says i =
     let a = slice_index addresses i in
     let before = session_of front a i ended in
@@ -130,14 +135,17 @@ alike_sessions front addresses ended x y station request says i =
         let before = session_of front (slice_index addresses i) i ended in
         ap (λ (r : Asked). step r (answer_to (slice_index addresses i) (view front y).exchange) before) request
         ∙ ap (λ (m : Option Answer). step x.request m before)
-        (subst (λ (j : ℕ). answer_to (slice_index addresses j) (view front y).exchange ≡ answer_to (slice_index addresses j) (view front x).exchange)
+        (subst (λ (j : ℕ). answer_to (slice_index addresses j) (view front y).exchange
+        ≡ answer_to (slice_index addresses j) (view front x).exchange)
         (eqb-true x.station i e) says)
 
 -- one more exchange, of a station that is another after it
-set_session : (front : List ℕ → Front) (addresses : List ℕ) (stations : List StationState) (turn : ℕ) (ended : List OpenExchange)
+set_session : (front : List ℕ → Front) (addresses : List ℕ) (stations : List StationState) (turn : ℕ)
+    (ended : List OpenExchange)
     (x : OpenExchange) (s : StationState) → turn < length stations → x.station ≡ turn →
     ((i : ℕ) → i ≢ turn → session_of front (slice_index addresses i) i ended ≡ (station_at stations i).session) →
-    step_at front (slice_index addresses turn) x (session_of front (slice_index addresses turn) turn ended) ≡ s.session →
+    step_at front (slice_index addresses turn) x (session_of front (slice_index addresses turn) turn ended) ≡ s.session
+    →
     AreSessions front addresses (slice_set stations turn s) (ended ++ x ∷ [])
 set_session front addresses stations turn ended x s fits at others this i =
     one_session front (slice_index addresses i) ended x i ∙ go (x.station == i) refl
@@ -147,16 +155,21 @@ set_session front addresses stations turn ended x s fits at others this i =
         else session_of front (slice_index addresses i) i ended) ≡ (station_at (slice_set stations turn s) i).session
     go false e =
         let other : i ≢ turn = λ (q : i ≡ turn). eqb-false x.station i e (at ∙ sym q) in
-        others i other ∙ ap (λ (t : StationState). t.session) (sym (get_or-set_other stations turn i s no_station other))
+        others i other ∙ ap (λ (t : StationState). t.session)
+        (sym (get_or-set_other stations turn i s no_station other))
     go true e =
         let here : turn ≡ i = sym at ∙ eqb-true x.station i e in
-        subst (λ (j : ℕ). step_at front (slice_index addresses j) x (session_of front (slice_index addresses j) j ended) ≡ (station_at (slice_set stations turn s) j).session) here
+        subst (λ (j : ℕ). step_at front (slice_index addresses j) x
+        (session_of front (slice_index addresses j) j ended)
+        ≡ (station_at (slice_set stations turn s) j).session) here
         (this ∙ ap (λ (t : StationState). t.session) (sym (get_or-set_same stations turn s no_station fits)))
 
 -- A request goes out.
-pub begun_sessions : (front : List ℕ → Front) (addresses : List ℕ) (stations : List StationState) (xs : List OpenExchange)
+pub begun_sessions : (front : List ℕ → Front) (addresses : List ℕ) (stations : List StationState)
+    (xs : List OpenExchange)
     (x : OpenExchange) (s : StationState) → x.station < length stations → AreSessions front addresses stations xs →
-    answer_to (slice_index addresses x.station) (view front x).exchange ≡ None → s.session ≡ session_asked (station_at stations x.station).session x.request →
+    answer_to (slice_index addresses x.station) (view front x).exchange ≡ None
+    → s.session ≡ session_asked (station_at stations x.station).session x.request →
     AreSessions front addresses (slice_set stations x.station s) (xs ++ x ∷ [])
 begun_sessions front addresses stations xs x s fits sessions none this =
     set_session front addresses stations x.station xs x s fits refl (λ i other. sessions i)
@@ -164,8 +177,10 @@ begun_sessions front addresses stations xs x s fits sessions none this =
     ∙ ap (λ (z : SessionState). session_asked z x.request) (sessions x.station) ∙ sym this)
 
 -- Its exchange is answered.
-pub answered_sessions : (front : List ℕ → Front) (addresses : List ℕ) (stations : List StationState) (turn : ℕ) (ended : List OpenExchange)
-    (x y : OpenExchange) (s : StationState) (answer : Answer) → turn < length stations → AreSessions front addresses stations (ended ++ x ∷ []) →
+pub answered_sessions : (front : List ℕ → Front) (addresses : List ℕ) (stations : List StationState) (turn : ℕ)
+    (ended : List OpenExchange)
+    (x y : OpenExchange) (s : StationState) (answer : Answer) → turn < length stations
+    → AreSessions front addresses stations (ended ++ x ∷ []) →
     x.station ≡ turn → y.station ≡ turn → y.request ≡ x.request →
     answer_to (slice_index addresses turn) (view front x).exchange ≡ None →
     answer_to (slice_index addresses turn) (view front y).exchange ≡ Some answer →
@@ -186,7 +201,8 @@ answered_sessions front addresses stations turn ended x y s answer fits sessions
       where
         go : (b : Bool) → (x.station == i) ≡ b →
             (if b then step_at front (slice_index addresses i) x (session_of front (slice_index addresses i) i ended)
-            else session_of front (slice_index addresses i) i ended) ≡ session_of front (slice_index addresses i) i ended
+            else session_of front (slice_index addresses i) i ended)
+            ≡ session_of front (slice_index addresses i) i ended
         go false e = refl
         go true e = absurd (other (sym (eqb-true x.station i e) ∙ at))
 

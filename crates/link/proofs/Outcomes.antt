@@ -14,17 +14,20 @@ use Rattle.link.specs.Runs.{silence_outcome}
 use Rattle.link.proofs.Telling.{said_now, heard_open, links_at}
 
 -- an exchange that is over isn't outstanding
-over_not : (front : List ℕ → Front) (address : ℕ) (x : OpenExchange) → IsOver front address x → IsOutstanding address (view front x).exchange → ⊥
+over_not : (front : List ℕ → Front) (address : ℕ) (x : OpenExchange) → IsOver front address x
+    → IsOutstanding address (view front x).exchange → ⊥
 over_not front address x (inl closed) out = cc
 over_not front address x (inr a) out = let now = said_now front address x (Some a.0) a.1 in let none = out.0 in cc
 
 -- nothing is heard yet
 none_yet : (front : List ℕ → Front) (address : ℕ) (x : OpenExchange) (h : Option (List ℕ)) → IsHeard front address x h →
     option_and_then (answer_of address x.request) (whole_of (front x.octets)) ≡ None
-none_yet front address x (Some octets) m = ap (λ (f : Front). option_and_then (answer_of address x.request) (whole_of f)) m.1
+none_yet front address x (Some octets) m =
+    ap (λ (f : Front). option_and_then (answer_of address x.request) (whole_of f)) m.1
 none_yet front address x None said = said_now front address x None said
 
-awaited_out : (front : List ℕ → Front) (addresses : List ℕ) (turn : ℕ) (o : Outstanding) (x : OpenExchange) → IsAwaited front (slice_index addresses turn) turn o x →
+awaited_out : (front : List ℕ → Front) (addresses : List ℕ) (turn : ℕ) (o : Outstanding) (x : OpenExchange)
+    → IsAwaited front (slice_index addresses turn) turn o x →
     IsOutstanding (slice_index addresses x.station) (view front x).exchange
 awaited_out front addresses turn o x w = (
   ap (λ (i : ℕ). option_and_then (answer_of (slice_index addresses i) x.request) (whole_of (front x.octets))) w.station
@@ -34,88 +37,127 @@ awaited_out front addresses turn o x w = (
 
 -- the exchange that is awaited, where one is outstanding
 awaited_at : (front : List ℕ → Front) (addresses : List ℕ) (turn : ℕ) (o : Option Outstanding) (x : OpenExchange) →
-    IsCurrent front addresses turn o (Some x) → IsOutstanding (slice_index addresses x.station) (view front x).exchange →
+    IsCurrent front addresses turn o (Some x) → IsOutstanding (slice_index addresses x.station) (view front x).exchange
+    →
     (q : Outstanding) × (o ≡ Some q) × IsAwaited front (slice_index addresses turn) turn q x
 awaited_at front addresses turn None x over out = absurd (over_not front (slice_index addresses x.station) x over out)
 awaited_at front addresses turn (Some q) x w out = (q, refl, w)
 
-pub told_octets : (front : List ℕ → Front) (settings : LinkSettings) (addresses : List ℕ) (p : Primary) (e : Exchanges) (octets : List ℕ) (x : OpenExchange) →
-    TellsBy front settings addresses p e → e.current ≡ Some x → IsOutstanding (slice_index addresses x.station) (view front x).exchange →
+pub told_octets : (front : List ℕ → Front) (settings : LinkSettings) (addresses : List ℕ) (p : Primary) (e : Exchanges)
+    (octets : List ℕ) (x : OpenExchange) →
+    TellsBy front settings addresses p e → e.current ≡ Some x
+    → IsOutstanding (slice_index addresses x.station) (view front x).exchange →
     received_outcome front p octets
     ≡ with_gap (gap_at front addresses x.station e)
-    (outcome_of x.station x.request (answer_to (slice_index addresses x.station) (view front (heard_octets octets x)).exchange))
+    (outcome_of x.station x.request (answer_to (slice_index addresses x.station)
+    (view front (heard_octets octets x)).exchange))
 told_octets front settings addresses p e octets x t latest out =
-    let a = awaited_at front addresses p.turn p.outstanding x (subst (λ (c : Option OpenExchange). IsCurrent front addresses p.turn p.outstanding c) latest t.current) out in
+    let a = awaited_at front addresses p.turn p.outstanding x
+    (subst (λ (c : Option OpenExchange). IsCurrent front addresses p.turn p.outstanding c) latest t.current)
+    out in
     ap (λ (o : Option Outstanding). outcome_from front p o octets) a.1 ∙ go a.0 a.2
   where
     go : (q : Outstanding) → IsAwaited front (slice_index addresses p.turn) p.turn q x →
         outcome_after front p q q.heard octets
         ≡ with_gap (gap_at front addresses x.station e)
-        (outcome_of x.station x.request (answer_to (slice_index addresses x.station) (view front (heard_octets octets x)).exchange))
+        (outcome_of x.station x.request (answer_to (slice_index addresses x.station)
+        (view front (heard_octets octets x)).exchange))
     go q w =
         by_heard q.heard w.heard
-        ∙ ap (λ (g : Option ℕ). with_gap g (outcome_of p.turn x.request (option_and_then (answer_of (slice_index addresses p.turn) x.request) (whole_of (front (x.octets ++ octets)))))) gap
-        ∙ ap (λ (i : ℕ). with_gap (gap_at front addresses i e) (outcome_of i x.request (option_and_then (answer_of (slice_index addresses i) x.request) (whole_of (front (x.octets ++ octets)))))) (sym w.station)
-        ∙ ap (λ (z : OpenExchange). with_gap (gap_at front addresses x.station e) (outcome_of x.station x.request (answer_to (slice_index addresses x.station) (view front z).exchange))) (sym (heard_open octets x w.waits))
+        ∙ ap (λ (g : Option ℕ). with_gap g (outcome_of p.turn x.request
+        (option_and_then (answer_of (slice_index addresses p.turn) x.request)
+        (whole_of (front (x.octets ++ octets)))))) gap
+        ∙ ap (λ (i : ℕ). with_gap (gap_at front addresses i e)
+        (outcome_of i x.request (option_and_then (answer_of (slice_index addresses i) x.request)
+        (whole_of (front (x.octets ++ octets)))))) (sym w.station)
+        ∙ ap (λ (z : OpenExchange). with_gap (gap_at front addresses x.station e)
+        (outcome_of x.station x.request (answer_to (slice_index addresses x.station) (view front z).exchange)))
+        (sym (heard_open octets x w.waits))
       where
         gap : turn_gap p ≡ gap_at front addresses p.turn e
         gap = ap gap_of (sym (t.sessions p.turn))
 
         by_front : (f : Front) →
-            outcome_at p q (whole_of f) ≡ with_gap (turn_gap p) (outcome_of p.turn x.request (option_and_then (answer_of (slice_index addresses p.turn) x.request) (whole_of f)))
+            outcome_at p q (whole_of f) ≡ with_gap (turn_gap p)
+            (outcome_of p.turn x.request (option_and_then (answer_of (slice_index addresses p.turn) x.request)
+            (whole_of f)))
         by_front More = refl
         by_front (Never place why) = refl
         by_front (Whole frame n) =
-            ap (λ (a : ℕ). with_gap (turn_gap p) (outcome_of p.turn q.request (answer_of a q.request frame))) (t.address p.turn)
-            ∙ ap (λ (r : Asked). with_gap (turn_gap p) (outcome_of p.turn r (answer_of (slice_index addresses p.turn) r frame))) (sym w.request)
+            ap (λ (a : ℕ). with_gap (turn_gap p) (outcome_of p.turn q.request (answer_of a q.request frame)))
+            (t.address p.turn)
+            ∙ ap (λ (r : Asked). with_gap (turn_gap p)
+            (outcome_of p.turn r (answer_of (slice_index addresses p.turn) r frame))) (sym w.request)
 
         by_heard : (h : Option (List ℕ)) → IsHeard front (slice_index addresses p.turn) x h →
             outcome_after front p q h octets
-            ≡ with_gap (turn_gap p) (outcome_of p.turn x.request (option_and_then (answer_of (slice_index addresses p.turn) x.request) (whole_of (front (x.octets ++ octets)))))
-        by_heard None said = ap (λ (m : Option Answer). with_gap (turn_gap p) (outcome_of p.turn x.request m)) (sym (said octets))
-        by_heard (Some before) so = ap (λ (b : List ℕ). outcome_at p q (whole_of (front (b ++ octets)))) so.0 ∙ by_front (front (x.octets ++ octets))
+            ≡ with_gap (turn_gap p) (outcome_of p.turn x.request
+            (option_and_then (answer_of (slice_index addresses p.turn) x.request)
+            (whole_of (front (x.octets ++ octets)))))
+        by_heard None said = ap (λ (m : Option Answer). with_gap (turn_gap p) (outcome_of p.turn x.request m))
+            (sym (said octets))
+        by_heard (Some before) so = ap (λ (b : List ℕ). outcome_at p q (whole_of (front (b ++ octets)))) so.0
+            ∙ by_front (front (x.octets ++ octets))
 
 -- nothing is outstanding
 abbrev pub NoneIsOutstanding : (front : List ℕ → Front) → (addresses : List ℕ) → Exchanges → Type 0
-NoneIsOutstanding front addresses e = (x : OpenExchange) → e.current ≡ Some x → IsOutstanding (slice_index addresses x.station) (view front x).exchange → ⊥
+NoneIsOutstanding front addresses e = (x : OpenExchange) → e.current ≡ Some x
+    → IsOutstanding (slice_index addresses x.station) (view front x).exchange → ⊥
 
-free_then : (front : List ℕ → Front) (settings : LinkSettings) (addresses : List ℕ) (p : Primary) (e : Exchanges) → TellsBy front settings addresses p e →
+free_then : (front : List ℕ → Front) (settings : LinkSettings) (addresses : List ℕ) (p : Primary) (e : Exchanges)
+    → TellsBy front settings addresses p e →
     NoneIsOutstanding front addresses e → p.outstanding ≡ None
 free_then front settings addresses p e t none = go p.outstanding e.current refl t.current
   where
-    go : (o : Option Outstanding) (c : Option OpenExchange) → e.current ≡ c → IsCurrent front addresses p.turn o c → o ≡ None
+    go : (o : Option Outstanding) (c : Option OpenExchange) → e.current ≡ c → IsCurrent front addresses p.turn o c
+        → o ≡ None
     go None c is so = refl
     go (Some q) None is so = absurd so
     go (Some q) (Some x) is w = absurd (none x is (awaited_out front addresses p.turn q x w))
 
-pub quiet_octets : (front : List ℕ → Front) (settings : LinkSettings) (addresses : List ℕ) (p : Primary) (e : Exchanges) (octets : List ℕ) →
-    TellsBy front settings addresses p e → NoneIsOutstanding front addresses e → (received front p octets ≡ p) × (received_outcome front p octets ≡ outcome.None)
+pub quiet_octets : (front : List ℕ → Front) (settings : LinkSettings) (addresses : List ℕ) (p : Primary)
+    (e : Exchanges) (octets : List ℕ) →
+    TellsBy front settings addresses p e → NoneIsOutstanding front addresses e
+    → (received front p octets ≡ p) × (received_outcome front p octets ≡ outcome.None)
 quiet_octets front settings addresses p e octets t none =
-    let free = free_then front settings addresses p e t none in
-    (ap (λ (o : Option Outstanding). received_from front p o octets) free, ap (λ (o : Option Outstanding). outcome_from front p o octets) free)
+    let free = free_then front settings addresses p e t none in (
+      ap (λ (o : Option Outstanding). received_from front p o octets) free,
+      ap (λ (o : Option Outstanding). outcome_from front p o octets) free,
+    )
 
-pub quiet_due : (front : List ℕ → Front) (settings : LinkSettings) (addresses : List ℕ) (p : Primary) (e : Exchanges) (at : ℕ) →
-    TellsBy front settings addresses p e → NoneIsOutstanding front addresses e → (timed_out p at ≡ p) × (due_outcome p at ≡ outcome.None)
+pub quiet_due : (front : List ℕ → Front) (settings : LinkSettings) (addresses : List ℕ) (p : Primary) (e : Exchanges)
+    (at : ℕ) →
+    TellsBy front settings addresses p e → NoneIsOutstanding front addresses e
+    → (timed_out p at ≡ p) × (due_outcome p at ≡ outcome.None)
 quiet_due front settings addresses p e at t none =
-    let free = free_then front settings addresses p e t none in
-    (ap (λ (o : Option Outstanding). due_from p o at) free, ap (λ (o : Option Outstanding). due_outcome_from p o at) free)
+    let free = free_then front settings addresses p e t none in (
+      ap (λ (o : Option Outstanding). due_from p o at) free,
+      ap (λ (o : Option Outstanding). due_outcome_from p o at) free,
+    )
 
 -- whether the moment closes it
-late_so : (front : List ℕ → Front) (settings : LinkSettings) (addresses : List ℕ) (p : Primary) (e : Exchanges) (at : ℕ) (x : OpenExchange) (q : Outstanding) →
-    TellsBy front settings addresses p e → IsAwaited front (slice_index addresses p.turn) p.turn q x → is_late p q at ≡ (timed settings.answer_ms at x).closed
+late_so : (front : List ℕ → Front) (settings : LinkSettings) (addresses : List ℕ) (p : Primary) (e : Exchanges)
+    (at : ℕ) (x : OpenExchange) (q : Outstanding) →
+    TellsBy front settings addresses p e → IsAwaited front (slice_index addresses p.turn) p.turn q x
+    → is_late p q at ≡ (timed settings.answer_ms at x).closed
 late_so front settings addresses p e at x q t w =
     ap (λ (s : LinkSettings). nat_le (q.since + s.answer_ms) at) t.settings_are
     ∙ ap (λ (s : ℕ). nat_le (s + settings.answer_ms) at) (sym w.since)
     ∙ ap (λ (c : Bool). c || nat_le (x.since + settings.answer_ms) at) (sym w.waits)
 
-pub early_due : (front : List ℕ → Front) (settings : LinkSettings) (addresses : List ℕ) (p : Primary) (e : Exchanges) (at : ℕ) (x : OpenExchange) →
-    TellsBy front settings addresses p e → e.current ≡ Some x → IsOutstanding (slice_index addresses x.station) (view front x).exchange →
+pub early_due : (front : List ℕ → Front) (settings : LinkSettings) (addresses : List ℕ) (p : Primary) (e : Exchanges)
+    (at : ℕ) (x : OpenExchange) →
+    TellsBy front settings addresses p e → e.current ≡ Some x
+    → IsOutstanding (slice_index addresses x.station) (view front x).exchange →
     (timed settings.answer_ms at x).closed ≡ false → (timed_out p at ≡ p) × (due_outcome p at ≡ outcome.None)
 early_due front settings addresses p e at x t latest out early =
-    let a = awaited_at front addresses p.turn p.outstanding x (subst (λ (c : Option OpenExchange). IsCurrent front addresses p.turn p.outstanding c) latest t.current) out in
+    let a = awaited_at front addresses p.turn p.outstanding x
+    (subst (λ (c : Option OpenExchange). IsCurrent front addresses p.turn p.outstanding c) latest t.current)
+    out in
     let late : is_late p a.0 at ≡ false = late_so front settings addresses p e at x a.0 t a.2 ∙ early in (
       ap (λ (o : Option Outstanding). due_from p o at) a.1 ∙ ap (λ (b : Bool). if b then unanswered p a.0 else p) late,
-      ap (λ (o : Option Outstanding). due_outcome_from p o at) a.1 ∙ ap (λ (b : Bool). if b then miss_outcome p a.0.request else outcome.None) late,
+      ap (λ (o : Option Outstanding). due_outcome_from p o at) a.1
+          ∙ ap (λ (b : Bool). if b then miss_outcome p a.0.request else outcome.None) late,
     )
 
 -- a service that isn't sent again any more takes the link down
@@ -124,14 +166,17 @@ held_falls : (settings : LinkSettings) (sent fcb : Bool) (asked service : Servic
 held_falls settings sent fcb asked service missed = go (nat_lt settings.retries missed) settings.hold
   where
     go : (b hold : Bool) →
-        goes_down (Counted sent asked) (if b then (if hold then Held fcb service (suc settings.retries) else Down) else Held fcb service missed)
-        ≡ not (is_up (if b then (if hold then Held fcb service (suc settings.retries) else Down) else Held fcb service missed))
+        goes_down (Counted sent asked) (if b then (if hold then Held fcb service (suc settings.retries) else Down) else
+        Held fcb service missed)
+        ≡ not (is_up (if b then (if hold then Held fcb service (suc settings.retries) else Down) else Held fcb service
+        missed))
     go true true = refl
     go true false = refl
     go false hold = refl
 
 falls : (settings : LinkSettings) (request : Asked) (link : Link) → MaySend link request →
-    goes_down request (after_silence settings request true link) ≡ (is_up link && not (is_up (after_silence settings request true link)))
+    goes_down request (after_silence settings request true link)
+    ≡ (is_up link && not (is_up (after_silence settings request true link)))
 falls settings Status Down may = refl
 falls settings Status Available may = refl
 falls settings Status (Next fcb) may = absurd may
@@ -143,23 +188,37 @@ falls settings Reset (Held fcb service missed) may = absurd may
 falls settings (Counted sent asked) Down may = absurd may
 falls settings (Counted sent asked) Available may = absurd may
 falls settings (Counted sent asked) (Next fcb) may = held_falls settings sent sent asked asked 1
-falls settings (Counted sent asked) (Held fcb service missed) may = held_falls settings sent sent asked asked (suc missed)
+falls settings (Counted sent asked) (Held fcb service missed) may =
+    held_falls settings sent sent asked asked (suc missed)
 
-pub told_due : (front : List ℕ → Front) (settings : LinkSettings) (addresses : List ℕ) (p : Primary) (e : Exchanges) (at : ℕ) (x : OpenExchange) →
-    TellsBy front settings addresses p e → e.current ≡ Some x → IsOutstanding (slice_index addresses x.station) (view front x).exchange →
+pub told_due : (front : List ℕ → Front) (settings : LinkSettings) (addresses : List ℕ) (p : Primary) (e : Exchanges)
+    (at : ℕ) (x : OpenExchange) →
+    TellsBy front settings addresses p e → e.current ≡ Some x
+    → IsOutstanding (slice_index addresses x.station) (view front x).exchange →
     (timed settings.answer_ms at x).closed ≡ true →
-    due_outcome p at ≡ silence_outcome x.station (link_after settings (slice_index addresses x.station) Down (with_station x.station (views front e.ended)))
-    (after_silence settings x.request true (link_after settings (slice_index addresses x.station) Down (with_station x.station (views front e.ended))))
+    due_outcome p at
+    ≡ silence_outcome x.station (link_after settings (slice_index addresses x.station) Down
+    (with_station x.station (views front e.ended)))
+    (after_silence settings x.request true (link_after settings (slice_index addresses x.station) Down
+    (with_station x.station (views front e.ended))))
 told_due front settings addresses p e at x t latest out late =
-    let a = awaited_at front addresses p.turn p.outstanding x (subst (λ (c : Option OpenExchange). IsCurrent front addresses p.turn p.outstanding c) latest t.current) out in
+    let a = awaited_at front addresses p.turn p.outstanding x
+    (subst (λ (c : Option OpenExchange). IsCurrent front addresses p.turn p.outstanding c) latest t.current)
+    out in
     let due : is_late p a.0 at ≡ true = late_so front settings addresses p e at x a.0 t a.2 ∙ late in
     let links = links_at front settings addresses p e (Some a.0) a.1 t in
-    let may : MaySend (station_at p.stations p.turn).link a.0.request = subst (λ (o : Option Outstanding). IsAllowed p.stations p.turn o) a.1 t.allowed in
+    let may : MaySend (station_at p.stations p.turn).link a.0.request =
+    subst (λ (o : Option Outstanding). IsAllowed p.stations p.turn o) a.1 t.allowed in
     ap (λ (o : Option Outstanding). due_outcome_from p o at) a.1
     ∙ ap (λ (b : Bool). if b then miss_outcome p a.0.request else outcome.None) due
-    ∙ ap (λ (b : Bool). if b then outcome.Down p.turn else outcome.None) (falls p.settings a.0.request (station_at p.stations p.turn).link may)
-    ∙ ap (λ (s : LinkSettings). silence_outcome p.turn (station_at p.stations p.turn).link (after_silence s a.0.request true (station_at p.stations p.turn).link)) t.settings_are
-    ∙ ap (λ (r : Asked). silence_outcome p.turn (station_at p.stations p.turn).link (after_silence settings r true (station_at p.stations p.turn).link)) (sym a.2.request)
+    ∙ ap (λ (b : Bool). if b then outcome.Down p.turn else outcome.None)
+    (falls p.settings a.0.request (station_at p.stations p.turn).link may)
+    ∙ ap (λ (s : LinkSettings). silence_outcome p.turn (station_at p.stations p.turn).link
+    (after_silence s a.0.request true (station_at p.stations p.turn).link)) t.settings_are
+    ∙ ap (λ (r : Asked). silence_outcome p.turn (station_at p.stations p.turn).link
+    (after_silence settings r true (station_at p.stations p.turn).link)) (sym a.2.request)
     ∙ ap (λ (l : Link). silence_outcome p.turn l (after_silence settings x.request true l)) (sym (links p.turn))
-    ∙ ap (λ (i : ℕ). silence_outcome i (link_after settings (slice_index addresses i) Down (with_station i (views front e.ended)))
-    (after_silence settings x.request true (link_after settings (slice_index addresses i) Down (with_station i (views front e.ended))))) (sym a.2.station)
+    ∙ ap (λ (i : ℕ). silence_outcome i (link_after settings (slice_index addresses i) Down
+    (with_station i (views front e.ended)))
+    (after_silence settings x.request true (link_after settings (slice_index addresses i) Down
+    (with_station i (views front e.ended))))) (sym a.2.station)

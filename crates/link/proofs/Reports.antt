@@ -16,25 +16,31 @@ nil : (xs : List (ℕ × List ℕ)) → xs ++ [] ≡ xs
 nil [] = refl
 nil (x ∷ xs) = ap (λ (ys : List (ℕ × List ℕ)). x ∷ ys) (nil xs)
 
-reports_of-append : (address : ℕ → ℕ) (es fs : List LineExchange) → reports_of address (es ++ fs) ≡ reports_of address es ++ reports_of address fs
+reports_of-append : (address : ℕ → ℕ) (es fs : List LineExchange)
+    → reports_of address (es ++ fs) ≡ reports_of address es ++ reports_of address fs
 reports_of-append address [] fs = refl
 reports_of-append address (e ∷ es) fs =
-    ap (λ (rs : List (ℕ × List ℕ)). report_by e.station (answer_to (address e.station) e.exchange) ++ rs) (reports_of-append address es fs)
-    ∙ sym (append_assoc (report_by e.station (answer_to (address e.station) e.exchange)) (reports_of address es) (reports_of address fs))
+    ap (λ (rs : List (ℕ × List ℕ)). report_by e.station (answer_to (address e.station) e.exchange) ++ rs)
+    (reports_of-append address es fs)
+    ∙ sym (append_assoc (report_by e.station (answer_to (address e.station) e.exchange)) (reports_of address es)
+    (reports_of address fs))
 
 -- what the latest exchange says
 abbrev answer_in : (front : List ℕ → Front) → (address : ℕ → ℕ) → OpenExchange → Option Answer
 answer_in front address x = answer_to (address x.station) (view front x).exchange
 
 reports-push : (front : List ℕ → Front) (address : ℕ → ℕ) (xs : List OpenExchange) (x : OpenExchange) →
-    reports_of address (views front (xs ++ x ∷ [])) ≡ reports_of address (views front xs) ++ report_by x.station (answer_in front address x)
+    reports_of address (views front (xs ++ x ∷ [])) ≡ reports_of address (views front xs)
+    ++ report_by x.station (answer_in front address x)
 reports-push front address xs x =
     ap (λ (es : List LineExchange). reports_of address es) (views-append front xs (x ∷ []))
     ∙ reports_of-append address (views front xs) (views front (x ∷ []))
-    ∙ ap (λ (rs : List (ℕ × List ℕ)). reports_of address (views front xs) ++ rs) (nil (report_by x.station (answer_in front address x)))
+    ∙ ap (λ (rs : List (ℕ × List ℕ)). reports_of address (views front xs) ++ rs)
+    (nil (report_by x.station (answer_in front address x)))
 
 -- an outcome bears the report of the answer
-told_report : (station : ℕ) (request : Asked) (m : Option Answer) → report_in (outcome_of station request m) ≡ report_by station m
+told_report : (station : ℕ) (request : Asked) (m : Option Answer)
+    → report_in (outcome_of station request m) ≡ report_by station m
 told_report station request None = refl
 told_report station Status (Some Ready) = refl
 told_report station Status (Some Confirmed) = refl
@@ -71,7 +77,8 @@ gap_bears gap (outcome.Busy station) = refl
 gap_bears gap (outcome.Down station) = refl
 
 -- the latest exchange says more
-said_more : (front : List ℕ → Front) (address : ℕ → ℕ) (ended : List OpenExchange) (x y : OpenExchange) (told : List (ℕ × List ℕ)) → y.station ≡ x.station →
+said_more : (front : List ℕ → Front) (address : ℕ → ℕ) (ended : List OpenExchange) (x y : OpenExchange)
+    (told : List (ℕ × List ℕ)) → y.station ≡ x.station →
     report_by y.station (answer_in front address y) ≡ report_by x.station (answer_in front address x) ++ told →
     reports_of address (views front (ended ++ y ∷ [])) ≡ reports_of address (views front (ended ++ x ∷ [])) ++ told
 said_more front address ended x y told station more =
@@ -81,26 +88,32 @@ said_more front address ended x y told station more =
     ∙ ap (λ (rs : List (ℕ × List ℕ)). rs ++ told) (sym (reports-push front address ended x))
 
 pub due_reports : (front : List ℕ → Front) (address : ℕ → ℕ) (answer_ms at : ℕ) (e : Exchanges) →
-    reports_of_exchanges front address (record { ended = e.ended; current = timed_current answer_ms at e.current }) ≡ reports_of_exchanges front address e
+    reports_of_exchanges front address (record { ended = e.ended; current = timed_current answer_ms at e.current })
+    ≡ reports_of_exchanges front address e
 due_reports front address answer_ms at e = go e.current
   where
     go : (c : Option OpenExchange) →
-        reports_of address (views front (e.ended ++ as_list (timed_current answer_ms at c))) ≡ reports_of address (views front (e.ended ++ as_list c))
+        reports_of address (views front (e.ended ++ as_list (timed_current answer_ms at c)))
+        ≡ reports_of address (views front (e.ended ++ as_list c))
     go None = refl
     go (Some x) = reports-push front address e.ended _ ∙ sym (reports-push front address e.ended x)
 
-pub next_reports : (front : List ℕ → Front) (address : ℕ → ℕ) (now : ℕ) (s : Option Sending) (e : Exchanges) → front [] ≡ More →
+pub next_reports : (front : List ℕ → Front) (address : ℕ → ℕ) (now : ℕ) (s : Option Sending) (e : Exchanges)
+    → front [] ≡ More →
     reports_of_exchanges front address (begun_by now s e) ≡ reports_of_exchanges front address e
 next_reports front address now None e nothing = refl
 next_reports front address now (Some s) e nothing =
     reports-push front address (e.ended ++ as_list e.current) _
-    ∙ ap (λ (f : Front). reports_of address (views front (e.ended ++ as_list e.current)) ++ report_by s.station (option_and_then (answer_of (address s.station) s.request) (whole_of f))) nothing
+    ∙ ap (λ (f : Front). reports_of address (views front (e.ended ++ as_list e.current))
+    ++ report_by s.station (option_and_then (answer_of (address s.station) s.request) (whole_of f))) nothing
     ∙ nil (reports_of address (views front (e.ended ++ as_list e.current)))
 
-pub hear_reports : (front : List ℕ → Front) (settings : LinkSettings) (addresses : List ℕ) (p : Primary) (ended : List OpenExchange) (cur : Option OpenExchange) (octets : List ℕ) →
+pub hear_reports : (front : List ℕ → Front) (settings : LinkSettings) (addresses : List ℕ) (p : Primary)
+    (ended : List OpenExchange) (cur : Option OpenExchange) (octets : List ℕ) →
     TellsBy front settings addresses p (record { ended = ended; current = cur }) →
     reports_of (λ i. slice_index addresses i) (views front (ended ++ as_list (heard_current octets cur)))
-    ≡ reports_of (λ i. slice_index addresses i) (views front (ended ++ as_list cur)) ++ report_in (received_outcome front p octets)
+    ≡ reports_of (λ i. slice_index addresses i) (views front (ended ++ as_list cur))
+    ++ report_in (received_outcome front p octets)
 hear_reports front settings addresses p ended cur octets t = go p.outstanding cur t.current
   where
     address : ℕ → ℕ
@@ -108,53 +121,76 @@ hear_reports front settings addresses p ended cur octets t = go p.outstanding cu
 
     go : (o : Option Outstanding) (c : Option OpenExchange) → IsCurrent front addresses p.turn o c →
         reports_of (λ i. slice_index addresses i) (views front (ended ++ as_list (heard_current octets c)))
-        ≡ reports_of (λ i. slice_index addresses i) (views front (ended ++ as_list c)) ++ report_in (outcome_from front p o octets)
+        ≡ reports_of (λ i. slice_index addresses i) (views front (ended ++ as_list c))
+        ++ report_in (outcome_from front p o octets)
     go None None so = sym (nil (reports_of (λ i. slice_index addresses i) (views front (ended ++ []))))
     go (Some o) None so = absurd so
-    go None (Some x) over = by_closed x.closed refl over ∙ sym (nil (reports_of (λ i. slice_index addresses i) (views front (ended ++ x ∷ []))))
+    go None (Some x) over = by_closed x.closed refl over
+        ∙ sym (nil (reports_of (λ i. slice_index addresses i) (views front (ended ++ x ∷ []))))
       where
         by_closed : (b : Bool) → x.closed ≡ b → IsOver front (slice_index addresses x.station) x →
-            reports_of (λ i. slice_index addresses i) (views front (ended ++ heard_octets octets x ∷ [])) ≡ reports_of (λ i. slice_index addresses i) (views front (ended ++ x ∷ []))
-        by_closed true e so = ap (λ (z : OpenExchange). reports_of (λ i. slice_index addresses i) (views front (ended ++ z ∷ []))) (heard_closed octets x e)
+            reports_of (λ i. slice_index addresses i) (views front (ended ++ heard_octets octets x ∷ []))
+            ≡ reports_of (λ i. slice_index addresses i) (views front (ended ++ x ∷ []))
+        by_closed true e so =
+            ap (λ (z : OpenExchange). reports_of (λ i. slice_index addresses i) (views front (ended ++ z ∷ [])))
+            (heard_closed octets x e)
         by_closed false e (inl closed) = cc
         by_closed false e (inr a) =
-            ap (λ (z : OpenExchange). reports_of (λ i. slice_index addresses i) (views front (ended ++ z ∷ []))) (heard_open octets x e)
+            ap (λ (z : OpenExchange). reports_of (λ i. slice_index addresses i) (views front (ended ++ z ∷ [])))
+            (heard_open octets x e)
             ∙ reports-push front (λ i. slice_index addresses i) ended (grown x octets)
-            ∙ ap (λ (m : Option Answer). reports_of (λ i. slice_index addresses i) (views front ended) ++ report_by x.station m)
+            ∙ ap (λ (m : Option Answer). reports_of (λ i. slice_index addresses i) (views front ended)
+            ++ report_by x.station m)
             (a.1 octets ∙ sym (said_now front (slice_index addresses x.station) x (Some a.0) a.1))
             ∙ sym (reports-push front (λ i. slice_index addresses i) ended x)
     go (Some q) (Some x) w =
-        ap (λ (z : OpenExchange). reports_of (λ i. slice_index addresses i) (views front (ended ++ z ∷ []))) (heard_open octets x w.waits)
-        ∙ said_more front (λ i. slice_index addresses i) ended x (grown x octets) (report_in (outcome_after front p q q.heard octets)) refl (by_heard q.heard w.heard)
+        ap (λ (z : OpenExchange). reports_of (λ i. slice_index addresses i) (views front (ended ++ z ∷ [])))
+        (heard_open octets x w.waits)
+        ∙ said_more front (λ i. slice_index addresses i) ended x (grown x octets)
+        (report_in (outcome_after front p q q.heard octets)) refl (by_heard q.heard w.heard)
       where
         -- by the station whose turn it is
-        here : (f : Front) → option_and_then (answer_of (slice_index addresses x.station) x.request) (whole_of f) ≡ option_and_then (answer_of (slice_index addresses p.turn) x.request) (whole_of f)
+        here : (f : Front) → option_and_then (answer_of (slice_index addresses x.station) x.request) (whole_of f)
+            ≡ option_and_then (answer_of (slice_index addresses p.turn) x.request) (whole_of f)
         here f = ap (λ (i : ℕ). option_and_then (answer_of (slice_index addresses i) x.request) (whole_of f)) w.station
 
-        before : (f : Front) → front x.octets ≡ f → option_and_then (answer_of (slice_index addresses p.turn) x.request) (whole_of f) ≡ None →
+        before : (f : Front) → front x.octets ≡ f → option_and_then
+            (answer_of (slice_index addresses p.turn) x.request) (whole_of f) ≡ None →
             report_by x.station (answer_in front (λ i. slice_index addresses i) x) ≡ []
         before f e none =
-            ap (λ (g : Front). report_by x.station (option_and_then (answer_of (slice_index addresses x.station) x.request) (whole_of g))) e
+            ap (λ (g : Front). report_by x.station (option_and_then
+            (answer_of (slice_index addresses x.station) x.request) (whole_of g))) e
             ∙ ap (λ (m : Option Answer). report_by x.station m) (here f ∙ none)
 
         by_front : (f : Front) → front (x.octets ++ octets) ≡ f →
-            report_by x.station (answer_in front (λ i. slice_index addresses i) (grown x octets)) ≡ report_in (outcome_at p q (whole_of f))
-        by_front More e = ap (λ (g : Front). report_by x.station (option_and_then (answer_of (slice_index addresses x.station) x.request) (whole_of g))) e
-        by_front (Never place why) e = ap (λ (g : Front). report_by x.station (option_and_then (answer_of (slice_index addresses x.station) x.request) (whole_of g))) e
+            report_by x.station (answer_in front (λ i. slice_index addresses i) (grown x octets))
+            ≡ report_in (outcome_at p q (whole_of f))
+        by_front More e =
+            ap (λ (g : Front). report_by x.station (option_and_then
+            (answer_of (slice_index addresses x.station) x.request) (whole_of g))) e
+        by_front (Never place why) e =
+            ap (λ (g : Front). report_by x.station (option_and_then
+            (answer_of (slice_index addresses x.station) x.request) (whole_of g))) e
         by_front (Whole frame n) e =
-            ap (λ (g : Front). report_by x.station (option_and_then (answer_of (slice_index addresses x.station) x.request) (whole_of g))) e
+            ap (λ (g : Front). report_by x.station (option_and_then
+            (answer_of (slice_index addresses x.station) x.request) (whole_of g))) e
             ∙ ap (λ (m : Option Answer). report_by x.station m)
-            (here (Whole frame n) ∙ ap (λ (a : ℕ). answer_of a x.request frame) (sym (t.address p.turn)) ∙ ap (λ (r : Asked). answer_of (station_at p.stations p.turn).address r frame) w.request)
+            (here (Whole frame n) ∙ ap (λ (a : ℕ). answer_of a x.request frame) (sym (t.address p.turn))
+            ∙ ap (λ (r : Asked). answer_of (station_at p.stations p.turn).address r frame) w.request)
             ∙ ap (λ (i : ℕ). report_by i (answer_at p q frame)) w.station
-            ∙ sym (gap_bears (turn_gap p) (outcome_of p.turn q.request (answer_at p q frame)) ∙ told_report p.turn q.request (answer_at p q frame))
+            ∙ sym (gap_bears (turn_gap p) (outcome_of p.turn q.request (answer_at p q frame))
+            ∙ told_report p.turn q.request (answer_at p q frame))
 
         by_heard : (h : Option (List ℕ)) → IsHeard front (slice_index addresses p.turn) x h →
             report_by x.station (answer_in front (λ i. slice_index addresses i) (grown x octets))
-            ≡ report_by x.station (answer_in front (λ i. slice_index addresses i) x) ++ report_in (outcome_after front p q h octets)
+            ≡ report_by x.station (answer_in front (λ i. slice_index addresses i) x)
+            ++ report_in (outcome_after front p q h octets)
         by_heard None said =
             ap (λ (m : Option Answer). report_by x.station m) (here (front (x.octets ++ octets)) ∙ said octets)
-            ∙ ap (λ (rs : List (ℕ × List ℕ)). rs ++ []) (sym (before (front x.octets) refl (said_now front (slice_index addresses p.turn) x None said)))
+            ∙ ap (λ (rs : List (ℕ × List ℕ)). rs ++ [])
+            (sym (before (front x.octets) refl (said_now front (slice_index addresses p.turn) x None said)))
         by_heard (Some octets') so =
             by_front (front (x.octets ++ octets)) refl
             ∙ ap (λ (b : List ℕ). report_in (outcome_at p q (whole_of (front (b ++ octets))))) (sym so.0)
-            ∙ ap (λ (rs : List (ℕ × List ℕ)). rs ++ report_in (outcome_at p q (whole_of (front (octets' ++ octets))))) (sym (before More so.1 refl))
+            ∙ ap (λ (rs : List (ℕ × List ℕ)). rs ++ report_in (outcome_at p q (whole_of (front (octets' ++ octets)))))
+            (sym (before More so.1 refl))

@@ -10,11 +10,13 @@ use Rattle.link.specs.Visits.{Left, whole_visit, MayFollow, IsVisitFrom, IsVisit
 use Rattle.link.proofs.Beginning.{known_after, unknown_after}
 
 -- after which exchange the status of a link is known
-known_by : (settings : LinkSettings) (station : ℕ) (x : Exchange) (link : Link) → after settings station x link ≡ Available →
+known_by : (settings : LinkSettings) (station : ℕ) (x : Exchange) (link : Link)
+    → after settings station x link ≡ Available →
     (x.request ≡ Status) × (answer_to station x ≡ Some Ready)
 known_by settings station x link known = go (answer_to station x) refl known
   where
-    said : (front : Option Frame) (answer : Answer) → option_and_then (answer_of station x.request) front ≡ Some answer →
+    said : (front : Option Frame) (answer : Answer) → option_and_then (answer_of station x.request) front ≡ Some answer
+        →
         after_outcome settings (Some answer) x link ≡ Available → (x.request ≡ Status) × (answer ≡ Ready)
     said None answer is k = cc
     said (Some frame) answer is k = known_after station x.request frame answer link is k
@@ -32,11 +34,13 @@ reset_needs Available may = refl
 reset_needs (Next fcb) may = absurd may
 reset_needs (Held fcb service missed) may = absurd may
 
-later_resets : (settings : LinkSettings) (station : ℕ) (link : Link) (left : Left) (y : Exchange) (ys later : List Exchange) (x : Exchange) →
+later_resets : (settings : LinkSettings) (station : ℕ) (link : Link) (left : Left) (y : Exchange)
+    (ys later : List Exchange) (x : Exchange) →
     IsVisitFrom settings station link left (y ∷ ys ++ x ∷ later) → x.request ≡ Reset → EndsReady station (y ∷ ys)
 later_resets settings station link left y [] later x v is =
     let next = after settings station y link in
-    let known = known_by settings station y link (reset_needs next (subst (λ (r : Asked). MaySend next r) is v.1.2.0)) in
+    let known = known_by settings station y link (reset_needs next (subst (λ (r : Asked). MaySend next r) is v.1.2.0))
+    in
     record { earlier = []; status = y; are = refl; asked = known.0; answered = known.1 }
 later_resets settings station link left y (z ∷ zs) later x v is =
     let rest = later_resets settings station (after settings station y link) v.1.0 z zs later x v.1.2 is in

@@ -14,74 +14,94 @@ use Rattle.link.proofs.Turning.{rests}
 -- ---- round the stations
 
 -- so many after a place, round them
-reaches : (count place n i : ℕ) → place < count → i < count → (place + n ≡ i) ⊎ (place + n ≡ count + i) → nth_after count place n ≡ i
+reaches : (count place n i : ℕ) → place < count → i < count → (place + n ≡ i) ⊎ (place + n ≡ count + i)
+    → nth_after count place n ≡ i
 reaches count place zero i within below (inl e) = omega arith
 reaches count place zero i within below (inr e) = absurd (omega arith)
-reaches count place (suc n) i within below e = go (λ next lt sum. reaches count next n i lt below sum) (cases_lt (suc place) count) e
+reaches count place (suc n) i within below e = go (λ next lt sum. reaches count next n i lt below sum)
+    (cases_lt (suc place) count) e
   where
     go : ((next : ℕ) → next < count → (next + n ≡ i) ⊎ (next + n ≡ count + i) → nth_after count next n ≡ i) →
-        (suc place < count) ⊎ (count ≤ suc place) → (place + suc n ≡ i) ⊎ (place + suc n ≡ count + i) → nth_after count (place_after count place) n ≡ i
+        (suc place < count) ⊎ (count ≤ suc place) → (place + suc n ≡ i) ⊎ (place + suc n ≡ count + i)
+        → nth_after count (place_after count place) n ≡ i
     go later (inl more) (inl here) =
-        ap (λ (b : Bool). nth_after count (if b then suc place else 0) n) (lt-ltb (suc place) count more) ∙ later (suc place) more (inl (omega arith))
+        ap (λ (b : Bool). nth_after count (if b then suc place else 0) n) (lt-ltb (suc place) count more)
+        ∙ later (suc place) more (inl (omega arith))
     go later (inl more) (inr round) =
-        ap (λ (b : Bool). nth_after count (if b then suc place else 0) n) (lt-ltb (suc place) count more) ∙ later (suc place) more (inr (omega arith))
+        ap (λ (b : Bool). nth_after count (if b then suc place else 0) n) (lt-ltb (suc place) count more)
+        ∙ later (suc place) more (inr (omega arith))
     go later (inr last) (inl here) = absurd (omega arith)
     go later (inr last) (inr round) =
-        ap (λ (b : Bool). nth_after count (if b then suc place else 0) n) (le-ltb (suc place) count last) ∙ later 0 (omega arith) (inl (omega arith))
+        ap (λ (b : Bool). nth_after count (if b then suc place else 0) n) (le-ltb (suc place) count last)
+        ∙ later 0 (omega arith) (inl (omega arith))
 
 -- once round, each place is looked at
-each_place : (count place : ℕ) (P : ℕ → Type 0) → place < count → ((n : ℕ) → n < count → P (nth_after count place (suc n))) → (i : ℕ) → i < count → P i
+each_place : (count place : ℕ) (P : ℕ → Type 0) → place < count
+    → ((n : ℕ) → n < count → P (nth_after count place (suc n))) → (i : ℕ) → i < count → P i
 each_place count place P within round i below = go (cases_lt place i)
   where
     go : (place < i) ⊎ (i ≤ place) → P i
-    go (inl before) = subst P (reaches count place (suc (i - suc place)) i within below (inl (omega arith))) (round (i - suc place) (omega arith))
+    go (inl before) = subst P (reaches count place (suc (i - suc place)) i within below (inl (omega arith)))
+        (round (i - suc place) (omega arith))
     go (inr after) =
-        subst P (reaches count place (suc ((count + i) - suc place)) i within below (inr (omega arith))) (round ((count + i) - suc place) (omega arith))
+        subst P (reaches count place (suc ((count + i) - suc place)) i within below (inr (omega arith)))
+        (round ((count + i) - suc place) (omega arith))
 
 -- ---- a station that has no request
 
-polls_none : (burst : ℕ) (may_poll fcb : Bool) (s : StationState) → polls_from burst may_poll fcb s Polling ≡ None → may_poll ≡ false
+polls_none : (burst : ℕ) (may_poll fcb : Bool) (s : StationState) → polls_from burst may_poll fcb s Polling ≡ None
+    → may_poll ≡ false
 polls_none burst false fcb s none = refl
 polls_none burst true fcb s none = go s.acd none
   where
-    go : (acd : Bool) → (if acd then wants (Counted fcb Class1) (Class1Polling 1) else wants (Counted fcb Class2) (Class1Polling 0)) ≡ None → true ≡ false
+    go : (acd : Bool)
+        → (if acd then wants (Counted fcb Class1) (Class1Polling 1) else wants (Counted fcb Class2) (Class1Polling 0))
+        ≡ None → true ≡ false
     go true e = cc
     go false e = cc
 
-offered_none : (burst : ℕ) (may_poll fcb : Bool) (s : StationState) (offered : Option (List ℕ)) → s.offered ≡ offered → commands_from burst may_poll fcb s offered ≡ None →
+offered_none : (burst : ℕ) (may_poll fcb : Bool) (s : StationState) (offered : Option (List ℕ)) → s.offered ≡ offered
+    → commands_from burst may_poll fcb s offered ≡ None →
     (may_poll ≡ false) × ((s.offered ≡ None) ⊎ (s.dfc ≡ true))
 offered_none burst may_poll fcb s None e none = (polls_none burst may_poll fcb s none, inl e)
 offered_none burst may_poll fcb s (Some asdu) e none = go s.dfc refl none
   where
-    go : (b : Bool) → s.dfc ≡ b → (if b then polls_from burst may_poll fcb s Polling else wants (Counted fcb (Command asdu)) Polling) ≡ None →
+    go : (b : Bool) → s.dfc ≡ b
+        → (if b then polls_from burst may_poll fcb s Polling else wants (Counted fcb (Command asdu)) Polling) ≡ None →
         (may_poll ≡ false) × ((s.offered ≡ None) ⊎ (s.dfc ≡ true))
     go true full h = (polls_none burst may_poll fcb s h, inr full)
     go false open_ h = cc
 
-pub left : (burst : ℕ) (may_poll : Bool) (s : StationState) (link : Link) → wanted_by burst may_poll false s link Starting ≡ None →
+pub left : (burst : ℕ) (may_poll : Bool) (s : StationState) (link : Link)
+    → wanted_by burst may_poll false s link Starting ≡ None →
     (may_poll ≡ false) × IsLeftToPolls s link
 left burst may_poll s Down none = cc
 left burst may_poll s Available none = cc
 left burst may_poll s (Next fcb) none = offered_none burst may_poll fcb s s.offered refl none
 left burst may_poll s (Held fcb service missed) none = go may_poll (is_poll service) refl none
   where
-    go : (leave poll : Bool) → is_poll service ≡ poll → (if leave || not poll then wants (Counted fcb service) Commanding else None) ≡ None →
+    go : (leave poll : Bool) → is_poll service ≡ poll → (if leave
+        || not poll then wants (Counted fcb service) Commanding else None) ≡ None →
         (leave ≡ false) × (is_poll service ≡ true)
     go true poll e h = cc
     go false false e h = cc
     go false true e h = (refl, e)
 
-each_left : (p : Primary) (may_poll : Bool) → p.turn < length p.stations → p.outstanding ≡ None → sending p may_poll ≡ None → (i : ℕ) → i < length p.stations →
+each_left : (p : Primary) (may_poll : Bool) → p.turn < length p.stations → p.outstanding ≡ None
+    → sending p may_poll ≡ None → (i : ℕ) → i < length p.stations →
     (may_poll ≡ false) × IsLeftToPolls (station_at p.stations i) (station_at p.stations i).link
 each_left p may_poll within free none =
-    each_place (length p.stations) p.turn (λ i. (may_poll ≡ false) × IsLeftToPolls (station_at p.stations i) (station_at p.stations i).link) within
+    each_place (length p.stations) p.turn (λ i. (may_poll ≡ false)
+    × IsLeftToPolls (station_at p.stations i) (station_at p.stations i).link) within
     (λ n less. left p.settings.burst may_poll (station_at p.stations (nth_after (length p.stations) p.turn (suc n)))
     (station_at p.stations (nth_after (length p.stations) p.turn (suc n))).link (rests p may_poll free none n less))
 
-pub leave : (p : Primary) (may_poll : Bool) → p.turn < length p.stations → p.outstanding ≡ None → sending p may_poll ≡ None → may_poll ≡ false
+pub leave : (p : Primary) (may_poll : Bool) → p.turn < length p.stations → p.outstanding ≡ None
+    → sending p may_poll ≡ None → may_poll ≡ false
 leave p may_poll within free none = (each_left p may_poll within free none p.turn within).0
 
-pub stations : (p : Primary) (may_poll : Bool) → p.turn < length p.stations → p.outstanding ≡ None → sending p may_poll ≡ None → (i : ℕ) → i < length p.stations →
+pub stations : (p : Primary) (may_poll : Bool) → p.turn < length p.stations → p.outstanding ≡ None
+    → sending p may_poll ≡ None → (i : ℕ) → i < length p.stations →
     IsLeftToPolls (station_at p.stations i) (station_at p.stations i).link
 stations p may_poll within free none i below = (each_left p may_poll within free none i below).1
 
@@ -100,46 +120,61 @@ left_free s (Held fcb Class1 missed) rest = refl
 left_free s (Held fcb Class2 missed) rest = refl
 left_free s (Held fcb (Command asdu) missed) rest = cc
 
-pub up : (p : Primary) (may_poll : Bool) → p.turn < length p.stations → p.outstanding ≡ None → sending p may_poll ≡ None → (i : ℕ) → i < length p.stations →
+pub up : (p : Primary) (may_poll : Bool) → p.turn < length p.stations → p.outstanding ≡ None
+    → sending p may_poll ≡ None → (i : ℕ) → i < length p.stations →
     is_up (station_at p.stations i).link ≡ true
-up p may_poll within free none i below = left_up (station_at p.stations i) (station_at p.stations i).link (stations p may_poll within free none i below)
+up p may_poll within free none i below = left_up (station_at p.stations i) (station_at p.stations i).link
+    (stations p may_poll within free none i below)
 
-pub no_command : (p : Primary) (may_poll : Bool) → p.turn < length p.stations → p.outstanding ≡ None → sending p may_poll ≡ None → (i : ℕ) → i < length p.stations →
+pub no_command : (p : Primary) (may_poll : Bool) → p.turn < length p.stations → p.outstanding ≡ None
+    → sending p may_poll ≡ None → (i : ℕ) → i < length p.stations →
     holds_command (station_at p.stations i).link ≡ false
-no_command p may_poll within free none i below = left_free (station_at p.stations i) (station_at p.stations i).link (stations p may_poll within free none i below)
+no_command p may_poll within free none i below = left_free (station_at p.stations i) (station_at p.stations i).link
+    (stations p may_poll within free none i below)
 
 -- a primary that has just been made has a request
-pub begins : (settings : LinkSettings) (addresses : List ℕ) (may_poll : Bool) → 0 < length addresses → sending (start settings addresses) may_poll ≡ None → ⊥
+pub begins : (settings : LinkSettings) (addresses : List ℕ) (may_poll : Bool) → 0 < length addresses
+    → sending (start settings addresses) may_poll ≡ None → ⊥
 begins settings [] may_poll some none = absurd (omega arith)
 begins settings (a ∷ addresses) may_poll some none = cc
 
 -- ---- `next` again
 
-out_stays : (p : Primary) (o : Outstanding) → p.outstanding ≡ Some o → (now : ℕ) (may_poll : Bool) → (sending p may_poll ≡ None) × (asked p now may_poll ≡ p)
-out_stays p o e now may_poll = (ap (λ (x : Option Outstanding). sending_from p x may_poll) e, ap (λ (x : Option Outstanding). asked_from p x now may_poll) e)
+out_stays : (p : Primary) (o : Outstanding) → p.outstanding ≡ Some o → (now : ℕ) (may_poll : Bool)
+    → (sending p may_poll ≡ None) × (asked p now may_poll ≡ p)
+out_stays p o e now may_poll = (
+  ap (λ (x : Option Outstanding). sending_from p x may_poll) e,
+  ap (λ (x : Option Outstanding). asked_from p x now may_poll) e,
+)
 
-sent_stays : (p : Primary) (now : ℕ) (may_poll : Bool) (s : Sending) → sending p may_poll ≡ Some s → (at : ℕ) (later : Bool) →
+sent_stays : (p : Primary) (now : ℕ) (may_poll : Bool) (s : Sending) → sending p may_poll ≡ Some s
+    → (at : ℕ) (later : Bool) →
     (sending (asked p now may_poll) later ≡ None) × (asked (asked p now may_poll) at later ≡ asked p now may_poll)
 sent_stays p now may_poll s sent at later = go p.outstanding sent
   where
-    by : (c : Option Chosen) → sending_by c ≡ Some s → (sending (after_choice p now c) later ≡ None) × (asked (after_choice p now c) at later ≡ after_choice p now c)
+    by : (c : Option Chosen) → sending_by c ≡ Some s → (sending (after_choice p now c) later ≡ None)
+        × (asked (after_choice p now c) at later ≡ after_choice p now c)
     by None e = cc
     by (Some c) e = out_stays (after_choice p now (Some c)) _ refl at later
 
     go : (o : Option Outstanding) → sending_from p o may_poll ≡ Some s →
-        (sending (asked_from p o now may_poll) later ≡ None) × (asked (asked_from p o now may_poll) at later ≡ asked_from p o now may_poll)
+        (sending (asked_from p o now may_poll) later ≡ None)
+        × (asked (asked_from p o now may_poll) at later ≡ asked_from p o now may_poll)
     go (Some o) e = cc
     go None e = by (choice p may_poll) e
 
-pub out : (p : Primary) (now : ℕ) (may_poll : Bool) (s : Sending) → sending p may_poll ≡ Some s → (later : Bool) → sending (asked p now may_poll) later ≡ None
+pub out : (p : Primary) (now : ℕ) (may_poll : Bool) (s : Sending) → sending p may_poll ≡ Some s → (later : Bool)
+    → sending (asked p now may_poll) later ≡ None
 out p now may_poll s sent later = (sent_stays p now may_poll s sent 0 later).0
 
-pub same : (p : Primary) (now : ℕ) (may_poll : Bool) (s : Sending) → sending p may_poll ≡ Some s → (at : ℕ) (later : Bool) →
+pub same : (p : Primary) (now : ℕ) (may_poll : Bool) (s : Sending) → sending p may_poll ≡ Some s
+    → (at : ℕ) (later : Bool) →
     asked (asked p now may_poll) at later ≡ asked p now may_poll
 same p now may_poll s sent at later = (sent_stays p now may_poll s sent at later).1
 
 -- a turn that is over has no request
-over_none : (burst : ℕ) (may_poll : Bool) (s : StationState) (link : Link) → wanted_by burst may_poll false s link Over ≡ None
+over_none : (burst : ℕ) (may_poll : Bool) (s : StationState) (link : Link)
+    → wanted_by burst may_poll false s link Over ≡ None
 over_none burst may_poll s Down = refl
 over_none burst may_poll s Available = refl
 over_none burst may_poll s (Next fcb) = refl
@@ -149,21 +184,25 @@ others_none : (w : Option Wanted) (place : ℕ) (others : Option Chosen) → cho
 others_none None place others e = e
 others_none (Some w) place others e = cc
 
-pub over : (p : Primary) (now : ℕ) (may_poll : Bool) → sending p may_poll ≡ None → sending (asked p now may_poll) may_poll ≡ None
+pub over : (p : Primary) (now : ℕ) (may_poll : Bool) → sending p may_poll ≡ None
+    → sending (asked p now may_poll) may_poll ≡ None
 over p now may_poll none = go p.outstanding refl
   where
     ended : Primary
     ended = after_choice p now None
 
-    by : (c : Option Chosen) → p.outstanding ≡ None → choice p may_poll ≡ c → sending_by c ≡ None → sending (after_choice p now c) may_poll ≡ None
+    by : (c : Option Chosen) → p.outstanding ≡ None → choice p may_poll ≡ c → sending_by c ≡ None
+        → sending (after_choice p now c) may_poll ≡ None
     by (Some c) free is e = cc
     by None free is e =
         ap (λ (o : Option Outstanding). sending_from ended o may_poll) free
         ∙ ap sending_by
-        (ap (λ (w : Option Wanted). chosen_or w p.turn (first_after p.settings.burst may_poll p.stations (length p.stations) p.turn))
+        (ap (λ (w : Option Wanted). chosen_or w p.turn
+        (first_after p.settings.burst may_poll p.stations (length p.stations) p.turn))
         (over_none p.settings.burst may_poll (station_at p.stations p.turn) (station_at p.stations p.turn).link)
         ∙ others_none _ p.turn _ is)
 
     go : (o : Option Outstanding) → p.outstanding ≡ o → sending (asked_from p o now may_poll) may_poll ≡ None
     go (Some o) e = none
-    go None e = by (choice p may_poll) e refl (ap (λ (o : Option Outstanding). sending_from p o may_poll) (sym e) ∙ none)
+    go None e = by (choice p may_poll) e refl (ap (λ (o : Option Outstanding). sending_from p o may_poll) (sym e)
+        ∙ none)

@@ -9,38 +9,54 @@ use Rattle.link.specs.Telling.{IsStable, AreSpoilt, Tells}
 use Rattle.link.specs.Runs.{Call, Next, Octets, Due, Offer, Withdraw, called, exchanged, MayCall, MayCallAll, called_all, exchanged_all}
 use Rattle.link.proofs.Telling.{start_tells, hear_tells, due_tells, ask_tells, offer_tells, withdraw_tells}
 
-pub call_tells : (settings : LinkSettings) (addresses : List ℕ) → IsStable (front_of settings.size) → (p : Primary) (e : Exchanges) (call : Call) →
+pub call_tells : (settings : LinkSettings) (addresses : List ℕ) → IsStable (front_of settings.size)
+    → (p : Primary) (e : Exchanges) (call : Call) →
     MayCall p call → Tells settings addresses p e → Tells settings addresses (called p call) (exchanged p call e)
-call_tells settings addresses stable p e (Next now may_poll) may t = ask_tells (front_of settings.size) settings addresses p e now may_poll stable t
+call_tells settings addresses stable p e (Next now may_poll) may t =
+    ask_tells (front_of settings.size) settings addresses p e now may_poll stable t
 call_tells settings addresses stable p e (Octets octets) may t =
-    subst (λ (s : LinkSettings). Tells settings addresses (received (front_of s.size) p octets) (record { ended = e.ended; current = heard_current octets e.current })) (sym t.settings_are)
+    subst (λ (s : LinkSettings). Tells settings addresses (received (front_of s.size) p octets)
+    (record { ended = e.ended; current = heard_current octets e.current })) (sym t.settings_are)
     (hear_tells (front_of settings.size) settings addresses p e.ended e.current octets stable t)
 call_tells settings addresses stable p e (Due now) may t =
-    subst (λ (s : LinkSettings). Tells settings addresses (timed_out p now) (record { ended = e.ended; current = timed_current s.answer_ms now e.current })) (sym t.settings_are)
+    subst (λ (s : LinkSettings). Tells settings addresses (timed_out p now)
+    (record { ended = e.ended; current = timed_current s.answer_ms now e.current })) (sym t.settings_are)
     (due_tells (front_of settings.size) settings addresses p e.ended e.current now t)
-call_tells settings addresses stable p e (Offer station asdu) may t = offer_tells (front_of settings.size) settings addresses p e station asdu may.0 may.1 t
-call_tells settings addresses stable p e Withdraw may t = withdraw_tells (front_of settings.size) settings addresses p e t
+call_tells settings addresses stable p e (Offer station asdu) may t =
+    offer_tells (front_of settings.size) settings addresses p e station asdu may.0 may.1 t
+call_tells settings addresses stable p e Withdraw may t =
+    withdraw_tells (front_of settings.size) settings addresses p e t
 
-pub calls_tell : (settings : LinkSettings) (addresses : List ℕ) → IsStable (front_of settings.size) → (p : Primary) (e : Exchanges) (calls : List Call) →
-    MayCallAll p calls → Tells settings addresses p e → Tells settings addresses (called_all p calls) (exchanged_all p calls e)
+pub calls_tell : (settings : LinkSettings) (addresses : List ℕ) → IsStable (front_of settings.size)
+    → (p : Primary) (e : Exchanges) (calls : List Call) →
+    MayCallAll p calls → Tells settings addresses p e → Tells settings addresses (called_all p calls)
+    (exchanged_all p calls e)
 calls_tell settings addresses stable p e [] may t = t
 calls_tell settings addresses stable p e (call ∷ calls) may t =
-    calls_tell settings addresses stable (called p call) (exchanged p call e) calls may.1 (call_tells settings addresses stable p e call may.0 t)
+    calls_tell settings addresses stable (called p call) (exchanged p call e) calls may.1
+    (call_tells settings addresses stable p e call may.0 t)
 
 run_tells : (settings : LinkSettings) (addresses : List ℕ) → IsStable (front_of settings.size) → (calls : List Call) →
     0 < length addresses → All (FitsAddress settings.size) addresses → MayCallAll (start settings addresses) calls →
-    Tells settings addresses (called_all (start settings addresses) calls) (exchanged_all (start settings addresses) calls no_exchanges)
+    Tells settings addresses (called_all (start settings addresses) calls)
+    (exchanged_all (start settings addresses) calls no_exchanges)
 run_tells settings addresses stable calls some fit may =
-    calls_tell settings addresses stable (start settings addresses) no_exchanges calls may (start_tells (front_of settings.size) settings addresses some fit)
+    calls_tell settings addresses stable (start settings addresses) no_exchanges calls may
+    (start_tells (front_of settings.size) settings addresses some fit)
 
-pub run_keeps : (settings : LinkSettings) (addresses : List ℕ) → IsStable (front_of settings.size) → (calls : List Call) (station : ℕ) →
+pub run_keeps : (settings : LinkSettings) (addresses : List ℕ) → IsStable (front_of settings.size)
+    → (calls : List Call) (station : ℕ) →
     0 < length addresses → All (FitsAddress settings.size) addresses → MayCallAll (start settings addresses) calls →
     KeepsFrameCountBit settings (slice_index addresses station) Down
-    (with_station station (views (front_of settings.size) (all_of (exchanged_all (start settings addresses) calls no_exchanges))))
-run_keeps settings addresses stable calls station some fit may = (run_tells settings addresses stable calls some fit may).keeps station
+    (with_station station (views (front_of settings.size)
+    (all_of (exchanged_all (start settings addresses) calls no_exchanges))))
+run_keeps settings addresses stable calls station some fit may =
+    (run_tells settings addresses stable calls some fit may).keeps station
 
-pub run_counts : (settings : LinkSettings) (addresses : List ℕ) → IsStable (front_of settings.size) → (calls : List Call) →
+pub run_counts : (settings : LinkSettings) (addresses : List ℕ) → IsStable (front_of settings.size)
+    → (calls : List Call) →
     0 < length addresses → All (FitsAddress settings.size) addresses → MayCallAll (start settings addresses) calls →
     AreSpoilt (front_of settings.size) addresses (called_all (start settings addresses) calls).spoilt
     (all_of (exchanged_all (start settings addresses) calls no_exchanges))
-run_counts settings addresses stable calls some fit may = (run_tells settings addresses stable calls some fit may).spoilt
+run_counts settings addresses stable calls some fit may =
+    (run_tells settings addresses stable calls some fit may).spoilt

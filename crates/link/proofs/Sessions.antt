@@ -9,12 +9,15 @@ use Rattle.link.specs.Delivery.{learnt_by, learnt, requests_of, IsTrueFront, Are
 use Rattle.link.proofs.Bit.{Agrees, owes_of, exchange_step, reset_taken, idle_status, idle_reset, confirmed_reset, append-nil}
 
 -- From a place with this pending and owed: the rest of its session is known, and the later ones.
-pub record AreKnown (station : ℕ) (pending : Option Service) (owed : List Effect) (rest : Session) (later : List Session) : Type 0 where
-  pub present : IsKnown (learnt station rest.exchanges) (pending_after station pending rest.exchanges) (owed ++ all_done rest.turns)
+pub record AreKnown (station : ℕ) (pending : Option Service) (owed : List Effect) (rest : Session)
+    (later : List Session) : Type 0 where
+  pub present : IsKnown (learnt station rest.exchanges) (pending_after station pending rest.exchanges) (owed
+      ++ all_done rest.turns)
   pub each : AllByRecursion (λ (s : Session). IsSessionKnown station s) later
 
 abbrev pub IsKnownFrom : (station : ℕ) → Option Service → List Effect → List Exchange → List Turn → Type 0
-IsKnownFrom station pending owed xs turns = AreKnown station pending owed (before_reset station xs turns) (sessions station xs turns)
+IsKnownFrom station pending owed xs turns = AreKnown station pending owed (before_reset station xs turns)
+    (sessions station xs turns)
 
 -- nothing is learnt by a reset, and nothing is pending after it
 pub reset_learns : (request : Asked) (m : Option Answer) (pending : Option Service) → is_reset request m ≡ true →
@@ -30,44 +33,61 @@ reset_learns Status m pending h = cc
 reset_learns (Counted fcb service) m pending h = cc
 
 -- one more exchange before what is known
-one_more : (first : List Effect) (pending : Option Service) (owed done : List Effect) (some all : List Effect) (owed' : List Effect) →
-    owed ++ done ≡ first ++ owed' → IsKnown some pending (owed' ++ all) → IsKnown (first ++ some) pending (owed ++ (done ++ all))
+one_more : (first : List Effect) (pending : Option Service) (owed done : List Effect) (some all : List Effect)
+    (owed' : List Effect) →
+    owed ++ done ≡ first ++ owed' → IsKnown some pending (owed' ++ all)
+    → IsKnown (first ++ some) pending (owed ++ (done ++ all))
 one_more first pending owed done some all owed' sum k = record {
   owed = k.owed;
   may_owe = k.may_owe;
-  whole = append_assoc first some k.owed ∙ ap (λ (e : List Effect). first ++ e) k.whole ∙ sym (append_assoc first owed' all)
+  whole = append_assoc first some k.owed ∙ ap (λ (e : List Effect). first ++ e) k.whole
+      ∙ sym (append_assoc first owed' all)
       ∙ ap (λ (e : List Effect). e ++ all) (sym sum) ∙ append_assoc owed done all;
 }
 
 -- a confirmed reset, of which the outstation's turn is known
-after_reset : (settings : LinkSettings) (station : ℕ) (link : Link) (pending : Option Service) (x : Exchange) (old mid : Outstation) (turn : Turn) →
-    is_reset x.request (answer_to station x) ≡ true → OutstationStep station old x.request turn mid → IsTrueFront x.front turn →
-    (turn.done ≡ []) × Agrees station (after settings station x link) (pending_by x.request (answer_to station x) pending) mid []
+after_reset : (settings : LinkSettings) (station : ℕ) (link : Link) (pending : Option Service) (x : Exchange)
+    (old mid : Outstation) (turn : Turn) →
+    is_reset x.request (answer_to station x) ≡ true → OutstationStep station old x.request turn mid
+    → IsTrueFront x.front turn →
+    (turn.done ≡ []) × Agrees station (after settings station x link)
+    (pending_by x.request (answer_to station x) pending) mid []
 after_reset settings station link pending x old mid turn is step true_front =
     go x.request refl (confirmed_reset x.request (answer_to station x) is)
   where
     go : (request : Asked) → x.request ≡ request → (x.request ≡ Reset) × (answer_to station x ≡ Some Confirmed) →
-        (turn.done ≡ []) × Agrees station (after settings station x link) (pending_by x.request (answer_to station x) pending) mid []
+        (turn.done ≡ []) × Agrees station (after settings station x link)
+        (pending_by x.request (answer_to station x) pending) mid []
     go request same c =
-        let taken : OutstationStep station old Reset turn mid = subst (λ (r : Asked). OutstationStep station old r turn mid) c.0 step in
+        let taken : OutstationStep station old Reset turn mid =
+        subst (λ (r : Asked). OutstationStep station old r turn mid) c.0 step in
         let confirmed : option_and_then (answer_of station Reset) x.front ≡ Some Confirmed =
         ap (λ (r : Asked). option_and_then (answer_of station r) x.front) (sym c.0) ∙ c.1 in
         let reset : mid ≡ reset_link = reset_taken station x.front old mid turn taken true_front confirmed in
         let up : after settings station x link ≡ Next true =
         ap (λ (m : Option Answer). after_outcome settings m x link) c.1
-        ∙ ap (λ (r : Asked). after_outcome settings (Some Confirmed) (record { request = r; front = x.front; closed = x.closed }) link) c.0 in
-        let clear : pending_by x.request (answer_to station x) pending ≡ None = (reset_learns x.request (answer_to station x) pending is).1 in (
+        ∙ ap (λ (r : Asked). after_outcome settings (Some Confirmed)
+        (record { request = r; front = x.front; closed = x.closed }) link) c.0 in
+        let clear : pending_by x.request (answer_to station x) pending ≡ None =
+        (reset_learns x.request (answer_to station x) pending is).1 in (
           idle_reset station old mid turn taken,
           subst (λ (l : Link). Agrees station l (pending_by x.request (answer_to station x) pending) mid []) (sym up)
               (clear, record { bit = ap (λ (o : Outstation). o.bit) reset; owes = refl }),
         )
 
-pub known_from : (settings : LinkSettings) (station : ℕ) (link : Link) (pending : Option Service) (xs : List Exchange) (turns : List Turn)
+pub known_from : (settings : LinkSettings) (station : ℕ) (link : Link) (pending : Option Service) (xs : List Exchange)
+    (turns : List Turn)
     (old end : Outstation) (owed : List Effect) →
-    Agrees station link pending old owed → KeepsFrameCountBit settings station link xs → OutstationRun station old (requests_of xs) turns end → AreTrueFronts xs turns →
+    Agrees station link pending old owed → KeepsFrameCountBit settings station link xs
+    → OutstationRun station old (requests_of xs) turns end → AreTrueFronts xs turns →
     IsKnownFrom station pending owed xs turns
 known_from settings station link pending [] [] old end owed agrees keeps run fronts = record {
-  present = record { owed = owed; may_owe = owes_of station link pending old owed agrees; whole = sym (append-nil owed) };
+  present = record {
+    owed = owed;
+    may_owe = owes_of station link pending old owed agrees;
+    whole =
+        sym (append-nil owed);
+  };
   each = tt;
 }
 known_from settings station link pending [] (turn ∷ turns) old end owed agrees keeps run fronts = absurd run
@@ -78,61 +98,86 @@ known_from settings station link pending (x ∷ xs) (turn ∷ turns) old end owe
     known_from settings station (after settings station x link) p xs turns run.0 end o a keeps.1 run.2 fronts.1)
   where
     go : (b : Bool) → is_reset x.request (answer_to station x) ≡ b →
-        ((p : Option Service) (o : List Effect) → Agrees station (after settings station x link) p run.0 o → IsKnownFrom station p o xs turns) →
+        ((p : Option Service) (o : List Effect) → Agrees station (after settings station x link) p run.0 o
+        → IsKnownFrom station p o xs turns) →
         AreKnown station pending owed
         (if b then record { exchanges = []; turns = [] } else with_first x turn (before_reset station xs turns))
-        (if b then with_first x turn (before_reset station xs turns) ∷ sessions station xs turns else sessions station xs turns)
+        (if b then with_first x turn (before_reset station xs turns)
+        ∷ sessions station xs turns else sessions station xs turns)
     go true is ih =
         let r = after_reset settings station link pending x old run.0 turn is run.1 fronts.0 in
         let l = reset_learns x.request (answer_to station x) None is in
         let next = ih (pending_by x.request (answer_to station x) pending) [] r.1 in
-        let clear : pending_by x.request (answer_to station x) pending ≡ pending_by x.request (answer_to station x) None =
+        let clear : pending_by x.request (answer_to station x) pending
+        ≡ pending_by x.request (answer_to station x) None =
         (reset_learns x.request (answer_to station x) pending is).1 ∙ sym l.1 in
         record {
-          present = record { owed = owed; may_owe = owes_of station link pending old owed agrees; whole = sym (append-nil owed) };
+          present = record {
+            owed = owed;
+            may_owe = owes_of station link pending old owed agrees;
+            whole =
+                sym (append-nil owed);
+          };
           each = (
             one_more (learnt_by x.request (answer_to station x)) _ [] turn.done _ _ []
                 (r.0 ∙ ap (λ (e : List Effect). e ++ []) (sym l.0))
                 (subst (λ (p : Option Service). IsKnown (learnt station (before_reset station xs turns).exchanges)
-                (pending_after station p (before_reset station xs turns).exchanges) ([] ++ all_done (before_reset station xs turns).turns)) clear next.present),
+                (pending_after station p (before_reset station xs turns).exchanges) ([]
+                ++ all_done (before_reset station xs turns).turns)) clear next.present),
             next.each,
           );
         }
     go false is ih =
-        let step = exchange_step settings station link pending x.request x.front x.closed old run.0 turn owed agrees keeps.0 run.1 fronts.0 is in
+        let step = exchange_step settings station link pending x.request x.front x.closed old run.0 turn owed agrees
+        keeps.0 run.1 fronts.0 is in
         let next = ih (pending_by x.request (answer_to station x) pending) step.owed' step.agrees in
         record {
-          present = one_more (learnt_by x.request (answer_to station x)) _ owed turn.done _ _ step.owed' step.sum next.present;
+          present = one_more (learnt_by x.request (answer_to station x)) _ owed turn.done _ _ step.owed' step.sum
+              next.present;
           each = next.each;
         }
 
 -- While the link is down and isn't reset, it stays down, and nothing is learnt or pending by it.
-pub record IsIdle (settings : LinkSettings) (station : ℕ) (link : Link) (request : Asked) (m : Option Answer) (x : Exchange) : Type 0 where
+pub record IsIdle (settings : LinkSettings) (station : ℕ) (link : Link) (request : Asked) (m : Option Answer)
+    (x : Exchange) : Type 0 where
   pub down : is_up (after_outcome settings m x link) ≡ false
   pub nothing : learnt_by request m ≡ []
   pub same : (pending : Option Service) → pending_by request m pending ≡ pending
 
-pub idle_down : (settings : LinkSettings) (station : ℕ) (link : Link) (request : Asked) (m : Option Answer) (front : Option Frame) (closed : Bool) →
+pub idle_down : (settings : LinkSettings) (station : ℕ) (link : Link) (request : Asked) (m : Option Answer)
+    (front : Option Frame) (closed : Bool) →
     is_up link ≡ false → MaySend link request → is_reset request m ≡ false →
     IsIdle settings station link request m (record { request = request; front = front; closed = closed })
-idle_down settings station Down Status None front closed down may other = record { down = refl; nothing = refl; same = λ p. refl }
-idle_down settings station Available Status None front closed down may other = record { down = refl; nothing = refl; same = λ p. refl }
-idle_down settings station Available Reset None front closed down may other = record { down = refl; nothing = refl; same = λ p. refl }
-idle_down settings station Down Status (Some Ready) front closed down may other = record { down = refl; nothing = refl; same = λ p. refl }
-idle_down settings station Down Status (Some Unable) front closed down may other = record { down = refl; nothing = refl; same = λ p. refl }
-idle_down settings station Down Status (Some answer) front closed down may other = record { down = refl; nothing = refl; same = λ p. refl }
-idle_down settings station Available Status (Some Ready) front closed down may other = record { down = refl; nothing = refl; same = λ p. refl }
-idle_down settings station Available Status (Some Unable) front closed down may other = record { down = refl; nothing = refl; same = λ p. refl }
-idle_down settings station Available Status (Some answer) front closed down may other = record { down = refl; nothing = refl; same = λ p. refl }
+idle_down settings station Down Status None front closed down may other =
+    record { down = refl; nothing = refl; same = λ p. refl }
+idle_down settings station Available Status None front closed down may other =
+    record { down = refl; nothing = refl; same = λ p. refl }
+idle_down settings station Available Reset None front closed down may other =
+    record { down = refl; nothing = refl; same = λ p. refl }
+idle_down settings station Down Status (Some Ready) front closed down may other =
+    record { down = refl; nothing = refl; same = λ p. refl }
+idle_down settings station Down Status (Some Unable) front closed down may other =
+    record { down = refl; nothing = refl; same = λ p. refl }
+idle_down settings station Down Status (Some answer) front closed down may other =
+    record { down = refl; nothing = refl; same = λ p. refl }
+idle_down settings station Available Status (Some Ready) front closed down may other =
+    record { down = refl; nothing = refl; same = λ p. refl }
+idle_down settings station Available Status (Some Unable) front closed down may other =
+    record { down = refl; nothing = refl; same = λ p. refl }
+idle_down settings station Available Status (Some answer) front closed down may other =
+    record { down = refl; nothing = refl; same = λ p. refl }
 idle_down settings station Available Reset (Some Confirmed) front closed down may other = cc
-idle_down settings station Available Reset (Some Unable) front closed down may other = record { down = refl; nothing = refl; same = λ p. refl }
-idle_down settings station Available Reset (Some answer) front closed down may other = record { down = refl; nothing = refl; same = λ p. refl }
+idle_down settings station Available Reset (Some Unable) front closed down may other =
+    record { down = refl; nothing = refl; same = λ p. refl }
+idle_down settings station Available Reset (Some answer) front closed down may other =
+    record { down = refl; nothing = refl; same = λ p. refl }
 idle_down settings station (Next fcb) request m front closed down may other = cc
 idle_down settings station (Held fcb service missed) request m front closed down may other = cc
 idle_down settings station link request m front closed down may other = absurd may
 
 -- no service is done while the link is down
-idle_turn : (station : ℕ) (link : Link) (request : Asked) (old new : Outstation) (turn : Turn) → is_up link ≡ false → MaySend link request →
+idle_turn : (station : ℕ) (link : Link) (request : Asked) (old new : Outstation) (turn : Turn) → is_up link ≡ false
+    → MaySend link request →
     OutstationStep station old request turn new → turn.done ≡ []
 idle_turn station Down Status old new turn down may step = idle_status station old new turn step
 idle_turn station Available Status old new turn down may step = idle_status station old new turn step
@@ -149,32 +194,48 @@ reset_from_down (Held fcb service missed) (Counted sent again) may is = cc
 reset_from_down link request may is = absurd may
 
 -- Before the first reset nothing is learnt, and nothing is pending.
-nothing_before : (settings : LinkSettings) (station : ℕ) (link : Link) (xs : List Exchange) (turns : List Turn) → is_up link ≡ false →
+nothing_before : (settings : LinkSettings) (station : ℕ) (link : Link) (xs : List Exchange) (turns : List Turn)
+    → is_up link ≡ false →
     KeepsFrameCountBit settings station link xs →
-    (learnt station (before_reset station xs turns).exchanges ≡ []) × (pending_after station None (before_reset station xs turns).exchanges ≡ None)
+    (learnt station (before_reset station xs turns).exchanges ≡ [])
+    × (pending_after station None (before_reset station xs turns).exchanges ≡ None)
 nothing_before settings station link [] turns down keeps = (refl, refl)
 nothing_before settings station link (x ∷ xs) [] down keeps = (refl, refl)
 nothing_before settings station link (x ∷ xs) (turn ∷ turns) down keeps =
     go (is_reset x.request (answer_to station x)) refl
-    (λ (d : is_up (after settings station x link) ≡ false). nothing_before settings station (after settings station x link) xs turns d keeps.1)
+    (λ (d : is_up (after settings station x link) ≡ false). nothing_before settings station
+    (after settings station x link) xs turns d keeps.1)
   where
     go : (b : Bool) → is_reset x.request (answer_to station x) ≡ b →
         (is_up (after settings station x link) ≡ false →
-        (learnt station (before_reset station xs turns).exchanges ≡ []) × (pending_after station None (before_reset station xs turns).exchanges ≡ None)) →
-        (learnt station (if b then record { exchanges = []; turns = [] } else with_first x turn (before_reset station xs turns)).exchanges ≡ [])
-        × (pending_after station None (if b then record { exchanges = []; turns = [] } else with_first x turn (before_reset station xs turns)).exchanges ≡ None)
+        (learnt station (before_reset station xs turns).exchanges ≡ [])
+        × (pending_after station None (before_reset station xs turns).exchanges ≡ None)) →
+        (learnt station (if b then record {
+          exchanges = [];
+          turns =
+              [];
+        } else with_first x turn (before_reset station xs turns)).exchanges ≡ [])
+        × (pending_after station None (if b then record {
+          exchanges = [];
+          turns =
+              [];
+        } else with_first x turn (before_reset station xs turns)).exchanges ≡ None)
     go true is ih = (refl, refl)
     go false is ih =
         let idle = idle_down settings station link x.request (answer_to station x) x.front x.closed down keeps.0 is in
         let rest = ih idle.down in (
           ap (λ (e : List Effect). e ++ learnt station (before_reset station xs turns).exchanges) idle.nothing ∙ rest.0,
-          ap (λ (p : Option Service). pending_after station p (before_reset station xs turns).exchanges) (idle.same None) ∙ rest.1,
+          ap (λ (p : Option Service). pending_after station p (before_reset station xs turns).exchanges)
+              (idle.same None) ∙ rest.1,
         )
 
 -- All that is learnt is learnt before the first reset, and then in the sessions; likewise what is done.
-learnt_in_sessions : (station : ℕ) (xs : List Exchange) (turns : List Turn) (old end : Outstation) → OutstationRun station old (requests_of xs) turns end →
-    (learnt station (before_reset station xs turns).exchanges ++ flat_map (λ (s : Session). learnt station s.exchanges) (sessions station xs turns) ≡ learnt station xs)
-    × (all_done (before_reset station xs turns).turns ++ flat_map (λ (s : Session). all_done s.turns) (sessions station xs turns) ≡ all_done turns)
+learnt_in_sessions : (station : ℕ) (xs : List Exchange) (turns : List Turn) (old end : Outstation)
+    → OutstationRun station old (requests_of xs) turns end →
+    (learnt station (before_reset station xs turns).exchanges
+    ++ flat_map (λ (s : Session). learnt station s.exchanges) (sessions station xs turns) ≡ learnt station xs)
+    × (all_done (before_reset station xs turns).turns ++ flat_map (λ (s : Session). all_done s.turns)
+    (sessions station xs turns) ≡ all_done turns)
 learnt_in_sessions station [] [] old end run = (refl, refl)
 learnt_in_sessions station [] (turn ∷ turns) old end run = absurd run
 learnt_in_sessions station (x ∷ xs) [] old end run = absurd run
@@ -182,38 +243,57 @@ learnt_in_sessions station (x ∷ xs) (turn ∷ turns) old end run =
     go (is_reset x.request (answer_to station x)) (learnt_in_sessions station xs turns run.0 end run.2)
   where
     go : (b : Bool) →
-        (learnt station (before_reset station xs turns).exchanges ++ flat_map (λ (s : Session). learnt station s.exchanges) (sessions station xs turns) ≡ learnt station xs)
-        × (all_done (before_reset station xs turns).turns ++ flat_map (λ (s : Session). all_done s.turns) (sessions station xs turns) ≡ all_done turns) →
-        (learnt station (if b then record { exchanges = []; turns = [] } else with_first x turn (before_reset station xs turns)).exchanges
-        ++ flat_map (λ (s : Session). learnt station s.exchanges) (if b then with_first x turn (before_reset station xs turns) ∷ sessions station xs turns else sessions station xs turns)
+        (learnt station (before_reset station xs turns).exchanges
+        ++ flat_map (λ (s : Session). learnt station s.exchanges) (sessions station xs turns) ≡ learnt station xs)
+        × (all_done (before_reset station xs turns).turns
+        ++ flat_map (λ (s : Session). all_done s.turns) (sessions station xs turns) ≡ all_done turns) →
+        (learnt station (if b then record {
+          exchanges = [];
+          turns =
+              [];
+        } else with_first x turn (before_reset station xs turns)).exchanges
+        ++ flat_map (λ (s : Session). learnt station s.exchanges)
+        (if b then with_first x turn (before_reset station xs turns)
+        ∷ sessions station xs turns else sessions station xs turns)
         ≡ learnt station (x ∷ xs))
-        × (all_done (if b then record { exchanges = []; turns = [] } else with_first x turn (before_reset station xs turns)).turns
-        ++ flat_map (λ (s : Session). all_done s.turns) (if b then with_first x turn (before_reset station xs turns) ∷ sessions station xs turns else sessions station xs turns)
+        × (all_done (if b then record {
+          exchanges = [];
+          turns =
+              [];
+        } else with_first x turn (before_reset station xs turns)).turns
+        ++ flat_map (λ (s : Session). all_done s.turns) (if b then with_first x turn (before_reset station xs turns)
+        ∷ sessions station xs turns else sessions station xs turns)
         ≡ all_done (turn ∷ turns))
     go true ih = (
-      append_assoc (learnt_by x.request (answer_to station x)) _ _ ∙ ap (λ (e : List Effect). learnt_by x.request (answer_to station x) ++ e) ih.0,
+      append_assoc (learnt_by x.request (answer_to station x)) _ _
+          ∙ ap (λ (e : List Effect). learnt_by x.request (answer_to station x) ++ e) ih.0,
       append_assoc turn.done _ _ ∙ ap (λ (e : List Effect). turn.done ++ e) ih.1,
     )
     go false ih = (
-      append_assoc (learnt_by x.request (answer_to station x)) _ _ ∙ ap (λ (e : List Effect). learnt_by x.request (answer_to station x) ++ e) ih.0,
+      append_assoc (learnt_by x.request (answer_to station x)) _ _
+          ∙ ap (λ (e : List Effect). learnt_by x.request (answer_to station x) ++ e) ih.0,
       append_assoc turn.done _ _ ∙ ap (λ (e : List Effect). turn.done ++ e) ih.1,
     )
 
 -- Under a steady link one session holds all.
-pub steady_from : (settings : LinkSettings) (station : ℕ) (link : Link) (pending : Option Service) (xs : List Exchange) (turns : List Turn)
+pub steady_from : (settings : LinkSettings) (station : ℕ) (link : Link) (pending : Option Service) (xs : List Exchange)
+    (turns : List Turn)
     (old end : Outstation) (owed : List Effect) →
     Agrees station link pending old owed → (is_up link ≡ false → (owed ≡ []) × (pending ≡ None)) →
-    KeepsFrameCountBit settings station link xs → IsSteady settings station link xs → OutstationRun station old (requests_of xs) turns end → AreTrueFronts xs turns →
+    KeepsFrameCountBit settings station link xs → IsSteady settings station link xs
+    → OutstationRun station old (requests_of xs) turns end → AreTrueFronts xs turns →
     IsKnown (learnt station xs) (pending_after station pending xs) (owed ++ all_done turns)
 steady_from settings station link pending [] [] old end owed agrees clear keeps steady run fronts =
     record { owed = owed; may_owe = owes_of station link pending old owed agrees; whole = sym (append-nil owed) }
-steady_from settings station link pending [] (turn ∷ turns) old end owed agrees clear keeps steady run fronts = absurd run
+steady_from settings station link pending [] (turn ∷ turns) old end owed agrees clear keeps steady run fronts =
+    absurd run
 steady_from settings station link pending (x ∷ xs) [] old end owed agrees clear keeps steady run fronts = absurd run
 steady_from settings station link pending (x ∷ xs) (turn ∷ turns) old end owed agrees clear keeps steady run fronts =
     go (is_reset x.request (answer_to station x)) refl
     (λ (p : Option Service) (o : List Effect) (a : Agrees station (after settings station x link) p run.0 o)
     (c : is_up (after settings station x link) ≡ false → (o ≡ []) × (p ≡ None)).
-    steady_from settings station (after settings station x link) p xs turns run.0 end o a c keeps.1 steady.1 run.2 fronts.1)
+    steady_from settings station (after settings station x link) p xs turns run.0 end o a c keeps.1 steady.1 run.2
+    fronts.1)
   where
     go : (b : Bool) → is_reset x.request (answer_to station x) ≡ b →
         ((p : Option Service) (o : List Effect) → Agrees station (after settings station x link) p run.0 o →
@@ -228,26 +308,37 @@ steady_from settings station link pending (x ∷ xs) (turn ∷ turns) old end ow
         (ap (λ (o : List Effect). o ++ turn.done) c.0 ∙ r.0 ∙ ap (λ (e : List Effect). e ++ []) (sym l.0))
         (ih (pending_by x.request (answer_to station x) pending) [] r.1 (λ d. (refl, l.1)))
     go false is ih =
-        let step = exchange_step settings station link pending x.request x.front x.closed old run.0 turn owed agrees keeps.0 run.1 fronts.0 is in
+        let step = exchange_step settings station link pending x.request x.front x.closed old run.0 turn owed agrees
+        keeps.0 run.1 fronts.0 is in
         one_more (learnt_by x.request (answer_to station x)) _ owed turn.done _ _ step.owed' step.sum
         (ih (pending_by x.request (answer_to station x) pending) step.owed' step.agrees
         (λ (d : is_up (after settings station x link) ≡ false). down (is_up link) refl step.owed' step.sum d))
       where
-        down : (u : Bool) → is_up link ≡ u → (o : List Effect) → owed ++ turn.done ≡ learnt_by x.request (answer_to station x) ++ o →
-            is_up (after settings station x link) ≡ false → (o ≡ []) × (pending_by x.request (answer_to station x) pending ≡ None)
+        down : (u : Bool) → is_up link ≡ u → (o : List Effect)
+            → owed ++ turn.done ≡ learnt_by x.request (answer_to station x) ++ o →
+            is_up (after settings station x link) ≡ false
+            → (o ≡ []) × (pending_by x.request (answer_to station x) pending ≡ None)
         down true up o sum d = let e : is_up (after settings station x link) ≡ true = steady.0 up in cc
         down false up o sum d =
             let c = clear up in
             let idle = idle_down settings station link x.request (answer_to station x) x.front x.closed up keeps.0 is in
             let quiet = idle_turn station link x.request old run.0 turn up keeps.0 run.1 in (
-              ap (λ (e : List Effect). e ++ o) (sym idle.nothing) ∙ sym sum ∙ ap (λ (e : List Effect). e ++ turn.done) c.0 ∙ quiet,
+              ap (λ (e : List Effect). e ++ o) (sym idle.nothing) ∙ sym sum
+                  ∙ ap (λ (e : List Effect). e ++ turn.done) c.0 ∙ quiet,
               idle.same pending ∙ c.1,
             )
 
 -- Where the latest exchange was answered nothing is pending.
-answered_clears : (settings : LinkSettings) (link : Link) (request : Asked) (answer : Answer) (x : Exchange) (pending : Option Service) →
+answered_clears : (settings : LinkSettings) (link : Link) (request : Asked) (answer : Answer) (x : Exchange)
+    (pending : Option Service) →
     x.request ≡ request → MaySend link request → (is_up link ≡ false → pending ≡ None) →
-    (is_up link ≡ true → is_up (after_outcome settings (Some answer) (record { request = request; front = x.front; closed = x.closed }) link) ≡ true) →
+    (is_up link ≡ true
+    → is_up (after_outcome settings (Some answer) (record {
+      request = request;
+      front = x.front;
+      closed =
+          x.closed;
+    }) link) ≡ true) →
     pending_by request (Some answer) pending ≡ None
 answered_clears settings Down Status answer x pending same may clear steady = clear refl
 answered_clears settings Available Status answer x pending same may clear steady = clear refl
@@ -258,57 +349,72 @@ answered_clears settings link (Counted fcb service) Confirmed x pending same may
 answered_clears settings link (Counted fcb service) Busy x pending same may clear steady = refl
 answered_clears settings link (Counted fcb service) (Report asdu) x pending same may clear steady = refl
 answered_clears settings link (Counted fcb service) NoData x pending same may clear steady = refl
-answered_clears settings (Next sent) (Counted fcb service) Unable x pending same may clear steady = let e = steady refl in cc
-answered_clears settings (Held sent again missed) (Counted fcb service) Unable x pending same may clear steady = let e = steady refl in cc
+answered_clears settings (Next sent) (Counted fcb service) Unable x pending same may clear steady =
+    let e = steady refl in cc
+answered_clears settings (Held sent again missed) (Counted fcb service) Unable x pending same may clear steady =
+    let e = steady refl in cc
 answered_clears settings link request answer x pending same may clear steady = absurd may
 
-pub latest_known : (settings : LinkSettings) (station : ℕ) (link : Link) (pending : Option Service) (xs : List Exchange) →
-    (is_up link ≡ false → pending ≡ None) → KeepsFrameCountBit settings station link xs → IsSteady settings station link xs → IsLatestAnswered station xs →
+pub latest_known : (settings : LinkSettings) (station : ℕ) (link : Link) (pending : Option Service)
+    (xs : List Exchange) →
+    (is_up link ≡ false → pending ≡ None) → KeepsFrameCountBit settings station link xs
+    → IsSteady settings station link xs → IsLatestAnswered station xs →
     (xs ≡ [] → pending ≡ None) → pending_after station pending xs ≡ None
 latest_known settings station link pending [] clear keeps steady latest none = none refl
-latest_known settings station link pending (x ∷ []) clear keeps steady latest none = go (answer_to station x) refl latest
+latest_known settings station link pending (x ∷ []) clear keeps steady latest none =
+    go (answer_to station x) refl latest
   where
-    go : (m : Option Answer) → answer_to station x ≡ m → IsSome m → pending_by x.request (answer_to station x) pending ≡ None
+    go : (m : Option Answer) → answer_to station x ≡ m → IsSome m
+        → pending_by x.request (answer_to station x) pending ≡ None
     go None e l = cc
     go (Some answer) e l =
         ap (λ (m : Option Answer). pending_by x.request m pending) e
         ∙ answered_clears settings link x.request answer x pending refl keeps.0 clear
         (subst (λ (m : Option Answer). is_up link ≡ true → is_up (after_outcome settings m x link) ≡ true) e steady.0)
 latest_known settings station link pending (x ∷ (y ∷ ys)) clear keeps steady latest none =
-    latest_known settings station (after settings station x link) (pending_by x.request (answer_to station x) pending) (y ∷ ys)
+    latest_known settings station (after settings station x link) (pending_by x.request (answer_to station x) pending)
+    (y ∷ ys)
     (λ d. go (is_up link) refl d) keeps.1 steady.1 latest (λ e. cc)
   where
-    go : (u : Bool) → is_up link ≡ u → is_up (after settings station x link) ≡ false → pending_by x.request (answer_to station x) pending ≡ None
+    go : (u : Bool) → is_up link ≡ u → is_up (after settings station x link) ≡ false
+        → pending_by x.request (answer_to station x) pending ≡ None
     go true up d = let e : is_up (after settings station x link) ≡ true = steady.0 up in cc
     go false up d = go_down (is_reset x.request (answer_to station x)) refl
       where
-        go_down : (b : Bool) → is_reset x.request (answer_to station x) ≡ b → pending_by x.request (answer_to station x) pending ≡ None
+        go_down : (b : Bool) → is_reset x.request (answer_to station x) ≡ b
+            → pending_by x.request (answer_to station x) pending ≡ None
         go_down true is = (reset_learns x.request (answer_to station x) pending is).1
-        go_down false is = (idle_down settings station link x.request (answer_to station x) x.front x.closed up keeps.0 is).same pending ∙ clear up
+        go_down false is =
+            (idle_down settings station link x.request (answer_to station x) x.front x.closed up keeps.0 is).same
+            pending ∙ clear up
 
 -- what is known of a service that isn't pending
-pub known_all : (learnt done : List Effect) (pending : Option Service) → IsKnown learnt pending done → pending ≡ None → learnt ≡ done
+pub known_all : (learnt done : List Effect) (pending : Option Service) → IsKnown learnt pending done → pending ≡ None
+    → learnt ≡ done
 known_all learnt done pending k none =
     let owed : MayOwe None k.owed = subst (λ (p : Option Service). MayOwe p k.owed) none k.may_owe in
     sym (append-nil learnt) ∙ ap (λ (o : List Effect). learnt ++ o) (sym owed) ∙ k.whole
 
 reports-append : (xs ys : List Effect) → reports (xs ++ ys) ≡ reports xs ++ reports ys
 reports-append [] ys = refl
-reports-append (x ∷ xs) ys = ap (λ (r : List (List ℕ)). given_by x ++ r) (reports-append xs ys) ∙ sym (append_assoc (given_by x) (reports xs) (reports ys))
+reports-append (x ∷ xs) ys = ap (λ (r : List (List ℕ)). given_by x ++ r) (reports-append xs ys)
+    ∙ sym (append_assoc (given_by x) (reports xs) (reports ys))
 
 reports-nil : (xs : List (List ℕ)) → xs ++ [] ≡ xs
 reports-nil [] = refl
 reports-nil (x ∷ xs) = ap (λ (ys : List (List ℕ)). x ∷ ys) (reports-nil xs)
 
 -- The reports that are known are the outstation's, or all of them but the last.
-pub reports_known : (learnt done : List Effect) (pending : Option Service) → IsKnown learnt pending done → IsAllOrButLast (reports done) (reports learnt)
+pub reports_known : (learnt done : List Effect) (pending : Option Service) → IsKnown learnt pending done
+    → IsAllOrButLast (reports done) (reports learnt)
 reports_known learnt done pending k = go pending k.may_owe
   where
     whole : reports learnt ++ reports k.owed ≡ reports done
     whole = sym (reports-append learnt k.owed) ∙ ap reports k.whole
 
     nothing : reports k.owed ≡ [] → IsAllOrButLast (reports done) (reports learnt)
-    nothing none = inl (sym (reports-nil (reports learnt)) ∙ ap (λ (r : List (List ℕ)). reports learnt ++ r) (sym none) ∙ whole)
+    nothing none = inl (sym (reports-nil (reports learnt)) ∙ ap (λ (r : List (List ℕ)). reports learnt ++ r) (sym none)
+        ∙ whole)
 
     one : (asdu : List ℕ) → k.owed ≡ Given asdu ∷ [] → IsAllOrButLast (reports done) (reports learnt)
     one asdu e = inr (asdu, ap (λ (o : List Effect). reports learnt ++ reports o) (sym e) ∙ whole)
@@ -323,27 +429,34 @@ reports_known learnt done pending k = go pending k.may_owe
     go (Some Class2) (inr owed) = one owed.0 owed.1
 
 -- From the beginning on, what is learnt and done is learnt and done in the sessions.
-pub all_in_sessions : (settings : LinkSettings) (station : ℕ) (xs : List Exchange) (turns : List Turn) → KeepsFrameCountBit settings station Down xs → IsHonest station xs turns →
+pub all_in_sessions : (settings : LinkSettings) (station : ℕ) (xs : List Exchange) (turns : List Turn)
+    → KeepsFrameCountBit settings station Down xs → IsHonest station xs turns →
     (flat_map (λ (s : Session). learnt station s.exchanges) (sessions station xs turns) ≡ learnt station xs)
     × (flat_map (λ (s : Session). all_done s.turns) (sessions station xs turns) ≡ all_done turns)
 all_in_sessions settings station xs turns keeps honest =
     let parts = learnt_in_sessions station xs turns unreset honest.end honest.run in
     let before = nothing_before settings station Down xs turns refl keeps in
-    let known = known_from settings station Down None xs turns unreset honest.end [] refl keeps honest.run honest.fronts in
-    let idle : all_done (before_reset station xs turns).turns ≡ [] = sym (known_all _ _ _ known.present before.1) ∙ before.0 in (
-      ap (λ (e : List Effect). e ++ flat_map (λ (s : Session). learnt station s.exchanges) (sessions station xs turns)) (sym before.0) ∙ parts.0,
-      ap (λ (e : List Effect). e ++ flat_map (λ (s : Session). all_done s.turns) (sessions station xs turns)) (sym idle) ∙ parts.1,
+    let known = known_from settings station Down None xs turns unreset honest.end
+    [] refl keeps honest.run honest.fronts in
+    let idle : all_done (before_reset station xs turns).turns ≡ [] = sym (known_all _ _ _ known.present before.1)
+    ∙ before.0 in (
+      ap (λ (e : List Effect). e ++ flat_map (λ (s : Session). learnt station s.exchanges) (sessions station xs turns))
+          (sym before.0) ∙ parts.0,
+      ap (λ (e : List Effect). e ++ flat_map (λ (s : Session). all_done s.turns) (sessions station xs turns))
+          (sym idle) ∙ parts.1,
     )
 
 -- no report is owed but by a poll
-all_reports : (learnt done : List Effect) (pending : Option Service) → IsKnown learnt pending done → is_gap pending ≡ false → reports learnt ≡ reports done
+all_reports : (learnt done : List Effect) (pending : Option Service) → IsKnown learnt pending done
+    → is_gap pending ≡ false → reports learnt ≡ reports done
 all_reports learnt done pending k gap = go pending k.may_owe gap
   where
     whole : reports learnt ++ reports k.owed ≡ reports done
     whole = sym (reports-append learnt k.owed) ∙ ap reports k.whole
 
     nothing : reports k.owed ≡ [] → reports learnt ≡ reports done
-    nothing none = sym (reports-nil (reports learnt)) ∙ ap (λ (r : List (List ℕ)). reports learnt ++ r) (sym none) ∙ whole
+    nothing none = sym (reports-nil (reports learnt)) ∙ ap (λ (r : List (List ℕ)). reports learnt ++ r) (sym none)
+        ∙ whole
 
     go : (p : Option Service) → MayOwe p k.owed → is_gap p ≡ false → reports learnt ≡ reports done
     go None owed gap = nothing (ap reports owed)
@@ -352,8 +465,11 @@ all_reports learnt done pending k gap = go pending k.may_owe gap
     go (Some (Command c)) (inl owed) gap = nothing (ap reports owed)
     go (Some (Command c)) (inr owed) gap = nothing (ap reports owed)
 
-pub all_have_reports : (station : ℕ) (ss : List Session) → AllByRecursion (λ (s : Session). IsSessionKnown station s) ss →
+pub all_have_reports : (station : ℕ) (ss : List Session)
+    → AllByRecursion (λ (s : Session). IsSessionKnown station s) ss →
     AllByRecursion (λ (s : Session). HasReports station s) ss
 all_have_reports station [] known = tt
-all_have_reports station (s ∷ ss) known =
-    (record { most = reports_known _ _ _ known.0; all = all_reports _ _ _ known.0 }, all_have_reports station ss known.1)
+all_have_reports station (s ∷ ss) known = (
+  record { most = reports_known _ _ _ known.0; all = all_reports _ _ _ known.0 },
+  all_have_reports station ss known.1,
+)

@@ -25,36 +25,63 @@ nil [] = refl
 nil (x ∷ xs) = ap (λ (ys : List ℕ). x ∷ ys) (nil xs)
 
 -- what is said stays said
-pub said_now : (front : List ℕ → Front) (address : ℕ) (x : OpenExchange) (m : Option Answer) → IsSaid front address x m →
+pub said_now : (front : List ℕ → Front) (address : ℕ) (x : OpenExchange) (m : Option Answer) → IsSaid front address x m
+    →
     option_and_then (answer_of address x.request) (whole_of (front x.octets)) ≡ m
 said_now front address x m said =
-    ap (λ (l : List ℕ). option_and_then (answer_of address x.request) (whole_of (front l))) (sym (nil x.octets)) ∙ said []
+    ap (λ (l : List ℕ). option_and_then (answer_of address x.request) (whole_of (front l))) (sym (nil x.octets))
+    ∙ said []
 
 abbrev pub grown : OpenExchange → List ℕ → OpenExchange
-grown x octets = record { station = x.station; request = x.request; since = x.since; octets = x.octets ++ octets; closed = x.closed }
+grown x octets = record {
+  station = x.station;
+  request = x.request;
+  since = x.since;
+  octets =
+      x.octets ++ octets;
+  closed = x.closed;
+}
 
-said_later : (front : List ℕ → Front) (address : ℕ) (x : OpenExchange) (octets : List ℕ) (m : Option Answer) → IsSaid front address x m →
+said_later : (front : List ℕ → Front) (address : ℕ) (x : OpenExchange) (octets : List ℕ) (m : Option Answer)
+    → IsSaid front address x m →
     IsSaid front address (grown x octets) m
 said_later front address x octets m said more =
-    ap (λ (l : List ℕ). option_and_then (answer_of address x.request) (whole_of (front l))) (append_assoc x.octets octets more) ∙ said (octets ++ more)
+    ap (λ (l : List ℕ). option_and_then (answer_of address x.request) (whole_of (front l)))
+    (append_assoc x.octets octets more) ∙ said (octets ++ more)
 
 -- octets that come to an exchange that isn't closed
 pub heard_open : (octets : List ℕ) (x : OpenExchange) → x.closed ≡ false → heard_octets octets x ≡ grown x octets
 heard_open octets x alive =
-    ap (λ (b : Bool). record { station = x.station; request = x.request; since = x.since; octets = if b then x.octets else x.octets ++ octets; closed = x.closed }) alive
+    ap (λ (b : Bool). record {
+      station = x.station;
+      request = x.request;
+      since = x.since;
+      octets =
+          if b then x.octets else x.octets ++ octets;
+      closed = x.closed;
+    }) alive
 
 pub heard_closed : (octets : List ℕ) (x : OpenExchange) → x.closed ≡ true → heard_octets octets x ≡ x
 heard_closed octets x closed =
-    ap (λ (b : Bool). record { station = x.station; request = x.request; since = x.since; octets = if b then x.octets else x.octets ++ octets; closed = x.closed }) closed
+    ap (λ (b : Bool). record {
+      station = x.station;
+      request = x.request;
+      since = x.since;
+      octets =
+          if b then x.octets else x.octets ++ octets;
+      closed = x.closed;
+    }) closed
 
 -- the primary is as it was, and the latest exchange another
-same_state : (front : List ℕ → Front) (settings : LinkSettings) (addresses : List ℕ) (p : Primary) (ended : List OpenExchange) (cur cur' : Option OpenExchange) (o : Option Outstanding) →
+same_state : (front : List ℕ → Front) (settings : LinkSettings) (addresses : List ℕ) (p : Primary)
+    (ended : List OpenExchange) (cur cur' : Option OpenExchange) (o : Option Outstanding) →
     p.outstanding ≡ o → TellsBy front settings addresses p (record { ended = ended; current = cur }) →
     IsCurrent front addresses p.turn o cur' → AreKept front settings addresses (ended ++ as_list cur') →
     AreLinks front settings addresses p.stations (past o (record { ended = ended; current = cur' })) →
     AreFlags front addresses p.stations (ended ++ as_list cur') →
     AreSessions front addresses p.stations (ended ++ as_list cur') →
-    spoilt_count front (λ i. slice_index addresses i) (ended ++ as_list cur') ≡ spoilt_count front (λ i. slice_index addresses i) (ended ++ as_list cur) →
+    spoilt_count front (λ i. slice_index addresses i) (ended ++ as_list cur')
+    ≡ spoilt_count front (λ i. slice_index addresses i) (ended ++ as_list cur) →
     TellsBy front settings addresses p (record { ended = ended; current = cur' })
 same_state front settings addresses p ended cur cur' o is t current keeps links flags sessions count = record {
   settings_are = t.settings_are;
@@ -64,16 +91,19 @@ same_state front settings addresses p ended cur cur' o is t current keeps links 
   allowed = t.allowed;
   current = subst (λ (q : Option Outstanding). IsCurrent front addresses p.turn q cur') (sym is) current;
   keeps = keeps;
-  links = subst (λ (q : Option Outstanding). AreLinks front settings addresses p.stations (past q (record { ended = ended; current = cur' }))) (sym is) links;
+  links = subst (λ (q : Option Outstanding). AreLinks front settings addresses p.stations
+      (past q (record { ended = ended; current = cur' }))) (sym is) links;
   flags = flags;
   sessions = sessions;
   spoilt = t.spoilt ∙ ap saturated (sym count);
 }
 
 -- the links that are known while nothing, or something, is outstanding
-pub links_at : (front : List ℕ → Front) (settings : LinkSettings) (addresses : List ℕ) (p : Primary) (e : Exchanges) (o : Option Outstanding) →
+pub links_at : (front : List ℕ → Front) (settings : LinkSettings) (addresses : List ℕ) (p : Primary) (e : Exchanges)
+    (o : Option Outstanding) →
     p.outstanding ≡ o → TellsBy front settings addresses p e → AreLinks front settings addresses p.stations (past o e)
-links_at front settings addresses p e o is t = subst (λ (q : Option Outstanding). AreLinks front settings addresses p.stations (past q e)) is t.links
+links_at front settings addresses p e o is t =
+    subst (λ (q : Option Outstanding). AreLinks front settings addresses p.stations (past q e)) is t.links
 
 -- what is awaited isn't answered
 pub unheard : (front : List ℕ → Front) (a : ℕ) (x : OpenExchange) (h : Option (List ℕ)) → IsHeard front a x h →
@@ -82,7 +112,8 @@ unheard front a x (Some octets) m = ap (λ (f : Front). option_and_then (answer_
 unheard front a x None said = said_now front a x None said
 
 -- the frame that answers an exchange stays at its front
-answered_front : (front : List ℕ → Front) (a : ℕ) (x : OpenExchange) (octets : List ℕ) (answer : Answer) → IsStable front →
+answered_front : (front : List ℕ → Front) (a : ℕ) (x : OpenExchange) (octets : List ℕ) (answer : Answer)
+    → IsStable front →
     option_and_then (answer_of a x.request) (whole_of (front x.octets)) ≡ Some answer →
     whole_of (front (x.octets ++ octets)) ≡ whole_of (front x.octets)
 answered_front front a x octets answer stable said = go (front x.octets) refl said
@@ -95,8 +126,10 @@ answered_front front a x octets answer stable said = go (front x.octets) refl sa
 
 -- `next`
 
-pub ask_tells : (front : List ℕ → Front) (settings : LinkSettings) (addresses : List ℕ) (p : Primary) (e : Exchanges) (now : ℕ) (may_poll : Bool) → IsStable front →
-    TellsBy front settings addresses p e → TellsBy front settings addresses (asked p now may_poll) (begun_by now (sending p may_poll) e)
+pub ask_tells : (front : List ℕ → Front) (settings : LinkSettings) (addresses : List ℕ) (p : Primary) (e : Exchanges)
+    (now : ℕ) (may_poll : Bool) → IsStable front →
+    TellsBy front settings addresses p e → TellsBy front settings addresses (asked p now may_poll)
+    (begun_by now (sending p may_poll) e)
 ask_tells front settings addresses p e now may_poll stable t = go p.outstanding refl
   where
     go : (o : Option Outstanding) → p.outstanding ≡ o →
@@ -121,7 +154,14 @@ ask_tells front settings addresses p e now may_poll stable t = go p.outstanding 
         }
         choose (Some c) may =
             let s : StationState = station_asked (station_at p.stations c.station) c.wanted.request in
-            let x : OpenExchange = record { station = c.station; request = c.wanted.request; since = now; octets = []; closed = false } in
+            let x : OpenExchange = record {
+              station = c.station;
+              request = c.wanted.request;
+              since = now;
+              octets =
+                  [];
+              closed = false;
+            } in
             let links = links_at front settings addresses p e None is t in
             let there = station_fits p.settings.size p.stations c.station may.within t.fits.stations in
             record {
@@ -134,32 +174,54 @@ ask_tells front settings addresses p e now may_poll stable t = go p.outstanding 
               };
               count = length-set p.stations c.station s ∙ t.count;
               address = λ i. set_view (λ (r : StationState). r.address) p.stations c.station s refl i ∙ t.address i;
-              allowed = subst (λ (l : Link). MaySend l c.wanted.request) (sym (set_view (λ (r : StationState). r.link) p.stations c.station s refl c.station)) may.may;
-              current = record { station = refl; request = refl; since = refl; waits = refl; heard = (refl, stable.nothing); has_octets = refl };
-              keeps = begun_keeps front settings addresses p.stations (e.ended ++ as_list e.current) x t.keeps links may.may;
+              allowed = subst (λ (l : Link). MaySend l c.wanted.request)
+                  (sym (set_view (λ (r : StationState). r.link) p.stations c.station s refl c.station)) may.may;
+              current = record {
+                station = refl;
+                request = refl;
+                since = refl;
+                waits = refl;
+                heard =
+                    (refl, stable.nothing);
+                has_octets = refl;
+              };
+              keeps = begun_keeps front settings addresses p.stations (e.ended
+                  ++ as_list e.current) x t.keeps links may.may;
               links = λ i. links i ∙ sym (set_view (λ (r : StationState). r.link) p.stations c.station s refl i);
               flags = λ i.
                   unanswered_flags front addresses (e.ended ++ as_list e.current) x
-                  (ap (λ (f : Front). option_and_then (answer_of (slice_index addresses x.station) x.request) (whole_of f)) stable.nothing) i
+                  (ap (λ (f : Front). option_and_then (answer_of (slice_index addresses x.station) x.request)
+                  (whole_of f)) stable.nothing) i
                   ∙ t.flags i ∙ sym (set_view flags_of p.stations c.station s refl i);
-              sessions = begun_sessions front addresses p.stations (e.ended ++ as_list e.current) x s may.within t.sessions
-                  (ap (λ (f : Front). option_and_then (answer_of (slice_index addresses x.station) x.request) (whole_of f)) stable.nothing) refl;
-              spoilt = t.spoilt ∙ ap saturated (sym (open_push front (λ i. slice_index addresses i) (e.ended ++ as_list e.current) x refl));
+              sessions = begun_sessions front addresses p.stations (e.ended
+                  ++ as_list e.current) x s may.within t.sessions
+                  (ap (λ (f : Front). option_and_then (answer_of (slice_index addresses x.station) x.request)
+                  (whole_of f)) stable.nothing) refl;
+              spoilt = t.spoilt
+                  ∙ ap saturated
+                  (sym (open_push front (λ i. slice_index addresses i) (e.ended ++ as_list e.current) x refl));
             }
 
 -- `due`
 
-pub due_tells : (front : List ℕ → Front) (settings : LinkSettings) (addresses : List ℕ) (p : Primary) (ended : List OpenExchange) (cur : Option OpenExchange) (at : ℕ) →
+pub due_tells : (front : List ℕ → Front) (settings : LinkSettings) (addresses : List ℕ) (p : Primary)
+    (ended : List OpenExchange) (cur : Option OpenExchange) (at : ℕ) →
     TellsBy front settings addresses p (record { ended = ended; current = cur }) →
-    TellsBy front settings addresses (timed_out p at) (record { ended = ended; current = timed_current settings.answer_ms at cur })
+    TellsBy front settings addresses (timed_out p at) (record {
+      ended = ended;
+      current =
+          timed_current settings.answer_ms at cur;
+    })
 due_tells front settings addresses p ended cur at t = go p.outstanding cur refl t t.current
   where
     ms : ℕ
     ms = settings.answer_ms
 
-    go : (o : Option Outstanding) (c : Option OpenExchange) → p.outstanding ≡ o → TellsBy front settings addresses p (record { ended = ended; current = c }) →
+    go : (o : Option Outstanding) (c : Option OpenExchange) → p.outstanding ≡ o
+        → TellsBy front settings addresses p (record { ended = ended; current = c }) →
         IsCurrent front addresses p.turn o c →
-        TellsBy front settings addresses (due_from p o at) (record { ended = ended; current = timed_current settings.answer_ms at c })
+        TellsBy front settings addresses (due_from p o at)
+        (record { ended = ended; current = timed_current settings.answer_ms at c })
     go None None is t c = t
     go (Some o) None is t c = absurd c
     go None (Some x) is t over = over_case over
@@ -168,21 +230,43 @@ due_tells front settings addresses p ended cur at t = go p.outstanding cur refl 
         links = links_at front settings addresses p (record { ended = ended; current = Some x }) None is t
 
         over_case : IsOver front (slice_index addresses x.station) x →
-            TellsBy front settings addresses p (record { ended = ended; current = Some (timed settings.answer_ms at x) })
+            TellsBy front settings addresses p (record {
+              ended = ended;
+              current =
+                  Some (timed settings.answer_ms at x);
+            })
         over_case (inl closed) =
             let same : timed settings.answer_ms at x ≡ x =
-            ap (λ (b : Bool). record { station = x.station; request = x.request; since = x.since; octets = x.octets; closed = b || nat_le (x.since + settings.answer_ms) at }) closed
-            ∙ ap (λ (b : Bool). record { station = x.station; request = x.request; since = x.since; octets = x.octets; closed = b }) (sym closed) in
-            subst (λ (z : OpenExchange). TellsBy front settings addresses p (record { ended = ended; current = Some z })) (sym same) t
+            ap (λ (b : Bool). record {
+              station = x.station;
+              request = x.request;
+              since = x.since;
+              octets =
+                  x.octets;
+              closed = b || nat_le (x.since + settings.answer_ms) at;
+            }) closed
+            ∙ ap (λ (b : Bool). record {
+              station = x.station;
+              request = x.request;
+              since = x.since;
+              octets =
+                  x.octets;
+              closed = b;
+            }) (sym closed) in
+            subst (λ (z : OpenExchange). TellsBy front settings addresses p
+            (record { ended = ended; current = Some z })) (sym same) t
         over_case (inr a) =
             let e = said_now front (slice_index addresses x.station) x (Some a.0) a.1 in
-            same_state front settings addresses p ended (Some x) (Some (timed settings.answer_ms at x)) None is t (inr (a.0, a.1))
+            same_state front settings addresses p ended (Some x) (Some (timed settings.answer_ms at x)) None is t
+            (inr (a.0, a.1))
             (grown_keeps front settings addresses ended x (timed settings.answer_ms at x) refl refl t.keeps)
             (λ i. alike_links front settings addresses ended x (timed settings.answer_ms at x) refl
-            (λ (l : Link). ap (λ (m : Option Answer). after_outcome settings m (view front (timed settings.answer_ms at x)).exchange l) e
+            (λ (l : Link). ap (λ (m : Option Answer). after_outcome settings m
+            (view front (timed settings.answer_ms at x)).exchange l) e
             ∙ ap (λ (m : Option Answer). after_outcome settings m (view front x).exchange l) (sym e)) i ∙ links i)
             (λ i. alike_flags front addresses ended x (timed settings.answer_ms at x) refl refl refl i ∙ t.flags i)
-            (λ i. alike_sessions front addresses ended x (timed settings.answer_ms at x) refl refl refl i ∙ t.sessions i)
+            (λ i. alike_sessions front addresses ended x (timed settings.answer_ms at x) refl refl refl i
+            ∙ t.sessions i)
             (answered_push front (λ i. slice_index addresses i) ended (timed settings.answer_ms at x) a.0 e
             ∙ sym (answered_push front (λ i. slice_index addresses i) ended x a.0 e))
     go (Some q) (Some x) is t w = late (is_late p q at) refl
@@ -195,17 +279,28 @@ due_tells front settings addresses p ended cur at t = go p.outstanding cur refl 
 
         closes : (b : Bool) → is_late p q at ≡ b → (timed settings.answer_ms at x).closed ≡ b
         closes b e =
-            ap (λ (c : Bool). c || nat_le (x.since + settings.answer_ms) at) w.waits ∙ ap (λ (s : ℕ). nat_le (s + settings.answer_ms) at) w.since
+            ap (λ (c : Bool). c || nat_le (x.since + settings.answer_ms) at) w.waits
+            ∙ ap (λ (s : ℕ). nat_le (s + settings.answer_ms) at) w.since
             ∙ ap (λ (s : LinkSettings). nat_le (q.since + s.answer_ms) at) (sym t.settings_are) ∙ e
 
         late : (b : Bool) → is_late p q at ≡ b →
-            TellsBy front settings addresses (if b then unanswered p q else p) (record { ended = ended; current = Some (timed settings.answer_ms at x) })
+            TellsBy front settings addresses (if b then unanswered p q else p)
+            (record { ended = ended; current = Some (timed settings.answer_ms at x) })
         late false e =
             same_state front settings addresses p ended (Some x) (Some (timed settings.answer_ms at x)) (Some q) is t
-            (record { station = w.station; request = w.request; since = w.since; waits = closes false e; heard = same_heard q.heard w.heard; has_octets = w.has_octets })
+            (record {
+              station = w.station;
+              request = w.request;
+              since = w.since;
+              waits = closes false e;
+              heard =
+                  same_heard q.heard w.heard;
+              has_octets = w.has_octets;
+            })
             (grown_keeps front settings addresses ended x (timed settings.answer_ms at x) refl refl t.keeps) links
             (λ i. alike_flags front addresses ended x (timed settings.answer_ms at x) refl refl refl i ∙ t.flags i)
-            (λ i. alike_sessions front addresses ended x (timed settings.answer_ms at x) refl refl refl i ∙ t.sessions i)
+            (λ i. alike_sessions front addresses ended x (timed settings.answer_ms at x) refl refl refl i
+            ∙ t.sessions i)
             (open_push front (λ i. slice_index addresses i) ended (timed settings.answer_ms at x) (closes false e)
             ∙ sym (open_push front (λ i. slice_index addresses i) ended x w.waits))
           where
@@ -229,11 +324,16 @@ due_tells front settings addresses p ended cur at t = go p.outstanding cur refl 
               allowed = tt;
               current = inl (closes true e);
               keeps = grown_keeps front settings addresses ended x (timed settings.answer_ms at x) refl refl t.keeps;
-              links = ended_links front settings addresses p.stations p.turn ended (timed settings.answer_ms at x) s t.fits.turn links w.station
-                  (ap (λ (z : LinkSettings). after_silence z q.request true (station_at p.stations p.turn).link) t.settings_are
-                  ∙ ap (λ (r : Asked). after_silence settings r true (station_at p.stations p.turn).link) (sym w.request)
-                  ∙ ap (λ (c : Bool). after_silence settings x.request c (station_at p.stations p.turn).link) (sym (closes true e))
-                  ∙ ap (λ (m : Option Answer). after_outcome settings m (view front (timed settings.answer_ms at x)).exchange (station_at p.stations p.turn).link)
+              links = ended_links front settings addresses p.stations p.turn ended
+                  (timed settings.answer_ms at x) s t.fits.turn links w.station
+                  (ap (λ (z : LinkSettings). after_silence z q.request true (station_at p.stations p.turn).link)
+                  t.settings_are
+                  ∙ ap (λ (r : Asked). after_silence settings r true (station_at p.stations p.turn).link)
+                  (sym w.request)
+                  ∙ ap (λ (c : Bool). after_silence settings x.request c (station_at p.stations p.turn).link)
+                  (sym (closes true e))
+                  ∙ ap (λ (m : Option Answer). after_outcome settings m
+                  (view front (timed settings.answer_ms at x)).exchange (station_at p.stations p.turn).link)
                   (sym (unheard front (slice_index addresses p.turn) x q.heard w.heard)));
               flags = λ i.
                   alike_flags front addresses ended x (timed settings.answer_ms at x) refl refl refl i ∙ t.flags i
@@ -241,8 +341,11 @@ due_tells front settings addresses p ended cur at t = go p.outstanding cur refl 
               sessions = λ i.
                   alike_sessions front addresses ended x (timed settings.answer_ms at x) refl refl refl i ∙ t.sessions i
                   ∙ sym (set_view (λ (r : StationState). r.session) p.stations p.turn s refl i);
-              spoilt = missed_push front (λ i. slice_index addresses i) ended (timed settings.answer_ms at x) q.has_octets p.spoilt (closes true e) w.has_octets
-                  (ap (λ (i : ℕ). option_and_then (answer_of (slice_index addresses i) x.request) (whole_of (front x.octets))) w.station ∙ unheard front (slice_index addresses p.turn) x q.heard w.heard)
+              spoilt = missed_push front (λ i. slice_index addresses i) ended
+                  (timed settings.answer_ms at x) q.has_octets p.spoilt (closes true e) w.has_octets
+                  (ap (λ (i : ℕ). option_and_then (answer_of (slice_index addresses i) x.request)
+                  (whole_of (front x.octets))) w.station
+                  ∙ unheard front (slice_index addresses p.turn) x q.heard w.heard)
                   (t.spoilt ∙ ap saturated (open_push front (λ i. slice_index addresses i) ended x w.waits));
             }
 
@@ -255,14 +358,18 @@ flags_are Single = refl
 flags_are (Fixed control address) = refl
 flags_are (Data control address body) = refl
 
-pub hear_tells : (front : List ℕ → Front) (settings : LinkSettings) (addresses : List ℕ) (p : Primary) (ended : List OpenExchange) (cur : Option OpenExchange) (octets : List ℕ) →
+pub hear_tells : (front : List ℕ → Front) (settings : LinkSettings) (addresses : List ℕ) (p : Primary)
+    (ended : List OpenExchange) (cur : Option OpenExchange) (octets : List ℕ) →
     IsStable front → TellsBy front settings addresses p (record { ended = ended; current = cur }) →
-    TellsBy front settings addresses (received front p octets) (record { ended = ended; current = heard_current octets cur })
+    TellsBy front settings addresses (received front p octets)
+    (record { ended = ended; current = heard_current octets cur })
 hear_tells front settings addresses p ended cur octets stable t = go p.outstanding cur refl t t.current
   where
-    go : (o : Option Outstanding) (c : Option OpenExchange) → p.outstanding ≡ o → TellsBy front settings addresses p (record { ended = ended; current = c }) →
+    go : (o : Option Outstanding) (c : Option OpenExchange) → p.outstanding ≡ o
+        → TellsBy front settings addresses p (record { ended = ended; current = c }) →
         IsCurrent front addresses p.turn o c →
-        TellsBy front settings addresses (received_from front p o octets) (record { ended = ended; current = heard_current octets c })
+        TellsBy front settings addresses (received_from front p o octets)
+        (record { ended = ended; current = heard_current octets c })
     go None None is t c = t
     go (Some o) None is t c = absurd c
     go None (Some x) is t over = by_closed x.closed refl
@@ -279,20 +386,27 @@ hear_tells front settings addresses p ended cur octets stable t = go p.outstandi
             (inr (a.0, said_later front (slice_index addresses x.station) x octets (Some a.0) a.1))
             (grown_keeps front settings addresses ended x (grown x octets) refl refl t.keeps)
             (λ i. alike_links front settings addresses ended x (grown x octets) refl
-            (λ (l : Link). ap (λ (m : Option Answer). after_outcome settings m (view front (grown x octets)).exchange l) (a.1 octets)
+            (λ (l : Link). ap (λ (m : Option Answer). after_outcome settings m
+            (view front (grown x octets)).exchange l) (a.1 octets)
             ∙ ap (λ (m : Option Answer). after_outcome settings m (view front x).exchange l) (sym before)) i ∙ links i)
             (λ i. alike_flags front addresses ended x (grown x octets) refl refl
             (answered_front front (slice_index addresses x.station) x octets a.0 stable before) i ∙ t.flags i)
-            (λ i. alike_sessions front addresses ended x (grown x octets) refl refl (a.1 octets ∙ sym before) i ∙ t.sessions i)
+            (λ i. alike_sessions front addresses ended x (grown x octets) refl refl (a.1 octets ∙ sym before) i
+            ∙ t.sessions i)
             (answered_push front (λ i. slice_index addresses i) ended (grown x octets) a.0 (a.1 octets)
             ∙ sym (answered_push front (λ i. slice_index addresses i) ended x a.0 before))
 
-        by_closed : (b : Bool) → x.closed ≡ b → TellsBy front settings addresses p (record { ended = ended; current = Some (heard_octets octets x) })
-        by_closed true e = subst (λ (z : OpenExchange). TellsBy front settings addresses p (record { ended = ended; current = Some z })) (sym (heard_closed octets x e)) t
+        by_closed : (b : Bool) → x.closed ≡ b → TellsBy front settings addresses p
+            (record { ended = ended; current = Some (heard_octets octets x) })
+        by_closed true e =
+            subst (λ (z : OpenExchange). TellsBy front settings addresses p
+            (record { ended = ended; current = Some z })) (sym (heard_closed octets x e)) t
         by_closed false e =
-            subst (λ (z : OpenExchange). TellsBy front settings addresses p (record { ended = ended; current = Some z })) (sym (heard_open octets x e)) (over_case e over)
+            subst (λ (z : OpenExchange). TellsBy front settings addresses p
+            (record { ended = ended; current = Some z })) (sym (heard_open octets x e)) (over_case e over)
     go (Some q) (Some x) is t w =
-        subst (λ (z : OpenExchange). TellsBy front settings addresses (received_from front p (Some q) octets) (record { ended = ended; current = Some z }))
+        subst (λ (z : OpenExchange). TellsBy front settings addresses (received_from front p (Some q) octets)
+        (record { ended = ended; current = Some z }))
         (sym (heard_open octets x w.waits)) (by_heard q.heard refl w.heard)
       where
         here : ℕ
@@ -314,7 +428,8 @@ hear_tells front settings addresses p ended cur octets stable t = go p.outstandi
         before_it : AreFlags front addresses p.stations ended
         before_it i =
             sym (unanswered_flags front addresses ended x
-            (subst (λ (j : ℕ). option_and_then (answer_of (slice_index addresses j) x.request) (whole_of (front x.octets)) ≡ None) (sym w.station)
+            (subst (λ (j : ℕ). option_and_then (answer_of (slice_index addresses j) x.request)
+            (whole_of (front x.octets)) ≡ None) (sym w.station)
             (unheard front here x q.heard w.heard)) i)
             ∙ t.flags i
 
@@ -324,7 +439,8 @@ hear_tells front settings addresses p ended cur octets stable t = go p.outstandi
             ∙ ap saturated (sym (open_push front (λ i. slice_index addresses i) ended (grown x octets) w.waits))
 
         waits : (heard : Option (List ℕ)) → IsHeard front (slice_index addresses p.turn) (grown x octets) heard →
-            TellsBy front settings addresses (awaits p (with_octets octets q) heard) (record { ended = ended; current = Some (grown x octets) })
+            TellsBy front settings addresses (awaits p (with_octets octets q) heard)
+            (record { ended = ended; current = Some (grown x octets) })
         waits heard so = record {
           settings_are = t.settings_are;
           fits = record { turn = t.fits.turn; stations = t.fits.stations; outstanding = asked_fits' };
@@ -343,36 +459,45 @@ hear_tells front settings addresses p ended cur octets stable t = go p.outstandi
           links = links;
           flags = λ i.
               unanswered_flags front addresses ended (grown x octets)
-              (subst (λ (j : ℕ). option_and_then (answer_of (slice_index addresses j) x.request) (whole_of (front (x.octets ++ octets))) ≡ None) (sym w.station)
+              (subst (λ (j : ℕ). option_and_then (answer_of (slice_index addresses j) x.request)
+              (whole_of (front (x.octets ++ octets))) ≡ None) (sym w.station)
               (unheard front here (grown x octets) heard so)) i
               ∙ before_it i;
           sessions = λ i.
               alike_sessions front addresses ended x (grown x octets) refl refl
-              (subst (λ (j : ℕ). option_and_then (answer_of (slice_index addresses j) x.request) (whole_of (front (x.octets ++ octets)))
-              ≡ option_and_then (answer_of (slice_index addresses j) x.request) (whole_of (front x.octets))) (sym w.station)
+              (subst (λ (j : ℕ). option_and_then (answer_of (slice_index addresses j) x.request)
+              (whole_of (front (x.octets ++ octets)))
+              ≡ option_and_then (answer_of (slice_index addresses j) x.request) (whole_of (front x.octets)))
+              (sym w.station)
               (unheard front here (grown x octets) heard so ∙ sym (unheard front here x q.heard w.heard))) i
               ∙ t.sessions i;
           spoilt = spoilt;
         }
 
         by_front : (f : Front) → front (x.octets ++ octets) ≡ f →
-            TellsBy front settings addresses (took p (with_octets octets q) (open_octets (x.octets ++ octets) f) (whole_of f)) (record { ended = ended; current = Some (grown x octets) })
+            TellsBy front settings addresses (took p (with_octets octets q) (open_octets (x.octets ++ octets) f)
+            (whole_of f)) (record { ended = ended; current = Some (grown x octets) })
         by_front More e = waits (Some (x.octets ++ octets)) (refl, e)
         by_front (Never place why) e = waits None
-            (λ (more : List ℕ). ap (λ (f : Front). option_and_then (answer_of (slice_index addresses p.turn) x.request) (whole_of f)) (stable.never (x.octets ++ octets) more place why e))
+            (λ (more : List ℕ). ap (λ (f : Front). option_and_then (answer_of (slice_index addresses p.turn) x.request)
+            (whole_of f)) (stable.never (x.octets ++ octets) more place why e))
         by_front (Whole frame n) e = say (answer_at p q frame) refl
           where
-            told : (m : Option Answer) → answer_at p q frame ≡ m → answer_of (slice_index addresses p.turn) x.request frame ≡ m
+            told : (m : Option Answer) → answer_at p q frame ≡ m
+                → answer_of (slice_index addresses p.turn) x.request frame ≡ m
             told m e' =
                 ap (λ (a : ℕ). answer_of a x.request frame) (sym (t.address p.turn))
                 ∙ ap (λ (r : Asked). answer_of (station_at p.stations p.turn).address r frame) w.request ∙ e'
 
-            said : (m : Option Answer) → answer_at p q frame ≡ m → IsSaid front (slice_index addresses p.turn) (grown x octets) m
+            said : (m : Option Answer) → answer_at p q frame ≡ m
+                → IsSaid front (slice_index addresses p.turn) (grown x octets) m
             said m e' more =
-                ap (λ (f : Front). option_and_then (answer_of (slice_index addresses p.turn) x.request) (whole_of f)) (stable.whole (x.octets ++ octets) more frame n e) ∙ told m e'
+                ap (λ (f : Front). option_and_then (answer_of (slice_index addresses p.turn) x.request) (whole_of f))
+                (stable.whole (x.octets ++ octets) more frame n e) ∙ told m e'
 
             say : (m : Option Answer) → answer_at p q frame ≡ m →
-                TellsBy front settings addresses (said_by p (with_octets octets q) frame m) (record { ended = ended; current = Some (grown x octets) })
+                TellsBy front settings addresses (said_by p (with_octets octets q) frame m)
+                (record { ended = ended; current = Some (grown x octets) })
             say None e' = waits None (said None e')
             say (Some answer) e' =
                 let s : StationState = station_answered (station_at p.stations p.turn) q.request frame answer in
@@ -388,40 +513,62 @@ hear_tells front settings addresses p ended cur octets stable t = go p.outstandi
                   count = length-set p.stations p.turn s ∙ t.count;
                   address = λ i. set_view (λ (r : StationState). r.address) p.stations p.turn s refl i ∙ t.address i;
                   allowed = tt;
-                  current = inr (answer, subst (λ (i : ℕ). IsSaid front (slice_index addresses i) (grown x octets) (Some answer)) (sym w.station) (said (Some answer) e'));
+                  current = inr (
+                    answer,
+                    subst (λ (i : ℕ). IsSaid front (slice_index addresses i) (grown x octets) (Some answer))
+                        (sym w.station) (said (Some answer) e'),
+                  );
                   keeps = keeps;
-                  links = ended_links front settings addresses p.stations p.turn ended (grown x octets) s t.fits.turn links w.station
+                  links = ended_links front settings addresses p.stations p.turn ended
+                      (grown x octets) s t.fits.turn links w.station
                       (ap (λ (r : Asked). after_answer r answer (station_at p.stations p.turn).link) (sym w.request)
-                      ∙ ap (λ (m : Option Answer). after_outcome settings m (view front (grown x octets)).exchange (station_at p.stations p.turn).link)
-                      (sym (said_now front (slice_index addresses p.turn) (grown x octets) (Some answer) (said (Some answer) e'))));
-                  flags = answered_flags front addresses p.stations p.turn ended (grown x octets) s answer frame t.fits.turn before_it w.station
-                      (subst (λ (j : ℕ). option_and_then (answer_of (slice_index addresses j) x.request) (whole_of (front (x.octets ++ octets))) ≡ Some answer) (sym w.station)
+                      ∙ ap (λ (m : Option Answer). after_outcome settings m (view front (grown x octets)).exchange
+                      (station_at p.stations p.turn).link)
+                      (sym (said_now front (slice_index addresses p.turn) (grown x octets) (Some answer)
+                      (said (Some answer) e'))));
+                  flags = answered_flags front addresses p.stations p.turn ended
+                      (grown x octets) s answer frame t.fits.turn before_it w.station
+                      (subst (λ (j : ℕ). option_and_then (answer_of (slice_index addresses j) x.request)
+                      (whole_of (front (x.octets ++ octets))) ≡ Some answer) (sym w.station)
                       (said_now front here (grown x octets) (Some answer) (said (Some answer) e')))
                       (ap whole_of e) (flags_are frame);
-                  sessions = answered_sessions front addresses p.stations p.turn ended x (grown x octets) s answer t.fits.turn t.sessions w.station w.station refl
-                      (unheard front here x q.heard w.heard) (said_now front here (grown x octets) (Some answer) (said (Some answer) e'))
-                      (ap (λ (r : Asked). session_answered (station_at p.stations p.turn).session r answer) (sym w.request));
+                  sessions = answered_sessions front addresses p.stations p.turn ended x
+                      (grown x octets) s answer t.fits.turn t.sessions w.station w.station refl
+                      (unheard front here x q.heard w.heard)
+                      (said_now front here (grown x octets) (Some answer) (said (Some answer) e'))
+                      (ap (λ (r : Asked). session_answered (station_at p.stations p.turn).session r answer)
+                      (sym w.request));
                   spoilt = spoilt;
                 }
 
         by_heard : (h : Option (List ℕ)) → q.heard ≡ h → IsHeard front (slice_index addresses p.turn) x h →
-            TellsBy front settings addresses (received_after front p (with_octets octets q) h octets) (record { ended = ended; current = Some (grown x octets) })
+            TellsBy front settings addresses (received_after front p (with_octets octets q) h octets)
+            (record { ended = ended; current = Some (grown x octets) })
         by_heard None at so = waits None (said_later front (slice_index addresses p.turn) x octets None so)
         by_heard (Some before) at so =
-            subst (λ (b : List ℕ). TellsBy front settings addresses (received_after front p (with_octets octets q) (Some b) octets) (record { ended = ended; current = Some (grown x octets) })) (sym so.0)
+            subst (λ (b : List ℕ). TellsBy front settings addresses
+            (received_after front p (with_octets octets q) (Some b) octets)
+            (record { ended = ended; current = Some (grown x octets) })) (sym so.0)
             (by_front (front (x.octets ++ octets)) refl)
 
 -- `offer` and `withdraw`
 
-same_views : (front : List ℕ → Front) (settings : LinkSettings) (addresses : List ℕ) (p : Primary) (e : Exchanges) (stations : List StationState) →
+same_views : (front : List ℕ → Front) (settings : LinkSettings) (addresses : List ℕ) (p : Primary) (e : Exchanges)
+    (stations : List StationState) →
     FitStations p.settings.size stations → length stations ≡ length p.stations →
-    ((i : ℕ) → (station_at stations i).link ≡ (station_at p.stations i).link) → ((i : ℕ) → (station_at stations i).address ≡ (station_at p.stations i).address) →
+    ((i : ℕ) → (station_at stations i).link ≡ (station_at p.stations i).link)
+    → ((i : ℕ) → (station_at stations i).address ≡ (station_at p.stations i).address) →
     ((i : ℕ) → flags_of (station_at stations i) ≡ flags_of (station_at p.stations i)) →
     ((i : ℕ) → (station_at stations i).session ≡ (station_at p.stations i).session) →
     TellsBy front settings addresses p e → TellsBy front settings addresses (record p { stations = stations }) e
 same_views front settings addresses p e stations fit count link address flags sessions t = record {
   settings_are = t.settings_are;
-  fits = record { turn = subst (λ (n : ℕ). p.turn < n) (sym count) t.fits.turn; stations = fit; outstanding = t.fits.outstanding };
+  fits = record {
+    turn = subst (λ (n : ℕ). p.turn < n) (sym count) t.fits.turn;
+    stations = fit;
+    outstanding =
+        t.fits.outstanding;
+  };
   count = count ∙ t.count;
   address = λ i. address i ∙ t.address i;
   allowed = go p.outstanding t.allowed;
@@ -437,7 +584,8 @@ same_views front settings addresses p e stations fit count link address flags se
     go None allowed = tt
     go (Some o) allowed = subst (λ (l : Link). MaySend l o.request) (sym (link p.turn)) allowed
 
-pub offer_tells : (front : List ℕ → Front) (settings : LinkSettings) (addresses : List ℕ) (p : Primary) (e : Exchanges) (station : ℕ) (asdu : List ℕ) →
+pub offer_tells : (front : List ℕ → Front) (settings : LinkSettings) (addresses : List ℕ) (p : Primary) (e : Exchanges)
+    (station : ℕ) (asdu : List ℕ) →
     station < length p.stations → IsUserData p.settings.size asdu → TellsBy front settings addresses p e →
     TellsBy front settings addresses (offered_to p station asdu) e
 offer_tells front settings addresses p e station asdu within carried t = go (may_offer p station)
@@ -446,51 +594,68 @@ offer_tells front settings addresses p e station asdu within carried t = go (may
     s = with_offer (station_at p.stations station) (Some asdu)
 
     go : (b : Bool) → TellsBy front settings addresses
-        (if b then record p { stations = slice_set p.stations station (with_offer (station_at p.stations station) (Some asdu)) } else p) e
+        (if b then record p {
+          stations = slice_set p.stations station
+              (with_offer (station_at p.stations station) (Some asdu));
+        } else p) e
     go false = t
     go true =
-        same_views front settings addresses p e (slice_set p.stations station (with_offer (station_at p.stations station) (Some asdu)))
+        same_views front settings addresses p e (slice_set p.stations station
+        (with_offer (station_at p.stations station) (Some asdu)))
         (set_fits p.settings.size p.stations station _ within t.fits.stations
-        (offered_fits p.settings.size (station_at p.stations station) asdu (station_fits p.settings.size p.stations station within t.fits.stations) carried))
+        (offered_fits p.settings.size (station_at p.stations station) asdu
+        (station_fits p.settings.size p.stations station within t.fits.stations) carried))
         (length-set p.stations station _)
         (set_view (λ (r : StationState). r.link) p.stations station _ refl)
         (set_view (λ (r : StationState). r.address) p.stations station _ refl)
         (set_view flags_of p.stations station _ refl)
         (set_view (λ (r : StationState). r.session) p.stations station _ refl) t
 
-pub withdraw_tells : (front : List ℕ → Front) (settings : LinkSettings) (addresses : List ℕ) (p : Primary) (e : Exchanges) → TellsBy front settings addresses p e →
+pub withdraw_tells : (front : List ℕ → Front) (settings : LinkSettings) (addresses : List ℕ) (p : Primary)
+    (e : Exchanges) → TellsBy front settings addresses p e →
     TellsBy front settings addresses (withdrawn p) e
 withdraw_tells front settings addresses p e t =
-    same_views front settings addresses p e (map without_offer p.stations) (withdrawn_fits p.settings.size p.stations t.fits.stations)
-    (length-map p.stations without_offer) (link p.stations) (address p.stations) (flags p.stations) (sessions p.stations) t
+    same_views front settings addresses p e (map without_offer p.stations)
+    (withdrawn_fits p.settings.size p.stations t.fits.stations)
+    (length-map p.stations without_offer) (link p.stations) (address p.stations) (flags p.stations)
+    (sessions p.stations) t
   where
     link : (ss : List StationState) (i : ℕ) → (station_at (map without_offer ss) i).link ≡ (station_at ss i).link
     link [] i = refl
     link (s ∷ ss) zero = refl
     link (s ∷ ss) (suc i) = link ss i
 
-    address : (ss : List StationState) (i : ℕ) → (station_at (map without_offer ss) i).address ≡ (station_at ss i).address
+    address : (ss : List StationState) (i : ℕ) → (station_at (map without_offer ss) i).address
+        ≡ (station_at ss i).address
     address [] i = refl
     address (s ∷ ss) zero = refl
     address (s ∷ ss) (suc i) = address ss i
 
-    flags : (ss : List StationState) (i : ℕ) → flags_of (station_at (map without_offer ss) i) ≡ flags_of (station_at ss i)
+    flags : (ss : List StationState) (i : ℕ) → flags_of (station_at (map without_offer ss) i)
+        ≡ flags_of (station_at ss i)
     flags [] i = refl
     flags (s ∷ ss) zero = refl
     flags (s ∷ ss) (suc i) = flags ss i
 
-    sessions : (ss : List StationState) (i : ℕ) → (station_at (map without_offer ss) i).session ≡ (station_at ss i).session
+    sessions : (ss : List StationState) (i : ℕ) → (station_at (map without_offer ss) i).session
+        ≡ (station_at ss i).session
     sessions [] i = refl
     sessions (s ∷ ss) zero = refl
     sessions (s ∷ ss) (suc i) = sessions ss i
 
 -- `new`
 
-pub start_tells : (front : List ℕ → Front) (settings : LinkSettings) (addresses : List ℕ) → 0 < length addresses → All (FitsAddress settings.size) addresses →
+pub start_tells : (front : List ℕ → Front) (settings : LinkSettings) (addresses : List ℕ) → 0 < length addresses
+    → All (FitsAddress settings.size) addresses →
     TellsBy front settings addresses (start settings addresses) no_exchanges
 start_tells front settings addresses some fit = record {
   settings_are = refl;
-  fits = record { turn = subst (λ (n : ℕ). 0 < n) (sym (length-down addresses)) some; stations = down_fits settings.size addresses fit; outstanding = tt };
+  fits = record {
+    turn = subst (λ (n : ℕ). 0 < n) (sym (length-down addresses)) some;
+    stations =
+        down_fits settings.size addresses fit;
+    outstanding = tt;
+  };
   count = length-down addresses;
   address = address addresses;
   allowed = tt;

@@ -22,7 +22,8 @@ same_bit true false e = cc
 same_bit false true e = cc
 same_bit false false e = refl
 
-served_bit : (granted : Bool) (s : Secondary) (request : Asked) → (served granted s request).state.bit ≡ bit_by s.bit request
+served_bit : (granted : Bool) (s : Secondary) (request : Asked)
+    → (served granted s request).state.bit ≡ bit_by s.bit request
 served_bit granted s Status = refl
 served_bit granted s Reset = refl
 served_bit granted s (Counted fcb service) = go s.bit refl
@@ -44,11 +45,13 @@ served_bit granted s (Counted fcb service) = go s.bit refl
     new Class2 = class2 s.class2
     new (Command asdu) = command granted asdu
 
-    go : (bit : Option Bool) → s.bit ≡ bit → (served_counted granted s bit fcb service).state.bit ≡ bit_by bit (Counted fcb service)
+    go : (bit : Option Bool) → s.bit ≡ bit → (served_counted granted s bit fcb service).state.bit
+        ≡ bit_by bit (Counted fcb service)
     go None e = e
     go (Some old) e = same (is_same fcb old) refl
       where
-        same : (b : Bool) → is_same fcb old ≡ b → (if b then unchanged s s.last else served_new granted s fcb service).state.bit ≡ Some fcb
+        same : (b : Bool) → is_same fcb old ≡ b
+            → (if b then unchanged s s.last else served_new granted s fcb service).state.bit ≡ Some fcb
         same true is = e ∙ ap (λ (b : Bool). Some b) (sym (same_bit fcb old is))
         same false is = new service
 
@@ -61,13 +64,16 @@ life_bit s (Report2 false report ∷ calls) = life_bit s calls
 life_bit s (Hear granted None ∷ calls) = life_bit s calls
 life_bit s (Hear granted (Some frame) ∷ calls) = go (λ t. life_bit t calls) (reading_of s.address frame)
   where
-    go : ((t : Secondary) → (after t calls).bit ≡ bit_after t.bit (requests_heard t.address calls)) → (reading : Reading) →
-        (after (heard_reading granted s reading).state calls).bit ≡ bit_after s.bit (request_asked reading ++ requests_heard s.address calls)
+    go : ((t : Secondary) → (after t calls).bit ≡ bit_after t.bit (requests_heard t.address calls))
+        → (reading : Reading) →
+        (after (heard_reading granted s reading).state calls).bit
+        ≡ bit_after s.bit (request_asked reading ++ requests_heard s.address calls)
     go rest Foreign = rest s
     go rest Unknown = rest s
     go rest (Asks request) =
         rest (served granted s request).state
-        ∙ ap (λ (b : Option Bool). bit_after b (requests_heard (served granted s request).state.address calls)) (served_bit granted s request)
+        ∙ ap (λ (b : Option Bool). bit_after b (requests_heard (served granted s request).state.address calls))
+        (served_bit granted s request)
         ∙ ap (λ (a : ℕ). bit_after (bit_by s.bit request) (requests_heard a calls)) (kept_address granted s request)
 
 -- ---- one answer
@@ -83,19 +89,23 @@ new_served : (granted : Bool) (s : Secondary) (fcb : Bool) (service : Service) �
     served granted s (Counted fcb service) ≡ served_new granted s fcb service
 new_served granted s fcb service new = go s.bit new
   where
-    go : (bit : Option Bool) → IsNew bit (Counted fcb service) → served_counted granted s bit fcb service ≡ served_new granted s fcb service
+    go : (bit : Option Bool) → IsNew bit (Counted fcb service)
+        → served_counted granted s bit fcb service ≡ served_new granted s fcb service
     go None none = absurd none
-    go (Some old) other = ap (λ (b : Bool). if b then unchanged s s.last else served_new granted s fcb service) (other_bit fcb old other)
+    go (Some old) other = ap (λ (b : Bool). if b then unchanged s s.last else served_new granted s fcb service)
+        (other_bit fcb old other)
 
 -- an answer that tells what waits after it
 abbrev pub TellsAfter : Served → Type 0
 TellsAfter by = TellsFlags by.turn.answer (do_wait by.state.class1) false
 
-short_tells : (s : Secondary) (waiting : List (List ℕ)) → flags_in (short_of 0 s.address waiting) ≡ record { acd = do_wait waiting; dfc = false }
+short_tells : (s : Secondary) (waiting : List (List ℕ))
+    → flags_in (short_of 0 s.address waiting) ≡ record { acd = do_wait waiting; dfc = false }
 short_tells s [] = refl
 short_tells s (r ∷ rs) = refl
 
-none_tells : (s : Secondary) (waiting : List (List ℕ)) → flags_in (short_of 9 s.address waiting) ≡ record { acd = do_wait waiting; dfc = false }
+none_tells : (s : Secondary) (waiting : List (List ℕ))
+    → flags_in (short_of 9 s.address waiting) ≡ record { acd = do_wait waiting; dfc = false }
 none_tells s [] = refl
 none_tells s (r ∷ rs) = refl
 
@@ -104,7 +114,8 @@ data_tells : (s : Secondary) (waiting : List (List ℕ)) (report : List ℕ) →
 data_tells s [] report = refl
 data_tells s (r ∷ rs) report = refl
 
-new_tells : (granted : Bool) (s : Secondary) (fcb : Bool) (service : Service) → TellsAfter (served_new granted s fcb service)
+new_tells : (granted : Bool) (s : Secondary) (fcb : Bool) (service : Service)
+    → TellsAfter (served_new granted s fcb service)
 new_tells granted s fcb Class1 = go s.class1 refl
   where
     go : (waiting : List (List ℕ)) → s.class1 ≡ waiting → TellsAfter (served_class1 s fcb waiting)
@@ -118,24 +129,30 @@ new_tells granted s fcb Class2 = go s.class2
 new_tells true s fcb (Command asdu) = (short_of 0 s.address s.class1, refl, short_tells s s.class1)
 new_tells false s fcb (Command asdu) = (Fixed (control_of 1 s.class1) s.address, refl, go s.class1)
   where
-    go : (waiting : List (List ℕ)) → flags_in (Fixed (control_of 1 waiting) s.address) ≡ record { acd = do_wait waiting; dfc = false }
+    go : (waiting : List (List ℕ)) → flags_in (Fixed (control_of 1 waiting) s.address)
+        ≡ record { acd = do_wait waiting; dfc = false }
     go [] = refl
     go (r ∷ rs) = refl
 
-served_tells : (granted : Bool) (s : Secondary) (request : Asked) → IsNew s.bit request → TellsAfter (served granted s request)
+served_tells : (granted : Bool) (s : Secondary) (request : Asked) → IsNew s.bit request
+    → TellsAfter (served granted s request)
 served_tells granted s Status new = (Fixed (control_of 11 s.class1) s.address, refl, go s.class1)
   where
-    go : (waiting : List (List ℕ)) → flags_in (Fixed (control_of 11 waiting) s.address) ≡ record { acd = do_wait waiting; dfc = false }
+    go : (waiting : List (List ℕ)) → flags_in (Fixed (control_of 11 waiting) s.address)
+        ≡ record { acd = do_wait waiting; dfc = false }
     go [] = refl
     go (r ∷ rs) = refl
 served_tells granted s Reset new = (short_of 0 s.address s.class1, refl, short_tells s s.class1)
-served_tells granted s (Counted fcb service) new = subst TellsAfter (sym (new_served granted s fcb service new)) (new_tells granted s fcb service)
+served_tells granted s (Counted fcb service) new = subst TellsAfter (sym (new_served granted s fcb service new))
+    (new_tells granted s fcb service)
 
-reading_tells : (granted : Bool) (s : Secondary) (reading : Reading) → IsNewReading s.bit reading → TellsAfter (heard_reading granted s reading)
+reading_tells : (granted : Bool) (s : Secondary) (reading : Reading) → IsNewReading s.bit reading
+    → TellsAfter (heard_reading granted s reading)
 reading_tells granted s Foreign new = absurd new
 reading_tells granted s Unknown new = (Fixed (control_of 15 s.class1) s.address, refl, go s.class1)
   where
-    go : (waiting : List (List ℕ)) → flags_in (Fixed (control_of 15 waiting) s.address) ≡ record { acd = do_wait waiting; dfc = false }
+    go : (waiting : List (List ℕ)) → flags_in (Fixed (control_of 15 waiting) s.address)
+        ≡ record { acd = do_wait waiting; dfc = false }
     go [] = refl
     go (r ∷ rs) = refl
 reading_tells granted s (Asks request) new = served_tells granted s request new
@@ -143,12 +160,20 @@ reading_tells granted s (Asks request) new = served_tells granted s request new
 class1_says : (s : Secondary) (fcb : Bool) (waiting : List (List ℕ)) →
     IsAnsweredBy (served_class1 s fcb waiting).turn.answer s.address (Counted fcb Class1) (oldest waiting)
 class1_says s fcb [] = (short_of 9 s.address s.class1, refl, none1_says s.address fcb s.class1)
-class1_says s fcb (r ∷ rs) = (data_frame (control_of 8 rs) s.address r, refl, data_says s.address (Counted fcb Class1) rs r (Report r) refl)
+class1_says s fcb (r ∷ rs) = (
+  data_frame (control_of 8 rs) s.address r,
+  refl,
+  data_says s.address (Counted fcb Class1) rs r (Report r) refl,
+)
 
 class2_says : (s : Secondary) (fcb : Bool) (waiting : List (List ℕ)) →
     IsAnsweredBy (served_class2 s fcb waiting).turn.answer s.address (Counted fcb Class2) (oldest waiting)
 class2_says s fcb [] = (short_of 9 s.address s.class1, refl, none2_says s.address fcb s.class1)
-class2_says s fcb (r ∷ rs) = (data_frame (control_of 8 s.class1) s.address r, refl, data_says s.address (Counted fcb Class2) s.class1 r (Report r) refl)
+class2_says s fcb (r ∷ rs) = (
+  data_frame (control_of 8 s.class1) s.address r,
+  refl,
+  data_says s.address (Counted fcb Class2) s.class1 r (Report r) refl,
+)
 
 -- ---- over a life
 
@@ -160,26 +185,32 @@ after-append : (s : Secondary) (xs ys : List Call) → after s (xs ++ ys) ≡ af
 after-append s [] ys = refl
 after-append s (x ∷ xs) ys = after-append (called s x) xs ys
 
-waits1 : (size : LinkSize) (address : ℕ) (calls : List Call) (waiting : List (List ℕ)) → Wait1 size address calls waiting →
+waits1 : (size : LinkSize) (address : ℕ) (calls : List Call) (waiting : List (List ℕ))
+    → Wait1 size address calls waiting →
     (after (fresh_station size address) calls).class1 ≡ waiting
 waits1 size address calls waiting w =
     cancel (given1 (requests_heard address calls) (turns_in (fresh_station size address) calls)) _ _
     ((ledger (fresh_station size address) calls (omega arith)).class1 ∙ sym w)
 
-waits2 : (size : LinkSize) (address : ℕ) (calls : List Call) (waiting : List (List ℕ)) → Wait2 size address calls waiting →
+waits2 : (size : LinkSize) (address : ℕ) (calls : List Call) (waiting : List (List ℕ))
+    → Wait2 size address calls waiting →
     (after (fresh_station size address) calls).class2 ≡ waiting
 waits2 size address calls waiting w =
     cancel (given2 (requests_heard address calls) (turns_in (fresh_station size address) calls)) _ _
     ((ledger (fresh_station size address) calls (omega arith)).class2 ∙ sym w)
 
-own_bit : (size : LinkSize) (address : ℕ) (calls : List Call) → bit_of address calls ≡ (after (fresh_station size address) calls).bit
+own_bit : (size : LinkSize) (address : ℕ) (calls : List Call)
+    → bit_of address calls ≡ (after (fresh_station size address) calls).bit
 own_bit size address calls = sym (life_bit (fresh_station size address) calls)
 
-own_address : (size : LinkSize) (address : ℕ) (calls : List Call) → (after (fresh_station size address) calls).address ≡ address
+own_address : (size : LinkSize) (address : ℕ) (calls : List Call)
+    → (after (fresh_station size address) calls).address ≡ address
 own_address size address calls = (stays (fresh_station size address) calls).0
 
-pub tells_flags : (size : LinkSize) (address : ℕ) (calls : List Call) (granted : Bool) (frame : Frame) (waiting : List (List ℕ)) →
-    IsNewReading (bit_of address calls) (reading_of address frame) → Wait1 size address (calls ++ Hear granted (Some frame) ∷ []) waiting →
+pub tells_flags : (size : LinkSize) (address : ℕ) (calls : List Call) (granted : Bool) (frame : Frame)
+    (waiting : List (List ℕ)) →
+    IsNewReading (bit_of address calls) (reading_of address frame)
+    → Wait1 size address (calls ++ Hear granted (Some frame) ∷ []) waiting →
     TellsFlags (answer_after size address calls granted frame) (do_wait waiting) false
 tells_flags size address calls granted frame waiting new w =
     let s : Secondary = after (fresh_station size address) calls in
@@ -187,9 +218,11 @@ tells_flags size address calls granted frame waiting new w =
     (subst (λ (b : Option Bool). IsNewReading b (reading_of address frame)) (own_bit size address calls) new) in
     let there : (heard_reading granted s (reading_of address frame)).state.class1 ≡ waiting =
     ap (λ (a : ℕ). (heard_reading granted s (reading_of a frame)).state.class1) (sym (own_address size address calls))
-    ∙ ap (λ (t : Secondary). t.class1) (sym (after-append (fresh_station size address) calls (Hear granted (Some frame) ∷ [])))
+    ∙ ap (λ (t : Secondary). t.class1)
+    (sym (after-append (fresh_station size address) calls (Hear granted (Some frame) ∷ [])))
     ∙ waits1 size address (calls ++ Hear granted (Some frame) ∷ []) waiting w in
-    subst (λ (l : List (List ℕ)). TellsFlags (answer_after size address calls granted frame) (do_wait l) false) there tells
+    subst (λ (l : List (List ℕ)). TellsFlags (answer_after size address calls granted frame) (do_wait l) false) there
+    tells
 
 asked_counted : (granted : Bool) (s : Secondary) (address : ℕ) (frame : Frame) (fcb : Bool) (service : Service) →
     reading_of address frame ≡ Asks (Counted fcb service) → IsNew s.bit (Counted fcb service) →
@@ -197,26 +230,34 @@ asked_counted : (granted : Bool) (s : Secondary) (address : ℕ) (frame : Frame)
 asked_counted granted s address frame fcb service is new =
     ap (λ (r : Reading). heard_reading granted s r) is ∙ new_served granted s fcb service new
 
-pub gives_class1 : (size : LinkSize) (address : ℕ) (calls : List Call) (granted : Bool) (frame : Frame) (fcb : Bool) (waiting : List (List ℕ)) →
-    reading_of address frame ≡ Asks (Counted fcb Class1) → IsNew (bit_of address calls) (Counted fcb Class1) → Wait1 size address calls waiting →
+pub gives_class1 : (size : LinkSize) (address : ℕ) (calls : List Call) (granted : Bool) (frame : Frame) (fcb : Bool)
+    (waiting : List (List ℕ)) →
+    reading_of address frame ≡ Asks (Counted fcb Class1) → IsNew (bit_of address calls) (Counted fcb Class1)
+    → Wait1 size address calls waiting →
     IsAnsweredBy (answer_after size address calls granted frame) address (Counted fcb Class1) (oldest waiting)
 gives_class1 size address calls granted frame fcb waiting is new w =
     let s : Secondary = after (fresh_station size address) calls in
     let by = asked_counted granted s address frame fcb Class1 is
     (subst (λ (b : Option Bool). IsNew b (Counted fcb Class1)) (own_bit size address calls) new) in
     subst (λ (v : Served). IsAnsweredBy v.turn.answer address (Counted fcb Class1) (oldest waiting)) (sym by)
-    (subst (λ (a : ℕ). IsAnsweredBy (served_class1 s fcb s.class1).turn.answer a (Counted fcb Class1) (oldest waiting)) (own_address size address calls)
-    (subst (λ (l : List (List ℕ)). IsAnsweredBy (served_class1 s fcb s.class1).turn.answer s.address (Counted fcb Class1) (oldest l))
+    (subst (λ (a : ℕ). IsAnsweredBy (served_class1 s fcb s.class1).turn.answer a (Counted fcb Class1) (oldest waiting))
+    (own_address size address calls)
+    (subst (λ (l : List (List ℕ)). IsAnsweredBy (served_class1 s fcb s.class1).turn.answer s.address
+    (Counted fcb Class1) (oldest l))
     (waits1 size address calls waiting w) (class1_says s fcb s.class1)))
 
-pub gives_class2 : (size : LinkSize) (address : ℕ) (calls : List Call) (granted : Bool) (frame : Frame) (fcb : Bool) (waiting : List (List ℕ)) →
-    reading_of address frame ≡ Asks (Counted fcb Class2) → IsNew (bit_of address calls) (Counted fcb Class2) → Wait2 size address calls waiting →
+pub gives_class2 : (size : LinkSize) (address : ℕ) (calls : List Call) (granted : Bool) (frame : Frame) (fcb : Bool)
+    (waiting : List (List ℕ)) →
+    reading_of address frame ≡ Asks (Counted fcb Class2) → IsNew (bit_of address calls) (Counted fcb Class2)
+    → Wait2 size address calls waiting →
     IsAnsweredBy (answer_after size address calls granted frame) address (Counted fcb Class2) (oldest waiting)
 gives_class2 size address calls granted frame fcb waiting is new w =
     let s : Secondary = after (fresh_station size address) calls in
     let by = asked_counted granted s address frame fcb Class2 is
     (subst (λ (b : Option Bool). IsNew b (Counted fcb Class2)) (own_bit size address calls) new) in
     subst (λ (v : Served). IsAnsweredBy v.turn.answer address (Counted fcb Class2) (oldest waiting)) (sym by)
-    (subst (λ (a : ℕ). IsAnsweredBy (served_class2 s fcb s.class2).turn.answer a (Counted fcb Class2) (oldest waiting)) (own_address size address calls)
-    (subst (λ (l : List (List ℕ)). IsAnsweredBy (served_class2 s fcb s.class2).turn.answer s.address (Counted fcb Class2) (oldest l))
+    (subst (λ (a : ℕ). IsAnsweredBy (served_class2 s fcb s.class2).turn.answer a (Counted fcb Class2) (oldest waiting))
+    (own_address size address calls)
+    (subst (λ (l : List (List ℕ)). IsAnsweredBy (served_class2 s fcb s.class2).turn.answer s.address
+    (Counted fcb Class2) (oldest l))
     (waits2 size address calls waiting w) (class2_says s fcb s.class2)))

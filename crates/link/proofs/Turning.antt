@@ -6,14 +6,17 @@ use Rattle.link.specs.Primary.{Outstanding, Primary, sending_by, sending_from, s
 use Rattle.link.specs.Runs.{nth_after, BeginsTurn, HaveNone}
 
 -- the first of so many stations after a place that has a request
-pub record IsFound (burst : ℕ) (may_poll : Bool) (stations : List StationState) (many place : ℕ) (c : Chosen) : Type 0 where
+pub record IsFound (burst : ℕ) (may_poll : Bool) (stations : List StationState) (many place : ℕ)
+    (c : Chosen) : Type 0 where
   pub steps : ℕ
   pub within : steps < many
   pub station : c.station ≡ nth_after (length stations) place (suc steps)
   pub first : wanted burst may_poll false (station_at stations c.station) Starting ≡ Some c.wanted
-  pub nearer : (n : ℕ) → n < steps → wanted burst may_poll false (station_at stations (nth_after (length stations) place (suc n))) Starting ≡ None
+  pub nearer : (n : ℕ) → n < steps → wanted burst may_poll false
+      (station_at stations (nth_after (length stations) place (suc n))) Starting ≡ None
 
-pub found : (burst : ℕ) (may_poll : Bool) (stations : List StationState) (many place : ℕ) (c : Chosen) → first_after burst may_poll stations many place ≡ Some c →
+pub found : (burst : ℕ) (may_poll : Bool) (stations : List StationState) (many place : ℕ) (c : Chosen)
+    → first_after burst may_poll stations many place ≡ Some c →
     IsFound burst may_poll stations many place c
 found burst may_poll stations zero place c is = cc
 found burst may_poll stations (suc many) place c is =
@@ -22,35 +25,60 @@ found burst may_poll stations (suc many) place c is =
   where
     go : (first_after burst may_poll stations many (place_after (length stations) place) ≡ Some c →
         IsFound burst may_poll stations many (place_after (length stations) place) c) →
-        (w : Option Wanted) → wanted burst may_poll false (station_at stations (place_after (length stations) place)) Starting ≡ w →
-        chosen_or w (place_after (length stations) place) (first_after burst may_poll stations many (place_after (length stations) place)) ≡ Some c →
+        (w : Option Wanted) → wanted burst may_poll false
+        (station_at stations (place_after (length stations) place)) Starting ≡ w →
+        chosen_or w (place_after (length stations) place)
+        (first_after burst may_poll stations many (place_after (length stations) place)) ≡ Some c →
         IsFound burst may_poll stations (suc many) place c
     go later (Some w) e some =
         let same : record { station = place_after (length stations) place; wanted = w } ≡ c = cc in
         subst (λ (d : Chosen). IsFound burst may_poll stations (suc many) place d) same
-        (record { steps = 0; within = omega arith; station = refl; first = e; nearer = λ n lt. absurd (omega (arith, lt)) })
+        (record {
+          steps = 0;
+          within = omega arith;
+          station = refl;
+          first = e;
+          nearer =
+              λ n lt. absurd (omega (arith, lt));
+        })
     go later None e rest =
         let r = later rest in
-        record { steps = suc r.steps; within = omega (arith, r.within); station = r.station; first = r.first; nearer = nearer r.steps r.nearer }
+        record {
+          steps = suc r.steps;
+          within = omega (arith, r.within);
+          station = r.station;
+          first = r.first;
+          nearer =
+              nearer r.steps r.nearer;
+        }
       where
         nearer : (steps : ℕ) →
-            ((n : ℕ) → n < steps → wanted burst may_poll false (station_at stations (nth_after (length stations) (place_after (length stations) place) (suc n))) Starting ≡ None) →
-            (n : ℕ) → n < suc steps → wanted burst may_poll false (station_at stations (nth_after (length stations) place (suc n))) Starting ≡ None
+            ((n : ℕ) → n < steps → wanted burst may_poll false
+            (station_at stations (nth_after (length stations) (place_after (length stations) place) (suc n)))
+            Starting ≡ None) →
+            (n : ℕ) → n < suc steps → wanted burst may_poll false
+            (station_at stations (nth_after (length stations) place (suc n))) Starting ≡ None
         nearer steps rest zero lt = e
         nearer steps rest (suc n) lt = rest n (omega (arith, lt))
 
-none_found : (burst : ℕ) (may_poll : Bool) (stations : List StationState) (many place : ℕ) → first_after burst may_poll stations many place ≡ None →
-    (n : ℕ) → n < many → wanted burst may_poll false (station_at stations (nth_after (length stations) place (suc n))) Starting ≡ None
+none_found : (burst : ℕ) (may_poll : Bool) (stations : List StationState) (many place : ℕ)
+    → first_after burst may_poll stations many place ≡ None →
+    (n : ℕ) → n < many
+    → wanted burst may_poll false (station_at stations (nth_after (length stations) place (suc n))) Starting ≡ None
 none_found burst may_poll stations zero place is n lt = absurd (omega (arith, lt))
 none_found burst may_poll stations (suc many) place is n lt =
     go (λ rest m less. none_found burst may_poll stations many (place_after (length stations) place) rest m less)
     (wanted burst may_poll false (station_at stations (place_after (length stations) place)) Starting) refl is n lt
   where
     go : (first_after burst may_poll stations many (place_after (length stations) place) ≡ None → (n : ℕ) → n < many →
-        wanted burst may_poll false (station_at stations (nth_after (length stations) (place_after (length stations) place) (suc n))) Starting ≡ None) →
-        (w : Option Wanted) → wanted burst may_poll false (station_at stations (place_after (length stations) place)) Starting ≡ w →
-        chosen_or w (place_after (length stations) place) (first_after burst may_poll stations many (place_after (length stations) place)) ≡ None →
-        (n : ℕ) → n < suc many → wanted burst may_poll false (station_at stations (nth_after (length stations) place (suc n))) Starting ≡ None
+        wanted burst may_poll false (station_at stations
+        (nth_after (length stations) (place_after (length stations) place) (suc n))) Starting ≡ None) →
+        (w : Option Wanted) → wanted burst may_poll false
+        (station_at stations (place_after (length stations) place)) Starting ≡ w →
+        chosen_or w (place_after (length stations) place)
+        (first_after burst may_poll stations many (place_after (length stations) place)) ≡ None →
+        (n : ℕ) → n < suc many → wanted burst may_poll false
+        (station_at stations (nth_after (length stations) place (suc n))) Starting ≡ None
     go later (Some w) e some n lt = cc
     go later None e rest zero lt = e
     go later None e rest (suc n) lt = later rest n (omega (arith, lt))
@@ -63,38 +91,54 @@ pub goes_on : (p : Primary) (may_poll : Bool) (w : Wanted) → p.outstanding ≡
     sending p may_poll ≡ Some (record { station = p.turn; request = w.request })
 goes_on p may_poll w free is =
     ap (λ (o : Option Outstanding). sending_from p o may_poll) free
-    ∙ ap (λ (v : Option Wanted). sending_by (chosen_or v p.turn (first_after p.settings.burst may_poll p.stations (length p.stations) p.turn))) is
+    ∙ ap (λ (v : Option Wanted). sending_by (chosen_or v p.turn
+    (first_after p.settings.burst may_poll p.stations (length p.stations) p.turn))) is
 
 passed : (p : Primary) (may_poll : Bool) → p.outstanding ≡ None → present p may_poll ≡ None →
     sending p may_poll ≡ sending_by (first_after p.settings.burst may_poll p.stations (length p.stations) p.turn)
 passed p may_poll free is =
     ap (λ (o : Option Outstanding). sending_from p o may_poll) free
-    ∙ ap (λ (v : Option Wanted). sending_by (chosen_or v p.turn (first_after p.settings.burst may_poll p.stations (length p.stations) p.turn))) is
+    ∙ ap (λ (v : Option Wanted). sending_by (chosen_or v p.turn
+    (first_after p.settings.burst may_poll p.stations (length p.stations) p.turn))) is
 
-pub passes_on : (p : Primary) (may_poll : Bool) (s : Sending) → p.outstanding ≡ None → present p may_poll ≡ None → sending p may_poll ≡ Some s →
+pub passes_on : (p : Primary) (may_poll : Bool) (s : Sending) → p.outstanding ≡ None → present p may_poll ≡ None
+    → sending p may_poll ≡ Some s →
     BeginsTurn p may_poll s
 passes_on p may_poll s free is sent =
-    go (first_after p.settings.burst may_poll p.stations (length p.stations) p.turn) refl (sym (passed p may_poll free is) ∙ sent)
+    go (first_after p.settings.burst may_poll p.stations (length p.stations) p.turn) refl
+    (sym (passed p may_poll free is) ∙ sent)
   where
-    go : (c : Option Chosen) → first_after p.settings.burst may_poll p.stations (length p.stations) p.turn ≡ c → sending_by c ≡ Some s → BeginsTurn p may_poll s
+    go : (c : Option Chosen) → first_after p.settings.burst may_poll p.stations (length p.stations) p.turn ≡ c
+        → sending_by c ≡ Some s → BeginsTurn p may_poll s
     go None e none = cc
     go (Some c) e some =
         let same : record { station = c.station; request = c.wanted.request } ≡ s = cc in
         let f = found p.settings.burst may_poll p.stations (length p.stations) p.turn c e in
         subst (λ (z : Sending). BeginsTurn p may_poll z) same
-        (record { steps = f.steps; once_round = f.within; station = f.station; wanted = c.wanted; first = f.first; request = refl; nearer = f.nearer })
+        (record {
+          steps = f.steps;
+          once_round = f.within;
+          station = f.station;
+          wanted = c.wanted;
+          first =
+              f.first;
+          request = refl;
+          nearer = f.nearer;
+        })
 
 pub rests : (p : Primary) (may_poll : Bool) → p.outstanding ≡ None → sending p may_poll ≡ None → HaveNone p may_poll
 rests p may_poll free none = go (present p may_poll) refl
   where
-    by : (c : Option Chosen) → first_after p.settings.burst may_poll p.stations (length p.stations) p.turn ≡ c → sending_by c ≡ None →
+    by : (c : Option Chosen) → first_after p.settings.burst may_poll p.stations (length p.stations) p.turn ≡ c
+        → sending_by c ≡ None →
         HaveNone p may_poll
     by None e quiet = none_found p.settings.burst may_poll p.stations (length p.stations) p.turn e
     by (Some c) e some = cc
 
     go : (v : Option Wanted) → present p may_poll ≡ v → HaveNone p may_poll
     go (Some w) is = let some = goes_on p may_poll w free is in cc
-    go None is = by (first_after p.settings.burst may_poll p.stations (length p.stations) p.turn) refl (sym (passed p may_poll free is) ∙ none)
+    go None is = by (first_after p.settings.burst may_poll p.stations (length p.stations) p.turn) refl
+        (sym (passed p may_poll free is) ∙ none)
 
 -- what goes out goes on with the present turn, or begins one
 pub record GoesOn (p : Primary) (may_poll : Bool) (s : Sending) : Type 0 where
@@ -117,9 +161,17 @@ either_turn p may_poll s sent = go (present p may_poll) refl
     free : p.outstanding ≡ None
     free = free_where p may_poll s sent
 
-    go : (v : Option Wanted) → present p may_poll ≡ v → GoesOn p may_poll s ⊎ ((present p may_poll ≡ None) × BeginsTurn p may_poll s)
+    go : (v : Option Wanted) → present p may_poll ≡ v → GoesOn p may_poll s
+        ⊎ ((present p may_poll ≡ None) × BeginsTurn p may_poll s)
     go None is = inr (is, passes_on p may_poll s free is sent)
     go (Some w) is =
-        let same : Some s ≡ Some (record { station = p.turn; request = w.request }) = sym sent ∙ goes_on p may_poll w free is in
+        let same : Some s ≡ Some (record { station = p.turn; request = w.request }) = sym sent
+        ∙ goes_on p may_poll w free is in
         let at : s ≡ record { station = p.turn; request = w.request } = cc in
-        inl (record { wanted = w; is = is; station = ap (λ (z : Sending). z.station) at; request = ap (λ (z : Sending). z.request) at })
+        inl (record {
+          wanted = w;
+          is = is;
+          station = ap (λ (z : Sending). z.station) at;
+          request =
+              ap (λ (z : Sending). z.request) at;
+        })

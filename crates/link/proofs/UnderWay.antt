@@ -21,17 +21,22 @@ Suits (Next fcb) pending = pending ≡ None
 Suits (Held fcb service missed) pending = pending ≡ Some service
 Suits link pending = Unit {0}
 
-held_suits : (settings : LinkSettings) (fcb : Bool) (service : Service) (missed : ℕ) → Suits (held settings fcb service missed) (Some service)
+held_suits : (settings : LinkSettings) (fcb : Bool) (service : Service) (missed : ℕ)
+    → Suits (held settings fcb service missed) (Some service)
 held_suits settings fcb service missed = go (nat_lt settings.retries missed) settings.hold
   where
-    go : (b hold : Bool) → Suits (if b then (if hold then Held fcb service (suc settings.retries) else Down) else Held fcb service missed) (Some service)
+    go : (b hold : Bool)
+        → Suits (if b then (if hold then Held fcb service (suc settings.retries) else Down) else Held fcb service
+        missed) (Some service)
     go true true = refl
     go true false = tt
     go false hold = refl
 
-step_suits : (settings : LinkSettings) (request : Asked) (front : Option Frame) (closed : Bool) (m : Option Answer) (link : Link) (pending : Option Service) →
+step_suits : (settings : LinkSettings) (request : Asked) (front : Option Frame) (closed : Bool) (m : Option Answer)
+    (link : Link) (pending : Option Service) →
     Suits link pending →
-    Suits (after_outcome settings m (record { request = request; front = front; closed = closed }) link) (pending_by request m pending)
+    Suits (after_outcome settings m (record { request = request; front = front; closed = closed }) link)
+    (pending_by request m pending)
 step_suits settings Status front closed None link pending suits = tt
 step_suits settings Status front closed (Some Ready) link pending suits = tt
 step_suits settings Status front closed (Some Confirmed) link pending suits = suits
@@ -46,7 +51,8 @@ step_suits settings Reset front closed (Some Busy) link pending suits = suits
 step_suits settings Reset front closed (Some (Report asdu)) link pending suits = suits
 step_suits settings Reset front closed (Some NoData) link pending suits = suits
 step_suits settings Reset front closed (Some Unable) link pending suits = suits
-step_suits settings (Counted fcb service) front true None link pending suits = held_suits settings fcb service (suc (missed_so_far link))
+step_suits settings (Counted fcb service) front true None link pending suits =
+    held_suits settings fcb service (suc (missed_so_far link))
 step_suits settings (Counted fcb service) front false None link pending suits = refl
 step_suits settings (Counted fcb service) front closed (Some Ready) link pending suits = refl
 step_suits settings (Counted fcb service) front closed (Some Confirmed) link pending suits = refl
@@ -55,26 +61,31 @@ step_suits settings (Counted fcb service) front closed (Some (Report asdu)) link
 step_suits settings (Counted fcb service) front closed (Some NoData) link pending suits = refl
 step_suits settings (Counted fcb service) front closed (Some Unable) link pending suits = tt
 
-all_suit : (settings : LinkSettings) (a : ℕ) (link : Link) (pending : Option Service) (xs : List Exchange) → Suits link pending →
+all_suit : (settings : LinkSettings) (a : ℕ) (link : Link) (pending : Option Service) (xs : List Exchange)
+    → Suits link pending →
     Suits (link_after settings a link xs) (pending_after a pending xs)
 all_suit settings a link pending [] suits = suits
 all_suit settings a link pending (x ∷ xs) suits =
     all_suit settings a (after settings a x link) (pending_by x.request (answer_to a x) pending) xs
     (step_suits settings x.request x.front x.closed (answer_to a x) link pending suits)
 
-command_held : (fcb : Bool) (service : Service) (missed : ℕ) → is_command_pending (Some service) ≡ holds_command (Held fcb service missed)
+command_held : (fcb : Bool) (service : Service) (missed : ℕ)
+    → is_command_pending (Some service) ≡ holds_command (Held fcb service missed)
 command_held fcb Class1 missed = refl
 command_held fcb Class2 missed = refl
 command_held fcb (Command asdu) missed = refl
 
-suits_holds : (link : Link) (pending : Option Service) → Suits link pending → (is_up link && is_command_pending pending) ≡ holds_command link
+suits_holds : (link : Link) (pending : Option Service) → Suits link pending
+    → (is_up link && is_command_pending pending) ≡ holds_command link
 suits_holds Down pending suits = refl
 suits_holds Available pending suits = refl
 suits_holds (Next fcb) pending suits = ap is_command_pending suits
 suits_holds (Held fcb service missed) pending suits = ap is_command_pending suits ∙ command_held fcb service missed
 
-under_way : (settings : LinkSettings) (a : ℕ) (xs : List Exchange) → is_under_way settings a xs ≡ holds_command (link_after settings a Down xs)
-under_way settings a xs = suits_holds (link_after settings a Down xs) (pending_after a None xs) (all_suit settings a Down None xs tt)
+under_way : (settings : LinkSettings) (a : ℕ) (xs : List Exchange)
+    → is_under_way settings a xs ≡ holds_command (link_after settings a Down xs)
+under_way settings a xs = suits_holds (link_after settings a Down xs) (pending_after a None xs)
+    (all_suit settings a Down None xs tt)
 
 -- ---- the machine
 
@@ -114,16 +125,20 @@ neither : (holds command : Bool) → (not holds && not (true && command)) ≡ no
 neither true command = refl
 neither false command = refl
 
-pub taken : (front : List ℕ → Front) (settings : LinkSettings) (addresses : List ℕ) (p : Primary) (e : Exchanges) (i : ℕ) →
+pub taken : (front : List ℕ → Front) (settings : LinkSettings) (addresses : List ℕ) (p : Primary) (e : Exchanges)
+    (i : ℕ) →
     TellsBy front settings addresses p e →
     may_offer p i
     ≡ (is_none (station_at p.stations i).offered
-    && not (is_under_way settings (slice_index addresses i) (with_station i (views front (e.ended ++ as_list e.current)))))
+    && not (is_under_way settings (slice_index addresses i)
+    (with_station i (views front (e.ended ++ as_list e.current)))))
 taken front settings addresses p e i t =
     ap (λ (b : Bool). is_none (station_at p.stations i).offered && b)
-    (ap (λ (o : Option Outstanding). not (holds_command (station_at p.stations i).link) && not ((p.turn == i) && is_sending_command o)) refl
+    (ap (λ (o : Option Outstanding). not (holds_command (station_at p.stations i).link)
+    && not ((p.turn == i) && is_sending_command o)) refl
     ∙ go p.outstanding e.current refl t
-    ∙ ap not (sym (under_way settings (slice_index addresses i) (with_station i (views front (e.ended ++ as_list e.current))))))
+    ∙ ap not (sym (under_way settings (slice_index addresses i)
+    (with_station i (views front (e.ended ++ as_list e.current))))))
   where
     ended : List OpenExchange
     ended = e.ended
@@ -137,14 +152,18 @@ taken front settings addresses p e i t =
     go : (o : Option Outstanding) (c : Option OpenExchange) → p.outstanding ≡ o →
         TellsBy front settings addresses p (record { ended = e.ended; current = c }) →
         (not (holds_command (station_at p.stations i).link) && not ((p.turn == i) && is_sending_command o))
-        ≡ not (holds_command (link_after settings (slice_index addresses i) Down (with_station i (views front (e.ended ++ as_list c)))))
+        ≡ not (holds_command (link_after settings (slice_index addresses i) Down
+        (with_station i (views front (e.ended ++ as_list c)))))
     go None c is t =
         not_out (holds_command link) (p.turn == i)
-        ∙ ap (λ (l : Link). not (holds_command l)) (sym (links_at front settings addresses p (record { ended = ended; current = c }) None is t i))
-    go (Some q) None is t = absurd (subst (λ (o : Option Outstanding). IsCurrent front addresses p.turn o None) is t.current)
+        ∙ ap (λ (l : Link). not (holds_command l)) (sym
+        (links_at front settings addresses p (record { ended = ended; current = c }) None is t i))
+    go (Some q) None is t =
+        absurd (subst (λ (o : Option Outstanding). IsCurrent front addresses p.turn o None) is t.current)
     go (Some q) (Some x) is t =
         here (x.station == i) refl
-        ∙ ap (λ (es : List Exchange). not (holds_command (link_after settings a Down es))) (sym (with_one front ended x i))
+        ∙ ap (λ (es : List Exchange). not (holds_command (link_after settings a Down es)))
+        (sym (with_one front ended x i))
       where
         w : IsAwaited front (slice_index addresses p.turn) p.turn q x
         w = subst (λ (o : Option Outstanding). IsCurrent front addresses p.turn o (Some x)) is t.current
@@ -160,20 +179,27 @@ taken front settings addresses p e i t =
             ≡ not (holds_command (link_after settings (slice_index addresses i) Down
             (with_station i (views front e.ended) ++ (if b then (view front x).exchange ∷ [] else []))))
         here false other =
-            ap (λ (c : Bool). not (holds_command link) && not (c && is_command q.request)) (ap (λ (j : ℕ). j == i) (sym w.station) ∙ other)
+            ap (λ (c : Bool). not (holds_command link) && not (c && is_command q.request))
+            (ap (λ (j : ℕ). j == i) (sym w.station) ∙ other)
             ∙ not_there (holds_command link) (is_command q.request)
             ∙ ap (λ (l : Link). not (holds_command l)) (sym (links i))
-            ∙ ap (λ (es : List Exchange). not (holds_command (link_after settings a Down es))) (sym (nil (with_station i (views front ended))))
+            ∙ ap (λ (es : List Exchange). not (holds_command (link_after settings a Down es)))
+            (sym (nil (with_station i (views front ended))))
         here true this =
             let turn : p.turn ≡ i = sym w.station ∙ eqb-true x.station i this in
-            let sent : MaySend link q.request = subst (λ (j : ℕ). MaySend (station_at p.stations j).link q.request) turn may in
+            let sent : MaySend link q.request =
+            subst (λ (j : ℕ). MaySend (station_at p.stations j).link q.request) turn may in
             let none : answer_to a (view front x).exchange ≡ None =
-            subst (λ (j : ℕ). answer_to (slice_index addresses j) (view front x).exchange ≡ None) turn (unheard front (slice_index addresses p.turn) x q.heard w.heard) in
-            ap (λ (c : Bool). not (holds_command link) && not (c && is_command q.request)) (ap (λ (j : ℕ). j == i) (sym w.station) ∙ this)
+            subst (λ (j : ℕ). answer_to (slice_index addresses j) (view front x).exchange ≡ None) turn
+            (unheard front (slice_index addresses p.turn) x q.heard w.heard) in
+            ap (λ (c : Bool). not (holds_command link) && not (c && is_command q.request))
+            (ap (λ (j : ℕ). j == i) (sym w.station) ∙ this)
             ∙ neither (holds_command link) (is_command q.request)
             ∙ ap not (sym (sent_holds settings q.request link sent))
             ∙ ap (λ (r : Asked). not (holds_command (after_silence settings r false link))) (sym w.request)
             ∙ ap (λ (b : Bool). not (holds_command (after_silence settings x.request b link))) (sym w.waits)
-            ∙ ap (λ (m : Option Answer). not (holds_command (after_outcome settings m (view front x).exchange link))) (sym none)
+            ∙ ap (λ (m : Option Answer). not (holds_command (after_outcome settings m (view front x).exchange link)))
+            (sym none)
             ∙ ap (λ (l : Link). not (holds_command (after settings a (view front x).exchange l))) (sym (links i))
-            ∙ ap (λ (l : Link). not (holds_command l)) (sym (link_after-push settings a Down (with_station i (views front ended)) (view front x).exchange))
+            ∙ ap (λ (l : Link). not (holds_command l))
+            (sym (link_after-push settings a Down (with_station i (views front ended)) (view front x).exchange))

@@ -39,7 +39,8 @@ same_place i = go (i == i) refl
 with-at : (i : ℕ) (xs : List Exchange) → with_station i (at_station i xs) ≡ xs
 with-at i [] = refl
 with-at i (x ∷ xs) =
-    ap (λ (b : Bool). if b then x ∷ with_station i (at_station i xs) else with_station i (at_station i xs)) (same_place i)
+    ap (λ (b : Bool). if b then x ∷ with_station i (at_station i xs) else with_station i (at_station i xs))
+    (same_place i)
     ∙ ap (λ (es : List Exchange). x ∷ es) (with-at i xs)
 
 link-append : (settings : LinkSettings) (a : ℕ) (link : Link) (xs ys : List Exchange) →
@@ -59,11 +60,13 @@ shown front (Some x) = (view front x).exchange ∷ []
 
 -- the link of a station that these visits leave
 abbrev pub link_left : LinkSettings → (addresses : List ℕ) → List Visit → (station : ℕ) → Link
-link_left settings addresses visits station = link_after settings (slice_index addresses station) Down (with_station station (line_of visits))
+link_left settings addresses visits station = link_after settings (slice_index addresses station) Down
+    (with_station station (line_of visits))
 
 abbrev pub IsLatest : LinkSettings → Link → (turn : ℕ) → (mid now : Left) → Option OpenExchange → Type 0
 IsLatest settings link turn mid now None = now ≡ mid
-IsLatest settings link turn mid now (Some x) = (x.station ≡ turn) × MaySend link x.request × MayFollow settings link mid x.request now
+IsLatest settings link turn mid now (Some x) = (x.station ≡ turn) × MaySend link x.request
+    × MayFollow settings link mid x.request now
 
 abbrev pub FitsPhase : LinkSettings → Option Outstanding → (again : Bool) → Phase → Link → Left → Type 0
 FitsPhase settings None again phase link left = IsReady settings again phase link left
@@ -79,98 +82,127 @@ pub record InVisit (front : List ℕ → Front) (addresses : List ℕ) (p : Prim
   pub leads : Leads p.settings (slice_index addresses p.turn) (link_left p.settings addresses earlier p.turn)
       (whole_visit p.settings (link_left p.settings addresses earlier p.turn)) before mid
   pub ended : views front e.ended ≡ line_of earlier ++ at_station p.turn before
-  pub latest : IsLatest p.settings (link_after p.settings (slice_index addresses p.turn) (link_left p.settings addresses earlier p.turn) before) p.turn mid now e.current
+  pub latest : IsLatest p.settings (link_after p.settings (slice_index addresses p.turn)
+      (link_left p.settings addresses earlier p.turn) before) p.turn mid now e.current
   pub fits : FitsPhase p.settings p.outstanding p.again p.phase (station_at p.stations p.turn).link now
   pub begun : IsBegun p
   pub many_are : length (before ++ shown front e.current) ≡ many
 
-pub whole_leads : (front : List ℕ → Front) (settings : LinkSettings) (a turn : ℕ) (link : Link) (left mid now : Left) (before : List Exchange) (cur : Option OpenExchange) →
+pub whole_leads : (front : List ℕ → Front) (settings : LinkSettings) (a turn : ℕ) (link : Link) (left mid now : Left)
+    (before : List Exchange) (cur : Option OpenExchange) →
     Leads settings a link left before mid → IsLatest settings (link_after settings a link before) turn mid now cur →
     Leads settings a link left (before ++ shown front cur) now
 whole_leads front settings a turn link left mid now before None leads latest =
-    subst (λ (xs : List Exchange). Leads settings a link left xs now) (sym (nil before)) (subst (λ (m : Left). Leads settings a link left before m) (sym latest) leads)
+    subst (λ (xs : List Exchange). Leads settings a link left xs now) (sym (nil before))
+    (subst (λ (m : Left). Leads settings a link left before m) (sym latest) leads)
 whole_leads front settings a turn link left mid now before (Some x) leads latest =
     leads_on settings a link left before (view front x).exchange mid now leads latest.1 latest.2
 
-shown_there : (front : List ℕ → Front) (settings : LinkSettings) (link : Link) (turn : ℕ) (mid now : Left) (cur : Option OpenExchange) →
+shown_there : (front : List ℕ → Front) (settings : LinkSettings) (link : Link) (turn : ℕ) (mid now : Left)
+    (cur : Option OpenExchange) →
     IsLatest settings link turn mid now cur → views front (as_list cur) ≡ at_station turn (shown front cur)
 shown_there front settings link turn mid now None latest = refl
 shown_there front settings link turn mid now (Some x) latest =
     ap (λ (i : ℕ). record { station = i; exchange = (view front x).exchange } ∷ []) latest.0
 
-pub leads_all : (front : List ℕ → Front) (addresses : List ℕ) (p : Primary) (e : Exchanges) (many : ℕ) → (v : InVisit front addresses p e many) →
+pub leads_all : (front : List ℕ → Front) (addresses : List ℕ) (p : Primary) (e : Exchanges) (many : ℕ)
+    → (v : InVisit front addresses p e many) →
     Leads p.settings (slice_index addresses p.turn) (link_left p.settings addresses v.earlier p.turn)
     (whole_visit p.settings (link_left p.settings addresses v.earlier p.turn)) (v.before ++ shown front e.current) v.now
-leads_all front addresses p e many v = whole_leads front p.settings (slice_index addresses p.turn) p.turn _ _ v.mid v.now v.before e.current v.leads v.latest
+leads_all front addresses p e many v = whole_leads front p.settings
+    (slice_index addresses p.turn) p.turn _ _ v.mid v.now v.before e.current v.leads v.latest
 
-pub whole_line : (front : List ℕ → Front) (addresses : List ℕ) (p : Primary) (e : Exchanges) (many : ℕ) → (v : InVisit front addresses p e many) →
+pub whole_line : (front : List ℕ → Front) (addresses : List ℕ) (p : Primary) (e : Exchanges) (many : ℕ)
+    → (v : InVisit front addresses p e many) →
     line_of v.earlier ++ at_station p.turn (v.before ++ shown front e.current) ≡ views front (all_of e)
 whole_line front addresses p e many v =
     ap (λ (es : List LineExchange). line_of v.earlier ++ es) (at-append p.turn v.before (shown front e.current))
     ∙ sym (append_assoc (line_of v.earlier) (at_station p.turn v.before) (at_station p.turn (shown front e.current)))
     ∙ ap (λ (es : List LineExchange). es ++ at_station p.turn (shown front e.current)) (sym v.ended)
-    ∙ ap (λ (es : List LineExchange). views front e.ended ++ es) (sym (shown_there front p.settings _ p.turn v.mid v.now e.current v.latest))
+    ∙ ap (λ (es : List LineExchange). views front e.ended ++ es)
+    (sym (shown_there front p.settings _ p.turn v.mid v.now e.current v.latest))
     ∙ sym (views-append front e.ended (as_list e.current))
 
-pub in_visits : (front : List ℕ → Front) (addresses : List ℕ) (p : Primary) (e : Exchanges) (many : ℕ) → InVisit front addresses p e many →
+pub in_visits : (front : List ℕ → Front) (addresses : List ℕ) (p : Primary) (e : Exchanges) (many : ℕ)
+    → InVisit front addresses p e many →
     AreInVisits p.settings addresses (views front (all_of e))
 in_visits front addresses p e many v = record {
   visits = record { station = p.turn; exchanges = v.before ++ shown front e.current } ∷ v.earlier;
-  are = (leads_visit p.settings (slice_index addresses p.turn) _ _ _ v.now (leads_all front addresses p e many v), v.are);
+  are = (
+    leads_visit p.settings (slice_index addresses p.turn) _ _ _ v.now (leads_all front addresses p e many v),
+    v.are,
+  );
   whole = whole_line front addresses p e many v;
 }
 
 -- a visit is short
-pub many_most : (front : List ℕ → Front) (addresses : List ℕ) (p : Primary) (e : Exchanges) (many : ℕ) → InVisit front addresses p e many →
+pub many_most : (front : List ℕ → Front) (addresses : List ℕ) (p : Primary) (e : Exchanges) (many : ℕ)
+    → InVisit front addresses p e many →
     many ≤ most_of_visit p.settings
 many_most front addresses p e many v =
-    let short = visit_room p.settings (slice_index addresses p.turn) (link_left p.settings addresses v.earlier p.turn) _ _
+    let short = visit_room p.settings (slice_index addresses p.turn)
+    (link_left p.settings addresses v.earlier p.turn) _ _
     (leads_visit p.settings (slice_index addresses p.turn) _ _ _ v.now (leads_all front addresses p e many v)) in
     omega (arith, short, whole_room p.settings (link_left p.settings addresses v.earlier p.turn), v.many_are)
 
 -- while nothing is outstanding, the link that the present visit leaves is the machine's
-link_now : (front : List ℕ → Front) (addresses : List ℕ) (p : Primary) (e : Exchanges) (many : ℕ) → (v : InVisit front addresses p e many) →
+link_now : (front : List ℕ → Front) (addresses : List ℕ) (p : Primary) (e : Exchanges) (many : ℕ)
+    → (v : InVisit front addresses p e many) →
     TellsBy front p.settings addresses p e → p.outstanding ≡ None →
-    link_after p.settings (slice_index addresses p.turn) (link_left p.settings addresses v.earlier p.turn) (v.before ++ shown front e.current)
+    link_after p.settings (slice_index addresses p.turn) (link_left p.settings addresses v.earlier p.turn) (v.before
+    ++ shown front e.current)
     ≡ (station_at p.stations p.turn).link
 link_now front addresses p e many v t free =
     let a = slice_index addresses p.turn in
     let xs = v.before ++ shown front e.current in
     sym (link-append p.settings a Down (with_station p.turn (line_of v.earlier)) xs)
-    ∙ ap (λ (ys : List Exchange). link_after p.settings a Down (with_station p.turn (line_of v.earlier) ++ ys)) (sym (with-at p.turn xs))
-    ∙ ap (λ (ys : List Exchange). link_after p.settings a Down ys) (sym (with_station-append p.turn (line_of v.earlier) (at_station p.turn xs)))
-    ∙ ap (λ (es : List LineExchange). link_after p.settings a Down (with_station p.turn es)) (whole_line front addresses p e many v)
+    ∙ ap (λ (ys : List Exchange). link_after p.settings a Down (with_station p.turn (line_of v.earlier) ++ ys))
+    (sym (with-at p.turn xs))
+    ∙ ap (λ (ys : List Exchange). link_after p.settings a Down ys)
+    (sym (with_station-append p.turn (line_of v.earlier) (at_station p.turn xs)))
+    ∙ ap (λ (es : List LineExchange). link_after p.settings a Down (with_station p.turn es))
+    (whole_line front addresses p e many v)
     ∙ links_at front p.settings addresses p e None free t p.turn
 
 -- ---- `next`
 
 -- what asking does: nothing goes out, or the present visit goes on, or another one begins
-pub data IsAsked (front : List ℕ → Front) (addresses : List ℕ) (p : Primary) (may_poll : Bool) (many : ℕ) (p' : Primary) (e' : Exchanges) (s : Option Sending) : Type 0 where
-  nothing : s ≡ None → p'.turn ≡ p.turn → InVisit front addresses p' e' many → IsAsked front addresses p may_poll many p' e' s
-  goes_on : (z : Sending) → s ≡ Some z → z.station ≡ p.turn → p'.turn ≡ p.turn → InVisit front addresses p' e' (suc many) →
+pub data IsAsked (front : List ℕ → Front) (addresses : List ℕ) (p : Primary) (may_poll : Bool) (many : ℕ)
+    (p' : Primary) (e' : Exchanges) (s : Option Sending) : Type 0 where
+  nothing : s ≡ None → p'.turn ≡ p.turn → InVisit front addresses p' e' many
+      → IsAsked front addresses p may_poll many p' e' s
+  goes_on : (z : Sending) → s ≡ Some z → z.station ≡ p.turn → p'.turn ≡ p.turn
+      → InVisit front addresses p' e' (suc many) →
       IsAsked front addresses p may_poll many p' e' s
   begins : (c : Chosen) → s ≡ Some (record { station = c.station; request = c.wanted.request }) → p.outstanding ≡ None →
-      IsFound p.settings.burst may_poll p.stations (length p.stations) p.turn c → c.station < length p.stations → p'.turn ≡ c.station →
+      IsFound p.settings.burst may_poll p.stations (length p.stations) p.turn c → c.station < length p.stations
+      → p'.turn ≡ c.station →
       InVisit front addresses p' e' 1 → IsAsked front addresses p may_poll many p' e' s
 
-may_want : (p : Primary) (e : Exchanges) (front : List ℕ → Front) (addresses : List ℕ) (may_poll again : Bool) (place : ℕ) (phase : Phase) (w : Wanted) →
+may_want : (p : Primary) (e : Exchanges) (front : List ℕ
+    → Front) (addresses : List ℕ) (may_poll again : Bool) (place : ℕ) (phase : Phase) (w : Wanted) →
     TellsBy front p.settings addresses p e → place < length p.stations →
-    wanted p.settings.burst may_poll again (station_at p.stations place) phase ≡ Some w → MaySend (station_at p.stations place).link w.request
+    wanted p.settings.burst may_poll again (station_at p.stations place) phase ≡ Some w
+    → MaySend (station_at p.stations place).link w.request
 may_want p e front addresses may_poll again place phase w t within is =
     (subst (λ (v : Option Wanted). MayWant p.settings.size (station_at p.stations place).link v) is
     (at_may p.settings.size p.settings.burst may_poll again p.stations place phase t.fits.stations within)).1
 
-on_visit : (front : List ℕ → Front) (addresses : List ℕ) (p : Primary) (e : Exchanges) (many now : ℕ) (may_poll : Bool) (w : Wanted) → 0 < p.settings.burst →
-    TellsBy front p.settings addresses p e → p.outstanding ≡ None → present p may_poll ≡ Some w → InVisit front addresses p e many →
+on_visit : (front : List ℕ → Front) (addresses : List ℕ) (p : Primary) (e : Exchanges) (many now : ℕ) (may_poll : Bool)
+    (w : Wanted) → 0 < p.settings.burst →
+    TellsBy front p.settings addresses p e → p.outstanding ≡ None → present p may_poll ≡ Some w
+    → InVisit front addresses p e many →
     InVisit front addresses (after_choice p now (Some (record { station = p.turn; wanted = w })))
     (begun_by now (Some (record { station = p.turn; request = w.request })) e) (suc many)
 on_visit front addresses p e many now may_poll w some t free is v =
     let here = link_now front addresses p e many v t free in
     let s : StationState = station_asked (station_at p.stations p.turn) w.request in
-    let ready = subst (λ (o : Option Outstanding). FitsPhase p.settings o p.again p.phase (station_at p.stations p.turn).link v.now) free v.fits in
+    let ready = subst (λ (o : Option Outstanding). FitsPhase p.settings o p.again p.phase
+    (station_at p.stations p.turn).link v.now) free v.fits in
     let f : Follows p.settings (station_at p.stations p.turn).link v.now w =
     subst (λ (x : Option Wanted). FollowsIt p.settings (station_at p.stations p.turn).link v.now x) is
-    (ready_follows p.settings may_poll p.again (station_at p.stations p.turn) (station_at p.stations p.turn).link p.phase v.now some ready) in
+    (ready_follows p.settings may_poll p.again (station_at p.stations p.turn)
+    (station_at p.stations p.turn).link p.phase v.now some ready) in
     record {
       earlier = v.earlier;
       are = v.are;
@@ -181,7 +213,8 @@ on_visit front addresses p e many now may_poll w some t free is v =
       ended = sym (whole_line front addresses p e many v);
       latest = (
         refl,
-        subst (λ (l : Link). MaySend l w.request) (sym here) (may_want p e front addresses may_poll p.again p.turn p.phase w t t.fits.turn is),
+        subst (λ (l : Link). MaySend l w.request) (sym here)
+            (may_want p e front addresses may_poll p.again p.turn p.phase w t t.fits.turn is),
         subst (λ (l : Link). MayFollow p.settings l v.now w.request f.later) (sym here) f.follow,
       );
       fits = (
@@ -194,23 +227,34 @@ on_visit front addresses p e many now may_poll w some t free is v =
       many_are = one_longer (v.before ++ shown front e.current) _ many v.many_are;
     }
 
-new_visit : (front : List ℕ → Front) (addresses : List ℕ) (p : Primary) (e : Exchanges) (many now : ℕ) (may_poll : Bool) (c : Chosen) → 0 < p.settings.burst →
-    TellsBy front p.settings addresses p e → p.outstanding ≡ None → present p may_poll ≡ None → c.station < length p.stations →
-    wanted p.settings.burst may_poll false (station_at p.stations c.station) Starting ≡ Some c.wanted → InVisit front addresses p e many →
-    InVisit front addresses (after_choice p now (Some c)) (begun_by now (Some (record { station = c.station; request = c.wanted.request })) e) 1
+new_visit : (front : List ℕ → Front) (addresses : List ℕ) (p : Primary) (e : Exchanges) (many now : ℕ)
+    (may_poll : Bool) (c : Chosen) → 0 < p.settings.burst →
+    TellsBy front p.settings addresses p e → p.outstanding ≡ None → present p may_poll ≡ None
+    → c.station < length p.stations →
+    wanted p.settings.burst may_poll false (station_at p.stations c.station) Starting ≡ Some c.wanted
+    → InVisit front addresses p e many →
+    InVisit front addresses (after_choice p now (Some c))
+    (begun_by now (Some (record { station = c.station; request = c.wanted.request })) e) 1
 new_visit front addresses p e many now may_poll c some t free gone within is v =
     let fresh = none_known p may_poll free gone v.begun in
     let latest : Visit = record { station = p.turn; exchanges = v.before ++ shown front e.current } in
     let s : StationState = station_asked (station_at p.stations c.station) c.wanted.request in
     let here : link_left p.settings addresses (latest ∷ v.earlier) c.station ≡ (station_at p.stations c.station).link =
-    ap (λ (es : List LineExchange). link_after p.settings (slice_index addresses c.station) Down (with_station c.station es)) (whole_line front addresses p e many v)
+    ap (λ (es : List LineExchange). link_after p.settings (slice_index addresses c.station) Down
+    (with_station c.station es)) (whole_line front addresses p e many v)
     ∙ links_at front p.settings addresses p e None free t c.station in
-    let f : Follows p.settings (station_at p.stations c.station).link (whole_visit p.settings (station_at p.stations c.station).link) c.wanted =
-    subst (λ (x : Option Wanted). FollowsIt p.settings (station_at p.stations c.station).link (whole_visit p.settings (station_at p.stations c.station).link) x) is
-    (begin_follows p.settings may_poll (station_at p.stations c.station) (station_at p.stations c.station).link some (fresh c.station)) in
+    let f : Follows p.settings (station_at p.stations c.station).link
+    (whole_visit p.settings (station_at p.stations c.station).link) c.wanted =
+    subst (λ (x : Option Wanted). FollowsIt p.settings (station_at p.stations c.station).link
+    (whole_visit p.settings (station_at p.stations c.station).link) x) is
+    (begin_follows p.settings may_poll (station_at p.stations c.station) (station_at p.stations c.station).link some
+    (fresh c.station)) in
     record {
       earlier = latest ∷ v.earlier;
-      are = (leads_visit p.settings (slice_index addresses p.turn) _ _ _ v.now (leads_all front addresses p e many v), v.are);
+      are = (
+        leads_visit p.settings (slice_index addresses p.turn) _ _ _ v.now (leads_all front addresses p e many v),
+        v.are,
+      );
       before = [];
       mid = whole_visit p.settings (link_left p.settings addresses (latest ∷ v.earlier) c.station);
       now = f.later;
@@ -218,20 +262,24 @@ new_visit front addresses p e many now may_poll c some t free gone within is v =
       ended = sym (whole_line front addresses p e many v) ∙ sym (nil (line_of (latest ∷ v.earlier)));
       latest = (
         refl,
-        subst (λ (l : Link). MaySend l c.wanted.request) (sym here) (may_want p e front addresses may_poll false c.station Starting c.wanted t within is),
-        subst (λ (l : Link). MayFollow p.settings l (whole_visit p.settings l) c.wanted.request f.later) (sym here) f.follow,
+        subst (λ (l : Link). MaySend l c.wanted.request) (sym here)
+            (may_want p e front addresses may_poll false c.station Starting c.wanted t within is),
+        subst (λ (l : Link). MayFollow p.settings l (whole_visit p.settings l) c.wanted.request f.later)
+            (sym here) f.follow,
       );
       fits = (
         refl,
         subst (λ (l : Link). Awaits p.settings c.wanted.request c.wanted.following l f.later)
             (sym (set_view (λ (r : StationState). r.link) p.stations c.station s refl c.station)) f.awaits,
       );
-      begun = begun_choice p now may_poll false Starting c is (may_want p e front addresses may_poll false c.station Starting c.wanted t within is)
+      begun = begun_choice p now may_poll false Starting c is
+          (may_want p e front addresses may_poll false c.station Starting c.wanted t within is)
           (λ i known. absurd (fresh i known));
       many_are = refl;
     }
 
-no_visit : (front : List ℕ → Front) (addresses : List ℕ) (p : Primary) (e : Exchanges) (many now : ℕ) (may_poll : Bool) → p.outstanding ≡ None → present p may_poll ≡ None →
+no_visit : (front : List ℕ → Front) (addresses : List ℕ) (p : Primary) (e : Exchanges) (many now : ℕ) (may_poll : Bool)
+    → p.outstanding ≡ None → present p may_poll ≡ None →
     InVisit front addresses p e many → InVisit front addresses (after_choice p now None) e many
 no_visit front addresses p e many now may_poll free gone v = record {
   earlier = v.earlier;
@@ -242,7 +290,8 @@ no_visit front addresses p e many now may_poll free gone v = record {
   leads = v.leads;
   ended = v.ended;
   latest = v.latest;
-  fits = subst (λ (o : Option Outstanding). FitsPhase p.settings o false Over (station_at p.stations p.turn).link v.now) (sym free) (over refl refl);
+  fits = subst (λ (o : Option Outstanding). FitsPhase p.settings o false Over
+      (station_at p.stations p.turn).link v.now) (sym free) (over refl refl);
   begun = begun_none p now free (none_known p may_poll free gone v.begun);
   many_are = v.many_are;
 }
@@ -251,19 +300,23 @@ abbrev pub MayBeThere : Primary → Option Chosen → Type 0
 MayBeThere p None = Unit {0}
 MayBeThere p (Some c) = c.station < length p.stations
 
-rest_there : (front : List ℕ → Front) (addresses : List ℕ) (p : Primary) (e : Exchanges) (may_poll : Bool) → TellsBy front p.settings addresses p e →
+rest_there : (front : List ℕ → Front) (addresses : List ℕ) (p : Primary) (e : Exchanges) (may_poll : Bool)
+    → TellsBy front p.settings addresses p e →
     MayBeThere p (first_after p.settings.burst may_poll p.stations (length p.stations) p.turn)
 rest_there front addresses p e may_poll t =
     go (first_after p.settings.burst may_poll p.stations (length p.stations) p.turn)
-    (first_may p.settings.size p.settings.burst may_poll p.stations (length p.stations) p.turn t.fits.stations (omega (arith, t.fits.turn)))
+    (first_may p.settings.size p.settings.burst may_poll p.stations (length p.stations) p.turn t.fits.stations
+    (omega (arith, t.fits.turn)))
   where
     go : (c : Option Chosen) → MayChooseIt p.settings.size p.stations c → MayBeThere p c
     go None may = tt
     go (Some c) may = may.within
 
-pub asked_visits : (front : List ℕ → Front) (addresses : List ℕ) (p : Primary) (e : Exchanges) (many now : ℕ) (may_poll : Bool) → 0 < p.settings.burst →
+pub asked_visits : (front : List ℕ → Front) (addresses : List ℕ) (p : Primary) (e : Exchanges) (many now : ℕ)
+    (may_poll : Bool) → 0 < p.settings.burst →
     TellsBy front p.settings addresses p e → InVisit front addresses p e many →
-    IsAsked front addresses p may_poll many (asked p now may_poll) (begun_by now (sending p may_poll) e) (sending p may_poll)
+    IsAsked front addresses p may_poll many (asked p now may_poll) (begun_by now (sending p may_poll) e)
+    (sending p may_poll)
 asked_visits front addresses p e many now may_poll some t v = go p.outstanding refl
   where
     rest : Option Chosen
@@ -274,34 +327,55 @@ asked_visits front addresses p e many now may_poll some t v = go p.outstanding r
     by_rest free gone None is there = nothing refl refl (no_visit front addresses p e many now may_poll free gone v)
     by_rest free gone (Some c) is there =
         let f = found p.settings.burst may_poll p.stations (length p.stations) p.turn c is in
-        begins c refl free f there refl (new_visit front addresses p e many now may_poll c some t free gone there f.first v)
+        begins c refl free f there refl (new_visit front addresses p e many now may_poll c some t free gone there
+        f.first v)
 
     by_present : p.outstanding ≡ None → (w : Option Wanted) → present p may_poll ≡ w →
-        IsAsked front addresses p may_poll many (after_choice p now (chosen_or w p.turn rest)) (begun_by now (sending_by (chosen_or w p.turn rest)) e)
+        IsAsked front addresses p may_poll many (after_choice p now (chosen_or w p.turn rest))
+        (begun_by now (sending_by (chosen_or w p.turn rest)) e)
         (sending_by (chosen_or w p.turn rest))
     by_present free None is = by_rest free is rest refl (rest_there front addresses p e may_poll t)
     by_present free (Some w) is =
-        goes_on (record { station = p.turn; request = w.request }) refl refl refl (on_visit front addresses p e many now may_poll w some t free is v)
+        goes_on (record { station = p.turn; request = w.request }) refl refl refl
+        (on_visit front addresses p e many now may_poll w some t free is v)
 
     go : (o : Option Outstanding) → p.outstanding ≡ o →
-        IsAsked front addresses p may_poll many (asked_from p o now may_poll) (begun_by now (sending_from p o may_poll) e) (sending_from p o may_poll)
+        IsAsked front addresses p may_poll many (asked_from p o now may_poll)
+        (begun_by now (sending_from p o may_poll) e) (sending_from p o may_poll)
     go (Some o) is = nothing refl refl v
     go None is = by_present is (present p may_poll) refl
 
 -- ---- what the other calls do
 
-abbrev pub Stays : (front : List ℕ → Front) → (addresses : List ℕ) → (turn : ℕ) → Primary → Exchanges → (many : ℕ) → Type 0
+abbrev pub Stays : (front : List ℕ → Front) → (addresses : List ℕ) → (turn : ℕ) → Primary → Exchanges → (many : ℕ)
+    → Type 0
 Stays front addresses turn p e many = InVisit front addresses p e many × (p.turn ≡ turn)
 
 -- the latest exchange is another that goes out alike, and the machine has moved within its turn
-kept : (front : List ℕ → Front) (addresses : List ℕ) (p : Primary) (ended : List OpenExchange) (cur cur' : Option OpenExchange) (many : ℕ)
+kept : (front : List ℕ → Front) (addresses : List ℕ) (p : Primary) (ended : List OpenExchange)
+    (cur cur' : Option OpenExchange) (many : ℕ)
     (stations : List StationState) (phase : Phase) (again : Bool) (outstanding : Option Outstanding) (spoilt : ℕ) →
     (v : InVisit front addresses p (record { ended = ended; current = cur }) many) →
-    ((link : Link) → IsLatest p.settings link p.turn v.mid v.now cur → IsLatest p.settings link p.turn v.mid v.now cur') →
+    ((link : Link) → IsLatest p.settings link p.turn v.mid v.now cur
+    → IsLatest p.settings link p.turn v.mid v.now cur') →
     length (v.before ++ shown front cur') ≡ length (v.before ++ shown front cur) →
     FitsPhase p.settings outstanding again phase (station_at stations p.turn).link v.now →
-    IsBegun (record p { stations = stations; phase = phase; again = again; outstanding = outstanding; spoilt = spoilt }) →
-    Stays front addresses p.turn (record p { stations = stations; phase = phase; again = again; outstanding = outstanding; spoilt = spoilt })
+    IsBegun (record p {
+      stations = stations;
+      phase = phase;
+      again = again;
+      outstanding = outstanding;
+      spoilt =
+          spoilt;
+    }) →
+    Stays front addresses p.turn (record p {
+      stations = stations;
+      phase = phase;
+      again = again;
+      outstanding =
+          outstanding;
+      spoilt = spoilt;
+    })
     (record { ended = ended; current = cur' }) many
 kept front addresses p ended cur cur' many stations phase again outstanding spoilt v same long fits begun = (
   record {
@@ -320,12 +394,14 @@ kept front addresses p ended cur cur' many stations phase again outstanding spoi
   refl,
 )
 
-heard_latest : (settings : LinkSettings) (link : Link) (turn : ℕ) (mid now : Left) (octets : List ℕ) (cur : Option OpenExchange) →
+heard_latest : (settings : LinkSettings) (link : Link) (turn : ℕ) (mid now : Left) (octets : List ℕ)
+    (cur : Option OpenExchange) →
     IsLatest settings link turn mid now cur → IsLatest settings link turn mid now (heard_current octets cur)
 heard_latest settings link turn mid now octets None latest = latest
 heard_latest settings link turn mid now octets (Some x) latest = latest
 
-timed_latest : (settings : LinkSettings) (link : Link) (turn : ℕ) (mid now : Left) (ms at : ℕ) (cur : Option OpenExchange) →
+timed_latest : (settings : LinkSettings) (link : Link) (turn : ℕ) (mid now : Left) (ms at : ℕ)
+    (cur : Option OpenExchange) →
     IsLatest settings link turn mid now cur → IsLatest settings link turn mid now (timed_current ms at cur)
 timed_latest settings link turn mid now ms at None latest = latest
 timed_latest settings link turn mid now ms at (Some x) latest = latest
@@ -333,12 +409,14 @@ timed_latest settings link turn mid now ms at (Some x) latest = latest
 heard_long : (front : List ℕ → Front) (before : List Exchange) (octets : List ℕ) (cur : Option OpenExchange) →
     length (before ++ shown front (heard_current octets cur)) ≡ length (before ++ shown front cur)
 heard_long front before octets None = refl
-heard_long front before octets (Some x) = one_longer before _ (length before) refl ∙ sym (one_longer before _ (length before) refl)
+heard_long front before octets (Some x) = one_longer before _ (length before) refl
+    ∙ sym (one_longer before _ (length before) refl)
 
 timed_long : (front : List ℕ → Front) (before : List Exchange) (ms at : ℕ) (cur : Option OpenExchange) →
     length (before ++ shown front (timed_current ms at cur)) ≡ length (before ++ shown front cur)
 timed_long front before ms at None = refl
-timed_long front before ms at (Some x) = one_longer before _ (length before) refl ∙ sym (one_longer before _ (length before) refl)
+timed_long front before ms at (Some x) = one_longer before _ (length before) refl
+    ∙ sym (one_longer before _ (length before) refl)
 
 -- what may be said to the requests that start a link
 abbrev pub SaysToStatus : Option Answer → Type 0
@@ -367,8 +445,10 @@ status_fits : (a : ℕ) (frame : Frame) → FitsStatus (answer_of a Status frame
 status_fits a Single = no_status
 status_fits a (Fixed control address) =
     either_status (comes_from a control address) _ _
-    (either_status (control % 16 == 11) _ _ ready_status (either_status ((control % 16 == 14) || (control % 16 == 15)) _ _ unable_status no_status)) no_status
-status_fits a (Data control address body) = either_status (comes_from a control address && (control % 16 == 8)) _ _ no_status no_status
+    (either_status (control % 16 == 11) _ _ ready_status
+    (either_status ((control % 16 == 14) || (control % 16 == 15)) _ _ unable_status no_status)) no_status
+status_fits a (Data control address body) = either_status (comes_from a control address
+    && (control % 16 == 8)) _ _ no_status no_status
 
 over_after : (answer : Answer) → phase_after answer Over ≡ Over
 over_after Ready = refl
@@ -378,7 +458,8 @@ over_after (Report asdu) = refl
 over_after NoData = refl
 over_after Unable = refl
 
-served_ready : (settings : LinkSettings) (answer : Answer) (phase : Phase) (link : Link) (left : Left) → HasPlan settings.burst phase left.plan →
+served_ready : (settings : LinkSettings) (answer : Answer) (phase : Phase) (link : Link) (left : Left)
+    → HasPlan settings.burst phase left.plan →
     IsReady settings false (phase_after answer phase) link left
 served_ready settings Unable phase link left plan = over refl refl
 served_ready settings Ready phase link left plan = serving plan (λ again. cc)
@@ -387,38 +468,47 @@ served_ready settings Busy phase link left plan = serving plan (λ again. cc)
 served_ready settings (Report asdu) phase link left plan = serving plan (λ again. cc)
 served_ready settings NoData phase link left plan = serving plan (λ again. cc)
 
-answered_ready : (settings : LinkSettings) (a : ℕ) (request : Asked) (frame : Frame) (answer : Answer) (phase : Phase) (link : Link) (left : Left) →
+answered_ready : (settings : LinkSettings) (a : ℕ) (request : Asked) (frame : Frame) (answer : Answer) (phase : Phase)
+    (link : Link) (left : Left) →
     answer_of a request frame ≡ Some answer → Awaits settings request phase link left →
     IsReady settings false (phase_after answer phase) (after_answer request answer link) left
 answered_ready settings a Status frame answer phase link left is aw =
     go answer (subst (λ (m : Option Answer). FitsStatus m) is (status_fits a frame)).fits
   where
-    go : (answer : Answer) → SaysToStatus (Some answer) → IsReady settings false (phase_after answer phase) (after_answer Status answer link) left
+    go : (answer : Answer) → SaysToStatus (Some answer)
+        → IsReady settings false (phase_after answer phase) (after_answer Status answer link) left
     go Ready fits = starting aw.0 aw.1
     go Unable fits = over refl refl
     go other fits = absurd fits
-answered_ready settings a Reset frame answer phase link left is aw = over (ap (λ (f : Phase). phase_after answer f) aw ∙ over_after answer) refl
+answered_ready settings a Reset frame answer phase link left is aw =
+    over (ap (λ (f : Phase). phase_after answer f) aw ∙ over_after answer) refl
 answered_ready settings a (Counted fcb service) frame answer phase link left is aw =
     served_ready settings answer phase (after_answer (Counted fcb service) answer link) left aw.0
 
-held_repeats : (settings : LinkSettings) (fcb : Bool) (service : Service) (missed : ℕ) → has_repeats settings (held settings fcb service missed) ≡ true →
+held_repeats : (settings : LinkSettings) (fcb : Bool) (service : Service) (missed : ℕ)
+    → has_repeats settings (held settings fcb service missed) ≡ true →
     (missed_so_far (held settings fcb service missed) ≡ missed) × (missed ≤ settings.retries)
 held_repeats settings fcb service missed = go (nat_lt settings.retries missed) settings.hold
   where
     go : (b hold : Bool) →
-        has_repeats settings (if b then (if hold then Held fcb service (suc settings.retries) else Down) else Held fcb service missed) ≡ true →
-        (missed_so_far (if b then (if hold then Held fcb service (suc settings.retries) else Down) else Held fcb service missed) ≡ missed)
+        has_repeats settings (if b then (if hold then Held fcb service (suc settings.retries) else Down) else Held fcb
+        service missed) ≡ true →
+        (missed_so_far (if b then (if hold then Held fcb service (suc settings.retries) else Down) else Held fcb
+        service missed) ≡ missed)
         × (missed ≤ settings.retries)
     go true true e = absurd (omega (arith, leb-true (suc settings.retries) settings.retries e))
     go true false e = cc
     go false hold e = (refl, leb-true missed settings.retries e)
 
-missed_ready : (settings : LinkSettings) (request : Asked) (phase : Phase) (link : Link) (left : Left) → Awaits settings request phase link left →
+missed_ready : (settings : LinkSettings) (request : Asked) (phase : Phase) (link : Link) (left : Left)
+    → Awaits settings request phase link left →
     IsReady settings (has_repeats settings (after_silence settings request true link))
-    (if has_repeats settings (after_silence settings request true link) then phase else Over) (after_silence settings request true link) left
+    (if has_repeats settings (after_silence settings request true link) then phase else Over)
+    (after_silence settings request true link) left
 missed_ready settings Status phase link left aw = over refl refl
 missed_ready settings Reset phase link left aw = over refl refl
-missed_ready settings (Counted fcb service) phase link left aw = go (has_repeats settings (held settings fcb service (suc (missed_so_far link)))) refl
+missed_ready settings (Counted fcb service) phase link left aw =
+    go (has_repeats settings (held settings fcb service (suc (missed_so_far link)))) refl
   where
     go : (b : Bool) → has_repeats settings (held settings fcb service (suc (missed_so_far link))) ≡ b →
         IsReady settings b (if b then phase else Over) (held settings fcb service (suc (missed_so_far link))) left
@@ -427,110 +517,159 @@ missed_ready settings (Counted fcb service) phase link left aw = go (has_repeats
         let h = held_repeats settings fcb service (suc (missed_so_far link)) e in
         serving aw.0 (λ again. record { more = omega (arith, h.0, h.1); enough = omega (arith, h.0, aw.1) })
 
-pub heard_visits : (front : List ℕ → Front) (addresses : List ℕ) (p : Primary) (ended : List OpenExchange) (cur : Option OpenExchange) (octets : List ℕ) (many : ℕ) →
+pub heard_visits : (front : List ℕ → Front) (addresses : List ℕ) (p : Primary) (ended : List OpenExchange)
+    (cur : Option OpenExchange) (octets : List ℕ) (many : ℕ) →
     p.turn < length p.stations → InVisit front addresses p (record { ended = ended; current = cur }) many →
-    Stays front addresses p.turn (received front p octets) (record { ended = ended; current = heard_current octets cur }) many
+    Stays front addresses p.turn (received front p octets)
+    (record { ended = ended; current = heard_current octets cur }) many
 heard_visits front addresses p ended cur octets many within v = go p.outstanding refl
   where
     moved : (stations : List StationState) (phase : Phase) (again : Bool) (outstanding : Option Outstanding) →
         FitsPhase p.settings outstanding again phase (station_at stations p.turn).link v.now →
         IsBegun (record p { stations = stations; phase = phase; again = again; outstanding = outstanding }) →
-        Stays front addresses p.turn (record p { stations = stations; phase = phase; again = again; outstanding = outstanding; spoilt = p.spoilt })
+        Stays front addresses p.turn (record p {
+          stations = stations;
+          phase = phase;
+          again = again;
+          outstanding =
+              outstanding;
+          spoilt = p.spoilt;
+        })
         (record { ended = ended; current = heard_current octets cur }) many
     moved stations phase again outstanding fits begun =
         kept front addresses p ended cur (heard_current octets cur) many stations phase again outstanding p.spoilt v
-        (λ link latest. heard_latest p.settings link p.turn v.mid v.now octets cur latest) (heard_long front v.before octets cur) fits begun
+        (λ link latest. heard_latest p.settings link p.turn v.mid v.now octets cur latest)
+        (heard_long front v.before octets cur) fits begun
 
     go : (o : Option Outstanding) → p.outstanding ≡ o →
-        Stays front addresses p.turn (received_from front p o octets) (record { ended = ended; current = heard_current octets cur }) many
+        Stays front addresses p.turn (received_from front p o octets)
+        (record { ended = ended; current = heard_current octets cur }) many
     go None is = moved p.stations p.phase p.again p.outstanding v.fits v.begun
     go (Some q) is = by_heard q.heard
       where
         aw : (p.again ≡ false) × Awaits p.settings q.request p.phase (station_at p.stations p.turn).link v.now
-        aw = subst (λ (o : Option Outstanding). FitsPhase p.settings o p.again p.phase (station_at p.stations p.turn).link v.now) is v.fits
+        aw = subst (λ (o : Option Outstanding). FitsPhase p.settings o p.again p.phase
+            (station_at p.stations p.turn).link v.now) is v.fits
 
-        waits : (heard : Option (List ℕ)) → Stays front addresses p.turn (awaits p (with_octets octets q) heard) (record { ended = ended; current = heard_current octets cur }) many
+        waits : (heard : Option (List ℕ)) → Stays front addresses p.turn (awaits p (with_octets octets q) heard)
+            (record { ended = ended; current = heard_current octets cur }) many
         waits heard = moved p.stations p.phase p.again _ aw (begun_awaits p q octets heard is v.begun)
 
         say : (frame : Frame) (m : Option Answer) → answer_at p q frame ≡ m →
-            Stays front addresses p.turn (said_by p (with_octets octets q) frame m) (record { ended = ended; current = heard_current octets cur }) many
+            Stays front addresses p.turn (said_by p (with_octets octets q) frame m)
+            (record { ended = ended; current = heard_current octets cur }) many
         say frame None e = waits None
         say frame (Some answer) e =
             let s : StationState = station_answered (station_at p.stations p.turn) q.request frame answer in
             moved (slice_set p.stations p.turn s) (phase_after answer p.phase) p.again None
-            (subst (λ (b : Bool). IsReady p.settings b (phase_after answer p.phase) (station_at (slice_set p.stations p.turn s) p.turn).link v.now) (sym aw.0)
+            (subst (λ (b : Bool). IsReady p.settings b (phase_after answer p.phase)
+            (station_at (slice_set p.stations p.turn s) p.turn).link v.now) (sym aw.0)
             (subst (λ (l : Link). IsReady p.settings false (phase_after answer p.phase) l v.now)
             (sym (ap (λ (r : StationState). r.link) (get_or-set_same p.stations p.turn s no_station within)))
-            (answered_ready p.settings (station_at p.stations p.turn).address q.request frame answer p.phase (station_at p.stations p.turn).link v.now e aw.1)))
+            (answered_ready p.settings (station_at p.stations p.turn).address q.request frame answer p.phase
+            (station_at p.stations p.turn).link v.now e aw.1)))
             (begun_answered p q (station_at p.stations p.turn).address frame answer within is e v.begun)
 
         by_front : (before : List ℕ) (f : Front) →
-            Stays front addresses p.turn (took p (with_octets octets q) (open_octets before f) (whole_of f)) (record { ended = ended; current = heard_current octets cur }) many
+            Stays front addresses p.turn (took p (with_octets octets q) (open_octets before f) (whole_of f))
+            (record { ended = ended; current = heard_current octets cur }) many
         by_front before More = waits (Some before)
         by_front before (Never place why) = waits None
         by_front before (Whole frame n) = say frame (answer_at p q frame) refl
 
         by_heard : (h : Option (List ℕ)) →
-            Stays front addresses p.turn (received_after front p (with_octets octets q) h octets) (record { ended = ended; current = heard_current octets cur }) many
+            Stays front addresses p.turn (received_after front p (with_octets octets q) h octets)
+            (record { ended = ended; current = heard_current octets cur }) many
         by_heard None = waits None
         by_heard (Some before) = by_front (before ++ octets) (front (before ++ octets))
 
-pub due_visits : (front : List ℕ → Front) (addresses : List ℕ) (p : Primary) (ended : List OpenExchange) (cur : Option OpenExchange) (ms at : ℕ) (many : ℕ) →
+pub due_visits : (front : List ℕ → Front) (addresses : List ℕ) (p : Primary) (ended : List OpenExchange)
+    (cur : Option OpenExchange) (ms at : ℕ) (many : ℕ) →
     p.turn < length p.stations → InVisit front addresses p (record { ended = ended; current = cur }) many →
     Stays front addresses p.turn (timed_out p at) (record { ended = ended; current = timed_current ms at cur }) many
 due_visits front addresses p ended cur ms at many within v = go p.outstanding refl
   where
-    moved : (stations : List StationState) (phase : Phase) (again : Bool) (outstanding : Option Outstanding) (spoilt : ℕ) →
+    moved : (stations : List StationState) (phase : Phase) (again : Bool) (outstanding : Option Outstanding)
+        (spoilt : ℕ) →
         FitsPhase p.settings outstanding again phase (station_at stations p.turn).link v.now →
-        IsBegun (record p { stations = stations; phase = phase; again = again; outstanding = outstanding; spoilt = spoilt }) →
-        Stays front addresses p.turn (record p { stations = stations; phase = phase; again = again; outstanding = outstanding; spoilt = spoilt })
+        IsBegun (record p {
+          stations = stations;
+          phase = phase;
+          again = again;
+          outstanding = outstanding;
+          spoilt =
+              spoilt;
+        }) →
+        Stays front addresses p.turn (record p {
+          stations = stations;
+          phase = phase;
+          again = again;
+          outstanding =
+              outstanding;
+          spoilt = spoilt;
+        })
         (record { ended = ended; current = timed_current ms at cur }) many
     moved stations phase again outstanding spoilt fits begun =
         kept front addresses p ended cur (timed_current ms at cur) many stations phase again outstanding spoilt v
-        (λ link latest. timed_latest p.settings link p.turn v.mid v.now ms at cur latest) (timed_long front v.before ms at cur) fits begun
+        (λ link latest. timed_latest p.settings link p.turn v.mid v.now ms at cur latest)
+        (timed_long front v.before ms at cur) fits begun
 
     go : (o : Option Outstanding) → p.outstanding ≡ o →
-        Stays front addresses p.turn (due_from p o at) (record { ended = ended; current = timed_current ms at cur }) many
+        Stays front addresses p.turn (due_from p o at)
+        (record { ended = ended; current = timed_current ms at cur }) many
     go None is = moved p.stations p.phase p.again p.outstanding p.spoilt v.fits v.begun
     go (Some q) is = late (is_late p q at)
       where
         aw : (p.again ≡ false) × Awaits p.settings q.request p.phase (station_at p.stations p.turn).link v.now
-        aw = subst (λ (o : Option Outstanding). FitsPhase p.settings o p.again p.phase (station_at p.stations p.turn).link v.now) is v.fits
+        aw = subst (λ (o : Option Outstanding). FitsPhase p.settings o p.again p.phase
+            (station_at p.stations p.turn).link v.now) is v.fits
 
-        late : (b : Bool) → Stays front addresses p.turn (if b then unanswered p q else p) (record { ended = ended; current = timed_current ms at cur }) many
+        late : (b : Bool) → Stays front addresses p.turn (if b then unanswered p q else p)
+            (record { ended = ended; current = timed_current ms at cur }) many
         late false = moved p.stations p.phase p.again p.outstanding p.spoilt v.fits v.begun
         late true =
             let s : StationState = station_unanswered p.settings (station_at p.stations p.turn) q.request in
             moved (slice_set p.stations p.turn s) _ _ None _
-            (subst (λ (l : Link). IsReady p.settings (has_repeats p.settings s.link) (if has_repeats p.settings s.link then p.phase else Over) l v.now)
+            (subst (λ (l : Link). IsReady p.settings (has_repeats p.settings s.link)
+            (if has_repeats p.settings s.link then p.phase else Over) l v.now)
             (sym (ap (λ (r : StationState). r.link) (get_or-set_same p.stations p.turn s no_station within)))
             (missed_ready p.settings q.request p.phase (station_at p.stations p.turn).link v.now aw.1))
             (begun_unanswered p q within v.begun)
 
 -- the links are as they were
-linked_visits : (front : List ℕ → Front) (addresses : List ℕ) (p : Primary) (e : Exchanges) (many : ℕ) (stations : List StationState) →
+linked_visits : (front : List ℕ → Front) (addresses : List ℕ) (p : Primary) (e : Exchanges) (many : ℕ)
+    (stations : List StationState) →
     ((i : ℕ) → (station_at stations i).link ≡ (station_at p.stations i).link) → InVisit front addresses p e many →
     Stays front addresses p.turn (record p { stations = stations }) e many
 linked_visits front addresses p e many stations same v =
-    kept front addresses p e.ended e.current e.current many stations p.phase p.again p.outstanding p.spoilt v (λ link latest. latest) refl
-    (subst (λ (l : Link). FitsPhase p.settings p.outstanding p.again p.phase l v.now) (sym (same p.turn)) v.fits) (begun_linked p stations same v.begun)
+    kept front addresses p e.ended e.current e.current many stations p.phase p.again p.outstanding p.spoilt v
+    (λ link latest. latest) refl
+    (subst (λ (l : Link). FitsPhase p.settings p.outstanding p.again p.phase l v.now) (sym (same p.turn)) v.fits)
+    (begun_linked p stations same v.begun)
 
-pub offer_visits : (front : List ℕ → Front) (addresses : List ℕ) (p : Primary) (e : Exchanges) (many station : ℕ) (asdu : List ℕ) →
+pub offer_visits : (front : List ℕ → Front) (addresses : List ℕ) (p : Primary) (e : Exchanges) (many station : ℕ)
+    (asdu : List ℕ) →
     InVisit front addresses p e many → Stays front addresses p.turn (offered_to p station asdu) e many
 offer_visits front addresses p e many station asdu v = go (may_offer p station)
   where
     go : (b : Bool) → Stays front addresses p.turn
-        (if b then record p { stations = slice_set p.stations station (with_offer (station_at p.stations station) (Some asdu)) } else p) e many
+        (if b then record p {
+          stations = slice_set p.stations station
+              (with_offer (station_at p.stations station) (Some asdu));
+        } else p) e many
     go false = (v, refl)
     go true =
-        linked_visits front addresses p e many (slice_set p.stations station (with_offer (station_at p.stations station) (Some asdu)))
+        linked_visits front addresses p e many (slice_set p.stations station
+        (with_offer (station_at p.stations station) (Some asdu)))
         (set_view (λ (r : StationState). r.link) p.stations station _ refl) v
 
 pub withdraw_visits : (front : List ℕ → Front) (addresses : List ℕ) (p : Primary) (e : Exchanges) (many : ℕ) →
     InVisit front addresses p e many → Stays front addresses p.turn (withdrawn p) e many
-withdraw_visits front addresses p e many v = linked_visits front addresses p e many (map without_offer p.stations) (withdrawn_link p.stations) v
+withdraw_visits front addresses p e many v = linked_visits front addresses p e many (map without_offer p.stations)
+    (withdrawn_link p.stations) v
 
-pub start_visits : (front : List ℕ → Front) (settings : LinkSettings) (addresses : List ℕ) → InVisit front addresses (start settings addresses) no_exchanges 0
+pub start_visits : (front : List ℕ → Front) (settings : LinkSettings) (addresses : List ℕ)
+    → InVisit front addresses (start settings addresses) no_exchanges 0
 start_visits front settings addresses = record {
   earlier = [];
   are = tt;

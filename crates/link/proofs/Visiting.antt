@@ -17,17 +17,21 @@ abbrev pub Leads : LinkSettings → (station : ℕ) → Link → Left → List E
 Leads settings station link left [] end = end ≡ left
 Leads settings station link left (x ∷ xs) end =
     MaySend link x.request
-    × ((later : Left) × MayFollow settings link left x.request later × Leads settings station (after settings station x link) later xs end)
+    × ((later : Left) × MayFollow settings link left x.request later
+    × Leads settings station (after settings station x link) later xs end)
 
-pub leads_visit : (settings : LinkSettings) (station : ℕ) (link : Link) (left : Left) (xs : List Exchange) (end : Left) →
+pub leads_visit : (settings : LinkSettings) (station : ℕ) (link : Link) (left : Left) (xs : List Exchange) (end : Left)
+    →
     Leads settings station link left xs end → IsVisitFrom settings station link left xs
 leads_visit settings station link left [] end l = tt
 leads_visit settings station link left (x ∷ xs) end l =
     (l.0, (l.1.0, l.1.1, leads_visit settings station (after settings station x link) l.1.0 xs end l.1.2))
 
-pub leads_on : (settings : LinkSettings) (station : ℕ) (link : Link) (left : Left) (xs : List Exchange) (x : Exchange) (mid end : Left) →
+pub leads_on : (settings : LinkSettings) (station : ℕ) (link : Link) (left : Left) (xs : List Exchange) (x : Exchange)
+    (mid end : Left) →
     Leads settings station link left xs mid → MaySend (link_after settings station link xs) x.request →
-    MayFollow settings (link_after settings station link xs) mid x.request end → Leads settings station link left (xs ++ x ∷ []) end
+    MayFollow settings (link_after settings station link xs) mid x.request end
+    → Leads settings station link left (xs ++ x ∷ []) end
 leads_on settings station link left [] x mid end l may follow =
     (may, (end, subst (λ (m : Left). MayFollow settings link m x.request end) l follow, refl))
 leads_on settings station link left (y ∷ ys) x mid end l may follow =
@@ -41,24 +45,31 @@ length-append {A} (x ∷ xs) ys = ap (λ (n : ℕ). suc n) (length-append xs ys)
 abbrev pub room : LinkSettings → Left → ℕ
 room settings left = left.repeats + suc settings.retries * length left.plan
 
-planned_room : (settings : LinkSettings) (left later : Left) (k : RequestKind) (left_out : List RequestKind) → left_out ++ k ∷ later.plan ≡ left.plan →
+planned_room : (settings : LinkSettings) (left later : Left) (k : RequestKind) (left_out : List RequestKind)
+    → left_out ++ k ∷ later.plan ≡ left.plan →
     later.repeats ≡ settings.retries → suc (room settings later) ≤ room settings left
 planned_room settings left later k left_out is same =
-    let long : length left_out + suc (length later.plan) ≡ length left.plan = sym (length-append left_out (k ∷ later.plan)) ∙ ap length is in
+    let long : length left_out + suc (length later.plan) ≡ length left.plan =
+    sym (length-append left_out (k ∷ later.plan)) ∙ ap length is in
     let more : suc settings.retries * suc (length later.plan) ≤ suc settings.retries * length left.plan =
-    mul-le (suc settings.retries) (suc (length later.plan)) (suc settings.retries) (length left.plan) (omega arith) (omega (arith, long)) in
+    mul-le (suc settings.retries) (suc (length later.plan)) (suc settings.retries) (length left.plan) (omega arith)
+    (omega (arith, long)) in
     omega (arith, more, same)
 
-follow_room : (settings : LinkSettings) (link : Link) (left later : Left) (request : Asked) → MayFollow settings link left request later →
+follow_room : (settings : LinkSettings) (link : Link) (left later : Left) (request : Asked)
+    → MayFollow settings link left request later →
     suc (room settings later) ≤ room settings left
 follow_room settings (Held fcb service missed) left later request f =
-    let same : suc settings.retries * length later.plan ≡ suc settings.retries * length left.plan = ap (λ (l : List RequestKind). suc settings.retries * length l) f.0 in
+    let same : suc settings.retries * length later.plan ≡ suc settings.retries * length left.plan =
+    ap (λ (l : List RequestKind). suc settings.retries * length l) f.0 in
     omega (arith, same, f.1)
 follow_room settings Down left later request f = planned_room settings left later (kind_of request) f.0.0 f.0.1 f.1
 follow_room settings Available left later request f = planned_room settings left later (kind_of request) f.0.0 f.0.1 f.1
-follow_room settings (Next fcb) left later request f = planned_room settings left later (kind_of request) f.0.0 f.0.1 f.1
+follow_room settings (Next fcb) left later request f =
+    planned_room settings left later (kind_of request) f.0.0 f.0.1 f.1
 
-pub visit_room : (settings : LinkSettings) (station : ℕ) (link : Link) (left : Left) (xs : List Exchange) → IsVisitFrom settings station link left xs →
+pub visit_room : (settings : LinkSettings) (station : ℕ) (link : Link) (left : Left) (xs : List Exchange)
+    → IsVisitFrom settings station link left xs →
     length xs ≤ room settings left
 visit_room settings station link left [] v = omega arith
 visit_room settings station link left (x ∷ xs) v =
@@ -70,21 +81,26 @@ polls_length : (many : ℕ) → length (class1_polls many) ≡ many
 polls_length zero = refl
 polls_length (suc many) = ap (λ (n : ℕ). suc n) (polls_length many)
 
-pub whole_room : (settings : LinkSettings) (link : Link) → room settings (whole_visit settings link) ≤ most_of_visit settings
+pub whole_room : (settings : LinkSettings) (link : Link)
+    → room settings (whole_visit settings link) ≤ most_of_visit settings
 whole_room settings Down =
     let less : suc settings.retries * 2 ≤ suc settings.retries * (3 + settings.burst) =
-    mul-le (suc settings.retries) 2 (suc settings.retries) (3 + settings.burst) (omega arith) (omega arith) in omega (arith, less)
+    mul-le (suc settings.retries) 2 (suc settings.retries) (3 + settings.burst) (omega arith) (omega arith) in
+    omega (arith, less)
 whole_room settings Available =
     let less : suc settings.retries * 0 ≤ suc settings.retries * (3 + settings.burst) =
-    mul-le (suc settings.retries) 0 (suc settings.retries) (3 + settings.burst) (omega arith) (omega arith) in omega (arith, less)
+    mul-le (suc settings.retries) 0 (suc settings.retries) (3 + settings.burst) (omega arith) (omega arith) in
+    omega (arith, less)
 whole_room settings (Next fcb) =
     let less : suc settings.retries * length (services settings.burst) ≤ suc settings.retries * (3 + settings.burst) =
-    mul-le (suc settings.retries) (length (services settings.burst)) (suc settings.retries) (3 + settings.burst) (omega arith) (omega (arith, polls_length settings.burst)) in
+    mul-le (suc settings.retries) (length (services settings.burst)) (suc settings.retries) (3 + settings.burst)
+    (omega arith) (omega (arith, polls_length settings.burst)) in
     omega (arith, less)
 whole_room settings (Held fcb service missed) =
     let e : suc settings.retries * length (services settings.burst) ≡ suc settings.retries * (2 + settings.burst) =
     ap (λ (n : ℕ). suc settings.retries * n) (omega (arith, polls_length settings.burst)) in
-    let one : suc settings.retries + suc settings.retries * (2 + settings.burst) ≡ suc settings.retries * (3 + settings.burst) = omega arith in
+    let one : suc settings.retries + suc settings.retries * (2 + settings.burst)
+    ≡ suc settings.retries * (3 + settings.burst) = omega arith in
     omega (arith, e, one)
 
 -- ---- phases
@@ -117,7 +133,8 @@ pub record IsRepeatable (settings : LinkSettings) (link : Link) (left : Left) : 
 pub data IsReady (settings : LinkSettings) (again : Bool) (phase : Phase) (link : Link) (left : Left) : Type 0 where
   over : phase ≡ Over → again ≡ false → IsReady settings again phase link left
   starting : phase ≡ Starting → IsStarting link left → IsReady settings again phase link left
-  serving : HasPlan settings.burst phase left.plan → (again ≡ true → IsRepeatable settings link left) → IsReady settings again phase link left
+  serving : HasPlan settings.burst phase left.plan → (again ≡ true → IsRepeatable settings link left)
+      → IsReady settings again phase link left
 
 -- What is wanted is something that the visit still has.
 pub record Follows (settings : LinkSettings) (link : Link) (left : Left) (w : Wanted) : Type 0 where
@@ -133,24 +150,29 @@ first_poll : (burst : ℕ) → 0 < burst → class1_polls burst ≡ kind.Class1 
 first_poll zero some = absurd (omega (arith, some))
 first_poll (suc less) some = ap (λ (n : ℕ). kind.Class1 ∷ class1_polls n) (omega arith)
 
-next_poll : (left sent burst : ℕ) → left ≡ burst - sent → sent < burst → class1_polls left ≡ kind.Class1 ∷ class1_polls (burst - suc sent)
+next_poll : (left sent burst : ℕ) → left ≡ burst - sent → sent < burst
+    → class1_polls left ≡ kind.Class1 ∷ class1_polls (burst - suc sent)
 next_poll zero sent burst is more = absurd (omega (arith, is, more))
 next_poll (suc left) sent burst is more = ap (λ (n : ℕ). kind.Class1 ∷ class1_polls n) (omega (arith, is))
 
 -- polls, with what is left out before them
-polling_follows : (settings : LinkSettings) (fcb : Bool) (s : StationState) (left : Left) (left_out : List RequestKind) → 0 < settings.burst →
-    left_out ++ kind.Class2 ∷ class1_polls settings.burst ≡ left.plan → FollowsIt settings (Next fcb) left (wanted_poll settings.burst fcb s.acd Polling)
+polling_follows : (settings : LinkSettings) (fcb : Bool) (s : StationState) (left : Left) (left_out : List RequestKind)
+    → 0 < settings.burst →
+    left_out ++ kind.Class2 ∷ class1_polls settings.burst ≡ left.plan
+    → FollowsIt settings (Next fcb) left (wanted_poll settings.burst fcb s.acd Polling)
 polling_follows settings fcb s left left_out some plan = go s.acd
   where
     go : (acd : Bool) →
-        FollowsIt settings (Next fcb) left (if acd then wants (Counted fcb Class1) (Class1Polling 1) else wants (Counted fcb Class2) (Class1Polling 0))
+        FollowsIt settings (Next fcb) left (if acd then wants (Counted fcb Class1) (Class1Polling 1) else wants
+        (Counted fcb Class2) (Class1Polling 0))
     go true = record {
       later = record { plan = class1_polls (settings.burst - 1); repeats = settings.retries };
       follow = (
         (
           left_out ++ kind.Class2 ∷ [],
           append_assoc left_out (kind.Class2 ∷ []) (kind.Class1 ∷ class1_polls (settings.burst - 1))
-              ∙ ap (λ (l : List RequestKind). left_out ++ kind.Class2 ∷ l) (sym (first_poll settings.burst some)) ∙ plan,
+              ∙ ap (λ (l : List RequestKind). left_out ++ kind.Class2 ∷ l) (sym (first_poll settings.burst some))
+              ∙ plan,
         ),
         refl,
       );
@@ -162,33 +184,48 @@ polling_follows settings fcb s left left_out some plan = go s.acd
       awaits = (ap class1_polls (omega arith), omega arith);
     }
 
-polls_follow : (settings : LinkSettings) (may_poll fcb : Bool) (s : StationState) (left : Left) (left_out : List RequestKind) → 0 < settings.burst →
-    left_out ++ kind.Class2 ∷ class1_polls settings.burst ≡ left.plan → FollowsIt settings (Next fcb) left (polls_from settings.burst may_poll fcb s Polling)
+polls_follow : (settings : LinkSettings) (may_poll fcb : Bool) (s : StationState) (left : Left)
+    (left_out : List RequestKind) → 0 < settings.burst →
+    left_out ++ kind.Class2 ∷ class1_polls settings.burst ≡ left.plan
+    → FollowsIt settings (Next fcb) left (polls_from settings.burst may_poll fcb s Polling)
 polls_follow settings true fcb s left left_out some plan = polling_follows settings fcb s left left_out some plan
 polls_follow settings false fcb s left left_out some plan = tt
 
 class1_follows : (settings : LinkSettings) (may_poll fcb : Bool) (s : StationState) (left : Left) (sent : ℕ) →
-    class1_polls (settings.burst - sent) ≡ left.plan → FollowsIt settings (Next fcb) left (polls_from settings.burst may_poll fcb s (Class1Polling sent))
+    class1_polls (settings.burst - sent) ≡ left.plan → FollowsIt settings (Next fcb) left
+    (polls_from settings.burst may_poll fcb s (Class1Polling sent))
 class1_follows settings false fcb s left sent plan = tt
 class1_follows settings true fcb s left sent plan = go s.acd (nat_lt sent settings.burst) refl
   where
     go : (acd more : Bool) → nat_lt sent settings.burst ≡ more →
-        FollowsIt settings (Next fcb) left (if acd && more then wants (Counted fcb Class1) (Class1Polling (suc sent)) else None)
+        FollowsIt settings (Next fcb) left (if acd && more then wants (Counted fcb Class1)
+        (Class1Polling (suc sent)) else None)
     go false more e = tt
     go true false e = tt
     go true true e = record {
       later = record { plan = class1_polls (settings.burst - suc sent); repeats = settings.retries };
-      follow = (([], sym (next_poll (settings.burst - sent) sent settings.burst refl (ltb-true sent settings.burst e)) ∙ plan), refl);
+      follow = (
+        (
+          [],
+          sym (next_poll (settings.burst - sent) sent settings.burst refl (ltb-true sent settings.burst e))
+              ∙ plan,
+        ),
+        refl,
+      );
       awaits = (refl, omega arith);
     }
 
-commands_follow : (settings : LinkSettings) (may_poll fcb : Bool) (s : StationState) (offered : Option (List ℕ)) (left : Left) → 0 < settings.burst →
-    services settings.burst ≡ left.plan → FollowsIt settings (Next fcb) left (commands_from settings.burst may_poll fcb s offered)
-commands_follow settings may_poll fcb s None left some plan = polls_follow settings may_poll fcb s left (kind.Command ∷ []) some plan
+commands_follow : (settings : LinkSettings) (may_poll fcb : Bool) (s : StationState) (offered : Option (List ℕ))
+    (left : Left) → 0 < settings.burst →
+    services settings.burst ≡ left.plan → FollowsIt settings (Next fcb) left
+    (commands_from settings.burst may_poll fcb s offered)
+commands_follow settings may_poll fcb s None left some plan =
+    polls_follow settings may_poll fcb s left (kind.Command ∷ []) some plan
 commands_follow settings may_poll fcb s (Some asdu) left some plan = go s.dfc
   where
     go : (dfc : Bool) →
-        FollowsIt settings (Next fcb) left (if dfc then polls_from settings.burst may_poll fcb s Polling else wants (Counted fcb (Command asdu)) Polling)
+        FollowsIt settings (Next fcb) left (if dfc then polls_from settings.burst may_poll fcb s Polling else wants
+        (Counted fcb (Command asdu)) Polling)
     go true = polls_follow settings may_poll fcb s left (kind.Command ∷ []) some plan
     go false = record {
       later = record { plan = kind.Class2 ∷ class1_polls settings.burst; repeats = settings.retries };
@@ -196,26 +233,37 @@ commands_follow settings may_poll fcb s (Some asdu) left some plan = go s.dfc
       awaits = (refl, omega arith);
     }
 
-next_follows : (settings : LinkSettings) (may_poll fcb : Bool) (s : StationState) (phase : Phase) (left : Left) → 0 < settings.burst →
-    HasPlan settings.burst phase left.plan → FollowsIt settings (Next fcb) left (next_of settings.burst may_poll fcb s phase)
+next_follows : (settings : LinkSettings) (may_poll fcb : Bool) (s : StationState) (phase : Phase) (left : Left)
+    → 0 < settings.burst →
+    HasPlan settings.burst phase left.plan → FollowsIt settings (Next fcb) left
+    (next_of settings.burst may_poll fcb s phase)
 next_follows settings may_poll fcb s Starting left some plan = absurd plan
-next_follows settings may_poll fcb s Commanding left some plan = commands_follow settings may_poll fcb s s.offered left some plan
+next_follows settings may_poll fcb s Commanding left some plan =
+    commands_follow settings may_poll fcb s s.offered left some plan
 next_follows settings may_poll fcb s Polling left some plan = polls_follow settings may_poll fcb s left [] some plan
-next_follows settings may_poll fcb s (Class1Polling sent) left some plan = class1_follows settings may_poll fcb s left sent plan
+next_follows settings may_poll fcb s (Class1Polling sent) left some plan =
+    class1_follows settings may_poll fcb s left sent plan
 next_follows settings may_poll fcb s Over left some plan = absurd plan
 
 -- a link that isn't up begins so
-start_follows : (settings : LinkSettings) (may_poll again : Bool) (s : StationState) (link : Link) (left : Left) → IsStarting link left →
+start_follows : (settings : LinkSettings) (may_poll again : Bool) (s : StationState) (link : Link) (left : Left)
+    → IsStarting link left →
     FollowsIt settings link left (wanted_by settings.burst may_poll again s link Starting)
 start_follows settings may_poll again s Down left plan =
-    record { later = record { plan = kind.Reset ∷ []; repeats = settings.retries }; follow = (([], plan), refl); awaits = (refl, refl) }
+    record {
+      later = record { plan = kind.Reset ∷ []; repeats = settings.retries };
+      follow =
+          (([], plan), refl);
+      awaits = (refl, refl);
+    }
 start_follows settings may_poll again s Available left plan =
     record { later = record { plan = []; repeats = settings.retries }; follow = (([], plan), refl); awaits = refl }
 start_follows settings may_poll again s (Next fcb) left plan = absurd plan
 start_follows settings may_poll again s (Held fcb service missed) left plan = absurd plan
 
 -- what is sent again
-repeat_follows : (settings : LinkSettings) (fcb : Bool) (service : Service) (missed : ℕ) (phase : Phase) (left : Left) (repeats : ℕ) → left.repeats ≡ repeats →
+repeat_follows : (settings : LinkSettings) (fcb : Bool) (service : Service) (missed : ℕ) (phase : Phase) (left : Left)
+    (repeats : ℕ) → left.repeats ≡ repeats →
     HasPlan settings.burst phase left.plan → IsRepeatable settings (Held fcb service missed) left →
     Follows settings (Held fcb service missed) left (record { request = Counted fcb service; following = phase })
 repeat_follows settings fcb service missed phase left zero is plan more =
@@ -226,15 +274,20 @@ repeat_follows settings fcb service missed phase left (suc repeats) is plan more
   awaits = (plan, omega (arith, more.enough, is));
 }
 
-serve_follows : (settings : LinkSettings) (may_poll again : Bool) (s : StationState) (link : Link) (phase : Phase) (left : Left) → 0 < settings.burst →
+serve_follows : (settings : LinkSettings) (may_poll again : Bool) (s : StationState) (link : Link) (phase : Phase)
+    (left : Left) → 0 < settings.burst →
     HasPlan settings.burst phase left.plan → (again ≡ true → IsRepeatable settings link left) →
     FollowsIt settings link left (wanted_by settings.burst may_poll again s link phase)
-serve_follows settings may_poll again s (Next fcb) phase left some plan more = next_follows settings may_poll fcb s phase left some plan
+serve_follows settings may_poll again s (Next fcb) phase left some plan more =
+    next_follows settings may_poll fcb s phase left some plan
 serve_follows settings may_poll again s (Held fcb service missed) Starting left some plan more = absurd plan
 serve_follows settings may_poll again s (Held fcb service missed) Over left some plan more = absurd plan
-serve_follows settings may_poll true s (Held fcb service missed) Commanding left some plan more = repeat_follows settings fcb service missed Commanding left left.repeats refl plan (more refl)
-serve_follows settings may_poll true s (Held fcb service missed) Polling left some plan more = repeat_follows settings fcb service missed Polling left left.repeats refl plan (more refl)
-serve_follows settings may_poll true s (Held fcb service missed) (Class1Polling sent) left some plan more = repeat_follows settings fcb service missed (Class1Polling sent) left left.repeats refl plan (more refl)
+serve_follows settings may_poll true s (Held fcb service missed) Commanding left some plan more =
+    repeat_follows settings fcb service missed Commanding left left.repeats refl plan (more refl)
+serve_follows settings may_poll true s (Held fcb service missed) Polling left some plan more =
+    repeat_follows settings fcb service missed Polling left left.repeats refl plan (more refl)
+serve_follows settings may_poll true s (Held fcb service missed) (Class1Polling sent) left some plan more =
+    repeat_follows settings fcb service missed (Class1Polling sent) left left.repeats refl plan (more refl)
 serve_follows settings may_poll false s (Held fcb service missed) Commanding left some plan more = tt
 serve_follows settings may_poll false s (Held fcb service missed) Polling left some plan more = tt
 serve_follows settings may_poll false s (Held fcb service missed) (Class1Polling sent) left some plan more = tt
@@ -248,30 +301,38 @@ serve_follows settings may_poll again s Available Polling left some plan more = 
 serve_follows settings may_poll again s Available (Class1Polling sent) left some plan more = tt
 serve_follows settings may_poll again s Available Over left some plan more = tt
 
-over_wants : (burst : ℕ) (may_poll : Bool) (s : StationState) (link : Link) → wanted_by burst may_poll false s link Over ≡ None
+over_wants : (burst : ℕ) (may_poll : Bool) (s : StationState) (link : Link)
+    → wanted_by burst may_poll false s link Over ≡ None
 over_wants burst may_poll s Down = refl
 over_wants burst may_poll s Available = refl
 over_wants burst may_poll s (Next fcb) = refl
 over_wants burst may_poll s (Held fcb service missed) = refl
 
 -- the turn goes on
-pub ready_follows : (settings : LinkSettings) (may_poll again : Bool) (s : StationState) (link : Link) (phase : Phase) (left : Left) → 0 < settings.burst →
-    IsReady settings again phase link left → FollowsIt settings link left (wanted_by settings.burst may_poll again s link phase)
+pub ready_follows : (settings : LinkSettings) (may_poll again : Bool) (s : StationState) (link : Link) (phase : Phase)
+    (left : Left) → 0 < settings.burst →
+    IsReady settings again phase link left → FollowsIt settings link left
+    (wanted_by settings.burst may_poll again s link phase)
 ready_follows settings may_poll again s link phase left some (over o a) =
     subst (λ (v : Option Wanted). FollowsIt settings link left v)
-    (sym (ap (λ (b : Bool). wanted_by settings.burst may_poll b s link phase) a ∙ ap (λ (f : Phase). wanted_by settings.burst may_poll false s link f) o
+    (sym (ap (λ (b : Bool). wanted_by settings.burst may_poll b s link phase) a
+    ∙ ap (λ (f : Phase). wanted_by settings.burst may_poll false s link f) o
     ∙ over_wants settings.burst may_poll s link)) tt
 ready_follows settings may_poll again s link phase left some (starting o plan) =
     subst (λ (f : Phase). FollowsIt settings link left (wanted_by settings.burst may_poll again s link f)) (sym o)
     (start_follows settings may_poll again s link left plan)
-ready_follows settings may_poll again s link phase left some (serving plan more) = serve_follows settings may_poll again s link phase left some plan more
+ready_follows settings may_poll again s link phase left some (serving plan more) =
+    serve_follows settings may_poll again s link phase left some plan more
 
 -- a turn begins, with a link whose status isn't known
-pub begin_follows : (settings : LinkSettings) (may_poll : Bool) (s : StationState) (link : Link) → 0 < settings.burst → (link ≡ Available → ⊥) →
+pub begin_follows : (settings : LinkSettings) (may_poll : Bool) (s : StationState) (link : Link) → 0 < settings.burst
+    → (link ≡ Available → ⊥) →
     FollowsIt settings link (whole_visit settings link) (wanted_by settings.burst may_poll false s link Starting)
-begin_follows settings may_poll s Down some fresh = start_follows settings may_poll false s Down (whole_visit settings Down) refl
+begin_follows settings may_poll s Down some fresh = start_follows settings may_poll false s Down
+    (whole_visit settings Down) refl
 begin_follows settings may_poll s Available some fresh = absurd (fresh refl)
-begin_follows settings may_poll s (Next fcb) some fresh = commands_follow settings may_poll fcb s s.offered (whole_visit settings (Next fcb)) some refl
+begin_follows settings may_poll s (Next fcb) some fresh =
+    commands_follow settings may_poll fcb s s.offered (whole_visit settings (Next fcb)) some refl
 begin_follows settings may_poll s (Held fcb service missed) some fresh = go (may_poll || not (is_poll service))
   where
     go : (b : Bool) → FollowsIt settings (Held fcb service missed) (whole_visit settings (Held fcb service missed))

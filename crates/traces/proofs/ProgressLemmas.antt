@@ -29,18 +29,24 @@ came_entry (Tick now) = refl
 came_entry (Wall now number) = refl
 
 -- a skipped line tells no event
-pub events_skip : (lines rest : List (List ℕ)) (line : List ℕ) → lines ≡ line ∷ rest → is_skipped line ≡ true → events_in rest ≡ events_in lines
+pub events_skip : (lines rest : List (List ℕ)) (line : List ℕ) → lines ≡ line ∷ rest → is_skipped line ≡ true
+    → events_in rest ≡ events_in lines
 events_skip lines rest line is e = rw (is, e)
 
 -- a line that is an event tells it
-pub events_next : (entry : Entry) (lines rest : List (List ℕ)) (line : List ℕ) → lines ≡ line ∷ rest → is_skipped line ≡ false → event_in line ≡ Some (event_of entry) → entry_event entry ∷ events_in rest ≡ events_in lines
+pub events_next : (entry : Entry) (lines rest : List (List ℕ)) (line : List ℕ) → lines ≡ line ∷ rest
+    → is_skipped line ≡ false → event_in line ≡ Some (event_of entry)
+    → entry_event entry ∷ events_in rest ≡ events_in lines
 events_next entry lines rest line is e some = rw (is, e, some, came_entry)
 
 -- no line is wrong
-right_here : (n m : ℕ) (line : List ℕ) (lines : List (List ℕ)) → (first_wrong m lines ≡ None → AllByRecursion IsRight lines) → first_wrong n (line ∷ lines) ≡ None → m ≡ n + 1 → IsRight line × AllByRecursion IsRight lines
+right_here : (n m : ℕ) (line : List ℕ) (lines : List (List ℕ))
+    → (first_wrong m lines ≡ None → AllByRecursion IsRight lines) → first_wrong n (line ∷ lines) ≡ None → m ≡ n + 1
+    → IsRight line × AllByRecursion IsRight lines
 right_here n m line lines those none is = by (is_wrong line) refl none
   where
-    by : (b : Bool) → is_wrong line ≡ b → (if b then Some n else first_wrong (n + 1) lines) ≡ None → IsRight line × AllByRecursion IsRight lines
+    by : (b : Bool) → is_wrong line ≡ b → (if b then Some n else first_wrong (n + 1) lines) ≡ None
+        → IsRight line × AllByRecursion IsRight lines
     by true e none = cc
     by false e none = (e, those (ap (λ k. first_wrong k lines) is ∙ none))
 
@@ -55,13 +61,15 @@ not_right line right e none =
     let both : true ≡ false = sym wrong ∙ right in
     cc
 
-pub right_first : (lines rest : List (List ℕ)) (line : List ℕ) → lines ≡ line ∷ rest → AllByRecursion IsRight lines → IsRight line × AllByRecursion IsRight rest
+pub right_first : (lines rest : List (List ℕ)) (line : List ℕ) → lines ≡ line ∷ rest → AllByRecursion IsRight lines
+    → IsRight line × AllByRecursion IsRight rest
 right_first lines rest line is all = subst (AllByRecursion IsRight) is all
 
 -- The log
 
 -- one more
-take_next : {A : Type 0} (n : ℕ) (xs rest : List A) (x : A) → drop n xs ≡ x ∷ rest → take (suc n) xs ≡ take n xs ++ x ∷ []
+take_next : {A : Type 0} (n : ℕ) (xs rest : List A) (x : A) → drop n xs ≡ x ∷ rest
+    → take (suc n) xs ≡ take n xs ++ x ∷ []
 take_next zero [] rest x is = cc
 take_next zero (y ∷ ys) rest x is = let same : y ≡ x = cc in ap (λ z. z ∷ []) same
 take_next (suc n) [] rest x is = cc
@@ -84,29 +92,39 @@ action_more (true ∷ marks) = ap suc (action_more marks)
 action_more (false ∷ marks) = action_more marks
 
 -- an event that is marked stands in the log
-pub log_came : (text page : List ℕ) (marks : List Bool) (event : LogEntry) (rest : List LogEntry) → drop (events_among marks) (script_in text) ≡ event ∷ rest →
-    woven (reverse (marks ++ true ∷ [])) (reverse (take (events_among (marks ++ true ∷ [])) (script_in text))) (reverse (all_told (entries_in page)))
-    ≡ event ∷ woven (reverse marks) (reverse (take (events_among marks) (script_in text))) (reverse (all_told (entries_in page)))
+pub log_came : (text page : List ℕ) (marks : List Bool) (event : LogEntry) (rest : List LogEntry)
+    → drop (events_among marks) (script_in text) ≡ event ∷ rest →
+    woven (reverse (marks ++ true ∷ [])) (reverse (take (events_among (marks ++ true ∷ [])) (script_in text)))
+    (reverse (all_told (entries_in page)))
+    ≡ event ∷ woven (reverse marks) (reverse (take (events_among marks) (script_in text)))
+    (reverse (all_told (entries_in page)))
 log_came text page marks event rest is =
     let actions = reverse (all_told (entries_in page)) in
     let events = take (events_among marks) (script_in text) in
-    ap (λ ms. woven ms (reverse (take (events_among (marks ++ true ∷ [])) (script_in text))) actions) (reverse-append marks (true ∷ []))
+    ap (λ ms. woven ms (reverse (take (events_among (marks ++ true ∷ [])) (script_in text))) actions)
+    (reverse-append marks (true ∷ []))
     ∙ ap (λ n. woven (true ∷ reverse marks) (reverse (take n (script_in text))) actions) (event_more marks)
-    ∙ ap (λ es. woven (true ∷ reverse marks) (reverse es) actions) (take_next (events_among marks) (script_in text) rest event is)
+    ∙ ap (λ es. woven (true ∷ reverse marks) (reverse es) actions)
+    (take_next (events_among marks) (script_in text) rest event is)
     ∙ ap (λ es. woven (true ∷ reverse marks) es actions) (reverse-append events (event ∷ []))
 
 -- an action whose line was printed, and that is marked, stands in the log
-pub log_went : (text page : List ℕ) (marks : List Bool) (log : Log) (now : ℕ) (action : Output) → lines_of_actions log ≡ page → ArePrinted log → IsPrintable (Went now action) →
-    woven (reverse (marks ++ false ∷ [])) (reverse (take (events_among (marks ++ false ∷ [])) (script_in text))) (reverse (all_told (entries_in (page ++ line_of now action))))
-    ≡ Went now action ∷ woven (reverse marks) (reverse (take (events_among marks) (script_in text))) (reverse (all_told (entries_in page)))
+pub log_went : (text page : List ℕ) (marks : List Bool) (log : Log) (now : ℕ) (action : Output)
+    → lines_of_actions log ≡ page → ArePrinted log → IsPrintable (Went now action) →
+    woven (reverse (marks ++ false ∷ [])) (reverse (take (events_among (marks ++ false ∷ [])) (script_in text)))
+    (reverse (all_told (entries_in (page ++ line_of now action))))
+    ≡ Went now action ∷ woven (reverse marks) (reverse (take (events_among marks) (script_in text)))
+    (reverse (all_told (entries_in page)))
 log_went text page marks log now action lines all ok =
     let went = Went now action in
     let events = reverse (take (events_among marks) (script_in text)) in
     let old : entries_in page ≡ Some (actions_of log) = ap entries_in (sym lines) ∙ actions_printed log all in
     let new : entries_in (page ++ line_of now action) ≡ Some (actions_of log ++ went ∷ []) =
     ap (λ xs. entries_in (xs ++ line_of now action)) (sym lines) ∙ actions_printed (went ∷ log) (ok, all) in
-    ap (λ ms. woven ms (reverse (take (events_among (marks ++ false ∷ [])) (script_in text))) (reverse (all_told (entries_in (page ++ line_of now action))))) (reverse-append marks (false ∷ []))
-    ∙ ap (λ n. woven (false ∷ reverse marks) (reverse (take n (script_in text))) (reverse (all_told (entries_in (page ++ line_of now action))))) (action_more marks)
+    ap (λ ms. woven ms (reverse (take (events_among (marks ++ false ∷ [])) (script_in text)))
+    (reverse (all_told (entries_in (page ++ line_of now action))))) (reverse-append marks (false ∷ []))
+    ∙ ap (λ n. woven (false ∷ reverse marks) (reverse (take n (script_in text)))
+    (reverse (all_told (entries_in (page ++ line_of now action))))) (action_more marks)
     ∙ ap (λ es. woven (false ∷ reverse marks) events (reverse (all_told es))) new
     ∙ ap (woven (false ∷ reverse marks) events) (reverse-append (actions_of log) (went ∷ []))
     ∙ ap (λ es. went ∷ woven (reverse marks) events (reverse (all_told es))) (sym old)
@@ -119,7 +137,8 @@ pub record GoesOn (p q : Progress) (news : List LogEntry) : Type 0 where
   pub holds : IsProgress q
 
 -- an action was printed
-pub went : (p : Progress) (marks : List Bool) (page : List ℕ) (now : ℕ) (action : Output) → IsProgress p → IsPrintable (Went now action) → marks ≡ p.marks ++ false ∷ [] → page ≡ p.page ++ line_of now action →
+pub went : (p : Progress) (marks : List Bool) (page : List ℕ) (now : ℕ) (action : Output) → IsProgress p
+    → IsPrintable (Went now action) → marks ≡ p.marks ++ false ∷ [] → page ≡ p.page ++ line_of now action →
     GoesOn p (record p { marks = marks; page = page }) (Went now action ∷ [])
 went p marks page now action holds ok marked printed = record {
   log = log;
@@ -137,8 +156,11 @@ went p marks page now action holds ok marked printed = record {
     log = rw (marked, printed) (log_went p.text p.page p.marks (log_in p) now action holds.lines holds.printable ok)
 
 -- an event came
-event_came : (p : Progress) (left : Option (List ℕ)) (started : Bool) (marks : List Bool) (now : ℕ) (event : Input) → IsProgress p → started ≡ true → Came now event ∷ events_in (pieces_after 10 left) ≡ coming_in p → AllByRecursion IsRight (pieces_after 10 left) →
-    marks ≡ p.marks ++ true ∷ [] → GoesOn p (record p { left = left; started = started; marks = marks }) (Came now event ∷ [])
+event_came : (p : Progress) (left : Option (List ℕ)) (started : Bool) (marks : List Bool) (now : ℕ) (event : Input)
+    → IsProgress p → started ≡ true → Came now event ∷ events_in (pieces_after 10 left) ≡ coming_in p
+    → AllByRecursion IsRight (pieces_after 10 left) →
+    marks ≡ p.marks ++ true ∷ [] → GoesOn p (record p { left = left; started = started; marks = marks })
+    (Came now event ∷ [])
 event_came p left started marks now event holds begun told right marked = record {
   log = log;
   holds = record {
@@ -149,7 +171,8 @@ event_came p left started marks now event holds begun told right marked = record
         ∙ ap (λ es. events_of (log_in p) ++ es) told ∙ holds.whole;
     rest =
         ap (λ n. drop n (script_in p.text)) (ap events_among marked ∙ event_more p.marks)
-        ∙ drop_next (events_among p.marks) (script_in p.text) (events_in (pieces_after 10 left)) (Came now event) (holds.rest ∙ sym told)
+        ∙ drop_next (events_among p.marks) (script_in p.text) (events_in (pieces_after 10 left)) (Came now event)
+        (holds.rest ∙ sym told)
         ∙ sym same;
     lines = ap lines_of_actions log ∙ holds.lines;
     printable = subst ArePrinted (sym log) holds.printable;
@@ -162,26 +185,36 @@ event_came p left started marks now event holds begun told right marked = record
     same = rw begun refl
 
     log : log_in (record p { left = left; started = started; marks = marks }) ≡ Came now event ∷ log_in p
-    log = rw marked (log_came p.text p.page p.marks (Came now event) (events_in (pieces_after 10 left)) (holds.rest ∙ sym told))
+    log = rw marked (log_came p.text p.page p.marks (Came now event) (events_in (pieces_after 10 left)) (holds.rest
+        ∙ sym told))
 
     not_fresh : (b : Bool) → b ≡ true → b ≡ false → ⊥
     not_fresh true is fresh = cc
     not_fresh false is fresh = cc
 
-pub told_next : (p : Progress) (left : Option (List ℕ)) (started : Bool) (marks : List Bool) (next : Next) (buf : List ℕ) → IsProgress p → started ≡ true → tells_event next ≡ true →
-    told_by next buf ++ events_in (pieces_after 10 left) ≡ coming_in p → AllByRecursion IsRight (pieces_after 10 left) → marks ≡ p.marks ++ true ∷ [] →
+pub told_next : (p : Progress) (left : Option (List ℕ)) (started : Bool) (marks : List Bool) (next : Next)
+    (buf : List ℕ) → IsProgress p → started ≡ true → tells_event next ≡ true →
+    told_by next buf ++ events_in (pieces_after 10 left) ≡ coming_in p → AllByRecursion IsRight (pieces_after 10 left)
+    → marks ≡ p.marks ++ true ∷ [] →
     GoesOn p (record p { left = left; started = started; marks = marks }) (told_by next buf)
-told_next p left started marks (answers.Line now len) buf holds begun is told right marked = event_came p left started marks now (LineIn (take len buf)) holds begun told right marked
-told_next p left started marks (answers.Open now) buf holds begun is told right marked = event_came p left started marks now Opened holds begun told right marked
-told_next p left started marks (answers.Bytes now len) buf holds begun is told right marked = event_came p left started marks now (TcpIn (take len buf)) holds begun told right marked
-told_next p left started marks (answers.Cut now) buf holds begun is told right marked = event_came p left started marks now CutOff holds begun told right marked
-told_next p left started marks (answers.Tick now) buf holds begun is told right marked = event_came p left started marks now Ticked holds begun told right marked
-told_next p left started marks (answers.Wall now number) buf holds begun is told right marked = event_came p left started marks now (WallIs number) holds begun told right marked
+told_next p left started marks (answers.Line now len) buf holds begun is told right marked =
+    event_came p left started marks now (LineIn (take len buf)) holds begun told right marked
+told_next p left started marks (answers.Open now) buf holds begun is told right marked =
+    event_came p left started marks now Opened holds begun told right marked
+told_next p left started marks (answers.Bytes now len) buf holds begun is told right marked =
+    event_came p left started marks now (TcpIn (take len buf)) holds begun told right marked
+told_next p left started marks (answers.Cut now) buf holds begun is told right marked =
+    event_came p left started marks now CutOff holds begun told right marked
+told_next p left started marks (answers.Tick now) buf holds begun is told right marked =
+    event_came p left started marks now Ticked holds begun told right marked
+told_next p left started marks (answers.Wall now number) buf holds begun is told right marked =
+    event_came p left started marks now (WallIs number) holds begun told right marked
 told_next p left started marks answers.Done buf holds begun is told right marked = cc
 told_next p left started marks answers.Fault buf holds begun is told right marked = cc
 
 -- the tick at moment 0 came
-pub ticked : (p : Progress) (marks : List Bool) → IsProgress p → p.started ≡ false → marks ≡ p.marks ++ true ∷ [] → GoesOn p (record p { started = true; marks = marks }) (Came 0 Ticked ∷ [])
+pub ticked : (p : Progress) (marks : List Bool) → IsProgress p → p.started ≡ false → marks ≡ p.marks ++ true ∷ []
+    → GoesOn p (record p { started = true; marks = marks }) (Came 0 Ticked ∷ [])
 ticked p marks holds fresh marked = event_came p p.left true marks 0 Ticked holds refl told holds.right marked
   where
     told : Came 0 Ticked ∷ events_in (pieces_after 10 p.left) ≡ coming_in p

@@ -103,7 +103,8 @@ digits_read n (d ∷ ds) all = go (digits_read (n * 10 + digit_value d) ds all.1
         grind arith
 
     go : digits_after (n * 10 + digit_value d) ds ≡ Some (digits_value_after 10 (n * 10 + digit_value d) ds) →
-        (b : Bool) → (nat_le 48 d && nat_le d 57) ≡ b → digits_after n (d ∷ ds) ≡ Some (digits_value_after 10 n (d ∷ ds))
+        (b : Bool) → (nat_le 48 d && nat_le d 57) ≡ b → digits_after n (d ∷ ds)
+        ≡ Some (digits_value_after 10 n (d ∷ ds))
     go rest true is =
         let same : n * 10 + (d - 48) ≡ n * 10 + digit_value d = omega (arith, k) in
         rw is (ap (λ (m : ℕ). digits_after m ds) same ∙ rest)
@@ -178,12 +179,15 @@ lined_two : (a b text : List ℕ) → ((a ++ b) ++ 10 ∷ []) ++ text ≡ (a ++ 
 lined_two a b text = append_assoc (a ++ b) (10 ∷ []) text
 
 lined : (a b c text : List ℕ) → (((a ++ b) ++ c) ++ 10 ∷ []) ++ text ≡ (a ++ (b ++ c)) ++ 10 ∷ text
-lined a b c text = append_assoc ((a ++ b) ++ c) (10 ∷ []) text ∙ ap (λ (l : List ℕ). l ++ 10 ∷ text) (append_assoc a b c)
+lined a b c text = append_assoc ((a ++ b) ++ c) (10 ∷ []) text
+    ∙ ap (λ (l : List ℕ). l ++ 10 ∷ text) (append_assoc a b c)
 
-lined_gap : (a b c d text : List ℕ) → (((((a ++ b) ++ c) ++ 32 ∷ []) ++ d) ++ 10 ∷ []) ++ text ≡ (a ++ (b ++ (c ++ 32 ∷ d))) ++ 10 ∷ text
+lined_gap : (a b c d text : List ℕ) → (((((a ++ b) ++ c) ++ 32 ∷ []) ++ d) ++ 10 ∷ []) ++ text
+    ≡ (a ++ (b ++ (c ++ 32 ∷ d))) ++ 10 ∷ text
 lined_gap a b c d text =
     append_assoc ((((a ++ b) ++ c) ++ 32 ∷ []) ++ d) (10 ∷ []) text
-    ∙ ap (λ (l : List ℕ). l ++ 10 ∷ text) (append_assoc ((a ++ b) ++ c) (32 ∷ []) d ∙ append_assoc (a ++ b) c (32 ∷ d) ∙ append_assoc a b (c ++ 32 ∷ d))
+    ∙ ap (λ (l : List ℕ). l ++ 10 ∷ text) (append_assoc ((a ++ b) ++ c) (32 ∷ []) d ∙ append_assoc (a ++ b) c (32 ∷ d)
+    ∙ append_assoc a b (c ++ 32 ∷ d))
 
 read_as : (line field : List ℕ) (fields : List (List ℕ)) (text : List ℕ) (entry : LogEntry)
     → line ++ text ≡ spaced field fields ++ 10 ∷ text → IsPlain field → AllByRecursion IsPlain fields →
@@ -395,7 +399,8 @@ decimal_read n le = go (nat_le 1 (length (decimal n)) && nat_le (length (decimal
     go false e = cc
 
 -- octets of an event
-octets_fit : (octets : List ℕ) → IsBytes octets → 1 ≤ length octets → length octets ≤ 1024 → octets_of (encode_upper octets) ≡ Some octets
+octets_fit : (octets : List ℕ) → IsBytes octets → 1 ≤ length octets → length octets ≤ 1024
+    → octets_of (encode_upper octets) ≡ Some octets
 octets_fit octets bytes least most =
     ap some_octets (decode_of-encode_upper octets bytes)
     ∙ ap (λ (b : Bool). if b then Some octets else None) within
@@ -416,41 +421,58 @@ numbered now rest le =
     let is = decimal_is_IsNumeral_wide now (omega arith) in
     not_skipped (decimal now) rest is.0.0 is.0.1
 
-first_of : (entry : Entry) (whole text : List ℕ) (now : ℕ) (next : List ℕ) (fields : List (List ℕ)) → now ≤ last_moment → whole ≡ spaced (decimal now) (next ∷ fields) ++ 10 ∷ text →
-    IsPlain next → AllByRecursion IsPlain fields → event_from (decimal now ∷ next ∷ fields) ≡ Some (event_of entry) → IsFirstOf entry whole text
+first_of : (entry : Entry) (whole text : List ℕ) (now : ℕ) (next : List ℕ) (fields : List (List ℕ)) → now ≤ last_moment
+    → whole ≡ spaced (decimal now) (next ∷ fields) ++ 10 ∷ text →
+    IsPlain next → AllByRecursion IsPlain fields → event_from (decimal now ∷ next ∷ fields) ≡ Some (event_of entry)
+    → IsFirstOf entry whole text
 first_of entry whole text now next fields le same plain all is = record {
   line = spaced (decimal now) (next ∷ fields);
   lines =
       ap lines_of same
-      ∙ slice_split_at (λ b. b == 10) (spaced (decimal now) (next ∷ fields)) 10 text (spaced_line (decimal now) (next ∷ fields) (moment_plain now (moment_small now le)) (plain, all)) refl;
+      ∙ slice_split_at (λ b. b == 10) (spaced (decimal now) (next ∷ fields)) 10 text
+      (spaced_line (decimal now) (next ∷ fields) (moment_plain now (moment_small now le)) (plain, all)) refl;
   told =
-      ap (λ (b : Bool). if b then None else event_in (spaced (decimal now) (next ∷ fields))) (numbered now (32 ∷ spaced next fields) le)
-      ∙ ap event_from (spaced_fields (decimal now) (next ∷ fields) (moment_plain now (moment_small now le)) (plain, all))
+      ap (λ (b : Bool). if b then None else event_in (spaced (decimal now) (next ∷ fields)))
+      (numbered now (32 ∷ spaced next fields) le)
+      ∙ ap event_from (spaced_fields (decimal now) (next ∷ fields) (moment_plain now (moment_small now le)) (
+        plain,
+        all,
+      ))
       ∙ is;
 }
 
-pub event_told : (entry : Entry) (text : List ℕ) → FitsTrace entry → IsFirstOf entry (line_of_entry (logged entry) ++ text) text
+pub event_told : (entry : Entry) (text : List ℕ) → FitsTrace entry
+    → IsFirstOf entry (line_of_entry (logged entry) ++ text) text
 event_told (entries.Line now octets) text fits =
-    first_of (entries.Line now octets) (line_of_entry (logged (entries.Line now octets)) ++ text) text now (83 ∷ []) (encode_upper octets.items ∷ []) fits.0
-    (lined (decimal now) (32 ∷ 83 ∷ 32 ∷ []) (encode_upper octets.items) text) (word 83 (omega arith)) (octets_plain octets.items fits.1, tt)
+    first_of (entries.Line now octets) (line_of_entry (logged (entries.Line now octets)) ++ text) text now (83 ∷ [])
+    (encode_upper octets.items ∷ []) fits.0
+    (lined (decimal now) (32 ∷ 83 ∷ 32 ∷ []) (encode_upper octets.items) text) (word 83 (omega arith))
+    (octets_plain octets.items fits.1, tt)
     (ap (λ (o : Option ℕ). octets_at o (83 ∷ []) (octets_of (encode_upper octets.items))) (decimal_read now fits.0)
     ∙ ap (octets_at (Some now) (83 ∷ [])) (octets_fit octets.items fits.1 fits.2 fits.3))
 event_told (entries.Bytes now octets) text fits =
-    first_of (entries.Bytes now octets) (line_of_entry (logged (entries.Bytes now octets)) ++ text) text now (82 ∷ []) (encode_upper octets.items ∷ []) fits.0
-    (lined (decimal now) (32 ∷ 82 ∷ 32 ∷ []) (encode_upper octets.items) text) (word 82 (omega arith)) (octets_plain octets.items fits.1, tt)
+    first_of (entries.Bytes now octets) (line_of_entry (logged (entries.Bytes now octets)) ++ text) text now (82 ∷ [])
+    (encode_upper octets.items ∷ []) fits.0
+    (lined (decimal now) (32 ∷ 82 ∷ 32 ∷ []) (encode_upper octets.items) text) (word 82 (omega arith))
+    (octets_plain octets.items fits.1, tt)
     (ap (λ (o : Option ℕ). octets_at o (82 ∷ []) (octets_of (encode_upper octets.items))) (decimal_read now fits.0)
     ∙ ap (octets_at (Some now) (82 ∷ [])) (octets_fit octets.items fits.1 fits.2 fits.3))
 event_told (entries.Open now) text fits =
     first_of (entries.Open now) (line_of_entry (logged (entries.Open now)) ++ text) text now (79 ∷ []) [] fits
-    (lined_two (decimal now) (32 ∷ 79 ∷ []) text) (word 79 (omega arith)) tt (ap (λ (o : Option ℕ). bare_at o (79 ∷ [])) (decimal_read now fits))
+    (lined_two (decimal now) (32 ∷ 79 ∷ []) text) (word 79 (omega arith)) tt
+    (ap (λ (o : Option ℕ). bare_at o (79 ∷ [])) (decimal_read now fits))
 event_told (entries.Cut now) text fits =
     first_of (entries.Cut now) (line_of_entry (logged (entries.Cut now)) ++ text) text now (67 ∷ []) [] fits
-    (lined_two (decimal now) (32 ∷ 67 ∷ []) text) (word 67 (omega arith)) tt (ap (λ (o : Option ℕ). bare_at o (67 ∷ [])) (decimal_read now fits))
+    (lined_two (decimal now) (32 ∷ 67 ∷ []) text) (word 67 (omega arith)) tt
+    (ap (λ (o : Option ℕ). bare_at o (67 ∷ [])) (decimal_read now fits))
 event_told (entries.Tick now) text fits =
     first_of (entries.Tick now) (line_of_entry (logged (entries.Tick now)) ++ text) text now (84 ∷ []) [] fits
-    (lined_two (decimal now) (32 ∷ 84 ∷ []) text) (word 84 (omega arith)) tt (ap (λ (o : Option ℕ). bare_at o (84 ∷ [])) (decimal_read now fits))
+    (lined_two (decimal now) (32 ∷ 84 ∷ []) text) (word 84 (omega arith)) tt
+    (ap (λ (o : Option ℕ). bare_at o (84 ∷ [])) (decimal_read now fits))
 event_told (entries.Wall now number) text fits =
-    first_of (entries.Wall now number) (line_of_entry (logged (entries.Wall now number)) ++ text) text now (87 ∷ []) (decimal number ∷ []) fits.0
-    (lined (decimal now) (32 ∷ 87 ∷ 32 ∷ []) (decimal number) text) (word 87 (omega arith)) (moment_plain number (moment_small number fits.1), tt)
+    first_of (entries.Wall now number) (line_of_entry (logged (entries.Wall now number)) ++ text) text now (87 ∷ [])
+    (decimal number ∷ []) fits.0
+    (lined (decimal now) (32 ∷ 87 ∷ 32 ∷ []) (decimal number) text) (word 87 (omega arith))
+    (moment_plain number (moment_small number fits.1), tt)
     (ap (λ (o : Option ℕ). wall_at o (decimal_of (decimal number))) (decimal_read now fits.0)
     ∙ ap (wall_at (Some now)) (decimal_read number fits.1))

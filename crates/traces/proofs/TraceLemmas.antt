@@ -16,21 +16,26 @@ abbrev pub with_told : List Entry → List (List ℕ) → List Event
 with_told entries lines = map event_of entries ++ filter_map told lines
 
 -- a skipped line tells nothing and isn't wrong
-pub told_skip : (es : List Entry) (lines rest : List (List ℕ)) (line : List ℕ) → lines ≡ line ∷ rest → is_skipped line ≡ true → with_told es rest ≡ with_told es lines
+pub told_skip : (es : List Entry) (lines rest : List (List ℕ)) (line : List ℕ) → lines ≡ line ∷ rest
+    → is_skipped line ≡ true → with_told es rest ≡ with_told es lines
 told_skip es lines rest line is e = rw (is, e)
 
-pub wrong_skip : (n : ℕ) (lines rest : List (List ℕ)) (line : List ℕ) → lines ≡ line ∷ rest → is_skipped line ≡ true → first_wrong (n + 1) rest ≡ first_wrong n lines
+pub wrong_skip : (n : ℕ) (lines rest : List (List ℕ)) (line : List ℕ) → lines ≡ line ∷ rest → is_skipped line ≡ true
+    → first_wrong (n + 1) rest ≡ first_wrong n lines
 wrong_skip n lines rest line is e = rw (is, e)
 
 -- a line that is an event tells it and isn't wrong
-pub told_next : (es : List Entry) (x : Entry) (lines rest : List (List ℕ)) (line : List ℕ) → lines ≡ line ∷ rest → is_skipped line ≡ false → event_in line ≡ Some (event_of x) → with_told (es ++ x ∷ []) rest ≡ with_told es lines
+pub told_next : (es : List Entry) (x : Entry) (lines rest : List (List ℕ)) (line : List ℕ) → lines ≡ line ∷ rest
+    → is_skipped line ≡ false → event_in line ≡ Some (event_of x) → with_told (es ++ x ∷ []) rest ≡ with_told es lines
 told_next es x lines rest line is e some = rw (is, e, some, map-append, append_assoc)
 
-pub wrong_next : (n : ℕ) (x : Event) (lines rest : List (List ℕ)) (line : List ℕ) → lines ≡ line ∷ rest → is_skipped line ≡ false → event_in line ≡ Some x → first_wrong (n + 1) rest ≡ first_wrong n lines
+pub wrong_next : (n : ℕ) (x : Event) (lines rest : List (List ℕ)) (line : List ℕ) → lines ≡ line ∷ rest
+    → is_skipped line ≡ false → event_in line ≡ Some x → first_wrong (n + 1) rest ≡ first_wrong n lines
 wrong_next n x lines rest line is e some = rw (is, e, some)
 
 -- another line is wrong
-pub wrong_here : (n : ℕ) (lines rest : List (List ℕ)) (line : List ℕ) → lines ≡ line ∷ rest → is_skipped line ≡ false → event_in line ≡ None → first_wrong n lines ≡ Some n
+pub wrong_here : (n : ℕ) (lines rest : List (List ℕ)) (line : List ℕ) → lines ≡ line ∷ rest → is_skipped line ≡ false
+    → event_in line ≡ None → first_wrong n lines ≡ Some n
 wrong_here n lines rest line is e none = rw (is, e, none)
 
 -- where no line is left
@@ -38,6 +43,7 @@ pub told_all : (es : List Entry) → with_told es [] ≡ map event_of es
 told_all es = append-nil (map event_of es)
 
 -- one more entry that fits
-pub fits_more : (es : List Entry) (x : Entry) → AllByRecursion FitsPort es → FitsPort x → AllByRecursion FitsPort (es ++ x ∷ [])
+pub fits_more : (es : List Entry) (x : Entry) → AllByRecursion FitsPort es → FitsPort x
+    → AllByRecursion FitsPort (es ++ x ∷ [])
 fits_more [] x all fits = (fits, tt)
 fits_more (e ∷ es) x all fits = (all.0, fits_more es x all.1 fits)

@@ -33,23 +33,34 @@ no_line (Tick now) log = refl
 no_line (Wall now number) log = refl
 
 -- an entry that came is no longer to come
-pub script_next : (entry : Entry) (log : Log) (left : List Entry) → events_of (event_of entry ∷ log) ++ map event_of left ≡ events_of log ++ map event_of (entry ∷ left)
-script_next (Line now octets) log left = append_assoc (events_of log) (event_of (Line now octets) ∷ []) (map event_of left)
+pub script_next : (entry : Entry) (log : Log) (left : List Entry)
+    → events_of (event_of entry ∷ log) ++ map event_of left ≡ events_of log ++ map event_of (entry ∷ left)
+script_next (Line now octets) log left = append_assoc (events_of log) (event_of (Line now octets) ∷ [])
+    (map event_of left)
 script_next (Open now) log left = append_assoc (events_of log) (event_of (Open now) ∷ []) (map event_of left)
-script_next (Bytes now octets) log left = append_assoc (events_of log) (event_of (Bytes now octets) ∷ []) (map event_of left)
+script_next (Bytes now octets) log left = append_assoc (events_of log) (event_of (Bytes now octets) ∷ [])
+    (map event_of left)
 script_next (Cut now) log left = append_assoc (events_of log) (event_of (Cut now) ∷ []) (map event_of left)
 script_next (Tick now) log left = append_assoc (events_of log) (event_of (Tick now) ∷ []) (map event_of left)
-script_next (Wall now number) log left = append_assoc (events_of log) (event_of (Wall now number) ∷ []) (map event_of left)
+script_next (Wall now number) log left = append_assoc (events_of log) (event_of (Wall now number) ∷ [])
+    (map event_of left)
 
 -- An action that was put: its line went out, and it is stored.
 
-pub log_put : (xs ys zs : List Told) (told : Told) (entry : LogEntry) → told_of told ≡ entry → ys ≡ xs → zs ≡ ys ++ told ∷ [] → log_of zs ≡ entry ∷ log_of xs
-log_put xs ys zs told entry is same put = ap log_of put ∙ log_next ys told ∙ ap (λ e. e ∷ log_of ys) is ∙ ap (λ l. entry ∷ log_of l) same
+pub log_put : (xs ys zs : List Told) (told : Told) (entry : LogEntry) → told_of told ≡ entry → ys ≡ xs
+    → zs ≡ ys ++ told ∷ [] → log_of zs ≡ entry ∷ log_of xs
+log_put xs ys zs told entry is same put = ap log_of put ∙ log_next ys told ∙ ap (λ e. e ∷ log_of ys) is
+    ∙ ap (λ l. entry ∷ log_of l) same
 
-pub lines_put : (before old new : Option (List ℕ)) (xs ys zs : List Told) (told : Told) (line : List ℕ) (now : ℕ) (action : Output) →
-    Appends before old (lines_of_actions (log_of xs)) → Appends old new line → line ≡ line_of now action → told_of told ≡ Went now action → ys ≡ xs → zs ≡ ys ++ told ∷ [] → Appends before new (lines_of_actions (log_of zs))
+pub lines_put : (before old new : Option (List ℕ)) (xs ys zs : List Told) (told : Told) (line : List ℕ) (now : ℕ)
+    (action : Output) →
+    Appends before old (lines_of_actions (log_of xs)) → Appends old new line → line ≡ line_of now action
+    → told_of told ≡ Went now action → ys ≡ xs → zs ≡ ys ++ told ∷ []
+    → Appends before new (lines_of_actions (log_of zs))
 lines_put before old new xs ys zs told line now action had got text is same put =
-    subst (λ log. Appends before new (lines_of_actions log)) (sym (log_put xs ys zs told (Went now action) is same put)) (Appends-trans before old new _ (line_of now action) had (subst (Appends old new) text got))
+    subst (λ log. Appends before new (lines_of_actions log))
+    (sym (log_put xs ys zs told (Went now action) is same put))
+    (Appends-trans before old new _ (line_of now action) had (subst (Appends old new) text got))
 
 -- what a call that didn't fail promises of its success
 pub on_success : {T E : Type 0} (r : Result T E) (P : Type 0) → is_err r ≡ false → OnOk r P → P

@@ -71,7 +71,8 @@ log_in p = woven (reverse p.marks)
     (reverse (all_told (entries_in p.page)))
 
 -- the events that are still to come
-abbrev pub events_left : (started : Bool) → (text : List ℕ) → (left : Option (List ℕ)) → List LogEntry
+abbrev pub events_left : (started : Bool) → (text : List ℕ) → (left : Option (List ℕ))
+    → List LogEntry
 events_left true text left = events_in (pieces_after 10 left)
 events_left false text left = script_in text
 
@@ -99,7 +100,8 @@ tells_event next = true
 -- an answer tells the first event of these lines, where there is one, and these are left
 pub record IsFirst (lines : List (List ℕ)) (left : Option (List ℕ)) (next : Next)
     (buf : List ℕ) : Type 0 where
-  pub told : tells_event next ≡ true → told_by next buf ++ events_in (pieces_after 10 left) ≡ events_in lines
+  pub told : tells_event next ≡ true
+      → told_by next buf ++ events_in (pieces_after 10 left) ≡ events_in lines
   pub none : tells_event next ≡ false → events_in (pieces_after 10 left) ≡ events_in lines
   pub done : next ≡ answers.Done → left ≡ None
   pub right : AllByRecursion IsRight (pieces_after 10 left)

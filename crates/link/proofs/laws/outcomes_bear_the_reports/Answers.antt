@@ -10,12 +10,15 @@ use Rattle.link.proofs.laws.outcomes_bear_the_reports.Goals as goal
 pub returns-clause-octets : goal.returns-clause-octets
 returns-clause-octets c = λ settings addresses p e octets t.
     subst (λ (s : LinkSettings).
-    reports_of_exchanges (front_of settings.size) (λ i. slice_index addresses i) (record { ended = e.ended; current = heard_current octets e.current })
-    ≡ reports_of_exchanges (front_of settings.size) (λ i. slice_index addresses i) e ++ report_in (received_outcome (front_of s.size) p octets)) (sym t.settings_are)
+    reports_of_exchanges (front_of settings.size) (λ i. slice_index addresses i)
+    (record { ended = e.ended; current = heard_current octets e.current })
+    ≡ reports_of_exchanges (front_of settings.size) (λ i. slice_index addresses i) e
+    ++ report_in (received_outcome (front_of s.size) p octets)) (sym t.settings_are)
     (hear_reports (front_of settings.size) settings addresses p e.ended e.current octets t)
 
 pub returns-clause-due : goal.returns-clause-due
 returns-clause-due c = λ size address answer_ms at e. due_reports (front_of size) address answer_ms at e
 
 pub returns-clause-next : goal.returns-clause-next
-returns-clause-next c = λ size address now s e. next_reports (front_of size) address now s e (c.front_is_computed.ensures.nothing size)
+returns-clause-next c = λ size address now s e. next_reports (front_of size) address now s e
+    (c.front_is_computed.ensures.nothing size)

@@ -20,8 +20,10 @@ down_for (Held fcb service missed) (Counted sent again) may is = cc
 down_for link request may is = absurd may
 
 pub returns-clause-service : goal.returns-clause-service
-returns-clause-service c = λ settings station xs x keeps is. up_for (link_after settings station Down xs) x.request (keeps_split settings station Down xs x keeps).1 is
+returns-clause-service c = λ settings station xs x keeps is. up_for (link_after settings station Down xs) x.request
+    (keeps_split settings station Down xs x keeps).1 is
 
 pub returns-clause-start : goal.returns-clause-start
 returns-clause-start c = λ settings station xs x keeps is up.
-    let down = down_for (link_after settings station Down xs) x.request (keeps_split settings station Down xs x keeps).1 is in cc
+    let down = down_for (link_after settings station Down xs) x.request
+    (keeps_split settings station Down xs x keeps).1 is in cc

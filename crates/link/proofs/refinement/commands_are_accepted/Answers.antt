@@ -13,8 +13,10 @@ returns-clause-each c = λ settings station xs turns keeps honest.
 
 pub returns-clause-steady : goal.returns-clause-steady
 returns-clause-steady c = λ settings station xs turns keeps steady honest.
-    accepts station (record { exchanges = xs; turns = turns }) (sendings_steady settings station Down None xs tt (λ d. refl) keeps steady)
-    (steady_from settings station Down None xs turns unreset honest.end [] refl (λ d. (refl, refl)) keeps steady honest.run honest.fronts)
+    accepts station (record { exchanges = xs; turns = turns })
+    (sendings_steady settings station Down None xs tt (λ d. refl) keeps steady)
+    (steady_from settings station Down None xs turns unreset honest.end [] refl
+    (λ d. (refl, refl)) keeps steady honest.run honest.fronts)
 
 pub returns-clause-each_all : goal.returns-clause-each_all
 returns-clause-each_all c = λ settings station xs turns keeps honest.
@@ -23,10 +25,13 @@ returns-clause-each_all c = λ settings station xs turns keeps honest.
 
 pub returns-clause-steady_all : goal.returns-clause-steady_all
 returns-clause-steady_all c = λ settings station xs turns keeps steady honest.
-    accepts_every station (record { exchanges = xs; turns = turns }) (sendings_steady settings station Down None xs tt (λ d. refl) keeps steady)
-    (steady_from settings station Down None xs turns unreset honest.end [] refl (λ d. (refl, refl)) keeps steady honest.run honest.fronts)
+    accepts_every station (record { exchanges = xs; turns = turns })
+    (sendings_steady settings station Down None xs tt (λ d. refl) keeps steady)
+    (steady_from settings station Down None xs turns unreset honest.end [] refl
+    (λ d. (refl, refl)) keeps steady honest.run honest.fronts)
 
 pub returns-clause-answered : goal.returns-clause-answered
 returns-clause-answered c = λ settings station xs turns keeps steady honest latest.
-    ap commands (known_all _ _ _ (steady_from settings station Down None xs turns unreset honest.end [] refl (λ d. (refl, refl)) keeps steady honest.run honest.fronts)
+    ap commands (known_all _ _ _ (steady_from settings station Down None xs turns unreset honest.end [] refl
+    (λ d. (refl, refl)) keeps steady honest.run honest.fronts)
     (latest_known settings station Down None xs (λ d. refl) keeps steady latest (λ e. refl)))

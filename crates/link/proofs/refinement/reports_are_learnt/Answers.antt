@@ -6,4 +6,5 @@ use Rattle.link.proofs.refinement.reports_are_learnt.Goals as goal
 
 pub returns : goal.returns
 returns c = λ settings station xs turns keeps honest.
-    all_have_reports station _ (known_from settings station Down None xs turns unreset honest.end [] refl keeps honest.run honest.fronts).each
+    all_have_reports station _ (known_from settings station Down None xs turns unreset honest.end
+    [] refl keeps honest.run honest.fronts).each

@@ -9,7 +9,9 @@ returns-clause-each c = λ settings station xs turns keeps honest.
     (known_from settings station Down None xs turns unreset honest.end [] refl keeps honest.run honest.fronts).each
 
 pub returns-clause-learnt_there : goal.returns-clause-learnt_there
-returns-clause-learnt_there c = λ settings station xs turns keeps honest. (all_in_sessions settings station xs turns keeps honest).0
+returns-clause-learnt_there c = λ settings station xs turns keeps honest.
+    (all_in_sessions settings station xs turns keeps honest).0
 
 pub returns-clause-done_there : goal.returns-clause-done_there
-returns-clause-done_there c = λ settings station xs turns keeps honest. (all_in_sessions settings station xs turns keeps honest).1
+returns-clause-done_there c = λ settings station xs turns keeps honest.
+    (all_in_sessions settings station xs turns keeps honest).1

@@ -3,13 +3,16 @@ use Rattle.link.proofs.Outcomes.{told_octets, told_due, early_due, quiet_octets,
 use Rattle.link.proofs.runs.outcomes_are_answers.Goals as goal
 
 pub returns-clause-octets : goal.returns-clause-octets
-returns-clause-octets c = λ settings addresses p e octets x t latest out. told_octets (front_of settings.size) settings addresses p e octets x t latest out
+returns-clause-octets c = λ settings addresses p e octets x t latest out. told_octets
+    (front_of settings.size) settings addresses p e octets x t latest out
 
 pub returns-clause-due : goal.returns-clause-due
-returns-clause-due c = λ settings addresses p e at x t latest out late. told_due (front_of settings.size) settings addresses p e at x t latest out late
+returns-clause-due c = λ settings addresses p e at x t latest out late. told_due
+    (front_of settings.size) settings addresses p e at x t latest out late
 
 pub returns-clause-early : goal.returns-clause-early
-returns-clause-early c = λ settings addresses p e at x t latest out early. early_due (front_of settings.size) settings addresses p e at x t latest out early
+returns-clause-early c = λ settings addresses p e at x t latest out early. early_due
+    (front_of settings.size) settings addresses p e at x t latest out early
 
 pub returns-clause-none : goal.returns-clause-none
 returns-clause-none c = λ settings addresses p e octets at t none.

@@ -10,7 +10,12 @@ use Rattle.link.proofs.visits.turns_end.Goals as goal
 pub returns-clause-visits : goal.returns-clause-visits
 returns-clause-visits c = λ settings addresses calls some fit burst may.
     let law = c.front_is_computed.ensures in
-    let stable : IsStable (front_of settings.size) = record { nothing = law.nothing settings.size; whole = law.whole settings.size; never = law.never settings.size } in
+    let stable : IsStable (front_of settings.size) = record {
+      nothing = law.nothing settings.size;
+      whole =
+          law.whole settings.size;
+      never = law.never settings.size;
+    } in
     run_visits settings addresses stable calls some fit burst may
 
 pub returns-clause-most : goal.returns-clause-most

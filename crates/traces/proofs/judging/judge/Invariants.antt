@@ -5,10 +5,12 @@ use Rattle.traces.specs.Progress.{events_in}
 use Rattle.traces.specs.Trace.{lines_of, first_wrong}
 use Rattle.traces.proofs.judging.judge.Given as goal
 
--- what is counted, and what the lines that are left tell, is what all lines tell; and the first wrong line is among those left
+-- what is counted, and what the lines that are left tell, is what all lines tell; and the first wrong line is
+-- among those left
 abbrev pub invariant-loop-number : goal.invariant-loop-number
 invariant-loop-number l = record {
-  counted : l.count + length (events_in (pieces_after 10 (option_copied l.left))) ≡ length (events_in (lines_of l.fn.text));
+  counted : l.count + length (events_in (pieces_after 10 (option_copied l.left)))
+      ≡ length (events_in (lines_of l.fn.text));
   wrong : first_wrong l.number (pieces_after 10 (option_copied l.left)) ≡ first_wrong 1 (lines_of l.fn.text);
   below : l.count < l.number;
 }

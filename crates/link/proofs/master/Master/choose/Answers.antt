@@ -9,4 +9,5 @@ pub returns-in-None-clause-fits : goal.returns-in-None-clause-fits
 returns-in-None-clause-fits c =
     let is : c.first_wanted.result ≡ choice c.args.self.now c.args.may_poll = search rules in
     subst (λ (r : Option Chosen). IsFittingChoice c.args.self.now r) (sym is)
-    (choice_fits c.args.self.now c.args.may_poll (subst (λ (p : Primary). IsFitting p) c.self.view_is c.self.invariant.fits))
+    (choice_fits c.args.self.now c.args.may_poll (subst
+    (λ (p : Primary). IsFitting p) c.self.view_is c.self.invariant.fits))

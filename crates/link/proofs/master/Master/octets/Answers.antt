@@ -20,12 +20,17 @@ returns-in-Some-frame_in-clause-state c =
       spoilt = m.spoilt;
     } in
     let hears : a.deaf ≡ false = sym (ap (λ (x : Awaited). x.deaf) c.note.ensures) ∙ c.if-awaited.false in
-    let completes : frame_after (front_of m.settings.size) m.assembler.so_far c.args.octets.now ≡ Some c.in-Some-frame_in.frame =
-    subst (λ (s : LinkSize). frame_after (front_of s) m.assembler.so_far c.args.octets.now ≡ Some c.in-Some-frame_in.frame) c.self.invariant.size
+    let completes : frame_after (front_of m.settings.size) m.assembler.so_far c.args.octets.now
+    ≡ Some c.in-Some-frame_in.frame =
+    subst (λ (s : LinkSize). frame_after (front_of s) m.assembler.so_far c.args.octets.now
+    ≡ Some c.in-Some-frame_in.frame) c.self.invariant.size
     (sym c.frame_in.ensures.frame ∙ c.in-Some-frame_in.is) in
     let later = c.frame_in.new.assembler.so_far in
     c.hear.ensures.state
-    ∙ ap (λ (x : Awaited). heard_from (record p { outstanding = Some (outstanding_of x later) }) (Some (outstanding_of x later)) c.in-Some-frame_in.frame) c.note.ensures
-    ∙ heard_whole (front_of m.settings.size) p a m.assembler.so_far later c.args.octets.now c.in-Some-frame_in.frame hears completes
-    ∙ ap (λ (o : Option Awaited). received (front_of m.settings.size) (record p { outstanding = outstanding_from o m.assembler.so_far }) c.args.octets.now) (sym c.in-Some.is)
+    ∙ ap (λ (x : Awaited). heard_from (record p { outstanding = Some (outstanding_of x later) })
+    (Some (outstanding_of x later)) c.in-Some-frame_in.frame) c.note.ensures
+    ∙ heard_whole (front_of m.settings.size) p a m.assembler.so_far later c.args.octets.now c.in-Some-frame_in.frame
+    hears completes
+    ∙ ap (λ (o : Option Awaited). received (front_of m.settings.size)
+    (record p { outstanding = outstanding_from o m.assembler.so_far }) c.args.octets.now) (sym c.in-Some.is)
     ∙ ap (λ (q : Primary). received (front_of q.settings.size) q c.args.octets.now) c.self.view_is

@@ -10,10 +10,13 @@ invariant_of-self c =
     let f = c.self.invariant.fits in
     let size = c.self.inside.settings.size in
     let ss : List StationState = c.self.inside.stations.items in
-    let new : c.withdraw_all.new.stations ≡ map without_offer ss = c.withdraw_all.ensures ∙ ap (λ (l : List StationState). map without_offer l) c.deref_mut.ensures.value in
+    let new : c.withdraw_all.new.stations ≡ map without_offer ss = c.withdraw_all.ensures
+    ∙ ap (λ (l : List StationState). map without_offer l) c.deref_mut.ensures.value in
     let count : length c.withdraw_all.new.stations ≡ c.self.inside.stations.len =
-    ap (λ (l : List StationState). length l) c.withdraw_all.ensures ∙ length-map c.deref_mut.result.now without_offer ∙ c.deref_mut.ensures.len in
-    let same = take_at c.withdraw_all.new.stations (drop (length c.withdraw_all.new.stations) ss) c.self.inside.stations.len count ∙ new in
+    ap (λ (l : List StationState). length l) c.withdraw_all.ensures ∙ length-map c.deref_mut.result.now without_offer
+    ∙ c.deref_mut.ensures.len in
+    let same = take_at c.withdraw_all.new.stations (drop (length c.withdraw_all.new.stations) ss)
+    c.self.inside.stations.len count ∙ new in
     record {
       size = c.self.invariant.size;
       fits = record {

@@ -6,9 +6,13 @@ use Rattle.link.proofs.station.Station.hear.Goals as goal
 
 pub returns-in_default-clause-heard : goal.returns-in_default-clause-heard
 returns-in_default-clause-heard c = subst (λ (s : Secondary). HearsOctets s c.args.octets.now None s) c.self.view_is
-    (not_heard _ c.args.octets.now c.front.result c.front.ensures.only (λ frame e. c.in_default.not-Whole frame (length c.args.octets.now) (sym e)))
+    (not_heard _ c.args.octets.now c.front.result c.front.ensures.only
+    (λ frame e. c.in_default.not-Whole frame (length c.args.octets.now) (sym e)))
 
 pub returns-then-len-octets-clause-heard : goal.returns-then-len-octets-clause-heard
-returns-then-len-octets-clause-heard c = subst (λ (s : Secondary). HearsOctets s c.args.octets.now None s) c.self.view_is
+returns-then-len-octets-clause-heard c =
+    subst (λ (s : Secondary). HearsOctets s c.args.octets.now None s) c.self.view_is
     (not_heard _ c.args.octets.now c.front.result c.front.ensures.only
-    (λ frame e. let same : Whole frame (length c.args.octets.now) ≡ Whole c.in-Whole.frame c.in-Whole.len = e ∙ c.in-Whole.is in c.if-len-octets.true cc))
+    (λ frame e. let same : Whole frame (length c.args.octets.now) ≡ Whole c.in-Whole.frame c.in-Whole.len =
+    e ∙ c.in-Whole.is in
+    c.if-len-octets.true cc))
