@@ -127,6 +127,17 @@ def heard_objects(centre, count):
     return objects
 
 
+def holds(record, digits):
+    """Whether the record has these digits, soon."""
+    end = time.monotonic() + ends.PATIENCE
+    while time.monotonic() < end:
+        with open(record) as file:
+            if digits in file.read():
+                return True
+        time.sleep(0.05)
+    return False
+
+
 def a_restart(count, program, folder):
     station = Station()
     door = ("127.0.0.1", ends.free_port())
@@ -152,6 +163,8 @@ def a_restart(count, program, folder):
     objects = heard_objects(centre, REPORTS)
     count.judge("every report comes, in order", objects == list(range(1, REPORTS + 1)), objects)
     count.judge("the link was reset once", station.resets == 1, station.resets)
+    # The last acknowledgement has to be heard before the kill.
+    count.judge("the acknowledgement is recorded", holds(record, f"68040100{2 * REPORTS:02X}00"))
     count.judge("the second run says nothing", killed(second) == "")
     status, out, err = audited(program, config, record)
     count.judge("the whole record is one run's", status == 0 and out.startswith("same, "), (status, out, err))
