@@ -22,7 +22,7 @@ owned_front front_ref.More = front.More
 owned_front (front_ref.Never place why) = front.Never place why
 
 -- the ASDU fits an APDU
-abbrev pub HasRoom : ApduRef → Type 0
-HasRoom (apdu_ref.I ns nr asdu) = length asdu.now ≤ 249
-HasRoom (apdu_ref.S nr) = Unit {0}
-HasRoom (apdu_ref.U function) = Unit {0}
+abbrev pub FitsMemory : ApduRef → Type 0
+FitsMemory (apdu_ref.I ns nr asdu) = length asdu.now ≤ 249
+FitsMemory (apdu_ref.S nr) = Unit {0}
+FitsMemory (apdu_ref.U function) = Unit {0}

@@ -113,11 +113,11 @@ impl Apdu {
 }
 
 impl ApduRef<'_> {
-    ghost use Rattle.apci.specs.Borrowed.{owned, HasRoom};
+    ghost use Rattle.apci.specs.Borrowed.{owned, FitsMemory};
 
     /// The same APDU with a copy of its ASDU.
     pub fn to_apdu(self) -> Apdu
-        requires { HasRoom self }
+        requires { FitsMemory self }
         ensures { result ≡ owned self.entry }
     {
         match self {

@@ -17,7 +17,7 @@ stored_lines (x ∷ xs) log = stored_lines xs (told_of x ∷ log)
 pub lines_are_the_logs : (xs : List Told) → flat_map told_line xs ≡ lines_of_log (log_of xs)
 lines_are_the_logs xs = sym (stored_lines xs [])
 
--- the pieces of a text but the last
+-- the parts of a text but the last
 pub cut_lines : (xs : List (Bor (List ℕ))) (text : List ℕ)
     → map (λ line. line.now) xs ≡ slice_split (λ b. b == 10) text
     → map (λ line. line.now) (take (length xs - 1) xs) ≡ whole_lines text

@@ -4,14 +4,14 @@ ghost use Rattle.std.specs.List.{flat_map};
 ghost use Rattle.audit.specs.Record.{whole_lines, is_cut, is_action, event_line, mark_behind};
 
 use std::alloc::{AllocError, Global};
-use traces::pieces;
+use traces::parts;
 
 /// The whole lines of a text; what stands behind the last line feed is none.
 #[tactic(auto, using(crate::proofs::LineLemmas::cut_lines))]
 pub(crate) fn whole_lines<'a>(alloc: Global, text: &'a [u8]) -> Result<Vec<&'a [u8]>, AllocError>
     ensures { IfOk result (λ v. map (λ line. line.now) v.items ≡ whole_lines text.entry.now) }
 {
-    let mut lines = pieces(alloc, text, b'\n')?;
+    let mut lines = parts(alloc, text, b'\n')?;
     lines.truncate(lines.len().saturating_sub(1));
     Ok(lines)
 }
@@ -40,7 +40,7 @@ fn is_action(alloc: Global, line: &[u8]) -> Result<bool, AllocError>
     if is_cut(line) {
         return Ok(false);
     }
-    let fields = pieces(alloc, line, b' ')?;
+    let fields = parts(alloc, line, b' ')?;
     match fields.as_slice() {
         [_, second, ..] => Ok(*second == b">".as_slice()),
         _ => Ok(false),

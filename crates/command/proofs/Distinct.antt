@@ -19,7 +19,7 @@ use Rattle.command.specs.Command.{command_at}
 use Rattle.command.specs.Selection.{advanced, target_of, same_target, same_element, is_accepted, lasts_from, after_sending, after_acceptance, after_loss}
 use Rattle.command.specs.Selections.{HaveTwoTargets, AreDistinct}
 use Rattle.command.specs.State as state
-use Rattle.command.specs.State.{State, oldest, has_room, first_answer, told}
+use Rattle.command.specs.State.{State, oldest, has_answer_place, first_answer, told}
 use Rattle.command.specs.Judging as judging
 use Rattle.command.specs.Judging.{fault, makes_selection, ends_selection, lacks_selection, lacks_place}
 use Rattle.command.specs.Mirrors as mirrors
@@ -229,7 +229,7 @@ step_keeps (Accept k) r d = tells (sign.Acceptance k) r.state d
 step_keeps (Busy k) r d = tells (sign.Loss k) r.state d
 step_keeps (Lose k) r d = tells (sign.Loss k) r.state d
 step_keeps (Mirror v now) r d = hears v now r.state d
-step_keeps (Own octets) r d = offers octets r.state (has_room r.state) d
+step_keeps (Own octets) r d = offers octets r.state (has_answer_place r.state) d
 step_keeps SendOwn r d = gives r (first_answer r.state.answers) d
 step_keeps Cut r d = tt
 step_keeps (Due now) r d = tells (sign.Time now) r.state d

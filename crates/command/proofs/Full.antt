@@ -20,7 +20,7 @@ use Rattle.command.specs.Command.{command_at, is_execute, is_deactivation}
 use Rattle.command.specs.Selection.{advanced, target_of, same_target, same_element, is_accepted, lets_through}
 use Rattle.command.specs.Stations.{is_guarded, station_number}
 use Rattle.command.specs.State as state
-use Rattle.command.specs.State.{State, oldest, line_of, has_room, first_answer}
+use Rattle.command.specs.State.{State, oldest, line_of, has_answer_place, first_answer}
 use Rattle.command.specs.Judging as judging
 use Rattle.command.specs.Judging.{fault, makes_selection, ends_selection, lacks_selection, waiting_count}
 use Rattle.command.specs.Mirrors as mirrors
@@ -474,7 +474,7 @@ module _ (s : State) (h : History) (before : ℕ) (full : Full s.sizes s.station
             (selection_at z == k) refl old.found;
       }
   stepping (Mirror v now) l = mirrored v now l
-  stepping (Own octets) l = keeps octets (has_room s)
+  stepping (Own octets) l = keeps octets (has_answer_place s)
   stepping SendOwn l = gives (first_answer s.answers)
   stepping Cut l = λ t z f. no_select z f
   stepping (Due now) l =

@@ -13,7 +13,7 @@ use Rattle.command.specs.declared.selection.Selection.{Selection}
 use Rattle.command.specs.Octets.{answer, negative}
 use Rattle.command.specs.Selection.{advanced}
 use Rattle.command.specs.State as state
-use Rattle.command.specs.State.{State, oldest, without_oldest, line_of, refusal_of, is_used, has_room, cut_off, free_line, first_answer, offered, answered}
+use Rattle.command.specs.State.{State, oldest, without_oldest, line_of, refusal_of, is_used, has_answer_place, cut_off, free_line, first_answer, offered, answered}
 use Rattle.command.specs.History.{Sent, Accepted, Refused, GivenUp, Offered, Ended, History, first, sent_count, forwarded_to, next_for, next_octets, on_line, is_on_line, own_kept, own_sent}
 use Rattle.command.specs.Calls.{Call, Judge, PutOnLine, Accept, Busy, Lose, Mirror, Own, SendOwn, Cut, Due, Run, after_call, run, after_sending, after_answer}
 use Rattle.command.proofs.Sendings.{waiting_for, oldest_is_first, oldest_at, others_wait, without_all, octets_for, IsShaped, none_waits}
@@ -239,7 +239,7 @@ module _ (s : State) (h : History) (ks : Keeps s.sizes s.stations s.select_ms s.
 
   -- ---- own answers
 
-  keeps : (octets : List ℕ) (b : Bool) → has_room s ≡ b
+  keeps : (octets : List ℕ) (b : Bool) → has_answer_place s ≡ b
       → Goal (if b then state.kept octets s else s) (Offered octets b ∷ h)
   keeps octets true e = (
     record { sizes = refl; stations = refl; select_ms = refl; max_age_ms = refl },
@@ -352,7 +352,7 @@ module _ (s : State) (h : History) (ks : Keeps s.sizes s.stations s.select_ms s.
   stepping (Busy k) = refuses k
   stepping (Lose k) = loses k
   stepping (Mirror v now) = mirroring s h v now ks
-  stepping (Own octets) = keeps octets (has_room s) refl
+  stepping (Own octets) = keeps octets (has_answer_place s) refl
   stepping SendOwn = gives (first_answer s.answers) refl
   stepping Cut = ends
   stepping (Due now) = times now

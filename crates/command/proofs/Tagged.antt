@@ -19,7 +19,7 @@ use Rattle.command.specs.Tags.{tag_octets, tag_at, sending_of, with_sending, new
 use Rattle.command.specs.Mirrors.{mirrored, target_at, tag_for}
 use Rattle.command.specs.Standard.{has_tag, is_activation, is_fresh, not_fresh, negative_of, operates, is_object_of, tag_of, tag_if_any, malformed, cause_of_fault, IsFresh}
 use Rattle.command.specs.State as state
-use Rattle.command.specs.State.{State, oldest, has_room, first_answer}
+use Rattle.command.specs.State.{State, oldest, has_answer_place, first_answer}
 use Rattle.command.specs.History.{Judged, Sent, Accepted, Refused, GivenUp, Mirrored, Offered, Answered, Ended, History, first, first_known, is_for, forwarded_to, sent_count, next_for, GivesOwnAnswers, IsFreshIfTagged, walls_of, SendsFreshCommands, if_operates, first_sendings, tag_among, mirror_tag}
 use Rattle.command.specs.Calls.{Call, Judge, PutOnLine, Accept, Busy, Lose, Mirror, Own, SendOwn, Cut, Due, Run, after_call, run, after_sending, after_answer}
 use Rattle.command.proofs.ReadAlike.{none_left, tagged_read, operates_read, objects_read}
@@ -221,7 +221,7 @@ module _ (sizes : Sizes) (stations : List StationInfo) (ms age : ℕ) where
   step_kept (Lose k) r holds n = n
   step_kept (Mirror v now) r holds n = ap (λ (zs : List Sending). reverse zs) (mirroring_leaves_sendings v now r.state)
       ∙ n
-  step_kept (Own octets) r holds n = offers octets r (has_room r.state) n
+  step_kept (Own octets) r holds n = offers octets r (has_answer_place r.state) n
   step_kept SendOwn r holds n = gives r (first_answer r.state.answers) n
   step_kept Cut r holds n = refl
   step_kept (Due now) r holds n = n

@@ -5,7 +5,7 @@ use Rattle.asdu.specs.declared.sizes.Sizes.{Sizes}
 use Rattle.command.specs.declared.station.StationInfo.{StationInfo}
 use Rattle.command.specs.declared.waiting.Waiting.{Waiting}
 use Rattle.command.specs.State as state
-use Rattle.command.specs.State.{State, oldest_for, line_of, refusal_of, is_used, has_room, offered, first_answer, answered}
+use Rattle.command.specs.State.{State, oldest_for, line_of, refusal_of, is_used, has_answer_place, offered, first_answer, answered}
 use Rattle.command.specs.Judging as judging
 use Rattle.command.specs.Mirrors as mirrors
 use Rattle.command.specs.History.{Judged, Sent, Accepted, Refused, GivenUp, Mirrored, Offered, Answered, Ended, History}
@@ -67,7 +67,7 @@ after_call (Mirror v now) r = record {
 }
 after_call (Own octets) r = record {
   state = offered octets r.state;
-  history = Offered octets (has_room r.state) ∷ r.history;
+  history = Offered octets (has_answer_place r.state) ∷ r.history;
 }
 after_call SendOwn r = after_answer (first_answer r.state.answers) r
 after_call Cut r = record { state = state.closed r.state; history = Ended ∷ r.history }

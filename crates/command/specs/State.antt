@@ -112,15 +112,15 @@ is_used CutOff = true
 
 -- ---- Own answers
 
-abbrev pub has_room : State → Bool
-has_room s = nat_lt (length s.answers) 16
+abbrev pub has_answer_place : State → Bool
+has_answer_place s = nat_lt (length s.answers) 16
 
 abbrev pub kept : List ℕ → State → State
 kept octets s = record s { answers = s.answers ++ octets ∷ [] }
 
--- an own answer is kept where there is room
+-- an own answer is kept where fewer than 16 are
 abbrev pub offered : List ℕ → State → State
-offered octets s = if has_room s then kept octets s else s
+offered octets s = if has_answer_place s then kept octets s else s
 
 abbrev pub first_answer : List (List ℕ) → Option (List ℕ)
 first_answer [] = None

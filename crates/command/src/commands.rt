@@ -76,7 +76,7 @@ impl Model for Commands {
 }
 
 impl Commands {
-    ghost use Rattle.command.specs.State.{new_state, told, has_room, offered, first_answer, answered, closed, timed, octets_waiting, with_line, sent as after_sending, noted, accepted as after_acceptance, given_up, line_of, is_used, refusal_of};
+    ghost use Rattle.command.specs.State.{new_state, told, has_answer_place, offered, first_answer, answered, closed, timed, octets_waiting, with_line, sent as after_sending, noted, accepted as after_acceptance, given_up, line_of, is_used, refusal_of};
     ghost use Rattle.command.specs.Judging.{answer_of, judged, admitted, placed, ends_selection, without_selection, fault as fault_of, cause_fault as fault_of_cause, address_fault as fault_of_addresses, lacks_selection, lacks_place, makes_selection, forwarded, selected, others};
 
     /// No command, no selection and no own answer. This alone takes memory.
@@ -471,7 +471,7 @@ impl Commands {
     pub fn own(&mut self, octets: &[u8]) -> bool
         requires long { 9 ≤ length octets.now }
         requires fits { length octets.now ≤ 249 }
-        ensures room { result ≡ has_room self.old }
+        ensures place { result ≡ has_answer_place self.old }
         ensures state { self.new ≡ offered octets.now self.old }
     {
         if self.answers.is_full() {

@@ -1,6 +1,6 @@
 -- What the works of the course tell of commands.
 use Rattle.std.proofs.Common.{◌≡◌, ℕ, Bool, true, false, List, [], ◌∷◌, Option, Some, None, refl, ◌∙◌, if◌then◌else◌}
-use Rattle.command.specs.State.{State, has_room, offered, first_answer}
+use Rattle.command.specs.State.{State, has_answer_place, offered, first_answer}
 use Rattle.command.specs.Judging.{judged}
 use Rattle.command.specs.History.{Judged, Offered, Answered, Ended, History}
 use Rattle.command.specs.Calls.{Call, Judge, Own, SendOwn, Run, after_call, after_answer}
@@ -38,13 +38,13 @@ judged_ignore = record { kept = λ octets is_kept h. refl; answered = λ octets 
 pub keeping : {X : Type 0} (F : History → X) → Ignores F → (xs : List (List ℕ)) (s : State) (h : History)
     → F (told_kept xs s h) ≡ F h
 keeping {X} F i [] s h = refl
-keeping {X} F i (x ∷ xs) s h = go (has_room s) (keeping F i xs (offered x s) (Offered x (has_room s) ∷ h))
+keeping {X} F i (x ∷ xs) s h = go (has_answer_place s) (keeping F i xs (offered x s) (Offered x (has_answer_place s) ∷ h))
   where
-    one : F (Offered x (has_room s) ∷ h) ≡ F h
-    one = i.kept x (has_room s) h
+    one : F (Offered x (has_answer_place s) ∷ h) ≡ F h
+    one = i.kept x (has_answer_place s) h
 
-    go : (b : Bool) → F (told_kept xs (offered x s) (Offered x (has_room s) ∷ h)) ≡ F (Offered x (has_room s) ∷ h) →
-        F (if b then told_kept xs (offered x s) (Offered x (has_room s) ∷ h) else Offered x (has_room s) ∷ h) ≡ F h
+    go : (b : Bool) → F (told_kept xs (offered x s) (Offered x (has_answer_place s) ∷ h)) ≡ F (Offered x (has_answer_place s) ∷ h) →
+        F (if b then told_kept xs (offered x s) (Offered x (has_answer_place s) ∷ h) else Offered x (has_answer_place s) ∷ h) ≡ F h
     go true ih = ih ∙ one
     go false ih = one
 
@@ -72,7 +72,7 @@ one_fits stay p call r h k = call_fits stay p.link.size call r h k
 pub kept_fit : (stay : AnswersStay) (p : Setup) (xs : List (List ℕ)) (s : State) → WaitsFit p s
     → WaitsFit p (kept_until xs s)
 kept_fit stay p [] s h = h
-kept_fit stay p (x ∷ xs) s h = go (has_room s) (kept_fit stay p xs (offered x s) one)
+kept_fit stay p (x ∷ xs) s h = go (has_answer_place s) (kept_fit stay p xs (offered x s) one)
   where
     one : WaitsFit p (offered x s)
     one = one_fits stay p (Own x) (record { state = s; history = [] }) tt h

@@ -13,7 +13,7 @@ use Rattle.session.specs.declared.kinds.Close.{Close}
 use Rattle.session.specs.declared.kinds.Close.TheVariants.{Grammar, SendNumber, ReceiveNumber, Stopped, Timeout, OwnAnswers, Replaced}
 use Rattle.command.specs.declared.waiting.Waiting.{Waiting}
 use Rattle.command.specs.State as tasks
-use Rattle.command.specs.State.{has_room, first_answer, oldest_for, line_of, refusal_of, is_used}
+use Rattle.command.specs.State.{has_answer_place, first_answer, oldest_for, line_of, refusal_of, is_used}
 use Rattle.command.specs.Judging.{judged}
 use Rattle.command.specs.History.{Told, Judged, Sent, Accepted, Refused, GivenUp, Mirrored, Offered, Answered, Ended, History}
 use Rattle.command.specs.Calls as calls
@@ -68,21 +68,21 @@ module _ (p : Setup) (at : ℕ) (Q : Run → Type 0) (one : (call : Call) (r : R
   keep : (xs : List (List ℕ)) (s : tasks.State) (h : History) → Q (record { state = s; history = h })
       → Q (record { state = kept_until xs s; history = told_kept xs s h })
   keep [] s h c = c
-  keep (x ∷ xs) s h c = go (has_room s) here (keep xs (tasks.offered x s) (Offered x (has_room s) ∷ h) here)
+  keep (x ∷ xs) s h c = go (has_answer_place s) here (keep xs (tasks.offered x s) (Offered x (has_answer_place s) ∷ h) here)
     where
-      here : Q (record { state = tasks.offered x s; history = Offered x (has_room s) ∷ h })
+      here : Q (record { state = tasks.offered x s; history = Offered x (has_answer_place s) ∷ h })
       here = one (Own x) (record { state = s; history = h }) still c
 
-      go : (b : Bool) → Q (record { state = tasks.offered x s; history = Offered x (has_room s) ∷ h }) →
+      go : (b : Bool) → Q (record { state = tasks.offered x s; history = Offered x (has_answer_place s) ∷ h }) →
           Q (record {
             state = kept_until xs (tasks.offered x s);
             history =
-                told_kept xs (tasks.offered x s) (Offered x (has_room s) ∷ h);
+                told_kept xs (tasks.offered x s) (Offered x (has_answer_place s) ∷ h);
           }) →
           Q (record {
             state = if b then kept_until xs (tasks.offered x s) else tasks.offered x s;
             history =
-                if b then told_kept xs (tasks.offered x s) (Offered x (has_room s) ∷ h) else Offered x (has_room s) ∷ h;
+                if b then told_kept xs (tasks.offered x s) (Offered x (has_answer_place s) ∷ h) else Offered x (has_answer_place s) ∷ h;
           })
       go true here all = all
       go false here all = here
@@ -344,7 +344,7 @@ told_call log (Mirror v now) r when t = tell_more log (Mirrored now v) r.history
 told_call log (Accept k) r when t = tell_more log (Accepted k) r.history tt t
 told_call log (Busy k) r when t = tell_more log (Refused k (refusal_of (line_of k r.state))) r.history tt t
 told_call log (Lose k) r when t = tell_more log (GivenUp k (is_used (line_of k r.state))) r.history tt t
-told_call log (Own octets) r when t = tell_more log (Offered octets (has_room r.state)) r.history tt t
+told_call log (Own octets) r when t = tell_more log (Offered octets (has_answer_place r.state)) r.history tt t
 told_call log Cut r when t = tell_more log Ended r.history tt t
 told_call log (Due now) r when t = t
 told_call log (PutOnLine k) r when t = go (oldest_for k r.state)

@@ -14,7 +14,7 @@ use Rattle.command.specs.declared.waiting.Waiting.{Waiting}
 use Rattle.command.specs.Octets.{negative}
 use Rattle.command.specs.Selection.{lasts_from, with_stage, after_sending, after_acceptance, after_loss, target_of, same_target, same_element, is_accepted}
 use Rattle.command.specs.State as tasks
-use Rattle.command.specs.State.{has_room, kept, first_answer, oldest_for, put_out}
+use Rattle.command.specs.State.{has_answer_place, kept, first_answer, oldest_for, put_out}
 use Rattle.command.specs.Judging.{refused, placed, admitted, by_fault, judged, fault, forwarded, queued, selected, selection_of, without_selection, lacks_selection, lacks_place, ends_selection, makes_selection}
 use Rattle.command.specs.Mirrors.{is_con, all_over, confirmed, one_confirmed, mirrored, target_at, element_of}
 use Rattle.command.specs.Command.{command_at}
@@ -256,7 +256,7 @@ module _ (at : ℕ) where
   lasts (Accept k) r when h = accepts k r.state h
   lasts (Busy k) r when h = loses k r.state h
   lasts (Lose k) r when h = loses k r.state h
-  lasts (Own octets) r when h = go (has_room r.state)
+  lasts (Own octets) r when h = go (has_answer_place r.state)
     where
       go : (b : Bool) → Lasts at (if b then kept octets r.state else r.state)
       go true = h

@@ -27,7 +27,7 @@ use Rattle.command.specs.Command.{is_tagged, line_kind, command_at, command_octe
 use Rattle.command.specs.Stations.{is_addressed}
 use Rattle.command.specs.State as tasks
 use Rattle.command.specs.Octets.{negative}
-use Rattle.command.specs.State.{State, oldest, oldest_for, without_oldest, put_out, has_room, first_answer}
+use Rattle.command.specs.State.{State, oldest, oldest_for, without_oldest, put_out, has_answer_place, first_answer}
 use Rattle.command.specs.Judging.{judged, fault, by_fault, refused, admitted, placed, copies, lacks_selection, lacks_place, ends_selection, without_selection, makes_selection, selected, queued, forwarded}
 use Rattle.command.specs.Mirrors.{mirrored}
 use Rattle.command.specs.Calls.{Call, Judge, PutOnLine, Accept, Busy, Lose, Mirror, Own, SendOwn, Cut, Due, Run, after_sending, after_answer, after_call}
@@ -241,7 +241,7 @@ call_fits stay size (Accept i) r h k = k
 call_fits stay size (Busy i) r h k = k
 call_fits stay size (Lose i) r h k = k
 call_fits stay size (Mirror v now) r h k = subst (AllFitLine size) (sym (stay v now r.state)) k
-call_fits stay size (Own octets) r h k = go (has_room r.state)
+call_fits stay size (Own octets) r h k = go (has_answer_place r.state)
   where
     go : (b : Bool) → Fit size (if b then tasks.kept octets r.state else r.state)
     go true = k

@@ -88,11 +88,11 @@ pub enum FrontRef<'a> {
 
 impl FrameRef<'_> {
     ghost use Rattle.std.specs.Prelude.{◌≡◌};
-    ghost use Rattle.ft12.specs.Borrowed.{owned, HasRoom};
+    ghost use Rattle.ft12.specs.Borrowed.{owned, FitsMemory};
 
     /// The same frame with data of its own, which it copies. Asks for at most 253 octets of data.
     pub fn to_frame(self) -> Frame
-        requires { HasRoom self }
+        requires { FitsMemory self }
         ensures { result ≡ owned self.entry }
     {
         match self {

@@ -8,7 +8,7 @@ use crate::directive::{Class, Directive};
 use ft12::LinkSize;
 use link::Asdu;
 use std::alloc::{AllocError, Global};
-use traces::{pieces, read_decimal, read_octets};
+use traces::{parts, read_decimal, read_octets};
 
 const SPACE: u8 = b' ';
 
@@ -38,7 +38,7 @@ pub(crate) fn read_line(
     ensures fits { IfOk result (λ said. IfSome said (FitsStations size stations)) }
     ensures ranges { IfOk result (λ said. IfSome said IsWithinRanges) }
 {
-    let fields = pieces(alloc, line, SPACE)?;
+    let fields = parts(alloc, line, SPACE)?;
     match fields.as_slice() {
         [word, number] => Ok(of_two(*word, *number)),
         [word, second, third] => of_three(alloc, *word, *second, *third),

@@ -10,7 +10,7 @@ use crate::script::Script;
 use ft12::LinkSize;
 use gateway::Config;
 use std::alloc::{AllocError, Global};
-use traces::{TextFault, is_skipped, pieces};
+use traces::{TextFault, is_skipped, parts};
 
 const LINE_FEED: u8 = b'\n';
 
@@ -20,7 +20,7 @@ const LINE_FEED: u8 = b'\n';
 fn lines(alloc: Global, text: &[u8]) -> Result<Vec<&[u8]>, AllocError>
     ensures { IfOk result (λ v. map (λ line. line.now) v.items ≡ lines_of text.entry.now) }
 {
-    let mut lines = pieces(alloc, text, LINE_FEED)?;
+    let mut lines = parts(alloc, text, LINE_FEED)?;
     let Some(last) = lines.pop() else {
         return Ok(lines);
     };

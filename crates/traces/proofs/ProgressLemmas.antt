@@ -11,7 +11,7 @@ use Rattle.gateway.specs.declared.ports.Next.{Next}
 use Rattle.gateway.specs.declared.ports.Next.TheVariants as answers
 use Rattle.traces.specs.Actions.{line_of, lines_of_actions}
 use Rattle.traces.specs.Event.{event_of, event_in}
-use Rattle.traces.specs.Fields.{pieces_after}
+use Rattle.traces.specs.Fields.{parts_after}
 use Rattle.traces.specs.Printed.{IsPrintable, ArePrinted, entries_in, actions_of}
 use Rattle.traces.specs.Progress.{came, events_in, script_in, IsRight, Progress, events_among, woven, all_told, log_in, events_left, coming_in, IsProgress, tells_event}
 use Rattle.traces.specs.Trace.{is_skipped, told, is_wrong, first_wrong, lines_of}
@@ -157,8 +157,8 @@ went p marks page now action holds ok marked printed = record {
 
 -- an event came
 event_came : (p : Progress) (left : Option (List ℕ)) (started : Bool) (marks : List Bool) (now : ℕ) (event : Input)
-    → IsProgress p → started ≡ true → Came now event ∷ events_in (pieces_after 10 left) ≡ coming_in p
-    → AllByRecursion IsRight (pieces_after 10 left) →
+    → IsProgress p → started ≡ true → Came now event ∷ events_in (parts_after 10 left) ≡ coming_in p
+    → AllByRecursion IsRight (parts_after 10 left) →
     marks ≡ p.marks ++ true ∷ [] → GoesOn p (record p { left = left; started = started; marks = marks })
     (Came now event ∷ [])
 event_came p left started marks now event holds begun told right marked = record {
@@ -171,7 +171,7 @@ event_came p left started marks now event holds begun told right marked = record
         ∙ ap (λ es. events_of (log_in p) ++ es) told ∙ holds.whole;
     rest =
         ap (λ n. drop n (script_in p.text)) (ap events_among marked ∙ event_more p.marks)
-        ∙ drop_next (events_among p.marks) (script_in p.text) (events_in (pieces_after 10 left)) (Came now event)
+        ∙ drop_next (events_among p.marks) (script_in p.text) (events_in (parts_after 10 left)) (Came now event)
         (holds.rest ∙ sym told)
         ∙ sym same;
     lines = ap lines_of_actions log ∙ holds.lines;
@@ -181,11 +181,11 @@ event_came p left started marks now event holds begun told right marked = record
   };
 }
   where
-    same : events_left started p.text left ≡ events_in (pieces_after 10 left)
+    same : events_left started p.text left ≡ events_in (parts_after 10 left)
     same = rw begun refl
 
     log : log_in (record p { left = left; started = started; marks = marks }) ≡ Came now event ∷ log_in p
-    log = rw marked (log_came p.text p.page p.marks (Came now event) (events_in (pieces_after 10 left)) (holds.rest
+    log = rw marked (log_came p.text p.page p.marks (Came now event) (events_in (parts_after 10 left)) (holds.rest
         ∙ sym told))
 
     not_fresh : (b : Bool) → b ≡ true → b ≡ false → ⊥
@@ -194,7 +194,7 @@ event_came p left started marks now event holds begun told right marked = record
 
 pub told_next : (p : Progress) (left : Option (List ℕ)) (started : Bool) (marks : List Bool) (next : Next)
     (buf : List ℕ) → IsProgress p → started ≡ true → tells_event next ≡ true →
-    told_by next buf ++ events_in (pieces_after 10 left) ≡ coming_in p → AllByRecursion IsRight (pieces_after 10 left)
+    told_by next buf ++ events_in (parts_after 10 left) ≡ coming_in p → AllByRecursion IsRight (parts_after 10 left)
     → marks ≡ p.marks ++ true ∷ [] →
     GoesOn p (record p { left = left; started = started; marks = marks }) (told_by next buf)
 told_next p left started marks (answers.Line now len) buf holds begun is told right marked =
@@ -217,5 +217,5 @@ pub ticked : (p : Progress) (marks : List Bool) → IsProgress p → p.started �
     → GoesOn p (record p { started = true; marks = marks }) (Came 0 Ticked ∷ [])
 ticked p marks holds fresh marked = event_came p p.left true marks 0 Ticked holds refl told holds.right marked
   where
-    told : Came 0 Ticked ∷ events_in (pieces_after 10 p.left) ≡ coming_in p
+    told : Came 0 Ticked ∷ events_in (parts_after 10 p.left) ≡ coming_in p
     told = rw (holds.first fresh, fresh) refl

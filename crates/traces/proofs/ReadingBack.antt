@@ -24,7 +24,7 @@ use Rattle.traces.specs.Fields.{digits_after, decimal_of, octets_of, some_octets
 use Rattle.traces.specs.Event.{event_of, event_from, event_in, bare_at, octets_at, wall_at}
 use Rattle.traces.specs.Trace.{lines_of, is_skipped}
 use Rattle.traces.specs.Actions.{line_of, lines_of_actions}
-use Rattle.traces.specs.Printed.{FitsTrace, IsFirstOf, IsPrintable, IsPrintableEvent, IsPrintableAction, line_of_event, line_of_entry, lines_of_log, number_in, octets_in_hex, cause_numbered, gap_at, came_at, went_at, entry_from, entry_in, before_those, entries_of_lines, entries_of_pieces, entries_in, actions_of, ArePrinted}
+use Rattle.traces.specs.Printed.{FitsTrace, IsFirstOf, IsPrintable, IsPrintableEvent, IsPrintableAction, line_of_event, line_of_entry, lines_of_log, number_in, octets_in_hex, cause_numbered, gap_at, came_at, went_at, entry_from, entry_in, before_those, entries_of_lines, entries_of_parts, entries_in, actions_of, ArePrinted}
 
 -- Fields without separators
 
@@ -62,17 +62,17 @@ spaced_line field (next ∷ fields) plain all =
 
 -- Texts of lines
 
-pieces_read : (line : List ℕ) (pieces : List (List ℕ)) → 0 < length pieces
-    → entries_of_pieces (line ∷ pieces) ≡ before_those (entry_in line) (entries_of_pieces pieces)
-pieces_read line [] some = absurd (omega arith)
-pieces_read line (next ∷ pieces) some = refl
+parts_read : (line : List ℕ) (parts : List (List ℕ)) → 0 < length parts
+    → entries_of_parts (line ∷ parts) ≡ before_those (entry_in line) (entries_of_parts parts)
+parts_read line [] some = absurd (omega arith)
+parts_read line (next ∷ parts) some = refl
 
 -- the first line, and what follows it
 line_first : (line text : List ℕ) → All (λ b. (b == 10) ≡ false) line
     → entries_in (line ++ 10 ∷ text) ≡ before_those (entry_in line) (entries_in text)
 line_first line text whole =
-    ap entries_of_pieces (slice_split_at (λ b. b == 10) line 10 text whole refl)
-    ∙ pieces_read line (slice_split (λ b. b == 10) text) (omega (arith, length-slice_split (λ (b : ℕ). b == 10) text))
+    ap entries_of_parts (slice_split_at (λ b. b == 10) line 10 text whole refl)
+    ∙ parts_read line (slice_split (λ b. b == 10) text) (omega (arith, length-slice_split (λ (b : ℕ). b == 10) text))
 
 -- a line of fields
 fields_first : (field : List ℕ) (fields : List (List ℕ)) (text : List ℕ) → IsPlain field

@@ -24,7 +24,7 @@ some_octets (Err e) = None
 abbrev pub octets_of : List ℕ → Option (List ℕ)
 octets_of text = some_octets (decode_of text)
 
--- the pieces of what follows a separator, where there is one
-abbrev pub pieces_after : ℕ → Option (List ℕ) → List (List ℕ)
-pieces_after separator None = []
-pieces_after separator (Some text) = slice_split (λ b. b == separator) text
+-- the parts of what follows a separator, where there is one
+abbrev pub parts_after : ℕ → Option (List ℕ) → List (List ℕ)
+parts_after separator None = []
+parts_after separator (Some text) = slice_split (λ b. b == separator) text

@@ -170,13 +170,13 @@ abbrev pub entries_of_lines : (line : List ℕ) → List (List ℕ) → Option (
 entries_of_lines line [] = ended_by line
 entries_of_lines line (next ∷ lines) = before_those (entry_in line) (entries_of_lines next lines)
 
-abbrev pub entries_of_pieces : List (List ℕ) → Option (List LogEntry)
-entries_of_pieces [] = None
-entries_of_pieces (line ∷ lines) = entries_of_lines line lines
+abbrev pub entries_of_parts : List (List ℕ) → Option (List LogEntry)
+entries_of_parts [] = None
+entries_of_parts (line ∷ lines) = entries_of_lines line lines
 
 -- what a text tells, the oldest first; nothing where a line tells no entry, or lacks its line feed
 abbrev pub entries_in : List ℕ → Option (List LogEntry)
-entries_in text = entries_of_pieces (slice_split (λ b. b == 10) text)
+entries_in text = entries_of_parts (slice_split (λ b. b == 10) text)
 
 -- the actions of a log with their moments, the oldest first
 abbrev pub actions_of : Log → List LogEntry

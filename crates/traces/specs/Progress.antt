@@ -9,7 +9,7 @@ use Rattle.gateway.specs.declared.ports.Next.{Next}
 use Rattle.gateway.specs.declared.ports.Next.TheVariants as answers
 use Rattle.traces.specs.Actions.{lines_of_actions}
 use Rattle.traces.specs.Event.{Event, line, opening, received, cut, tick, wall}
-use Rattle.traces.specs.Fields.{pieces_after}
+use Rattle.traces.specs.Fields.{parts_after}
 use Rattle.traces.specs.Printed.{ArePrinted, entries_in}
 use Rattle.traces.specs.Trace.{lines_of, told, is_wrong, first_wrong, IsFaultOf}
 use Rattle.traces.specs.declared.reading.TextFault.{TextFault}
@@ -73,7 +73,7 @@ log_in p = woven (reverse p.marks)
 -- the events that are still to come
 abbrev pub events_left : (started : Bool) → (text : List ℕ) → (left : Option (List ℕ))
     → List LogEntry
-events_left true text left = events_in (pieces_after 10 left)
+events_left true text left = events_in (parts_after 10 left)
 events_left false text left = script_in text
 
 abbrev pub coming_in : Progress → List LogEntry
@@ -88,7 +88,7 @@ pub record IsProgress (p : Progress) : Type 0 where
   pub rest : drop (events_among p.marks) (script_in p.text) ≡ coming_in p
   pub lines : lines_of_actions (log_in p) ≡ p.page
   pub printable : ArePrinted (log_in p)
-  pub right : AllByRecursion IsRight (pieces_after 10 p.left)
+  pub right : AllByRecursion IsRight (parts_after 10 p.left)
   pub first : p.started ≡ false → p.left ≡ Some p.text
 
 -- whether an answer tells an event
@@ -101,10 +101,10 @@ tells_event next = true
 pub record IsFirst (lines : List (List ℕ)) (left : Option (List ℕ)) (next : Next)
     (buf : List ℕ) : Type 0 where
   pub told : tells_event next ≡ true
-      → told_by next buf ++ events_in (pieces_after 10 left) ≡ events_in lines
-  pub none : tells_event next ≡ false → events_in (pieces_after 10 left) ≡ events_in lines
+      → told_by next buf ++ events_in (parts_after 10 left) ≡ events_in lines
+  pub none : tells_event next ≡ false → events_in (parts_after 10 left) ≡ events_in lines
   pub done : next ≡ answers.Done → left ≡ None
-  pub right : AllByRecursion IsRight (pieces_after 10 left)
+  pub right : AllByRecursion IsRight (parts_after 10 left)
   pub fits : FitsBuffer next
 
 -- no line is wrong, and so many are events

@@ -34,7 +34,7 @@ pub use decimal::decimal as read_decimal;
 pub use examples::printed_lines_by_example;
 pub use judging::judge;
 pub use laws::printed_lines_read_back;
-pub use lines::{is_skipped, pieces};
+pub use lines::{is_skipped, parts};
 pub use octets::read_octets;
 pub use port::{Beginning, Trace};
 pub use reading::{TextFault, read_trace};

@@ -2,14 +2,14 @@
 ghost use Rattle.std.specs.List.{slice_split};
 ghost use Rattle.std.specs.Option.{option_copied};
 ghost use Rattle.std.specs.Prelude.{◌≡◌, ◌==◌, ◌∷◌, ◌<◌, length, position, map, IfOk, IfSome};
-ghost use Rattle.traces.specs.Fields.{pieces_after};
+ghost use Rattle.traces.specs.Fields.{parts_after};
 ghost use Rattle.traces.specs.Trace.{is_skipped};
 
 use std::alloc::{AllocError, Global};
 
-/// The pieces of a text between its separators.
-pub fn pieces<'a>(alloc: Global, text: &'a [u8], separator: u8) -> Result<Vec<&'a [u8]>, AllocError>
-    ensures { IfOk result (λ v. map (λ piece. piece.now) v.items
+/// The parts of a text between its separators.
+pub fn parts<'a>(alloc: Global, text: &'a [u8], separator: u8) -> Result<Vec<&'a [u8]>, AllocError>
+    ensures { IfOk result (λ v. map (λ part. part.now) v.items
         ≡ slice_split (λ b. b == separator) text.entry.now) }
 {
     text.split(|b| *b == separator).collect(alloc)
@@ -23,11 +23,11 @@ fn place(text: &[u8], separator: u8) -> Option<usize>
     text.iter().position(|b| *b == separator)
 }
 
-/// The piece of a text before its first separator, and what follows that, where there is one.
+/// The part of a text before its first separator, and what follows that, where there is one.
 #[tactic(auto, using(crate::proofs::LineLemmas::cut_here, crate::proofs::LineLemmas::cut_nowhere))]
 pub(crate) fn cut(text: &[u8], separator: u8) -> (&[u8], Option<&[u8]>)
     ensures { slice_split (λ b. b == separator) text.entry.now
-        ≡ result.0.now ∷ pieces_after separator (option_copied result.1) }
+        ≡ result.0.now ∷ parts_after separator (option_copied result.1) }
 {
     match place(text, separator) {
         Some(i) => (&text[..i], Some(&text[i + 1..])),

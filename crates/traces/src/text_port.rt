@@ -5,7 +5,7 @@ ghost use Rattle.std.specs.Option.{option_copied};
 ghost use Rattle.gateway.specs.Log.{events_of};
 ghost use Rattle.gateway.specs.Ports.{output_of};
 ghost use Rattle.traces.specs.Actions.{line_of, lines_of_actions};
-ghost use Rattle.traces.specs.Fields.{pieces_after};
+ghost use Rattle.traces.specs.Fields.{parts_after};
 ghost use Rattle.traces.specs.Progress.{IsFirst, IsRight, script_in, log_in, coming_in, tells_event};
 ghost use Rattle.traces.specs.Trace.{first_wrong, lines_of};
 
@@ -69,8 +69,8 @@ fn first_event<'a>(
     text: Option<&'a [u8]>,
     buf: &mut [u8; 1024],
 ) -> (Next, Option<&'a [u8]>)
-    requires { AllByRecursion IsRight (pieces_after 10 (option_copied text)) }
-    ensures { IsFirst (pieces_after 10 (option_copied text.entry)) (option_copied result.1)
+    requires { AllByRecursion IsRight (parts_after 10 (option_copied text)) }
+    ensures { IsFirst (parts_after 10 (option_copied text.entry)) (option_copied result.1)
         result.0 buf.new }
 {
     let mut left = text;

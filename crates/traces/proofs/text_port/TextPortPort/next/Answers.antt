@@ -2,7 +2,7 @@ use Rattle.std.proofs.Common.{◌≡◌, rules, ap, Some, true, false, not, sym,
 use Rattle.std.specs.Option.{option_copied}
 use Rattle.gateway.specs.Log.{Came, Ticked}
 use Rattle.gateway.specs.Ports.{told_by}
-use Rattle.traces.specs.Fields.{pieces_after}
+use Rattle.traces.specs.Fields.{parts_after}
 use Rattle.traces.specs.Progress.{Progress, log_in, events_left, events_in, tells_event}
 use Rattle.traces.proofs.ProgressLemmas.{told_next, ticked}
 use Rattle.traces.proofs.text_port.TextPortPort.next.Goals as goal
@@ -27,7 +27,7 @@ invariant_of-self-then-is_event c =
     let begun : c.self.inside.is_started ≡ true = search rules in
     let is : tells_event c.first_event-next.result.0 ≡ true = search rules in
     let told : told_by c.first_event-next.result.0 c.first_event-next.new.buf
-    ++ events_in (pieces_after 10 (option_copied c.first_event-next.result.1))
+    ++ events_in (parts_after 10 (option_copied c.first_event-next.result.1))
     ≡ events_left c.self.inside.is_started c.self.inside.text.now (option_copied c.self.inside.left) =
     rw begun (c.first_event-next.ensures.told is) in
     let marked : c.push_reserved-then-is_event.new.self.items ≡ c.self.inside.marks.items ++ true ∷ [] =
@@ -41,7 +41,7 @@ returns-then-is_event-clause-told c =
     let begun : c.self.inside.is_started ≡ true = search rules in
     let is : tells_event c.first_event-next.result.0 ≡ true = search rules in
     let told : told_by c.first_event-next.result.0 c.first_event-next.new.buf
-    ++ events_in (pieces_after 10 (option_copied c.first_event-next.result.1))
+    ++ events_in (parts_after 10 (option_copied c.first_event-next.result.1))
     ≡ events_left c.self.inside.is_started c.self.inside.text.now (option_copied c.self.inside.left) =
     rw begun (c.first_event-next.ensures.told is) in
     let marked : c.push_reserved-then-is_event.new.self.items ≡ c.self.inside.marks.items ++ true ∷ [] =

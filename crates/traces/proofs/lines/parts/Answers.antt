@@ -1,7 +1,7 @@
 use Rattle.std.proofs.Common.{◌==◌, rules}
 use Rattle.std.proofs.lemmas.Iterator.Consumers.{map_from_collect}
 use Rattle.std.proofs.lemmas.Iterator.Splits.{YieldsList-from_slice_split}
-use Rattle.traces.proofs.lines.pieces.Goals as goal
+use Rattle.traces.proofs.lines.parts.Goals as goal
 
 pub returns : goal.returns
 returns c = map_from_collect _ c.collect.ensures.ran (YieldsList-from_slice_split _
