@@ -11,7 +11,7 @@ use Rattle.session.specs.declared.kinds.Close.{Close}
 use Rattle.session.specs.declared.kinds.Close.TheVariants.{Grammar, SendNumber, ReceiveNumber, Stopped, Timeout, OwnAnswers, Replaced}
 use Rattle.command.specs.declared.waiting.Waiting.{Waiting}
 use Rattle.command.specs.State as tasks
-use Rattle.command.specs.State.{has_room, first_answer, oldest_for}
+use Rattle.command.specs.State.{has_answer_place, first_answer, oldest_for}
 use Rattle.command.specs.Judging.{judged}
 use Rattle.command.specs.History.{Offered, History}
 use Rattle.command.specs.Calls.{Call, Judge, PutOnLine, Accept, Busy, Lose, Mirror, Own, SendOwn, Cut, Due, Run, after_call, after_answer, after_sending}
@@ -41,20 +41,20 @@ module _ (p : Setup) where
       → IsCalled p (record { state = kept_until xs s; history = told_kept xs s h })
   kept [] s h called = called
   kept (x ∷ xs) s h called =
-      let next : IsCalled p (record { state = tasks.offered x s; history = Offered x (has_room s) ∷ h }) =
+      let next : IsCalled p (record { state = tasks.offered x s; history = Offered x (has_answer_place s) ∷ h }) =
       one (Own x) (record { state = s; history = h }) called in
-      by_room (has_room s) next (kept xs (tasks.offered x s) (Offered x (has_room s) ∷ h) next)
+      by_room (has_answer_place s) next (kept xs (tasks.offered x s) (Offered x (has_answer_place s) ∷ h) next)
     where
-      by_room : (b : Bool) → IsCalled p (record { state = tasks.offered x s; history = Offered x (has_room s) ∷ h }) →
+      by_room : (b : Bool) → IsCalled p (record { state = tasks.offered x s; history = Offered x (has_answer_place s) ∷ h }) →
           IsCalled p (record {
             state = kept_until xs (tasks.offered x s);
             history =
-                told_kept xs (tasks.offered x s) (Offered x (has_room s) ∷ h);
+                told_kept xs (tasks.offered x s) (Offered x (has_answer_place s) ∷ h);
           }) →
           IsCalled p (record {
             state = if b then kept_until xs (tasks.offered x s) else tasks.offered x s;
             history =
-                if b then told_kept xs (tasks.offered x s) (Offered x (has_room s) ∷ h) else Offered x (has_room s) ∷ h;
+                if b then told_kept xs (tasks.offered x s) (Offered x (has_answer_place s) ∷ h) else Offered x (has_answer_place s) ∷ h;
           })
       by_room true next all = all
       by_room false next all = next

@@ -14,7 +14,7 @@ use Rattle.session.specs.declared.kinds.Close.{Close}
 use Rattle.session.specs.declared.kinds.Close.TheVariants.{Grammar, SendNumber, ReceiveNumber, Stopped, Timeout, OwnAnswers, Replaced}
 use Rattle.command.specs.declared.waiting.Waiting.{Waiting}
 use Rattle.command.specs.State as tasks
-use Rattle.command.specs.State.{has_room, first_answer, oldest_for, is_used, line_of, refusal_of}
+use Rattle.command.specs.State.{has_answer_place, first_answer, oldest_for, is_used, line_of, refusal_of}
 use Rattle.command.specs.Judging.{judged}
 use Rattle.command.specs.Mirrors as mirrors
 use Rattle.command.specs.History.{History, Judged, Refused, GivenUp, Mirrored, Offered}
@@ -45,29 +45,29 @@ one_saturated n m e = ap one_more e ∙ omega arith
 
 lost_kept : (xs : List (List ℕ)) (s : tasks.State) (h : History) → given_up_in (told_kept xs s h) ≡ given_up_in h
 lost_kept [] s h = refl
-lost_kept (x ∷ xs) s h = by_room (has_room s) (lost_kept xs (tasks.offered x s) (Offered x (has_room s) ∷ h))
+lost_kept (x ∷ xs) s h = by_room (has_answer_place s) (lost_kept xs (tasks.offered x s) (Offered x (has_answer_place s) ∷ h))
   where
-    by_room : (b : Bool) → given_up_in (told_kept xs (tasks.offered x s) (Offered x (has_room s) ∷ h)) ≡ given_up_in h →
-        given_up_in (if b then told_kept xs (tasks.offered x s) (Offered x (has_room s) ∷ h) else Offered x
-        (has_room s) ∷ h) ≡ given_up_in h
+    by_room : (b : Bool) → given_up_in (told_kept xs (tasks.offered x s) (Offered x (has_answer_place s) ∷ h)) ≡ given_up_in h →
+        given_up_in (if b then told_kept xs (tasks.offered x s) (Offered x (has_answer_place s) ∷ h) else Offered x
+        (has_answer_place s) ∷ h) ≡ given_up_in h
     by_room true e = e
     by_room false e = refl
 
 -- one that is handed over stands behind these
 handed : (x : List ℕ) (xs : List (List ℕ)) (s : tasks.State) (h : History) (b : Bool)
     → unpassed_in b (told_kept (x ∷ xs) s h) ≡ unpassed_in true h
-handed x [] s h b = by_room (has_room s)
+handed x [] s h b = by_room (has_answer_place s)
   where
-    by_room : (c : Bool) → unpassed_in b (if c then Offered x (has_room s) ∷ h else Offered x (has_room s) ∷ h)
+    by_room : (c : Bool) → unpassed_in b (if c then Offered x (has_answer_place s) ∷ h else Offered x (has_answer_place s) ∷ h)
         ≡ unpassed_in true h
     by_room true = refl
     by_room false = refl
-handed x (y ∷ ys) s h b = by_room (has_room s) (handed y ys (tasks.offered x s) (Offered x (has_room s) ∷ h) b)
+handed x (y ∷ ys) s h b = by_room (has_answer_place s) (handed y ys (tasks.offered x s) (Offered x (has_answer_place s) ∷ h) b)
   where
-    by_room : (c : Bool) → unpassed_in b (told_kept (y ∷ ys) (tasks.offered x s) (Offered x (has_room s) ∷ h))
+    by_room : (c : Bool) → unpassed_in b (told_kept (y ∷ ys) (tasks.offered x s) (Offered x (has_answer_place s) ∷ h))
         ≡ unpassed_in true h →
-        unpassed_in b (if c then told_kept (y ∷ ys) (tasks.offered x s) (Offered x (has_room s) ∷ h) else Offered x
-        (has_room s) ∷ h) ≡ unpassed_in true h
+        unpassed_in b (if c then told_kept (y ∷ ys) (tasks.offered x s) (Offered x (has_answer_place s) ∷ h) else Offered x
+        (has_answer_place s) ∷ h) ≡ unpassed_in true h
     by_room true e = e
     by_room false e = refl
 

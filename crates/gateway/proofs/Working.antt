@@ -7,7 +7,7 @@ use Rattle.apci.specs.declared.apdu.Apdu.TheVariants.{I, S, U}
 use Rattle.link.specs.Primary.{sending}
 use Rattle.command.specs.declared.waiting.Waiting.{Waiting}
 use Rattle.command.specs.State as tasks
-use Rattle.command.specs.State.{has_room, first_answer, oldest_for}
+use Rattle.command.specs.State.{has_answer_place, first_answer, oldest_for}
 use Rattle.command.specs.Judging.{judged}
 use Rattle.command.specs.History.{Offered, History}
 use Rattle.command.specs.Calls.{Judge, after_answer, after_sending}
@@ -23,16 +23,16 @@ use Rattle.gateway.specs.Agrees.{ArePlain}
 pub kept_overfull : (xs : List (List ℕ)) (s : tasks.State) (h : History) → all_kept xs s ≡ false
     → has_lacked_place (told_kept xs s h) ≡ true
 kept_overfull [] s h none = cc
-kept_overfull (x ∷ xs) s h none = by_room (has_room s) refl
-    (kept_overfull xs (tasks.offered x s) (Offered x (has_room s) ∷ h))
+kept_overfull (x ∷ xs) s h none = by_room (has_answer_place s) refl
+    (kept_overfull xs (tasks.offered x s) (Offered x (has_answer_place s) ∷ h))
   where
     at_room : Bool → Type 0
-    at_room b = has_lacked_place (if b then told_kept xs (tasks.offered x s) (Offered x (has_room s) ∷ h) else Offered x
-        (has_room s) ∷ h) ≡ true
+    at_room b = has_lacked_place (if b then told_kept xs (tasks.offered x s) (Offered x (has_answer_place s) ∷ h) else Offered x
+        (has_answer_place s) ∷ h) ≡ true
 
-    by_room : (b : Bool) → has_room s ≡ b → (all_kept xs (tasks.offered x s) ≡ false
-        → has_lacked_place (told_kept xs (tasks.offered x s) (Offered x (has_room s) ∷ h)) ≡ true)
-        → at_room (has_room s)
+    by_room : (b : Bool) → has_answer_place s ≡ b → (all_kept xs (tasks.offered x s) ≡ false
+        → has_lacked_place (told_kept xs (tasks.offered x s) (Offered x (has_answer_place s) ∷ h)) ≡ true)
+        → at_room (has_answer_place s)
     by_room true e others =
         subst at_room (sym e) (others (sym (ap (λ b. b && all_kept xs (tasks.offered x s)) e) ∙ none))
     by_room false e others = subst at_room (sym e) (ap (λ b. has_lacked_place (Offered x b ∷ h)) e)
@@ -42,10 +42,10 @@ pub kept_placed : (xs : List (List ℕ)) (s : tasks.State) (h : History) → all
     → has_lacked_place (told_kept xs s h) ≡ has_lacked_place h
 kept_placed [] s h all = refl
 kept_placed (x ∷ xs) s h all =
-    let both = and_parts (has_room s) (all_kept xs (tasks.offered x s)) all in
-    ap (λ b. has_lacked_place (if b then told_kept xs (tasks.offered x s) (Offered x (has_room s) ∷ h) else Offered x
-    (has_room s) ∷ h)) both.0
-    ∙ kept_placed xs (tasks.offered x s) (Offered x (has_room s) ∷ h) both.1
+    let both = and_parts (has_answer_place s) (all_kept xs (tasks.offered x s)) all in
+    ap (λ b. has_lacked_place (if b then told_kept xs (tasks.offered x s) (Offered x (has_answer_place s) ∷ h) else Offered x
+    (has_answer_place s) ∷ h)) both.0
+    ∙ kept_placed xs (tasks.offered x s) (Offered x (has_answer_place s) ∷ h) both.1
     ∙ ap (λ b. has_lacked_place (Offered x b ∷ h)) both.0
 
 -- nothing else of what is kept changes
@@ -58,8 +58,8 @@ pub kept_waiting : (xs : List (List ℕ)) (s : tasks.State) → (kept_until xs s
 kept_waiting [] s = refl
 kept_waiting (x ∷ xs) s =
     let one : (tasks.offered x s).waiting ≡ s.waiting =
-    either_same (has_room s) (tasks.kept x s) s (λ t. t.waiting) s.waiting refl refl in
-    either_same (has_room s) (kept_until xs (tasks.offered x s)) (tasks.offered x s) (λ t. t.waiting) s.waiting
+    either_same (has_answer_place s) (tasks.kept x s) s (λ t. t.waiting) s.waiting refl refl in
+    either_same (has_answer_place s) (kept_until xs (tasks.offered x s)) (tasks.offered x s) (λ t. t.waiting) s.waiting
     (kept_waiting xs (tasks.offered x s) ∙ one) one
 
 pub more_plain : (xs ys : List (List ℕ)) → ArePlain xs → ArePlain ys → ArePlain (xs ++ ys)
@@ -75,9 +75,9 @@ pub kept_plain : (xs : List (List ℕ)) (s : tasks.State) → ArePlain xs → Ar
     → ArePlain (kept_until xs s).answers
 kept_plain [] s h k = k
 kept_plain (x ∷ xs) s h k =
-    let one : ArePlain (tasks.offered x s).answers = either_plain (has_room s) (tasks.kept x s) s
+    let one : ArePlain (tasks.offered x s).answers = either_plain (has_answer_place s) (tasks.kept x s) s
     (more_plain s.answers (x ∷ []) k (h.0, tt)) k in
-    either_plain (has_room s) (kept_until xs (tasks.offered x s)) (tasks.offered x s)
+    either_plain (has_answer_place s) (kept_until xs (tasks.offered x s)) (tasks.offered x s)
     (kept_plain xs (tasks.offered x s) h.1 one) one
 
 -- A frame is heard

@@ -16,7 +16,7 @@ use Rattle.link.specs.Primary as primary
 use Rattle.link.specs.Primary.{Primary, received, received_outcome, timed_out, due_outcome, is_command, offered_to, withdrawn}
 use Rattle.command.specs.declared.waiting.Waiting.{Waiting}
 use Rattle.command.specs.State as tasks
-use Rattle.command.specs.State.{has_room, line_of, refusal_of, is_used, oldest}
+use Rattle.command.specs.State.{has_answer_place, line_of, refusal_of, is_used, oldest}
 use Rattle.command.specs.Judging as judging
 use Rattle.command.specs.Mirrors as mirrors
 use Rattle.gateway.specs.declared.counts.Tally.{Tally}
@@ -51,12 +51,12 @@ first_serial p = record {
 -- Answers are kept, one after another, up to the first that finds no place.
 abbrev pub kept_until : List (List ℕ) → tasks.State → tasks.State
 kept_until [] s = s
-kept_until (x ∷ xs) s = if has_room s then kept_until xs (tasks.offered x s) else tasks.offered x s
+kept_until (x ∷ xs) s = if has_answer_place s then kept_until xs (tasks.offered x s) else tasks.offered x s
 
 -- each finds a place
 abbrev pub all_kept : List (List ℕ) → tasks.State → Bool
 all_kept [] s = true
-all_kept (x ∷ xs) s = has_room s && all_kept xs (tasks.offered x s)
+all_kept (x ∷ xs) s = has_answer_place s && all_kept xs (tasks.offered x s)
 
 abbrev pub listed : Option (List ℕ) → List (List ℕ)
 listed None = []

@@ -14,7 +14,7 @@ use Rattle.link.specs.Exchanges.{Sending}
 use Rattle.link.specs.declared.outcome.Outcome.{Outcome}
 use Rattle.link.specs.declared.outcome.Outcome.TheVariants as outcome
 use Rattle.command.specs.State as tasks
-use Rattle.command.specs.State.{has_room}
+use Rattle.command.specs.State.{has_answer_place}
 use Rattle.command.specs.Judging.{judged}
 use Rattle.command.specs.Mirrors as mirrors
 use Rattle.command.specs.History.{Offered, Ended, History}
@@ -50,8 +50,8 @@ told call w = (after_call call (tasks_of w)).history
 abbrev pub told_kept : List (List ℕ) → tasks.State → History → History
 told_kept [] s h = h
 told_kept (x ∷ xs) s h =
-    if has_room s then told_kept xs (tasks.offered x s) (Offered x (has_room s) ∷ h)
-    else Offered x (has_room s) ∷ h
+    if has_answer_place s then told_kept xs (tasks.offered x s) (Offered x (has_answer_place s) ∷ h)
+    else Offered x (has_answer_place s) ∷ h
 
 -- an own answer of the open connection found no place
 abbrev pub has_lacked_place : History → Bool
