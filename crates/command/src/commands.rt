@@ -118,9 +118,17 @@ impl Commands {
         ensures { self.new ≡ told sign self.old }
     {
         // Most of the time nothing is selected, and each event comes by here.
-        if self.selections.is_empty() {
-            return;
+        if !self.selections.is_empty() {
+            self.advance(sign);
         }
+    }
+
+    /// Selections hear of something. Apart, so that the copy of the list stands in no function that
+    /// each event calls.
+    #[inline(never)]
+    fn advance(&mut self, sign: Sign)
+        ensures { self.new ≡ told sign self.old }
+    {
         self.selections = advanced(self.selections.as_slice(), self.select_ms, sign);
     }
 
