@@ -56,6 +56,20 @@ pub enum ApduRef<'a> {
     U(Uf),
 }
 
+/// An APDU that has no ASDU, so that it has six octets.
+///
+/// It has octets where its counter is below 32768.
+#[derive(Clone, Copy, Debug, PartialEq, Eq)]
+pub enum Short {
+    /// S format.
+    S {
+        /// N(R), the receive sequence number.
+        nr: u16,
+    },
+    /// U format.
+    U(Uf),
+}
+
 /// Why octets begin no APDU. The numbers are those that the program prints.
 #[derive(Clone, Copy, Debug, PartialEq, Eq)]
 pub enum Why {
