@@ -3,6 +3,7 @@ ghost use Rattle.std.specs.Prelude.{◌≡◌, ℕ, ◌+◌, ◌<◌, ◌≤◌,
 ghost use Rattle.std.specs.Bool.{OnTrue};
 ghost use Rattle.apci.specs.Spelling.{Fits, spelling};
 ghost use Rattle.apci.specs.Borrowed.{owned};
+ghost use Rattle.apci.specs.Short.{apdu_of};
 ghost use Rattle.session.specs.Session.{is_open, pulled};
 ghost use Rattle.session.specs.Ends.{after_confirm, after_pull, IsConfirmed, IsInTime};
 ghost use Rattle.gateway.specs.Log.{LogEntry, Went, LineIn, TcpOut, Opened, tell};
@@ -18,7 +19,7 @@ ghost use Rattle.gateway.specs.Runs.{Puts, faults_unless};
 
 use crate::engine::{Found, Gateway};
 use crate::ports::{Action, Event, Port};
-use apci::{Apdu, ApduRef, encode};
+use apci::{ApduRef, Short};
 use link::line_keeps_the_procedures;
 use session::{Close, calls_come_to_an_end};
 
@@ -34,16 +35,27 @@ pub enum Outcome {
 }
 
 impl Gateway {
-    /// Hands an APDU to TCP.
-    fn hand<P: Port>(&self, apdu: &Apdu, port: &mut P) -> bool
-        requires ready { P.failed port.old < u64.MAX }
-        requires fits { Fits apdu.now }
+    /// Hands the octets of an APDU to TCP.
+    fn hand<P: Port>(&self, octets: &[u8], port: &mut P) -> bool
+        requires { P.failed port.old < u64.MAX }
         ensures told { P.log port.new ≡ (if result
-            then tell (P.log port.old) (Went self.now.moment (TcpOut (spelling apdu.now)) ∷ [])
+            then tell (P.log port.old) (Went self.now.moment (TcpOut octets.now) ∷ [])
             else P.log port.old) }
         ensures puts { Puts P.log P.script P.failed port.old port.new (faults_unless result) }
     {
-        port.put(self.moment(), &Action::Tcp(&encode(apdu)))
+        port.put(self.moment(), &Action::Tcp(octets))
+    }
+
+    /// Hands an APDU without an ASDU to TCP.
+    fn hand_short<P: Port>(&self, apdu: Short, port: &mut P) -> bool
+        requires ready { P.failed port.old < u64.MAX }
+        requires fits { Fits (apdu_of apdu) }
+        ensures told { P.log port.new ≡ (if result
+            then tell (P.log port.old) (Went self.now.moment (TcpOut (spelling (apdu_of apdu))) ∷ [])
+            else P.log port.old) }
+        ensures puts { Puts P.log P.script P.failed port.old port.new (faults_unless result) }
+    {
+        self.hand(&apdu.to_octets(), port)
     }
 
     /// Sends the next confirmation, if one is due.
@@ -59,7 +71,7 @@ impl Gateway {
     {
         match self.confirm() {
             None => true,
-            Some(apdu) => self.hand(&apdu, port),
+            Some(apdu) => self.hand_short(apdu, port),
         }
     }
 
@@ -99,8 +111,13 @@ impl Gateway {
         ensures puts { Puts P.log P.script P.failed port.old port.new (faults_unless result) }
     {
         calls_come_to_an_end();
-        while let Some(apdu) = self.next_data() {
-            if !self.hand(&apdu, port) {
+        if self.has_sent_all() {
+            return true;
+        }
+        // One place for the octets of all frames: none is moved once it is written.
+        let mut octets = [0; 255];
+        while let Some(count) = self.write_data(&mut octets) {
+            if !self.hand(&octets[..count], port) {
                 return false;
             }
         }
@@ -120,7 +137,7 @@ impl Gateway {
     {
         match self.pull() {
             None => true,
-            Some(apdu) => self.hand(&apdu, port),
+            Some(apdu) => self.hand_short(apdu, port),
         }
     }
 
