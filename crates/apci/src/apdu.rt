@@ -126,6 +126,20 @@ impl Apdu {
     }
 }
 
+impl Short {
+    ghost use Rattle.apci.specs.Short.{apdu_of};
+
+    /// The same APDU as one that may have an ASDU.
+    pub fn to_apdu(self) -> Apdu
+        ensures { result ≡ apdu_of self }
+    {
+        match self {
+            Short::S { nr } => Apdu::S { nr },
+            Short::U(function) => Apdu::U(function),
+        }
+    }
+}
+
 impl ApduRef<'_> {
     ghost use Rattle.apci.specs.Borrowed.{owned, FitsMemory};
 

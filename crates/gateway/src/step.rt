@@ -1,6 +1,7 @@
 //! One event, and what goes out at it.
 ghost use Rattle.std.specs.Prelude.{◌≡◌, ℕ, ◌+◌, ◌<◌, ◌≤◌, Bool, true, false, List, [], ◌∷◌, ◌++◌, length, drop, IfSome, Some, None, Option, if◌then◌else◌};
 ghost use Rattle.std.specs.Bool.{OnTrue};
+ghost use Rattle.apci.specs.declared.apdu.Apdu.{Apdu};
 ghost use Rattle.apci.specs.Spelling.{Fits, spelling};
 ghost use Rattle.apci.specs.Borrowed.{owned};
 ghost use Rattle.apci.specs.Short.{apdu_of};
@@ -10,7 +11,7 @@ ghost use Rattle.gateway.specs.Log.{LogEntry, Went, LineIn, TcpOut, Opened, tell
 ghost use Rattle.gateway.specs.Ports.{input_of};
 ghost use Rattle.gateway.specs.Reports.{Setup};
 ghost use Rattle.gateway.specs.Traffic.{IsFaithful};
-ghost use Rattle.gateway.specs.State.{State, disconnected, connected, with_session};
+ghost use Rattle.gateway.specs.State.{State, disconnected, connected, with_session, with_octets};
 ghost use Rattle.gateway.specs.Agrees.{IsClear, Tracks, Awaits, Meets, Leaves, Follows, HasCome, Rests, IsSpent, StaysInTime};
 ghost use Rattle.gateway.specs.Steps.{MayClose, HearsEvent, Begins};
 ghost use Rattle.gateway.specs.Phases.{Phase, Idle, Timed, Asked, IsFlushing};
@@ -239,10 +240,27 @@ impl Gateway {
             return (count, self.take_apdu(apdu, port));
         }
         match self.feed(octets) {
-            Found::Apdu(count, apdu) => (count, self.take_apdu(apdu.as_ref(), port)),
+            Found::Whole(count) => (count, self.take_heard(port)),
             Found::More => (0, Outcome::Over),
             Found::Refused => (0, self.shut(Close::Grammar, port)),
         }
+    }
+
+    /// Takes the APDU that came in pieces and is whole now.
+    fn take_heard<P: Port>(&mut self, port: &mut P) -> Outcome
+        requires ready { P.failed port.old < u64.MAX }
+        requires heard { (frame : Apdu) × (self.old.centre.heard ≡ Some frame) × Fits frame }
+        requires open { is_open self.old.centre.session ≡ true }
+        requires whole { self.old.centre.so_far ≡ Some [] }
+        ensures kept { (p : Setup) (frame : Apdu) (rest : List ℕ) →
+            self.old.centre.heard ≡ Some frame →
+            Meets p (with_octets (Some []) self.old) (P.log port.old) (spelling frame ++ rest) rest →
+            Goes result p self.new (P.log port.new) rest }
+        ensures open { IsOnward result (is_open self.new.centre.session ≡ true) }
+        ensures puts { Puts P.log P.script P.failed port.old port.new (faults_in result) }
+    {
+        let apdu = self.take_whole();
+        self.take_apdu(apdu.as_ref(), port)
     }
 
     /// Closes the connection, and the octets that are left are dropped.

@@ -15,11 +15,11 @@ ghost use Rattle.gateway.specs.Serial.{judged, has_place};
 ghost use Rattle.gateway.specs.State.{disconnected, connected, received as frame_received};
 ghost use Rattle.gateway.specs.State.{with_serial, with_centre, with_session, wall_now};
 ghost use Rattle.gateway.specs.Steps.{Judged, SendsPiece, SendsData, SpellFrame};
-ghost use Rattle.gateway.specs.Finding.{Finds};
+ghost use Rattle.gateway.specs.Finding.{Finds, FindsWhole};
 ghost use Rattle.gateway.specs.Polls.{has_room};
 
 use super::{Found, Gateway};
-use apci::{ApduRef, Assembler, FrontRef, Heard, Short, front_ref, write_information};
+use apci::{Apdu, ApduRef, Assembler, FrontRef, Heard, Short, front_ref, write_information};
 use asdu::Pieces;
 use events::Events;
 use session::{Close, Kind, Session, Taken};
@@ -42,6 +42,7 @@ impl Model for CentreSide {
     ghost view = { λ a. record {
       session = a.session;
       so_far = a.assembler.so_far;
+      heard = a.assembler.whole;
       queue = a.queue;
     } };
 
@@ -104,7 +105,7 @@ impl CentreSide {
     {
         let (count, heard) = self.assembler.feed(piece);
         match heard {
-            Heard::Apdu(apdu) => Found::Apdu(count, apdu),
+            Heard::Whole => Found::Whole(count),
             Heard::More => Found::More,
             Heard::Never(_, _) => {
                 self.assembler.clear();
@@ -117,12 +118,21 @@ impl CentreSide {
         }
     }
 
+    /// The APDU that came in pieces and is whole now.
+    fn take_whole(&mut self) -> Apdu
+        requires { (frame : Apdu) × (self.old.heard ≡ Some frame) }
+        ensures frame { self.old.heard ≡ Some result }
+        ensures rest { self.new ≡ record self.old { heard = None } }
+    {
+        self.assembler.take().unwrap()
+    }
+
     /// A whole APDU at the front of octets that came, where none had come since the last one, and
     /// how many octets it has. Its ASDU is lent where it stands.
     fn find_whole<'a>(&self, piece: &'a [u8]) -> Option<(ApduRef<'a>, usize)>
         requires { 0 < length piece.now }
         ensures { IfSome result (λ found.
-            Finds self.now piece.now (Found.Apdu found.1 (owned found.0)) self.now) }
+            FindsWhole self.now piece.now (owned found.0) found.1) }
     {
         if !self.assembler.is_empty() {
             return None;
@@ -231,12 +241,21 @@ impl Gateway {
         self.centre.feed(piece)
     }
 
+    /// The APDU that came in pieces and is whole now.
+    pub(crate) fn take_whole(&mut self) -> Apdu
+        requires { (frame : Apdu) × (self.old.centre.heard ≡ Some frame) }
+        ensures frame { self.old.centre.heard ≡ Some result }
+        ensures rest { self.new ≡ with_centre (record self.old.centre { heard = None }) self.old }
+    {
+        self.centre.take_whole()
+    }
+
     /// A whole APDU at the front of octets that came, where none had come since the last one, and
     /// how many octets it has.
     pub(crate) fn find_whole<'a>(&self, piece: &'a [u8]) -> Option<(ApduRef<'a>, usize)>
         requires { 0 < length piece.now }
         ensures { IfSome result (λ found.
-            Finds self.now.centre piece.now (Found.Apdu found.1 (owned found.0)) self.now.centre) }
+            FindsWhole self.now.centre piece.now (owned found.0) found.1) }
     {
         self.centre.find_whole(piece)
     }
