@@ -140,7 +140,7 @@ fn one_whole(taken: usize, apdu: Apdu) -> Fed {
 }
 
 /// What a piece gives.
-fn fed(assembler: &mut Assembler, piece: &[u8]) -> Fed {
+fn feed_and_take(assembler: &mut Assembler, piece: &[u8]) -> Fed {
     let (taken, heard) = assembler.feed(piece);
     let apdu = assembler.take();
     Fed { taken, heard, apdu }
@@ -262,12 +262,12 @@ fn is_heard_alike(octets: &[u8], cut: usize) -> bool
 {
     let (first, rest) = octets.split_at(cut);
     let mut assembler = Assembler::new();
-    let at_first = fed(&mut assembler, first);
+    let at_first = feed_and_take(&mut assembler, first);
     let alike = if at_first.heard == Heard::More {
-        fed(&mut assembler, rest) == fed_by(rest.len(), front(octets))
+        feed_and_take(&mut assembler, rest) == fed_by(rest.len(), front(octets))
     } else {
         at_first == fed_by(cut, front(octets))
-            && fed(&mut assembler, rest) == none_whole(rest.len(), Heard::Deaf)
+            && feed_and_take(&mut assembler, rest) == none_whole(rest.len(), Heard::Deaf)
     };
     alike && at_first.taken == cut && assembler.looked() <= octets.len() as u64
 }
@@ -294,7 +294,7 @@ fn every_cut_is_heard_alike(rt: HostRuntime) {
 fn is_heard_octet_by_octet(octets: &[u8]) -> bool {
     let mut assembler = Assembler::new();
     for (i, octet) in octets.iter().enumerate() {
-        let found = fed(&mut assembler, &[*octet]);
+        let found = feed_and_take(&mut assembler, &[*octet]);
         let goes_on = found.heard == Heard::More;
         if found != fed_by(1, front(&octets[..i + 1])) {
             return false;
@@ -330,7 +330,7 @@ enum Step<'a> {
 /// Whether each call, in their order, answers what it is to.
 fn answers(assembler: &mut Assembler, steps: &[Step]) -> bool {
     steps.iter().all(|step| match step {
-        Step::Feed(piece, expected) => fed(assembler, piece) == *expected,
+        Step::Feed(piece, expected) => feed_and_take(assembler, piece) == *expected,
         Step::Clear => {
             assembler.clear();
             true

@@ -189,6 +189,7 @@ impl SerialSide {
     }
 
     /// The command on a station's line, if there is one, is given up.
+    #[inline(never)]
     fn give_up(&mut self, station: usize)
         ensures { self.new ≡ given_up station self.old }
     {
@@ -241,6 +242,9 @@ impl SerialSide {
 
     /// Judges an ASDU of the control centre. Where its answer finds no place, that closes the
     /// connection.
+    ///
+    /// It stands apart, so that a frame without an ASDU makes no place for an answer.
+    #[inline(never)]
     pub(super) fn judge(&mut self, octets: &[u8], moment: u64, wall: Option<u64>) -> Option<Close>
         requires long { 9 ≤ length octets.now }
         requires short { length octets.now ≤ 249 }
