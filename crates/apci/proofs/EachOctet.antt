@@ -79,6 +79,8 @@ state_more (state.UThird f) asdu x h e = (let x_is : 0x68 ∷ 4 ∷ function f �
     subst IsMore x_is (inl (u_2 f)))
 state_more (state.UFourth f) asdu x h e = (let x_is : 0x68 ∷ 4 ∷ function f ∷ 0 ∷ 0 ∷ [] ≡ x = cc in
     subst IsMore x_is (inl (u_3 f)))
+state_more (state.Information ns nr) asdu x h e = (let x_is : [] ≡ x = cc in subst IsMore x_is (inl nothing))
+state_more (state.Short a) asdu x h e = (let x_is : [] ≡ x = cc in subst IsMore x_is (inl nothing))
 
 -- one that isn't deaf has octets so far
 pub hears : (s : State) (asdu : List ℕ) → (s ≡ state.Deaf → ⊥) → (x : List ℕ) × (so_far s asdu ≡ Some x)
@@ -96,6 +98,8 @@ hears (state.SFourth low) asdu apart = (_, refl)
 hears (state.USecond f) asdu apart = (_, refl)
 hears (state.UThird f) asdu apart = (_, refl)
 hears (state.UFourth f) asdu apart = (_, refl)
+hears (state.Information ns nr) asdu apart = (_, refl)
+hears (state.Short a) asdu apart = (_, refl)
 
 -- ---- an octet of a piece
 

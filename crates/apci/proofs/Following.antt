@@ -1,15 +1,14 @@
 -- Where an APDU's octets come, it is heard, and nothing of what stands behind it is taken.
-use Rattle.std.proofs.Common.{◌≡◌, ℕ, ◌+◌, List, [], ◌++◌, length, arith}
+use Rattle.std.proofs.Common.{◌≡◌, ℕ, ◌+◌, List, [], ◌++◌, length, arith, refl, ap, sym, ◌∙◌, Some}
 use Rattle.std.proofs.lemmas.List.{length-append}
 use Rattle.std.proofs.Math.Seq.{take-append_seam}
-use Rattle.std.specs.Prelude.{Option}
 use Rattle.apci.specs.declared.apdu.Apdu.{Apdu}
 use Rattle.apci.specs.declared.apdu.Front.TheVariants.{Whole, More, Never}
 use Rattle.apci.specs.declared.assembling.Heard.{Heard}
 use Rattle.apci.specs.declared.assembling.Heard.TheVariants as heard
 use Rattle.apci.specs.Spelling.{Fits, spelling}
 use Rattle.apci.specs.Reading.{IsFront}
-use Rattle.apci.specs.Assembly.{Hears, IsHeardWhole}
+use Rattle.apci.specs.Assembly.{Assembly, Hears, IsHeardWhole}
 use Rattle.apci.proofs.Exact.{one_front}
 
 whole : (a : Apdu) (more : List ℕ) → Fits a → IsFront (spelling a ++ more) (Whole a (length (spelling a)))
@@ -17,14 +16,14 @@ whole a more fits =
     let longer = length-append (spelling a) more in
     (record { fits = fits; spelled = take-append_seam (spelling a) more }, omega (arith, longer))
 
-pub heard_whole : (a : Apdu) (more : List ℕ) (n : ℕ) (h : Heard) (after : Option (List ℕ)) → Fits a
+pub heard_whole : (a : Apdu) (more : List ℕ) (n : ℕ) (h : Heard) (after : Assembly) → Fits a
     → Hears [] (spelling a ++ more) n h after → IsHeardWhole a n h after
-heard_whole a more n (heard.Apdu b) after fits h =
-    let same : Whole a (length (spelling a)) ≡ Whole b (0 + n) =
-    one_front (spelling a ++ more) (Whole b (0 + n)) (Whole a (length (spelling a))) h.0 (whole a more fits) in
-    let apdus : a ≡ b = cc in
+heard_whole a more n heard.Whole after fits h =
+    let same : Whole a (length (spelling a)) ≡ Whole h.0 (0 + n) =
+    one_front (spelling a ++ more) (Whole h.0 (0 + n)) (Whole a (length (spelling a))) h.1 (whole a more fits) in
+    let apdus : a ≡ h.0 = cc in
     let lengths : length (spelling a) ≡ 0 + n = cc in
-    record { apdu_is = cc; taken = omega (arith, lengths); listening = h.1 }
+    record { heard_is = refl; whole = h.3 ∙ ap Some (sym apdus); taken = omega (arith, lengths); listening = h.2 }
 heard_whole a more n heard.More after fits h =
     let same : Whole a (length (spelling a)) ≡ More =
     one_front (spelling a ++ more) More (Whole a (length (spelling a))) h.0 (whole a more fits) in

@@ -7,28 +7,32 @@ use Rattle.apci.specs.declared.assembling.Heard.TheVariants as heard
 use Rattle.apci.specs.Reading.{IsFront, IsDecidedAt}
 use Rattle.apci.specs.Spelling.{spelling}
 
--- What contracts see of an assembler: the octets since the last APDU (none where it is deaf), and
--- how many octets it has looked at.
+-- What contracts see of an assembler: the octets since the last APDU (none where it is deaf), the
+-- APDU that is whole and isn't taken yet, and how many octets it has looked at.
 pub record Assembly : Type 0 where
   pub so_far : Option (List ℕ)
+  pub whole : Option Apdu
   pub looked : ℕ
 
 -- What is heard of a piece after the octets so far is what stands at the front of both joined. n
 -- octets of the piece are taken.
-abbrev pub Hears : List ℕ → List ℕ → ℕ → Heard → Option (List ℕ) → Type 0
-Hears so_far piece n (heard.Apdu a) after =
-    IsFront (so_far ++ piece) (front.Whole a (length so_far + n)) × (after ≡ Some [])
+abbrev pub Hears : List ℕ → List ℕ → ℕ → Heard → Assembly → Type 0
+Hears so_far piece n heard.Whole after =
+    (a : Apdu) × IsFront (so_far ++ piece) (front.Whole a (length so_far + n))
+    × (after.so_far ≡ Some []) × (after.whole ≡ Some a)
 Hears so_far piece n heard.More after =
-    IsFront (so_far ++ piece) front.More × (n ≡ length piece) × (after ≡ Some (so_far ++ piece))
+    IsFront (so_far ++ piece) front.More × (n ≡ length piece)
+    × (after.so_far ≡ Some (so_far ++ piece)) × (after.whole ≡ None)
 Hears so_far piece n (heard.Never place why) after =
-    IsFront (so_far ++ piece) (front.Never place why) × (n ≡ length piece) × (after ≡ None)
+    IsFront (so_far ++ piece) (front.Never place why) × (n ≡ length piece)
+    × (after.so_far ≡ None) × (after.whole ≡ None)
 Hears so_far piece n heard.Deaf after = ⊥
 
 -- How often octets were looked at, where n octets of the piece were taken: each once. Where they
 -- begin no APDU, the last one looked at is the one that decides it; those behind it aren't looked
 -- at. The count saturates.
 abbrev pub HasLooked : List ℕ → List ℕ → ℕ → ℕ → Heard → ℕ → Type 0
-HasLooked so_far piece before n (heard.Apdu a) after = after ≡ min (2 ^ 64 - 1) (before + n)
+HasLooked so_far piece before n heard.Whole after = after ≡ min (2 ^ 64 - 1) (before + n)
 HasLooked so_far piece before n heard.More after = after ≡ min (2 ^ 64 - 1) (before + n)
 HasLooked so_far piece before n (heard.Never place why) after =
     (decides : ℕ) × IsDecidedAt (so_far ++ piece) decides
@@ -36,7 +40,8 @@ HasLooked so_far piece before n (heard.Never place why) after =
 HasLooked so_far piece before n heard.Deaf after = ⊥
 
 -- The whole APDU is heard, its octets are taken, and the octets behind it begin the next one.
-pub record IsHeardWhole (a : Apdu) (n : ℕ) (h : Heard) (after : Option (List ℕ)) : Type 0 where
-  pub apdu_is : h ≡ heard.Apdu a
+pub record IsHeardWhole (a : Apdu) (n : ℕ) (h : Heard) (after : Assembly) : Type 0 where
+  pub heard_is : h ≡ heard.Whole
+  pub whole : after.whole ≡ Some a
   pub taken : n ≡ length (spelling a)
-  pub listening : after ≡ Some []
+  pub listening : after.so_far ≡ Some []

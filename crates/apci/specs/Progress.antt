@@ -1,6 +1,8 @@
 -- What an assembler has kept of an APDU, as the octets that it stands for.
 use Rattle.std.specs.Prelude.{◌≡◌, ℕ, ◌+◌, ◌%◌, ◌^◌, ◌<◌, ◌≤◌, List, [], ◌∷◌, ◌++◌, length, All, Option, Some, None}
+use Rattle.apci.specs.declared.apdu.Apdu.{Apdu}
 use Rattle.apci.specs.declared.apdu.Apdu.TheVariants as apdu
+use Rattle.apci.specs.Short.{apdu_of}
 use Rattle.apci.specs.declared.apdu.Front.TheVariants.{Whole, Never}
 use Rattle.apci.specs.declared.assembling.State.{State}
 use Rattle.apci.specs.declared.assembling.State.TheVariants as state
@@ -25,6 +27,14 @@ so_far (state.SFourth low) asdu = Some (0x68 ∷ 4 ∷ 0x01 ∷ 0x00 ∷ low ∷
 so_far (state.USecond f) asdu = Some (0x68 ∷ 4 ∷ function f ∷ [])
 so_far (state.UThird f) asdu = Some (0x68 ∷ 4 ∷ function f ∷ 0x00 ∷ [])
 so_far (state.UFourth f) asdu = Some (0x68 ∷ 4 ∷ function f ∷ 0x00 ∷ 0x00 ∷ [])
+so_far (state.Information ns nr) asdu = Some []
+so_far (state.Short a) asdu = Some []
+
+-- the APDU that is whole and isn't taken yet
+abbrev pub whole : State → List ℕ → Option Apdu
+whole (state.Information ns nr) asdu = Some (apdu.I ns nr (record { items = asdu }))
+whole (state.Short a) asdu = Some (apdu_of a)
+whole other asdu = None
 
 -- the length of an I format
 abbrev pub IsLong : ℕ → Type 0
@@ -51,12 +61,16 @@ IsState state.SThird asdu = asdu ≡ []
 IsState (state.USecond f) asdu = asdu ≡ []
 IsState (state.UThird f) asdu = asdu ≡ []
 IsState (state.UFourth f) asdu = asdu ≡ []
+IsState (state.Information ns nr) asdu = Unit {0}
+IsState (state.Short a) asdu = asdu ≡ []
 
 -- What one more octet gives: the octets with it, the ASDU so far, the octet, the state before it.
 abbrev pub Gives : List ℕ → List ℕ → ℕ → State → Step → Type 0
-Gives octets asdu o old (step.Goes new) = (so_far new asdu ≡ Some octets) × IsState new asdu
+Gives octets asdu o old (step.Goes new) =
+    (so_far new asdu ≡ Some octets) × IsState new asdu × (whole new asdu ≡ None)
 Gives octets asdu o old step.Keeps =
     (so_far old (asdu ++ o ∷ []) ≡ Some octets) × IsState old (asdu ++ o ∷ []) × (length asdu < 249)
+    × (whole old (asdu ++ o ∷ []) ≡ None)
 Gives octets asdu o old (step.I ns nr) =
     IsFront octets (Whole (apdu.I ns nr (record { items = asdu ++ o ∷ [] })) (length octets))
     × (length asdu < 249)

@@ -56,6 +56,20 @@ pub enum ApduRef<'a> {
     U(Uf),
 }
 
+/// An APDU that has no ASDU, so that it has six octets.
+///
+/// It has octets where its counter is below 32768.
+#[derive(Clone, Copy, Debug, PartialEq, Eq)]
+pub enum Short {
+    /// S format.
+    S {
+        /// N(R), the receive sequence number.
+        nr: u16,
+    },
+    /// U format.
+    U(Uf),
+}
+
 /// Why octets begin no APDU. The numbers are those that the program prints.
 #[derive(Clone, Copy, Debug, PartialEq, Eq)]
 pub enum Why {
@@ -108,6 +122,20 @@ impl Apdu {
             },
             Apdu::S { nr } => ApduRef::S { nr: *nr },
             Apdu::U(function) => ApduRef::U(*function),
+        }
+    }
+}
+
+impl Short {
+    ghost use Rattle.apci.specs.Short.{apdu_of};
+
+    /// The same APDU as one that may have an ASDU.
+    pub fn to_apdu(self) -> Apdu
+        ensures { result ≡ apdu_of self }
+    {
+        match self {
+            Short::S { nr } => Apdu::S { nr },
+            Short::U(function) => Apdu::U(function),
         }
     }
 }

@@ -1,12 +1,12 @@
 //! APDUs out of pieces of a stream, with each octet looked at once.
 
-ghost use Rattle.std.specs.Prelude.{◌≡◌, ℕ, ◌+◌, ◌-◌, ◌^◌, ◌<◌, ◌≤◌, min, ◌↔◌, [], ◌∷◌, ◌++◌, length, Some, IfSome, IfNone, IsTrue};
+ghost use Rattle.std.specs.Prelude.{◌≡◌, ℕ, ◌+◌, ◌-◌, ◌^◌, ◌<◌, ◌≤◌, min, ◌↔◌, List, None, [], ◌∷◌, ◌++◌, length, Some, IfSome, IfNone, IsTrue};
 ghost use Rattle.apci.specs.declared.assembling.Heard.TheVariants.{Deaf as HeardDeaf};
 ghost use Rattle.apci.specs.declared.assembling.State.TheVariants as State;
 ghost use Rattle.apci.specs.Assembly.{Hears, HasLooked};
-ghost use Rattle.apci.specs.Progress.{so_far, IsState, Gives};
+ghost use Rattle.apci.specs.Progress.{so_far, whole, IsState, Gives};
 
-use crate::apdu::{Apdu, Uf, Why};
+use crate::apdu::{Apdu, Short, Uf, Why};
 use crate::control::{Format, counter_of, format_of};
 use crate::writing::START;
 use arrayvec::ArrayVec;
@@ -14,10 +14,10 @@ use std::marker::Model;
 use std::mem;
 
 /// What an assembler hears in a piece.
-#[derive(Debug, PartialEq, Eq, Drop)]
+#[derive(Clone, Copy, Debug, PartialEq, Eq)]
 pub enum Heard {
-    /// A whole APDU.
-    Apdu(Apdu),
+    /// The last octet of an APDU, which `take` answers.
+    Whole,
     /// The beginning of an APDU, or nothing.
     More,
     /// No APDU and no beginning of one: what `front` answers for the octets since the last APDU.
@@ -45,6 +45,10 @@ enum State {
     USecond(Uf),
     UThird(Uf),
     UFourth(Uf),
+    /// The first one: an I format, whose ASDU stands apart, is whole and isn't taken yet.
+    Information { ns: u16, nr: u16 },
+    /// The first one: an S or U format is whole and isn't taken yet.
+    Short(Short),
 }
 
 /// What one octet gives.
@@ -107,12 +111,13 @@ fn control_step(len: u8, octet: u8) -> Step
 
 /// What the next octet gives.
 fn stepped(state: State, asdu: &[u8], octet: u8) -> Step
-    requires { IsState state asdu.now }
+    requires right { IsState state asdu.now }
+    requires taken { whole state asdu.now ≡ None }
     ensures { IfSome (so_far state asdu.now) (λ octets.
         Gives (octets ++ octet ∷ []) asdu.now octet state result) }
 {
     match state {
-        State::Deaf => Step::Goes(State::Deaf),
+        State::Deaf | State::Information { .. } | State::Short(_) => Step::Goes(State::Deaf),
         State::Start if octet != START => Step::Never(0, Why::Start),
         State::Start => Step::Goes(State::Length),
         State::Length => length_step(octet),
@@ -153,7 +158,8 @@ fn stepped(state: State, asdu: &[u8], octet: u8) -> Step
 /// Makes APDUs out of pieces of a stream.
 ///
 /// It keeps the fields so far, and no octet but those of an ASDU. Contracts see the octets since
-/// the last APDU, or none where it is deaf, and how many octets it has looked at.
+/// the last APDU, or none where it is deaf, the APDU that is whole and isn't taken yet, and how
+/// many octets it has looked at.
 #[derive(Drop)]
 pub struct Assembler {
     state: State,
@@ -166,9 +172,13 @@ impl Model for Assembler {
 
     ghost Value = { Assembly };
 
-    ghost use Rattle.apci.specs.Progress.{so_far, IsState};
+    ghost use Rattle.apci.specs.Progress.{so_far, whole, IsState};
 
-    ghost view = { λ a. record { so_far = so_far a.state a.asdu.items; looked = a.looked } };
+    ghost view = { λ a. record {
+      so_far = so_far a.state a.asdu.items;
+      whole = whole a.state a.asdu.items;
+      looked = a.looked;
+    } };
 
     ghost invariant = { λ a. IsState a.state a.asdu.items };
 }
@@ -192,6 +202,7 @@ impl Assembler {
     /// An assembler that has heard nothing.
     pub fn new() -> Self
         ensures so_far { result.so_far ≡ Some [] }
+        ensures whole { result.whole ≡ None }
         ensures looked { result.looked ≡ 0 }
     {
         Assembler {
@@ -201,9 +212,9 @@ impl Assembler {
         }
     }
 
-    /// Whether no octet has come since the last APDU, so that it has kept nothing of the next one.
+    /// Whether no octet has come since the last APDU, and that is taken: so it has kept nothing.
     pub fn is_empty(&self) -> bool
-        ensures { IsTrue result ↔ (self.now.so_far ≡ Some []) }
+        ensures { IsTrue result ↔ ((self.now.so_far ≡ Some []) × (self.now.whole ≡ None)) }
     {
         matches!(self.state, State::Start)
     }
@@ -217,10 +228,10 @@ impl Assembler {
 
     /// Takes octets of a piece, up to the last one of an APDU, and says how many and what was
     /// heard. It takes them all where no APDU ends in the piece. After a refusal it takes and drops
-    /// all octets until `clear`.
+    /// all octets until `clear`. An APDU that wasn't taken before is dropped.
     pub fn feed(&mut self, piece: &[u8]) -> (usize, Heard)
         ensures listening { IfSome self.old.so_far (λ so_far.
-            Hears so_far piece.now result.0 result.1 self.new.so_far) }
+            Hears so_far piece.now result.0 result.1 self.new) }
         ensures deaf { IfNone self.old.so_far
             ((result.0 ≡ length piece.now) × (result.1 ≡ HeardDeaf) × (self.new ≡ self.old)) }
         ensures within { result.0 ≤ length piece.now }
@@ -232,6 +243,22 @@ impl Assembler {
         if is_deaf(&self.state) {
             return (piece.len(), Heard::Deaf);
         }
+        self.forget();
+        self.listen(piece)
+    }
+
+    /// Takes octets of a piece, where it isn't deaf and no APDU is left to be taken.
+    fn listen(&mut self, piece: &[u8]) -> (usize, Heard)
+        requires listens { (so_far : List ℕ) × (self.old.so_far ≡ Some so_far) }
+        requires taken { self.old.whole ≡ None }
+        ensures listening { IfSome self.old.so_far (λ so_far.
+            Hears so_far piece.now result.0 result.1 self.new) }
+        ensures within { result.0 ≤ length piece.now }
+        ensures progress { 0 < length piece.now → 0 < result.0 }
+        ensures looked { IfSome self.old.so_far (λ so_far.
+            HasLooked so_far piece.now self.old.looked result.0 result.1 self.new.looked) }
+        ensures at_most_once { self.new.looked ≤ self.old.looked + result.0 }
+    {
         for (i, octet) in piece.iter().enumerate() {
             let octet = look(&mut self.looked, octet);
             match stepped(self.state, &self.asdu, octet) {
@@ -239,17 +266,16 @@ impl Assembler {
                 Step::Keeps => self.asdu.push(octet),
                 Step::I { ns, nr } => {
                     self.asdu.push(octet);
-                    let asdu = mem::replace(&mut self.asdu, ArrayVec::new());
-                    self.state = State::Start;
-                    return (i + 1, Heard::Apdu(Apdu::I { ns, nr, asdu }));
+                    self.state = State::Information { ns, nr };
+                    return (i + 1, Heard::Whole);
                 }
                 Step::S { nr } => {
-                    self.state = State::Start;
-                    return (i + 1, Heard::Apdu(Apdu::S { nr }));
+                    self.state = State::Short(Short::S { nr });
+                    return (i + 1, Heard::Whole);
                 }
                 Step::U(function) => {
-                    self.state = State::Start;
-                    return (i + 1, Heard::Apdu(Apdu::U(function)));
+                    self.state = State::Short(Short::U(function));
+                    return (i + 1, Heard::Whole);
                 }
                 Step::Never(place, why) => {
                     self.state = State::Deaf;
@@ -260,9 +286,38 @@ impl Assembler {
         (piece.len(), Heard::More)
     }
 
+    /// An APDU that is whole is dropped.
+    fn forget(&mut self)
+        ensures { self.new ≡ record self.old { whole = None } }
+    {
+        if let State::Information { .. } | State::Short(_) = self.state {
+            self.clear();
+        }
+    }
+
+    /// The whole APDU that was heard last, if it isn't taken yet.
+    pub fn take(&mut self) -> Option<Apdu>
+        ensures apdu { result ≡ self.old.whole }
+        ensures rest { self.new ≡ record self.old { whole = None } }
+    {
+        match self.state {
+            State::Information { ns, nr } => {
+                self.state = State::Start;
+                let asdu = mem::replace(&mut self.asdu, ArrayVec::new());
+                Some(Apdu::I { ns, nr, asdu })
+            }
+            State::Short(apdu) => {
+                self.state = State::Start;
+                Some(apdu.to_apdu())
+            }
+            _ => None,
+        }
+    }
+
     /// Begins afresh: it hears again, and what had come of an APDU is forgotten.
     pub fn clear(&mut self)
         ensures so_far { self.new.so_far ≡ Some [] }
+        ensures whole { self.new.whole ≡ None }
         ensures looked { self.new.looked ≡ self.old.looked }
     {
         self.state = State::Start;

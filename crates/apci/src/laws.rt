@@ -1,11 +1,11 @@
 //! What holds of APDUs and their octets.
 
-ghost use Rattle.std.specs.Prelude.{◌≡◌, ℕ, Option, List, [], ◌++◌};
+ghost use Rattle.std.specs.Prelude.{◌≡◌, ℕ, List, [], ◌++◌};
 ghost use Rattle.apci.specs.declared.apdu.Apdu.{Apdu};
 ghost use Rattle.apci.specs.declared.apdu.Front.{Front};
 ghost use Rattle.apci.specs.declared.assembling.Heard.{Heard};
 ghost use Rattle.apci.specs.Spelling.{Fits, IsApdu, spelling};
-ghost use Rattle.apci.specs.Assembly.{Hears, IsHeardWhole};
+ghost use Rattle.apci.specs.Assembly.{Assembly, Hears, IsHeardWhole};
 ghost use Rattle.apci.specs.Reading.{IsFront};
 ghost use Rattle.std.specs.List.{AllByRecursion};
 ghost use Rattle.apci.specs.Examples.{IsSpelledSo, TellFormats, IsRefusedSo, spelling_examples, refusal_examples};
@@ -41,7 +41,7 @@ pub fn formats_are_told_apart()
 /// takes its octets and no more, and listens on: so it hears the APDUs of a stream one after
 /// another.
 pub fn apdus_are_heard_one_after_another()
-    ensures { (a : Apdu) (more : List ℕ) (n : ℕ) (heard : Heard) (after : Option (List ℕ)) →
+    ensures { (a : Apdu) (more : List ℕ) (n : ℕ) (heard : Heard) (after : Assembly) →
         Fits a → Hears [] (spelling a ++ more) n heard after → IsHeardWhole a n heard after }
 {}
 

@@ -1,11 +1,12 @@
 //! Application protocol data units (APDUs) of IEC 60870-5-104, clause 5: values to octets and back.
 //!
-//! An [`Apdu`] is an I, S or U format. [`encode`] writes its octets, [`front`] and [`front_ref`]
-//! tell what stands at the front of octets, and an [`Assembler`] makes APDUs out of pieces of a
-//! stream, however it is cut. Counters, windows and timers are no matter of this crate, nor what an
-//! ASDU says.
+//! An [`Apdu`] is an I, S or U format, a [`Short`] one is an S or U format. [`encode`],
+//! [`write_information`] and [`Short::to_octets`] write octets, [`front`] and [`front_ref`] tell
+//! what stands at the front of octets, and an [`Assembler`] makes APDUs out of pieces of a stream,
+//! however it is cut. Counters, windows and timers are no matter of this crate, nor what an ASDU
+//! says.
 //!
-//! Proved: an APDU and its octets are one relation, `IsApdu`. `encode` writes the one spelling.
+//! Proved: an APDU and its octets are one relation, `IsApdu`. What is written is the one spelling.
 //! `front` answers the whole APDU exactly where one stands there, that more is due exactly where
 //! the octets begin one, and else the refusal of the least place that decides. `feed` hears what
 //! `front` finds in the joined octets, takes exactly the APDU's, and looks at no octet twice. No
@@ -19,11 +20,11 @@ mod laws;
 mod reading;
 mod writing;
 
-pub use apdu::{Apdu, ApduRef, Front, FrontRef, Uf, Why};
+pub use apdu::{Apdu, ApduRef, Front, FrontRef, Short, Uf, Why};
 pub use assembling::{Assembler, Heard};
 pub use laws::{
     apdus_are_heard_one_after_another, formats_are_told_apart, no_spelling_begins_another,
     one_front, one_spelling, spellings_cancel, worked_examples_hold,
 };
 pub use reading::{front, front_ref};
-pub use writing::encode;
+pub use writing::{encode, write_information};

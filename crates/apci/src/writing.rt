@@ -1,10 +1,10 @@
 //! APDUs to octets.
 
-ghost use Rattle.std.specs.Prelude.{◌≡◌, ◌+◌, ◌^◌, ◌<◌, ◌≤◌, ◌++◌, length};
-ghost use Rattle.arrayvec.specs.ArrayVec.{array_vec_len};
+ghost use Rattle.std.specs.Prelude.{◌≡◌, ◌^◌, ◌<◌, ◌≤◌, length, take};
 ghost use Rattle.apci.specs.Spelling.{counter, spelling, Fits};
+ghost use Rattle.apci.specs.Short.{apdu_of};
 
-use crate::apdu::Apdu;
+use crate::apdu::{Apdu, Short};
 use arrayvec::ArrayVec;
 
 /// The octet that begins each APDU.
@@ -13,13 +13,55 @@ pub(crate) const START: u8 = 0x68;
 /// The most octets that an APDU has.
 const LONGEST: usize = 255;
 
-fn push_counter(out: &mut ArrayVec<u8, LONGEST>, n: u16)
-    requires fits { n < 2 ^ 15 }
-    requires room { array_vec_len out.old + 2 ≤ 255 }
-    ensures { out.new.items ≡ out.old.items ++ counter n }
+/// N(S) or N(R) in two octets.
+fn counter_octets(n: u16) -> [u8; 2]
+    requires { n < 2 ^ 15 }
+    ensures { result ≡ counter n }
 {
-    out.push((n % 128 * 2) as u8);
-    out.push((n / 128) as u8);
+    [(n % 128 * 2) as u8, (n / 128) as u8]
+}
+
+impl Short {
+    /// Its six octets. It asks for a counter below 32768.
+    pub fn to_octets(self) -> [u8; 6]
+        requires { Fits (apdu_of self) }
+        ensures { result ≡ spelling (apdu_of self) }
+    {
+        match self {
+            Short::S { nr } => {
+                let nr = counter_octets(nr);
+                [START, 4, 0x01, 0x00, nr[0], nr[1]]
+            }
+            Short::U(function) => [START, 4, function.octet(), 0x00, 0x00, 0x00],
+        }
+    }
+}
+
+/// Writes an APDU in I format at the front of the octets, and says how many it has: 15 to 255. It
+/// asks for counters below 32768 and an ASDU of 9 to 249 octets.
+pub fn write_information(octets: &mut [u8; LONGEST], ns: u16, nr: u16, asdu: &[u8]) -> usize
+    requires counters { (ns < 2 ^ 15) × (nr < 2 ^ 15) }
+    requires long { 9 ≤ length asdu.now }
+    requires short { length asdu.now ≤ 249 }
+    ensures spelled { take result octets.new
+        ≡ spelling (Apdu.I ns nr (record { items = asdu.now })) }
+    ensures fits { Fits (Apdu.I ns nr (record { items = asdu.now })) }
+    ensures within { result ≤ 255 }
+{
+    let sent = counter_octets(ns);
+    let received = counter_octets(nr);
+    let control = [
+        START,
+        (4 + asdu.len()) as u8,
+        sent[0],
+        sent[1],
+        received[0],
+        received[1],
+    ];
+    let len = 6 + asdu.len();
+    octets[..6].copy_from_slice(&control);
+    octets[6..len].copy_from_slice(asdu);
+    len
 }
 
 /// The octets of an APDU, at most 255. It asks for counters below 32768 and an ASDU of 9 to 249
@@ -28,28 +70,22 @@ pub fn encode(apdu: &Apdu) -> ArrayVec<u8, LONGEST>
     requires { Fits apdu.now }
     ensures { result.items ≡ spelling apdu.now }
 {
-    let mut out = ArrayVec::new();
-    out.push(START);
     match apdu {
         Apdu::I { ns, nr, asdu } => {
-            out.push((4 + asdu.len()) as u8);
-            push_counter(&mut out, *ns);
-            push_counter(&mut out, *nr);
-            out.try_extend_from_slice(asdu).unwrap();
+            let mut octets = [0; LONGEST];
+            let len = write_information(&mut octets, *ns, *nr, asdu);
+            ArrayVec::try_from(&octets[..len]).unwrap()
         }
-        Apdu::S { nr } => {
-            out.push(4);
-            out.push(0x01);
-            out.push(0x00);
-            push_counter(&mut out, *nr);
-        }
-        Apdu::U(function) => {
-            out.push(4);
-            out.push(function.octet());
-            out.push(0x00);
-            out.push(0x00);
-            out.push(0x00);
-        }
+        Apdu::S { nr } => copied(&Short::S { nr: *nr }.to_octets()),
+        Apdu::U(function) => copied(&Short::U(*function).to_octets()),
     }
+}
+
+/// A copy of the six octets of a short APDU.
+fn copied(octets: &[u8; 6]) -> ArrayVec<u8, LONGEST>
+    ensures { result.items ≡ octets.now }
+{
+    let mut out = ArrayVec::new();
+    out.try_extend_from_slice(octets).unwrap();
     out
 }

@@ -1,6 +1,9 @@
 ghost use Rattle.std.specs.Prelude.{◌≤◌, length};
 
-use apci::{Apdu, ApduRef, Assembler, Front, FrontRef, Heard, Uf, Why, encode, front, front_ref};
+use apci::{
+    Apdu, ApduRef, Assembler, Front, FrontRef, Heard, Short, Uf, Why, encode, front, front_ref,
+    write_information,
+};
 
 /// The measured report of a normalised value: an I format with two objects.
 const REPORT: [u8; 21] = [
@@ -30,7 +33,9 @@ fn apdus_of_each_format(rt: HostRuntime) {
         let octets = [0x68, 0x04, control, 0x00, 0x00, 0x00];
         let apdu = Apdu::U(function);
         assert!(rt;
-            encode(&apdu).as_slice() == octets.as_slice() && front(&octets) == Front::Whole(apdu, 6)
+            encode(&apdu).as_slice() == octets.as_slice()
+                && Short::U(function).to_octets() == octets
+                && front(&octets) == Front::Whole(apdu, 6)
         );
     }
     let report = ApduRef::I {
@@ -48,6 +53,7 @@ fn apdus_of_each_format(rt: HostRuntime) {
             && front_ref(&more) == FrontRef::Whole(ApduRef::S { nr: 1 }, 6)
             && front(&more) == Front::Whole(Apdu::S { nr: 1 }, 6)
             && encode(&Apdu::S { nr: 1 }).as_slice() == ACKNOWLEDGE.as_slice()
+            && Short::S { nr: 1 }.to_octets() == ACKNOWLEDGE
     );
     // Counters run modulo 32768.
     let asdu = &LAST_NUMBER[6..];
@@ -66,6 +72,10 @@ fn apdus_of_each_format(rt: HostRuntime) {
         asdu,
     };
     assert!(rt; encode(&next.to_apdu())[2..6] == [0x00, 0x00, 0xFE, 0xFF]);
+    let mut octets = [0; 255];
+    assert!(rt;
+        write_information(&mut octets, 32767, 0, asdu) == 15 && octets[..15] == LAST_NUMBER[..]
+    );
 }
 
 #[test]
@@ -108,12 +118,40 @@ fn refusals_in_their_order(rt: HostRuntime) {
     assert!(rt; front(&[]) == Front::More);
 }
 
-/// What is heard where `front` answers this.
-fn heard_from(front: Front) -> Heard {
+/// What a piece gives: how many octets are taken, what is heard, and the APDU that is whole.
+#[derive(Debug, PartialEq, Eq, Drop)]
+struct Fed {
+    taken: usize,
+    heard: Heard,
+    apdu: Option<Apdu>,
+}
+
+/// What a piece gives where no APDU is whole.
+fn none_whole(taken: usize, heard: Heard) -> Fed {
+    let apdu = None;
+    Fed { taken, heard, apdu }
+}
+
+/// What a piece gives where this APDU is whole.
+fn one_whole(taken: usize, apdu: Apdu) -> Fed {
+    let heard = Heard::Whole;
+    let apdu = Some(apdu);
+    Fed { taken, heard, apdu }
+}
+
+/// What a piece gives.
+fn feed_and_take(assembler: &mut Assembler, piece: &[u8]) -> Fed {
+    let (taken, heard) = assembler.feed(piece);
+    let apdu = assembler.take();
+    Fed { taken, heard, apdu }
+}
+
+/// What a piece gives where `front` answers this.
+fn fed_by(taken: usize, front: Front) -> Fed {
     match front {
-        Front::Whole(apdu, _) => Heard::Apdu(apdu),
-        Front::More => Heard::More,
-        Front::Never(place, why) => Heard::Never(place, why),
+        Front::Whole(apdu, _) => one_whole(taken, apdu),
+        Front::More => none_whole(taken, Heard::More),
+        Front::Never(place, why) => none_whole(taken, Heard::Never(place, why)),
     }
 }
 
@@ -222,16 +260,16 @@ fn long_report() -> [u8; 252] {
 fn is_heard_alike(octets: &[u8], cut: usize) -> bool
     requires { cut ≤ length octets.now }
 {
-    let whole = heard_from(front(octets));
     let (first, rest) = octets.split_at(cut);
     let mut assembler = Assembler::new();
-    let (taken, heard) = assembler.feed(first);
-    let alike = if heard == Heard::More {
-        assembler.feed(rest) == (rest.len(), whole)
+    let at_first = feed_and_take(&mut assembler, first);
+    let alike = if at_first.heard == Heard::More {
+        feed_and_take(&mut assembler, rest) == fed_by(rest.len(), front(octets))
     } else {
-        heard == whole && assembler.feed(rest) == (rest.len(), Heard::Deaf)
+        at_first == fed_by(cut, front(octets))
+            && feed_and_take(&mut assembler, rest) == none_whole(rest.len(), Heard::Deaf)
     };
-    alike && taken == cut && assembler.looked() <= octets.len() as u64
+    alike && at_first.taken == cut && assembler.looked() <= octets.len() as u64
 }
 
 #[test]
@@ -256,9 +294,9 @@ fn every_cut_is_heard_alike(rt: HostRuntime) {
 fn is_heard_octet_by_octet(octets: &[u8]) -> bool {
     let mut assembler = Assembler::new();
     for (i, octet) in octets.iter().enumerate() {
-        let (taken, heard) = assembler.feed(&[*octet]);
-        let goes_on = heard == Heard::More;
-        if taken != 1 || heard != heard_from(front(&octets[..i + 1])) {
+        let found = feed_and_take(&mut assembler, &[*octet]);
+        let goes_on = found.heard == Heard::More;
+        if found != fed_by(1, front(&octets[..i + 1])) {
             return false;
         }
         if !goes_on {
@@ -283,7 +321,7 @@ fn one_pass_hears_what_reading_again_hears(rt: HostRuntime) {
 #[derive(Drop)]
 enum Step<'a> {
     /// A piece, and what is to be answered.
-    Feed(&'a [u8], (usize, Heard)),
+    Feed(&'a [u8], Fed),
     Clear,
     /// How many octets it has looked at by then.
     Looked(u64),
@@ -292,7 +330,7 @@ enum Step<'a> {
 /// Whether each call, in their order, answers what it is to.
 fn answers(assembler: &mut Assembler, steps: &[Step]) -> bool {
     steps.iter().all(|step| match step {
-        Step::Feed(piece, expected) => assembler.feed(piece) == *expected,
+        Step::Feed(piece, expected) => feed_and_take(assembler, piece) == *expected,
         Step::Clear => {
             assembler.clear();
             true
@@ -305,20 +343,20 @@ fn answers(assembler: &mut Assembler, steps: &[Step]) -> bool {
 fn what_is_left_and_what_is_dropped(rt: HostRuntime) {
     let piece = [0x00, 0x00, 0x00, 0x68, 0x00];
     let steps = [
-        Step::Feed(&[0x68, 0x04, 0x43], (3, Heard::More)),
+        Step::Feed(&[0x68, 0x04, 0x43], none_whole(3, Heard::More)),
         // Octets after an APDU are left.
-        Step::Feed(&piece, (3, Heard::Apdu(Apdu::U(Uf::TestAct)))),
-        Step::Feed(&piece[3..], (2, Heard::Never(1, Why::Length))),
+        Step::Feed(&piece, one_whole(3, Apdu::U(Uf::TestAct))),
+        Step::Feed(&piece[3..], none_whole(2, Heard::Never(1, Why::Length))),
         // It is deaf until it is cleared.
-        Step::Feed(&ACKNOWLEDGE, (6, Heard::Deaf)),
+        Step::Feed(&ACKNOWLEDGE, none_whole(6, Heard::Deaf)),
         Step::Clear,
-        Step::Feed(&ACKNOWLEDGE, (6, Heard::Apdu(Apdu::S { nr: 1 }))),
+        Step::Feed(&ACKNOWLEDGE, one_whole(6, Apdu::S { nr: 1 })),
         Step::Looked(14),
         // Half an ASDU is forgotten.
-        Step::Feed(&REPORT[..12], (12, Heard::More)),
+        Step::Feed(&REPORT[..12], none_whole(12, Heard::More)),
         Step::Clear,
-        Step::Feed(&REPORT, (21, heard_from(front(&REPORT)))),
-        Step::Feed(&[0x00], (1, Heard::Never(0, Why::Start))),
+        Step::Feed(&REPORT, fed_by(21, front(&REPORT))),
+        Step::Feed(&[0x00], none_whole(1, Heard::Never(0, Why::Start))),
         Step::Looked(48),
     ];
     let mut assembler = Assembler::new();
@@ -328,4 +366,14 @@ fn what_is_left_and_what_is_dropped(rt: HostRuntime) {
         assert!(rt; assembler.feed(&[0x00]) == (1, Heard::Deaf));
     }
     assert!(rt; assembler.looked() == 48);
+    // An APDU that isn't taken is dropped.
+    assembler.clear();
+    assert!(rt;
+        assembler.feed(&ACKNOWLEDGE) == (6, Heard::Whole)
+            && !assembler.is_empty()
+            && assembler.feed(&REPORT) == (21, Heard::Whole)
+            && Front::Whole(assembler.take().unwrap(), 21) == front(&REPORT)
+            && assembler.take().is_none()
+            && assembler.is_empty()
+    );
 }

@@ -1,6 +1,6 @@
 ghost use Rattle.std.specs.Prelude.{◌<◌};
 
-use apci::{Apdu, Front, FrontRef, Uf, front, front_ref};
+use apci::{Apdu, Front, FrontRef, Short, Uf, front, front_ref};
 use arrayvec::ArrayVec;
 use session::{Close, Kind, NoMemory, Session, Taken, Unacknowledged};
 use std::alloc::Global;
@@ -13,12 +13,12 @@ enum Step {
     Cut,
     Take(Apdu, u64, Taken),
     Acked(usize, usize),
-    Confirm(Option<Apdu>),
+    Confirm(Option<Short>),
     /// An I frame of this kind goes out at this moment, with these N(S) and N(R).
     Send(Kind, u64, u16, u16),
     /// No I frame may go out.
     Holds,
-    Pull(u64, Option<Apdu>),
+    Pull(u64, Option<Short>),
     Due(u64, Option<Close>),
     Runs(bool),
     IsOpen(bool),
@@ -87,7 +87,7 @@ fn timers_stops_and_cuts(rt: HostRuntime) -> Result<(), Fail> {
         Step::IsOpen(true),
         Step::Holds,
         Step::Take(Apdu::U(Uf::StartAct), 5, Taken::Nothing),
-        Step::Confirm(Some(Apdu::U(Uf::StartCon))),
+        Step::Confirm(Some(Short::U(Uf::StartCon))),
         Step::Confirm(None),
         Step::Runs(true),
         Step::Send(Kind::Queue, 6, 0, 0),
@@ -102,25 +102,25 @@ fn timers_stops_and_cuts(rt: HostRuntime) -> Result<(), Fail> {
         Step::Confirm(None),
         Step::Holds,
         Step::Take(Apdu::S { nr: 1 }, 8, Taken::Nothing),
-        Step::Confirm(Some(Apdu::U(Uf::StopCon))),
+        Step::Confirm(Some(Short::U(Uf::StopCon))),
         Step::Confirm(None),
         Step::Runs(false),
         // An S frame goes first where received frames aren't acknowledged.
         Step::Take(Apdu::U(Uf::StartAct), 9, Taken::Nothing),
-        Step::Confirm(Some(Apdu::U(Uf::StartCon))),
+        Step::Confirm(Some(Short::U(Uf::StartCon))),
         Step::Take(report(0, 1), 10, Taken::Asdu),
         Step::Take(Apdu::U(Uf::StopAct), 11, Taken::Nothing),
-        Step::Confirm(Some(Apdu::S { nr: 1 })),
-        Step::Confirm(Some(Apdu::U(Uf::StopCon))),
+        Step::Confirm(Some(Short::S { nr: 1 })),
+        Step::Confirm(Some(Short::U(Uf::StopCon))),
         Step::Confirm(None),
         // A STARTDT act forgets a pending STOPDT act.
         Step::Take(Apdu::U(Uf::StartAct), 12, Taken::Nothing),
-        Step::Confirm(Some(Apdu::U(Uf::StartCon))),
+        Step::Confirm(Some(Short::U(Uf::StartCon))),
         Step::Send(Kind::Queue, 13, 1, 1),
         Step::Take(Apdu::U(Uf::StopAct), 14, Taken::Nothing),
         Step::Confirm(None),
         Step::Take(Apdu::U(Uf::StartAct), 15, Taken::Nothing),
-        Step::Confirm(Some(Apdu::U(Uf::StartCon))),
+        Step::Confirm(Some(Short::U(Uf::StartCon))),
         Step::Take(Apdu::S { nr: 2 }, 16, Taken::Nothing),
         Step::Confirm(None),
         Step::Runs(true),
@@ -130,18 +130,18 @@ fn timers_stops_and_cuts(rt: HostRuntime) -> Result<(), Fail> {
     let steps = [
         // A test is due t3 after the latest frame, which came at 5, and waits for t1.
         Step::Pull(20004, None),
-        Step::Pull(20005, Some(Apdu::U(Uf::TestAct))),
+        Step::Pull(20005, Some(Short::U(Uf::TestAct))),
         Step::Pull(20006, None),
         Step::Due(35004, None),
         Step::Due(35005, Some(Close::Timeout)),
         Step::Take(Apdu::U(Uf::TestCon), 35005, Taken::Nothing),
         Step::Due(35005, None),
         Step::Take(Apdu::U(Uf::TestAct), 35006, Taken::Nothing),
-        Step::Confirm(Some(Apdu::U(Uf::TestCon))),
+        Step::Confirm(Some(Short::U(Uf::TestCon))),
         // A received frame is acknowledged after t2, or by an I frame.
         Step::Take(report(0, 0), 40000, Taken::Asdu),
         Step::Pull(49999, None),
-        Step::Pull(50000, Some(Apdu::S { nr: 1 })),
+        Step::Pull(50000, Some(Short::S { nr: 1 })),
         Step::Pull(50000, None),
         Step::Take(report(1, 0), 50001, Taken::Asdu),
         Step::Send(Kind::Own, 50002, 0, 2),
@@ -229,7 +229,7 @@ fn numbers_run_over(rt: HostRuntime) -> Result<(), Fail> {
         let nr = (ns + 1) % 32768;
         assert!(rt; answers(&mut session, &Step::Take(report(ns, 0), 6, Taken::Asdu)));
         let due = if ns % 8 == 7 {
-            Some(Apdu::S { nr })
+            Some(Short::S { nr })
         } else {
             None
         };
@@ -266,7 +266,7 @@ fn a_stop_is_pending_while_numbers_run_over(rt: HostRuntime) -> Result<(), Fail>
         Step::Confirm(None),
         Step::Take(Apdu::S { nr: 7232 }, 10, Taken::Nothing),
         Step::Acked(1, 0),
-        Step::Confirm(Some(Apdu::U(Uf::StopCon))),
+        Step::Confirm(Some(Short::U(Uf::StopCon))),
     ];
     assert!(rt; all_answer(&mut session, &steps));
     Ok(())

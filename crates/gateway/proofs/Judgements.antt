@@ -4,14 +4,13 @@ use Rattle.std.specs.Prelude.{IfSome, is_some}
 use Rattle.std.proofs.lemmas.List.{drop_at, drop-drop, take-append-drop, length-drop}
 use Rattle.std.proofs.lemmas.Bool.{cond-true}
 use Rattle.apci.specs.declared.assembling.Heard.TheVariants as hears
-use Rattle.apci.specs.Assembly.{Hears}
+use Rattle.apci.specs.Assembly.{Assembly, Hears}
 use Rattle.apci.specs.declared.apdu.Apdu.{Apdu}
 use Rattle.apci.specs.Spelling.{spelling, Fits}
 use Rattle.apci.specs.declared.apdu.Front.TheVariants as front
 use Rattle.apci.specs.Reading.{IsMore, IsFront}
 use Rattle.apci.specs.declared.apdu.Why.{Why}
-use Rattle.gateway.specs.Finding.{Finds}
-use Rattle.gateway.specs.declared.engine.Found.TheVariants as found
+use Rattle.gateway.specs.Finding.{StandsFirst}
 use Rattle.session.specs.declared.kinds.Close.{Close}
 use Rattle.session.specs.declared.kinds.Close.TheVariants.{Grammar, OwnAnswers}
 use Rattle.session.specs.declared.kinds.Taken.TheVariants.{Close as Closes}
@@ -240,45 +239,59 @@ garbled_closes p (Some log) s t piece so_far on so refused is both =
       why = next_closes p s log piece Grammar on both.1 a stands;
     }
 
-pub found_apdu : (o : Option (List ℕ)) (piece : List ℕ) (n : ℕ) (f : Apdu) (after : Option (List ℕ)) → is_some o ≡ true
-    → IfSome o (λ x. Hears x piece n (hears.Apdu f) after) →
-    (x : List ℕ) × (o ≡ Some x) × (Fits f × (x ++ piece ≡ spelling f ++ drop n piece) × (after ≡ Some []))
-found_apdu None piece n f after is h = cc
-found_apdu (Some x) piece n f after is h =
+pub found_apdu : (o : Option (List ℕ)) (piece : List ℕ) (n : ℕ) (after : Assembly) → is_some o ≡ true
+    → IfSome o (λ x. Hears x piece n hears.Whole after) → (x : List ℕ) × (o ≡ Some x)
+    × ((f : Apdu) × Fits f × (x ++ piece ≡ spelling f ++ drop n piece) × (after.so_far ≡ Some [])
+    × (after.whole ≡ Some f))
+found_apdu None piece n after is h = cc
+found_apdu (Some x) piece n after is h =
     let behind : drop (length x + n) (x ++ piece) ≡ drop n piece = sym (drop-drop n (length x) (x ++ piece))
     ∙ ap (drop n) (drop_at x piece (length x) refl) in (
       x,
       refl,
       (
-        h.0.0.fits,
+        h.0,
+        h.1.0.fits,
         sym (take-append-drop (length x + n) (x ++ piece))
-            ∙ ap (λ y. y ++ drop (length x + n) (x ++ piece)) h.0.0.spelled ∙ ap (λ y. spelling f ++ y) behind,
-        h.1,
+            ∙ ap (λ y. y ++ drop (length x + n) (x ++ piece)) h.1.0.spelled ∙ ap (λ y. spelling h.0 ++ y) behind,
+        h.2,
+        h.3,
       ),
     )
 
-pub found_never : (o : Option (List ℕ)) (piece : List ℕ) (n place : ℕ) (why : Why) (after : Option (List ℕ))
+pub found_never : (o : Option (List ℕ)) (piece : List ℕ) (n place : ℕ) (why : Why) (after : Assembly)
     → is_some o ≡ true → IfSome o (λ x. Hears x piece n (hears.Never place why) after)
     → (x : List ℕ) × (o ≡ Some x) × IsRefused (x ++ piece)
 found_never None piece n place why after is h = cc
 found_never (Some x) piece n place why after is h = (x, refl, (place, why, h.0))
 
--- a whole frame at the front of a piece, where none had begun before it
-pub found_whole : (s : Centre) (piece : List ℕ) (n : ℕ) (f : Apdu) → s.so_far ≡ Some []
-    → IsFront piece (front.Whole f n) → Finds s piece (found.Apdu n f) s
-found_whole s piece n f empty h = (
-  [],
-  empty,
-  (
-    h.0.fits,
-    sym (take-append-drop n piece)
-        ∙ ap (λ y. y ++ drop n piece) h.0.spelled,
-    some n (ap length h.0.spelled),
-    h.1,
-    ap (λ o. let made : Centre = record s { so_far = o } in made) empty,
-  ),
+-- a whole frame at the front of a piece
+pub found_whole : (piece : List ℕ) (n : ℕ) (f : Apdu) → IsFront piece (front.Whole f n) → StandsFirst [] piece f n
+found_whole piece n f h = (
+  h.0.fits,
+  sym (take-append-drop n piece)
+      ∙ ap (λ y. y ++ drop n piece) h.0.spelled,
+  some n (ap length h.0.spelled),
+  h.1,
 )
   where
     some : (n : ℕ) → length (take n piece) ≡ length (spelling f) → 0 < n
     some zero e = absurd (omega (arith, e))
     some (suc n) e = omega arith
+
+-- where nothing is left of a frame, there are no octets of one
+pub nothing_left : (s : State) → s.centre.so_far ≡ Some [] → s.centre.heard ≡ None → s ≡ with_octets (Some []) s
+nothing_left s so none =
+    ap (λ (o : Option (List ℕ)). let made : State = record s { centre = record s.centre { so_far = o } } in made) so
+    ∙ ap (λ (h : Option Apdu). let made : State = record s { centre = record s.centre { so_far = Some []; heard = h } } in
+    made) none
+
+-- the frame that was whole is taken
+pub told_taken : (p : Setup) (told : Option Log) (s t : State) (f g : Apdu) (rest : List ℕ) → s.centre.heard ≡ Some f
+    → s.centre.heard ≡ Some g → s.centre.so_far ≡ Some [] → t ≡ with_centre (record s.centre { heard = None }) s
+    → Meets p (with_octets (Some []) s) told (spelling f ++ rest) rest → Meets p t told (spelling g ++ rest) rest
+told_taken p told s t f g rest heard taken so is h =
+    let same : f ≡ g = cc in
+    let state : with_octets (Some []) s ≡ t = ap (λ (o : Option (List ℕ)). with_octets o s) (sym so) ∙ sym is in
+    subst (λ (x : Apdu). Meets p t told (spelling x ++ rest) rest) same
+    (subst (λ (x : State). Meets p x told (spelling f ++ rest) rest) state h)

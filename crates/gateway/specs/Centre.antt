@@ -1,7 +1,7 @@
 -- The control centre's side of a gateway: the connection's session, the octets of a frame that
 -- isn't whole, and the pieces that go up; and what each thing that happens makes of them (IEC
 -- 60870-5-104, 5).
-use Rattle.std.specs.Prelude.{◌≡◌, ℕ, is_some, true, List, [], length, Option, Some}
+use Rattle.std.specs.Prelude.{◌≡◌, ℕ, is_some, true, List, [], length, Option, Some, None}
 use Rattle.apci.specs.declared.apdu.Apdu.{Apdu}
 use Rattle.apci.specs.declared.apdu.Apdu.TheVariants.{I}
 use Rattle.session.specs.declared.kinds.Kind.TheVariants.{Queue as FromQueue, Own}
@@ -15,6 +15,8 @@ pub record Centre : Type 0 where
   pub session : Session
   -- the octets of a frame that isn't whole
   pub so_far : Option (List ℕ)
+  -- the frame that came in pieces, is whole and isn't taken yet
+  pub heard : Option Apdu
   -- the pieces that no connection has acknowledged
   pub queue : Queue
 
@@ -28,6 +30,7 @@ first_centre p places =
     record {
       session = session.new_session p.k p.w p.t1 p.t2 p.t3;
       so_far = Some [];
+      heard = None;
       queue = queue.empty places;
     }
 
@@ -36,6 +39,7 @@ abbrev pub closed : Centre → Centre
 closed s = record {
   session = session.closed s.session;
   so_far = Some [];
+  heard = None;
   queue = queue.rewound s.queue;
 }
 

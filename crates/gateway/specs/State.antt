@@ -74,9 +74,9 @@ with_sides t d s = record s { serial = t; centre = d }
 abbrev pub with_session : Session → State → State
 with_session t s = record s { centre = record s.centre { session = t } }
 
--- with these octets of a frame that isn't whole
+-- with these octets of a frame that isn't whole, and none that is
 abbrev pub with_octets : Option (List ℕ) → State → State
-with_octets so_far s = record s { centre = record s.centre { so_far = so_far } }
+with_octets so_far s = record s { centre = record s.centre { so_far = so_far; heard = None } }
 
 -- no connection
 abbrev pub disconnected : State → State

@@ -6,7 +6,7 @@ use Rattle.asdu.specs.Asdu.{AsduValue}
 use Rattle.link.specs.declared.outcome.Outcome.{Outcome}
 use Rattle.link.specs.declared.outcome.Outcome.TheVariants as outcome
 use Rattle.apci.specs.declared.apdu.Apdu.{Apdu}
-use Rattle.apci.specs.Spelling.{Fits}
+use Rattle.apci.specs.Spelling.{spelling, Fits}
 use Rattle.session.specs.declared.kinds.Close.{Close}
 use Rattle.session.specs.declared.kinds.Close.TheVariants.{Timeout, OwnAnswers}
 use Rattle.session.specs.declared.kinds.Taken.TheVariants as taken
@@ -129,6 +129,12 @@ SendsData s f t =
     (SendsOwn s.moment s.serial s.centre f t.serial t.centre × (t ≡ with_sides t.serial t.centre s))
     ⊎ ((s.serial.commands.answers ≡ []) × SendsPiece s.moment s.centre f t.centre
     × (t ≡ with_centre t.centre s))
+
+-- the octets are a frame of which this holds
+pub record SpellFrame (Holds : Apdu → Type 0) (octets : List ℕ) : Type 0 where
+  pub frame : Apdu
+  pub holds : Holds frame
+  pub spelled : octets ≡ spelling frame
 
 -- An answer is late where the timers are done, an own answer finds no place where it is kept, and
 -- any other cause shows as octets are taken.

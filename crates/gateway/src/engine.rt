@@ -21,7 +21,7 @@ use crate::config::Config;
 use crate::counts::{Counts, Tally};
 use crate::settings::{LineSettings, Silence};
 use crate::walls::Wall;
-use apci::{Apdu, Assembler};
+use apci::Assembler;
 use asdu::Sizes;
 use command::{Commands, StationInfo, commands_keep_the_rules};
 use events::{Events, Kept};
@@ -40,10 +40,10 @@ pub struct NoMemory;
 pub const LAST_MOMENT: u64 = 999_999_999_999_999;
 
 /// What octets of a connection bring.
-#[derive(Drop)]
+#[derive(Clone, Copy)]
 pub(crate) enum Found {
-    /// A whole APDU, and how many of the octets are taken.
-    Apdu(usize, Apdu),
+    /// A whole APDU, which is to be taken, and how many of the octets are its.
+    Whole(usize),
     /// The beginning of an APDU.
     More,
     /// No APDU and no beginning of one.

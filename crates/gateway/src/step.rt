@@ -1,15 +1,17 @@
 //! One event, and what goes out at it.
 ghost use Rattle.std.specs.Prelude.{◌≡◌, ℕ, ◌+◌, ◌<◌, ◌≤◌, Bool, true, false, List, [], ◌∷◌, ◌++◌, length, drop, IfSome, Some, None, Option, if◌then◌else◌};
 ghost use Rattle.std.specs.Bool.{OnTrue};
+ghost use Rattle.apci.specs.declared.apdu.Apdu.{Apdu};
 ghost use Rattle.apci.specs.Spelling.{Fits, spelling};
 ghost use Rattle.apci.specs.Borrowed.{owned};
+ghost use Rattle.apci.specs.Short.{apdu_of};
 ghost use Rattle.session.specs.Session.{is_open, pulled};
 ghost use Rattle.session.specs.Ends.{after_confirm, after_pull, IsConfirmed, IsInTime};
 ghost use Rattle.gateway.specs.Log.{LogEntry, Went, LineIn, TcpOut, Opened, tell};
 ghost use Rattle.gateway.specs.Ports.{input_of};
 ghost use Rattle.gateway.specs.Reports.{Setup};
 ghost use Rattle.gateway.specs.Traffic.{IsFaithful};
-ghost use Rattle.gateway.specs.State.{State, disconnected, connected, with_session};
+ghost use Rattle.gateway.specs.State.{State, disconnected, connected, with_session, with_octets};
 ghost use Rattle.gateway.specs.Agrees.{IsClear, Tracks, Awaits, Meets, Leaves, Follows, HasCome, Rests, IsSpent, StaysInTime};
 ghost use Rattle.gateway.specs.Steps.{MayClose, HearsEvent, Begins};
 ghost use Rattle.gateway.specs.Phases.{Phase, Idle, Timed, Asked, IsFlushing};
@@ -18,7 +20,7 @@ ghost use Rattle.gateway.specs.Runs.{Puts, faults_unless};
 
 use crate::engine::{Found, Gateway};
 use crate::ports::{Action, Event, Port};
-use apci::{Apdu, ApduRef, encode};
+use apci::{ApduRef, Short};
 use link::line_keeps_the_procedures;
 use session::{Close, calls_come_to_an_end};
 
@@ -34,16 +36,27 @@ pub enum Outcome {
 }
 
 impl Gateway {
-    /// Hands an APDU to TCP.
-    fn hand<P: Port>(&self, apdu: &Apdu, port: &mut P) -> bool
-        requires ready { P.failed port.old < u64.MAX }
-        requires fits { Fits apdu.now }
+    /// Hands the octets of an APDU to TCP.
+    fn hand<P: Port>(&self, octets: &[u8], port: &mut P) -> bool
+        requires { P.failed port.old < u64.MAX }
         ensures told { P.log port.new ≡ (if result
-            then tell (P.log port.old) (Went self.now.moment (TcpOut (spelling apdu.now)) ∷ [])
+            then tell (P.log port.old) (Went self.now.moment (TcpOut octets.now) ∷ [])
             else P.log port.old) }
         ensures puts { Puts P.log P.script P.failed port.old port.new (faults_unless result) }
     {
-        port.put(self.moment(), &Action::Tcp(&encode(apdu)))
+        port.put(self.moment(), &Action::Tcp(octets))
+    }
+
+    /// Hands an APDU without an ASDU to TCP.
+    fn hand_short<P: Port>(&self, apdu: Short, port: &mut P) -> bool
+        requires ready { P.failed port.old < u64.MAX }
+        requires fits { Fits (apdu_of apdu) }
+        ensures told { P.log port.new ≡ (if result
+            then tell (P.log port.old) (Went self.now.moment (TcpOut (spelling (apdu_of apdu))) ∷ [])
+            else P.log port.old) }
+        ensures puts { Puts P.log P.script P.failed port.old port.new (faults_unless result) }
+    {
+        self.hand(&apdu.to_octets(), port)
     }
 
     /// Sends the next confirmation, if one is due.
@@ -59,7 +72,7 @@ impl Gateway {
     {
         match self.confirm() {
             None => true,
-            Some(apdu) => self.hand(&apdu, port),
+            Some(apdu) => self.hand_short(apdu, port),
         }
     }
 
@@ -85,6 +98,9 @@ impl Gateway {
     }
 
     /// Sends own answers and reports while the window is open.
+    ///
+    /// It stands apart, so that a step that sends none makes no place for a frame.
+    #[inline(never)]
     fn send_data<P: Port>(&mut self, port: &mut P) -> bool
         requires { P.failed port.old < u64.MAX }
         ensures kept { (p : Setup) (unjudged : List ℕ) (phase : Phase) → IsFlushing phase →
@@ -99,8 +115,10 @@ impl Gateway {
         ensures puts { Puts P.log P.script P.failed port.old port.new (faults_unless result) }
     {
         calls_come_to_an_end();
-        while let Some(apdu) = self.next_data() {
-            if !self.hand(&apdu, port) {
+        // One place for the octets of all frames: none is moved once it is written.
+        let mut octets = [0; 255];
+        while let Some(count) = self.write_data(&mut octets) {
+            if !self.hand(&octets[..count], port) {
                 return false;
             }
         }
@@ -120,7 +138,7 @@ impl Gateway {
     {
         match self.pull() {
             None => true,
-            Some(apdu) => self.hand(&apdu, port),
+            Some(apdu) => self.hand_short(apdu, port),
         }
     }
 
@@ -160,6 +178,9 @@ impl Gateway {
     {
         if !self.send_confirmations(port) {
             return false;
+        }
+        if self.has_sent_all() {
+            return self.send_dues(port);
         }
         if !self.send_data(port) {
             return false;
@@ -222,10 +243,30 @@ impl Gateway {
             return (count, self.take_apdu(apdu, port));
         }
         match self.feed(octets) {
-            Found::Apdu(count, apdu) => (count, self.take_apdu(apdu.as_ref(), port)),
+            Found::Whole(count) => (count, self.take_heard(port)),
             Found::More => (0, Outcome::Over),
             Found::Refused => (0, self.shut(Close::Grammar, port)),
         }
+    }
+
+    /// Takes the APDU that came in pieces and is whole now.
+    ///
+    /// It stands apart, so that a piece that brings no such APDU makes no place for one.
+    #[inline(never)]
+    fn take_heard<P: Port>(&mut self, port: &mut P) -> Outcome
+        requires ready { P.failed port.old < u64.MAX }
+        requires heard { (frame : Apdu) × (self.old.centre.heard ≡ Some frame) × Fits frame }
+        requires open { is_open self.old.centre.session ≡ true }
+        requires whole { self.old.centre.so_far ≡ Some [] }
+        ensures kept { (p : Setup) (frame : Apdu) (rest : List ℕ) →
+            self.old.centre.heard ≡ Some frame →
+            Meets p (with_octets (Some []) self.old) (P.log port.old) (spelling frame ++ rest) rest →
+            Goes result p self.new (P.log port.new) rest }
+        ensures open { IsOnward result (is_open self.new.centre.session ≡ true) }
+        ensures puts { Puts P.log P.script P.failed port.old port.new (faults_in result) }
+    {
+        let apdu = self.take_whole();
+        self.take_apdu(apdu.as_ref(), port)
     }
 
     /// Closes the connection, and the octets that are left are dropped.

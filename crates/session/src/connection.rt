@@ -1,12 +1,13 @@
 //! The session of one connection.
 
-ghost use Rattle.std.specs.Prelude.{◌≡◌, ◌+◌, ◌-◌, ◌^◌, ◌<◌, ◌≤◌, if◌then◌else◌, true, false, Some, None, IfOk, IfSome, length, take};
+ghost use Rattle.std.specs.Prelude.{◌≡◌, ◌+◌, ◌-◌, ◌^◌, ◌<◌, ◌≤◌, if◌then◌else◌, true, false, Some, None, IfOk, IfSome, length, take, option_map};
 ghost use Rattle.apci.specs.Borrowed.{owned};
+ghost use Rattle.apci.specs.Short.{apdu_of};
 ghost use Rattle.apci.specs.Spelling.{Fits};
 ghost use Rattle.session.specs.Session.{from_queue};
 
 use crate::kinds::{Close, Kind, Taken, Transfer, Unacknowledged};
-use apci::{Apdu, ApduRef, Uf};
+use apci::{Apdu, ApduRef, Short, Uf};
 use circular_buffer::HeapCircularBuffer;
 use std::alloc::Global;
 use std::marker::Model;
@@ -327,22 +328,22 @@ impl Session {
     }
 
     /// The S frame for all that was received.
-    fn confirm_received(&mut self) -> Apdu
-        ensures frame { result ≡ Apdu.S self.old.next_received }
-        ensures fits { Fits result }
+    fn confirm_received(&mut self) -> Short
+        ensures frame { result ≡ Short.S self.old.next_received }
+        ensures fits { Fits (apdu_of result) }
         ensures session { self.new ≡ record self.old { unconfirmed = 0 } }
     {
         self.unconfirmed = 0;
-        Apdu::S {
+        Short::S {
             nr: self.next_received,
         }
     }
 
     /// The next confirmation that is due, if any. A STOPDT act has an S frame first, where received
     /// I frames aren't acknowledged, and its STOPDT con once no sent I frame is unacknowledged.
-    pub fn confirm(&mut self) -> Option<Apdu>
-        ensures due { (result, self.new) ≡ confirmed self.old }
-        ensures fits { IfSome result Fits }
+    pub fn confirm(&mut self) -> Option<Short>
+        ensures due { (option_map apdu_of result, self.new) ≡ confirmed self.old }
+        ensures fits { IfSome result (λ frame. Fits (apdu_of frame)) }
     {
         if !self.is_open() {
             return None;
@@ -351,19 +352,19 @@ impl Session {
             return Some(self.confirm_received());
         }
         if let Some(function) = self.reply.take() {
-            return Some(Apdu::U(function));
+            return Some(Short::U(function));
         }
         if self.is_stopping() && self.unacknowledged.is_empty() {
             self.transfer = Transfer::Stopped;
-            return Some(Apdu::U(Uf::StopCon));
+            return Some(Short::U(Uf::StopCon));
         }
         None
     }
 
     /// The S frame if one is due, else the TESTFR act if one is due.
-    pub fn pull(&mut self, now: u64) -> Option<Apdu>
-        ensures due { (result, self.new) ≡ pulled now self.old }
-        ensures fits { IfSome result Fits }
+    pub fn pull(&mut self, now: u64) -> Option<Short>
+        ensures due { (option_map apdu_of result, self.new) ≡ pulled now self.old }
+        ensures fits { IfSome result (λ frame. Fits (apdu_of frame)) }
     {
         if !self.is_open() {
             return None;
@@ -374,7 +375,7 @@ impl Session {
         }
         if self.test_sent.is_none() && now.saturating_sub(self.last_frame) >= self.t3 {
             self.test_sent = Some(now);
-            return Some(Apdu::U(Uf::TestAct));
+            return Some(Short::U(Uf::TestAct));
         }
         None
     }

@@ -1,9 +1,10 @@
 //! The control centre's side: the connection's session, its octets, and the pieces that go up to
 //! it.
 ghost use Rattle.std.specs.Prelude.{◌≡◌, ◌<◌, ◌≤◌, true, List, [], length, IfSome, IfNone};
-ghost use Rattle.std.specs.Prelude.{Some, None, if◌then◌else◌};
-ghost use Rattle.apci.specs.Spelling.{Fits};
+ghost use Rattle.std.specs.Prelude.{Some, None, IsTrue, ◌↔◌, take, option_map, if◌then◌else◌};
+ghost use Rattle.apci.specs.Spelling.{Fits, spelling};
 ghost use Rattle.apci.specs.Borrowed.{owned};
+ghost use Rattle.apci.specs.Short.{apdu_of};
 ghost use Rattle.session.specs.Session.{confirmed, pulled, may_send, is_open, is_transferring, outcome_of};
 ghost use Rattle.session.specs.Session.{timed_out as answers_late};
 ghost use Rattle.events.specs.Pieces.{AreAsdus};
@@ -13,13 +14,12 @@ ghost use Rattle.gateway.specs.Centre.{closed, opened, taken, pushed, next_frame
 ghost use Rattle.gateway.specs.Serial.{judged, has_place};
 ghost use Rattle.gateway.specs.State.{disconnected, connected, received as frame_received};
 ghost use Rattle.gateway.specs.State.{with_serial, with_centre, with_session, wall_now};
-ghost use Rattle.gateway.specs.Steps.{Judged, SendsPiece, SendsData};
-ghost use Rattle.gateway.specs.Finding.{Finds};
+ghost use Rattle.gateway.specs.Steps.{Judged, SendsPiece, SendsData, SpellFrame};
+ghost use Rattle.gateway.specs.Finding.{Finds, FindsWhole};
 ghost use Rattle.gateway.specs.Polls.{has_room};
 
 use super::{Found, Gateway};
-use apci::{Apdu, ApduRef, Assembler, FrontRef, Heard, front_ref};
-use arrayvec::ArrayVec;
+use apci::{Apdu, ApduRef, Assembler, FrontRef, Heard, Short, front_ref, write_information};
 use asdu::Pieces;
 use events::Events;
 use session::{Close, Kind, Session, Taken};
@@ -42,24 +42,13 @@ impl Model for CentreSide {
     ghost view = { λ a. record {
       session = a.session;
       so_far = a.assembler.so_far;
+      heard = a.assembler.whole;
       queue = a.queue;
     } };
 
     // The pieces sent are those that the session counts as the queue's; and the assembler isn't
     // deaf.
     ghost invariant = { λ a. IsWhole a.session a.assembler.so_far a.queue };
-}
-
-/// The I frame with these counters.
-fn data_frame(ns: u16, nr: u16, asdu: &[u8]) -> Apdu
-    requires small { (ns < 32768) × (nr < 32768) }
-    requires long { 9 ≤ length asdu.now }
-    requires short { length asdu.now ≤ 249 }
-    ensures frame { result ≡ Apdu.I ns nr (record { items = asdu.now }) }
-    ensures fits { Fits result }
-{
-    let asdu = ArrayVec::try_from(asdu).unwrap();
-    Apdu::I { ns, nr, asdu }
 }
 
 impl CentreSide {
@@ -116,7 +105,7 @@ impl CentreSide {
     {
         let (count, heard) = self.assembler.feed(piece);
         match heard {
-            Heard::Apdu(apdu) => Found::Apdu(count, apdu),
+            Heard::Whole => Found::Whole(count),
             Heard::More => Found::More,
             Heard::Never(_, _) => {
                 self.assembler.clear();
@@ -129,12 +118,21 @@ impl CentreSide {
         }
     }
 
+    /// The APDU that came in pieces and is whole now.
+    fn take_whole(&mut self) -> Apdu
+        requires { (frame : Apdu) × (self.old.heard ≡ Some frame) }
+        ensures frame { self.old.heard ≡ Some result }
+        ensures rest { self.new ≡ record self.old { heard = None } }
+    {
+        self.assembler.take().unwrap()
+    }
+
     /// A whole APDU at the front of octets that came, where none had come since the last one, and
     /// how many octets it has. Its ASDU is lent where it stands.
     fn find_whole<'a>(&self, piece: &'a [u8]) -> Option<(ApduRef<'a>, usize)>
         requires { 0 < length piece.now }
         ensures { IfSome result (λ found.
-            Finds self.now piece.now (Found.Apdu found.1 (owned found.0)) self.now) }
+            FindsWhole self.now piece.now (owned found.0) found.1) }
     {
         if !self.assembler.is_empty() {
             return None;
@@ -159,39 +157,44 @@ impl CentreSide {
     }
 
     /// The next confirmation that is due.
-    fn confirm(&mut self) -> Option<Apdu>
-        ensures due { (result, self.new.session) ≡ confirmed self.old.session }
+    fn confirm(&mut self) -> Option<Short>
+        ensures due { (option_map apdu_of result, self.new.session) ≡ confirmed self.old.session }
         ensures rest { self.new ≡ record self.old { session = self.new.session } }
-        ensures fits { IfSome result Fits }
+        ensures fits { IfSome result (λ frame. Fits (apdu_of frame)) }
     {
         self.session.confirm()
     }
 
     /// The next S frame or TESTFR act that is due.
-    fn pull(&mut self, moment: u64) -> Option<Apdu>
-        ensures due { (result, self.new.session) ≡ pulled moment self.old.session }
+    fn pull(&mut self, moment: u64) -> Option<Short>
+        ensures due { (option_map apdu_of result, self.new.session) ≡ pulled moment self.old.session }
         ensures rest { self.new ≡ record self.old { session = self.new.session } }
-        ensures fits { IfSome result Fits }
+        ensures fits { IfSome result (λ frame. Fits (apdu_of frame)) }
     {
         self.session.pull(moment)
     }
 
-    /// The frame of an own answer.
-    pub(super) fn own_frame(&mut self, asdu: &[u8], moment: u64) -> Apdu
+    /// Writes the frame of an own answer, and says how many octets it has.
+    pub(super) fn write_own(&mut self, octets: &mut [u8; 255], asdu: &[u8], moment: u64) -> usize
         requires may { may_send self.old.session ≡ true }
         requires long { 9 ≤ length asdu.now }
         requires short { length asdu.now ≤ 249 }
-        ensures frame { result ≡ next_frame self.old.session asdu.now }
-        ensures fits { Fits result }
+        ensures frame { take result octets.new ≡ spelling (next_frame self.old.session asdu.now) }
+        ensures fits { Fits (next_frame self.old.session asdu.now) }
+        ensures within { result ≤ 255 }
         ensures state { self.new ≡ own_sent moment self.old }
     {
         let (ns, nr) = self.session.sent(Kind::Own, moment);
-        data_frame(ns, nr, asdu)
+        write_information(octets, ns, nr, asdu)
     }
 
-    /// The frame of the oldest piece that isn't sent, where one may be sent.
-    fn next_report(&mut self, moment: u64) -> Option<Apdu>
-        ensures some { IfSome result (λ frame. SendsPiece moment self.old frame self.new) }
+    /// Writes the frame of the oldest piece that isn't sent, where one may be sent, and says how
+    /// many octets it has.
+    fn write_report(&mut self, octets: &mut [u8; 255], moment: u64) -> Option<usize>
+        ensures some { IfSome result (λ count.
+            SpellFrame (λ frame. SendsPiece moment self.old frame self.new)
+            (take count octets.new)) }
+        ensures within { IfSome result (λ count. count ≤ 255) }
         ensures none { IfNone result ((self.new ≡ self.old)
             × (may_send self.new.session ≡ true → self.new.queue.unsent ≡ [])) }
     {
@@ -200,9 +203,9 @@ impl CentreSide {
         }
         let asdu = self.queue.unsent()?;
         let (ns, nr) = self.session.sent(Kind::Queue, moment);
-        let frame = data_frame(ns, nr, asdu);
+        let count = write_information(octets, ns, nr, asdu);
         self.queue.mark_sent();
-        Some(frame)
+        Some(count)
     }
 }
 
@@ -238,12 +241,21 @@ impl Gateway {
         self.centre.feed(piece)
     }
 
+    /// The APDU that came in pieces and is whole now.
+    pub(crate) fn take_whole(&mut self) -> Apdu
+        requires { (frame : Apdu) × (self.old.centre.heard ≡ Some frame) }
+        ensures frame { self.old.centre.heard ≡ Some result }
+        ensures rest { self.new ≡ with_centre (record self.old.centre { heard = None }) self.old }
+    {
+        self.centre.take_whole()
+    }
+
     /// A whole APDU at the front of octets that came, where none had come since the last one, and
     /// how many octets it has.
     pub(crate) fn find_whole<'a>(&self, piece: &'a [u8]) -> Option<(ApduRef<'a>, usize)>
         requires { 0 < length piece.now }
         ensures { IfSome result (λ found.
-            Finds self.now.centre piece.now (Found.Apdu found.1 (owned found.0)) self.now.centre) }
+            FindsWhole self.now.centre piece.now (owned found.0) found.1) }
     {
         self.centre.find_whole(piece)
     }
@@ -290,20 +302,20 @@ impl Gateway {
     }
 
     /// The next confirmation that is due.
-    pub(crate) fn confirm(&mut self) -> Option<Apdu>
-        ensures due { (result, self.new.centre.session) ≡ confirmed self.old.centre.session }
+    pub(crate) fn confirm(&mut self) -> Option<Short>
+        ensures due { (option_map apdu_of result, self.new.centre.session) ≡ confirmed self.old.centre.session }
         ensures rest { self.new ≡ with_session self.new.centre.session self.old }
-        ensures fits { IfSome result Fits }
+        ensures fits { IfSome result (λ frame. Fits (apdu_of frame)) }
     {
         self.centre.confirm()
     }
 
     /// The next S frame or TESTFR act that is due.
-    pub(crate) fn pull(&mut self) -> Option<Apdu>
-        ensures due { (result, self.new.centre.session)
+    pub(crate) fn pull(&mut self) -> Option<Short>
+        ensures due { (option_map apdu_of result, self.new.centre.session)
             ≡ pulled self.old.moment self.old.centre.session }
         ensures rest { self.new ≡ with_session self.new.centre.session self.old }
-        ensures fits { IfSome result Fits }
+        ensures fits { IfSome result (λ frame. Fits (apdu_of frame)) }
     {
         self.centre.pull(self.moment)
     }
@@ -317,15 +329,28 @@ impl Gateway {
         self.centre.session.due(self.moment)
     }
 
-    /// The next I frame: own answers go before the queue's pieces.
-    pub(crate) fn next_data(&mut self) -> Option<Apdu>
-        ensures some { IfSome result (λ frame. SendsData self.old frame self.new) }
+    /// Whether no I frame goes out now: each own answer and each piece is sent, or none may be.
+    pub(crate) fn has_sent_all(&self) -> bool
+        ensures { IsTrue result ↔ IsSpent self.now }
+    {
+        if !self.centre.may_send() {
+            return true;
+        }
+        self.serial.commands.own_answer().is_none() && self.centre.queue.unsent().is_none()
+    }
+
+    /// Writes the next I frame, and says how many octets it has: own answers go before the queue's
+    /// pieces.
+    pub(crate) fn write_data(&mut self, octets: &mut [u8; 255]) -> Option<usize>
+        ensures some { IfSome result (λ count.
+            SpellFrame (λ frame. SendsData self.old frame self.new) (take count octets.new)) }
+        ensures within { IfSome result (λ count. count ≤ 255) }
         ensures none { IfNone result ((self.new ≡ self.old) × IsSpent self.new) }
     {
         let moment = self.moment;
-        if let Some(frame) = self.serial.next_own(&mut self.centre, moment) {
-            return Some(frame);
+        if let Some(count) = self.serial.write_own(octets, &mut self.centre, moment) {
+            return Some(count);
         }
-        self.centre.next_report(moment)
+        self.centre.write_report(octets, moment)
     }
 }

@@ -1,7 +1,7 @@
 //! The line's side: its primary station, what its octets bring, and the commands that go down to
 //! it.
 ghost use Rattle.std.specs.Prelude.{◌≡◌, ℕ, ◌<◌, ◌≤◌, true, false, List, [], length};
-ghost use Rattle.std.specs.Prelude.{Some, None, option_map, if◌then◌else◌, ◌⊎◌, IfSome, IfNone};
+ghost use Rattle.std.specs.Prelude.{Some, None, option_map, take, if◌then◌else◌, ◌⊎◌, IfSome, IfNone};
 ghost use Rattle.std.specs.List.{AllByRecursion};
 ghost use Rattle.asdu.specs.Asdu.{IsAsdu};
 ghost use Rattle.asdu.specs.InformationObjects.{monitor_objects_of};
@@ -22,7 +22,7 @@ ghost use Rattle.gateway.specs.Serial.{heard, heard_outcome, accepted, given_up,
 ghost use Rattle.gateway.specs.Serial.{cut, offered_by, offered, asked};
 ghost use Rattle.gateway.specs.State.{line_timed, settled as after_timers, after_request};
 ghost use Rattle.gateway.specs.State.{with_serial};
-ghost use Rattle.gateway.specs.Steps.{Mirrors, LearnsReport, Hears, Learns, SendsOwn};
+ghost use Rattle.gateway.specs.Steps.{Mirrors, LearnsReport, Hears, Learns, SendsOwn, SpellFrame};
 ghost use Rattle.gateway.specs.Works.{is_command_report};
 
 use super::Gateway;
@@ -30,7 +30,6 @@ use super::centre::CentreSide;
 use super::tagging::with_tag;
 use crate::counts::Tally;
 use crate::gaps::Gap;
-use apci::Apdu;
 use asdu::{Asdu, Piece, objects_are_those_of_the_asdu, read, translate};
 use command::{Act, Commands};
 use elements::TypeId;
@@ -190,6 +189,7 @@ impl SerialSide {
     }
 
     /// The command on a station's line, if there is one, is given up.
+    #[inline(never)]
     fn give_up(&mut self, station: usize)
         ensures { self.new ≡ given_up station self.old }
     {
@@ -242,6 +242,9 @@ impl SerialSide {
 
     /// Judges an ASDU of the control centre. Where its answer finds no place, that closes the
     /// connection.
+    ///
+    /// It stands apart, so that a frame without an ASDU makes no place for an answer.
+    #[inline(never)]
     pub(super) fn judge(&mut self, octets: &[u8], moment: u64, wall: Option<u64>) -> Option<Close>
         requires long { 9 ≤ length octets.now }
         requires short { length octets.now ≤ 249 }
@@ -282,10 +285,18 @@ impl SerialSide {
         Some(request)
     }
 
-    /// The frame of the oldest own answer.
-    pub(super) fn next_own(&mut self, centre: &mut CentreSide, moment: u64) -> Option<Apdu>
-        ensures some { IfSome result (λ frame.
-            SendsOwn moment self.old centre.old frame self.new centre.new) }
+    /// Writes the frame of the oldest own answer, where one may be sent, and says how many octets
+    /// it has.
+    pub(super) fn write_own(
+        &mut self,
+        octets: &mut [u8; 255],
+        centre: &mut CentreSide,
+        moment: u64,
+    ) -> Option<usize>
+        ensures some { IfSome result (λ count.
+            SpellFrame (λ frame. SendsOwn moment self.old centre.old frame self.new centre.new)
+            (take count octets.new)) }
+        ensures within { IfSome result (λ count. count ≤ 255) }
         ensures none { IfNone result ((self.new ≡ self.old) × (centre.new ≡ centre.old)
             × (may_send centre.new.session ≡ true → self.new.commands.answers ≡ [])) }
     {
@@ -294,9 +305,9 @@ impl SerialSide {
         }
         // It is taken off the list only once its frame is made: no answer is lost in between.
         let asdu = self.commands.own_answer()?;
-        let frame = centre.own_frame(asdu, moment);
+        let count = centre.write_own(octets, asdu, moment);
         self.commands.own_sent();
-        Some(frame)
+        Some(count)
     }
 
     /// Offers to each station the oldest command that waits for it.

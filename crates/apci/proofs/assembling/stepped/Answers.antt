@@ -8,7 +8,7 @@ returns-in-Start c = rw c.in-Start.is (no_start c.args.octet [] c.if-octet-ne-ST
 
 pub returns-in-IThird : goal.returns-in-IThird
 returns-in-IThird c =
-    let h = rw c.in-IThird.is at c.requires in
+    let h = rw c.in-IThird.is at c.requires.right in
     rw c.in-IThird.is (third_wrong c.in-IThird.len c.in-IThird.ns c.args.octet h.1.0 h.1.1 h.2
     (omega (arith, c.ranges.octet.fits)) c.if-octet-eq1.true)
 

@@ -1,64 +1,12 @@
-use Rattle.std.proofs.Common.{◌≡◌, ◌++◌, ◌+◌, Some, sym, ap, subst, refl, List, ℕ, length, take, arith, ◌∙◌}
+use Rattle.std.proofs.Common.{ap, sym, ◌∙◌}
 use Rattle.std.proofs.lemmas.Bool.{false≢true}
-use Rattle.std.proofs.lemmas.List.{append-nil, take_all}
-use Rattle.arrayvec.specs.ArrayVec.{ArrayVec}
-use Rattle.apci.specs.declared.apdu.Apdu.TheVariants.{I}
-use Rattle.apci.specs.declared.apdu.Front.TheVariants.{Whole}
-use Rattle.apci.specs.Reading.{IsFront}
-use Rattle.apci.proofs.EachOctet.{hears, state_more, i_heard, never_heard, decided_here}
+use Rattle.apci.specs.Assembly.{Assembly}
+use Rattle.apci.proofs.EachOctet.{hears}
 use Rattle.apci.proofs.assembling.Assembler.feed.Goals as goal
 
-pub loop-i-init : goal.loop-i-init
-loop-i-init c =
-    let h = hears c.self.inside.state c.self.inside.asdu.items (λ e. false≢true (c.if-is_deaf.ensures.1 e)) in
-    record { state = c.self.invariant; joined = (h.0, h.1, h.1 ∙ ap Some (sym (append-nil h.0))); looked = omega arith }
-
-pub returns-in-I-clause-listening : goal.returns-in-I-clause-listening
-returns-in-I-clause-listening c =
-    let before = c.loop-i.invariant.joined.0 in
-    let h = i_heard c.loop-i.self-inside.state c.loop-i.self-inside.asdu.items before c.args.piece.now c.loop-i.i
-    c.look-octet.result c.stepped.result c.in-I.ns c.in-I.nr
-    c.loop-i.invariant.state c.loop-i.invariant.joined.2 c.loop-i-test.true c.look-octet.ensures.value
-    (rw (← c.deref.ensures.0) c.stepped.ensures) c.in-I.is in
-    let asdu = ap (λ (xs : List ℕ). let made : ArrayVec ℕ = record { items = xs } in
-    made) (sym c.push-in-I.ensures.items) ∙ sym c.replace-asdu.ensures.value in
-    rw (← c.self.view_is, c.loop-i.invariant.joined.1) (
-      subst (λ (v : ArrayVec ℕ). IsFront (before ++ c.args.piece.now)
-          (Whole (I c.in-I.ns c.in-I.nr v) (length before + (c.loop-i.i + 1)))) asdu h.0,
-      refl,
-    )
-
-pub returns-in-Never-clause-listening : goal.returns-in-Never-clause-listening
-returns-in-Never-clause-listening c =
-    let before = c.loop-i.invariant.joined.0 in
-    let h = never_heard c.loop-i.self-inside.state c.loop-i.self-inside.asdu.items before c.args.piece.now c.loop-i.i
-    c.look-octet.result c.stepped.result c.in-Never.place c.in-Never.why
-    c.loop-i.invariant.joined.2 c.loop-i-test.true c.look-octet.ensures.value
-    (rw (← c.deref.ensures.0) c.stepped.ensures) c.in-Never.is in
-    rw (← c.self.view_is, c.loop-i.invariant.joined.1) (h, refl, refl)
-
-pub returns-in-Never-clause-looked : goal.returns-in-Never-clause-looked
-returns-in-Never-clause-looked c =
-    let before = c.loop-i.invariant.joined.0 in
-    let d = decided_here c.loop-i.self-inside.state c.loop-i.self-inside.asdu.items before c.args.piece.now c.loop-i.i
-    c.look-octet.result c.stepped.result c.in-Never.place c.in-Never.why
-    c.loop-i.invariant.state c.loop-i.invariant.joined.2 c.loop-i-test.true c.look-octet.ensures.value
-    (rw (← c.deref.ensures.0) c.stepped.ensures) c.in-Never.is in
-    rw (← c.self.view_is, c.loop-i.invariant.joined.1) (
-      d.0,
-      d.1,
-      omega (arith, d.2, c.loop-i.invariant.looked, c.look-octet.ensures.counted),
-    )
-
-pub returns-clause-listening : goal.returns-clause-listening
-returns-clause-listening c =
-    let before = c.loop-i.invariant.joined.0 in
-    let all : take c.loop-i.i c.args.piece.now ≡ c.args.piece.now =
-    take_all c.loop-i.i c.args.piece.now c.loop-i-test.false in
-    let joined = c.loop-i.invariant.joined.2 ∙ ap (λ (l : List ℕ). Some (before ++ l)) all in
-    rw (← c.self.view_is, c.loop-i.invariant.joined.1) (
-      state_more c.loop-i.self-inside.state c.loop-i.self-inside.asdu.items (before
-          ++ c.args.piece.now) c.loop-i.invariant.state joined,
-      refl,
-      joined,
+pub listen-requires-clause-listens : goal.listen-requires-clause-listens
+listen-requires-clause-listens c =
+    let h = hears c.self.inside.state c.self.inside.asdu.items (λ e. false≢true (c.if-is_deaf.ensures.1 e)) in (
+      h.0,
+      ap (λ (v : Assembly). v.so_far) c.forget.ensures ∙ (ap (λ (v : Assembly). v.so_far) (sym c.self.view_is) ∙ h.1),
     )

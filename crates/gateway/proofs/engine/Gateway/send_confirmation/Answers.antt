@@ -1,4 +1,5 @@
 use Rattle.std.proofs.Common.{ap, sym, subst}
+use Rattle.apci.specs.Short.{apdu_of}
 use Rattle.gateway.specs.State.{State}
 use Rattle.gateway.specs.Agrees.{Tracks}
 use Rattle.gateway.proofs.Put.{told_put, sends_confirmation, confirmed_open, confirmed_next, no_confirmation, on_true}
@@ -18,14 +19,14 @@ returns-in-None-clause-next g c =
 
 pub returns-in-Some-clause-kept : goal.returns-in-Some-clause-kept
 returns-in-Some-clause-kept g c = λ p unjudged phase flushing h.
-    told_put c.hand.result p _ _ c.args.self.now c.confirm.new.self c.in-Some.apdu _ unjudged phase c.hand.ensures.told
+    told_put c.hand_short.result p _ _ c.args.self.now c.confirm.new.self (apdu_of c.in-Some.apdu) _ unjudged phase c.hand_short.ensures.told
     (ap (λ (x : State). x.moment) c.confirm.ensures.rest)
-    (sends_confirmation c.args.self.now c.confirm.new.self c.in-Some.apdu c.in-Some.ensures.fits c.in-Some.ensures.due
+    (sends_confirmation c.args.self.now c.confirm.new.self (apdu_of c.in-Some.apdu) c.in-Some.ensures.fits c.in-Some.ensures.due
     c.confirm.ensures.rest p unjudged phase flushing) h
 
 pub returns-in-Some-clause-open : goal.returns-in-Some-clause-open
 returns-in-Some-clause-open g c = confirmed_open _ _ _ c.confirm.ensures.due
 
 pub returns-in-Some-clause-next : goal.returns-in-Some-clause-next
-returns-in-Some-clause-next g c = on_true c.hand.result _
+returns-in-Some-clause-next g c = on_true c.hand_short.result _
     (confirmed_next c.args.self.now c.confirm.new.self _ c.confirm.ensures.due c.confirm.ensures.rest)

@@ -7,8 +7,8 @@ use Rattle.gateway.specs.Agrees.{Tracks, StaysInTime}
 use Rattle.gateway.specs.Runs.{events_told}
 use Rattle.gateway.proofs.engine.Gateway.send_data.Given as goal
 
-abbrev pub invariant-loop-apdu : goal.invariant-loop-apdu
-invariant-loop-apdu g l = record {
+abbrev pub invariant-loop-count : goal.invariant-loop-count
+invariant-loop-count g l = record {
   kept : (p : Setup) (unjudged : List ℕ) (phase : Phase) → IsFlushing phase → IsConfirmed l.fn.self.centre.session
       → Tracks p l.fn.self (g.P.Port.log l.fn.port) unjudged phase
       → Tracks p l.self (g.P.Port.log l.port) unjudged phase;
@@ -20,5 +20,5 @@ invariant-loop-apdu g l = record {
   cause : g.P.Port.failed l.port ≡ g.P.Port.failed l.fn.port;
 }
 
-abbrev pub decreases-loop-apdu : goal.decreases-loop-apdu
-decreases-loop-apdu g l = length l.self.serial.commands.answers + length l.self.centre.queue.unsent
+abbrev pub decreases-loop-count : goal.decreases-loop-count
+decreases-loop-count g l = length l.self.serial.commands.answers + length l.self.centre.queue.unsent

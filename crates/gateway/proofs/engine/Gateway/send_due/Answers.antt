@@ -1,4 +1,5 @@
 use Rattle.std.proofs.Common.{ap, sym, subst}
+use Rattle.apci.specs.Short.{apdu_of}
 use Rattle.gateway.specs.State.{State}
 use Rattle.gateway.specs.Agrees.{Tracks}
 use Rattle.gateway.proofs.Put.{told_put, sends_pulled, pulled_open, pulled_next, none_pulled, on_true}
@@ -17,14 +18,14 @@ returns-in-None-clause-next g c = pulled_next c.args.self.now c.pull.new.self _ 
 
 pub returns-in-Some-clause-kept : goal.returns-in-Some-clause-kept
 returns-in-Some-clause-kept g c = λ p unjudged phase flushing clear h.
-    told_put c.hand.result p _ _ c.args.self.now c.pull.new.self c.in-Some.apdu _ unjudged phase c.hand.ensures.told
+    told_put c.hand_short.result p _ _ c.args.self.now c.pull.new.self (apdu_of c.in-Some.apdu) _ unjudged phase c.hand_short.ensures.told
     (ap (λ (x : State). x.moment) c.pull.ensures.rest)
-    (sends_pulled c.args.self.now c.pull.new.self c.in-Some.apdu clear c.in-Some.ensures.fits c.in-Some.ensures.due
+    (sends_pulled c.args.self.now c.pull.new.self (apdu_of c.in-Some.apdu) clear c.in-Some.ensures.fits c.in-Some.ensures.due
     c.pull.ensures.rest p unjudged phase flushing) h
 
 pub returns-in-Some-clause-open : goal.returns-in-Some-clause-open
 returns-in-Some-clause-open g c = pulled_open _ _ _ _ c.pull.ensures.due
 
 pub returns-in-Some-clause-next : goal.returns-in-Some-clause-next
-returns-in-Some-clause-next g c = on_true c.hand.result _
+returns-in-Some-clause-next g c = on_true c.hand_short.result _
     (pulled_next c.args.self.now c.pull.new.self _ c.pull.ensures.due c.pull.ensures.rest)
