@@ -9,3 +9,4 @@ mod Stages
 mod Computed
 mod Examples
 mod Following
+pub mod Rooms

@@ -1,6 +1,6 @@
 -- Frames of the line as octets: format class FT1.2 of IEC 60870-5-1 (6.2.4.2), with the link
 -- address of IEC 60870-5-2 and IEC 60870-5-101 (7.1).
-use Rattle.std.specs.Prelude.{◌≡◌, ℕ, ◌/◌, ◌%◌, ◌^◌, ◌<◌, List, [], ◌∷◌, ◌++◌, length, sum, All}
+use Rattle.std.specs.Prelude.{◌≡◌, ℕ, ◌+◌, ◌/◌, ◌%◌, ◌^◌, ◌<◌, List, [], ◌∷◌, ◌++◌, length, sum, All}
 use Rattle.ft12.specs.declared.frame.LinkSize.{LinkSize}
 use Rattle.ft12.specs.declared.frame.LinkSize.TheVariants.{One, Two}
 use Rattle.ft12.specs.declared.frame.Frame.{Frame}
@@ -34,6 +34,12 @@ spelling size Single = 0xE5 ∷ []
 spelling size (Fixed c a) = 0x10 ∷ checked (user size c a [])
 spelling size (Data c a body) =
     header (length (user size c a body.items)) ++ checked (user size c a body.items)
+
+-- how many octets it has
+abbrev pub spelling_len : LinkSize → Frame → ℕ
+spelling_len size Single = 1
+spelling_len size (Fixed c a) = 4 + address_len size
+spelling_len size (Data c a body) = 7 + address_len size + length body.items
 
 -- a number that one octet holds
 abbrev pub IsOctet : ℕ → Type 0

@@ -1,6 +1,6 @@
 //! Frames out of pieces of a stream.
 
-ghost use Rattle.std.specs.Prelude.{◌≡◌, ◌+◌, ◌-◌, ◌^◌, ◌≤◌, ◌<◌, [], length, min, Some, None, IfSome, IfNone};
+ghost use Rattle.std.specs.Prelude.{◌≡◌, ◌+◌, ◌-◌, ◌^◌, ◌≤◌, ◌<◌, ◌↔◌, [], length, min, Some, None, IfSome, IfNone, IsTrue};
 ghost use Rattle.ft12.specs.declared.assembling.Heard.TheVariants.{Deaf};
 ghost use Rattle.ft12.specs.Assembly.{Hears, looked_at};
 
@@ -77,6 +77,13 @@ impl Assembler {
             kept: ArrayVec::new(),
             looked: 0,
         }
+    }
+
+    /// Whether no octet has come since the last frame, so that it has kept nothing of the next one.
+    pub fn is_empty(&self) -> bool
+        ensures { IsTrue result ↔ (self.now.so_far ≡ Some []) }
+    {
+        matches!(self.stage, Some(Stage::Start))
     }
 
     /// How many octets it has looked at since it was made, at most `u64::MAX`.

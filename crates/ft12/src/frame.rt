@@ -86,6 +86,27 @@ pub enum FrontRef<'a> {
     Never(usize, Why),
 }
 
+impl Frame {
+    ghost use Rattle.std.specs.Prelude.{◌≡◌};
+    ghost use Rattle.ft12.specs.Borrowed.{owned, FitsMemory};
+
+    /// The same frame, with its data lent.
+    pub fn lent(&self) -> FrameRef<'_>
+        ensures frame { owned result ≡ self.now }
+        ensures fits { FitsMemory result }
+    {
+        match self {
+            Frame::Single => FrameRef::Single,
+            Frame::Fixed { c, a } => FrameRef::Fixed { c: *c, a: *a },
+            Frame::Data { c, a, body } => FrameRef::Data {
+                c: *c,
+                a: *a,
+                body: body.as_slice(),
+            },
+        }
+    }
+}
+
 impl FrameRef<'_> {
     ghost use Rattle.std.specs.Prelude.{◌≡◌};
     ghost use Rattle.ft12.specs.Borrowed.{owned, FitsMemory};

@@ -31,4 +31,4 @@ pub use laws::{
     one_spelling, spellings_cancel, spoilt_lines_are_no_lines, worked_examples_hold,
 };
 pub use reading::{front, front_ref};
-pub use writing::encode;
+pub use writing::{encode, encode_ref};

@@ -2,9 +2,10 @@
 
 ghost use Rattle.std.specs.Prelude.{◌≡◌, ◌+◌, ◌%◌, ◌^◌, ◌<◌, ◌≤◌, [], ◌∷◌, ◌++◌, List, length, sum};
 ghost use Rattle.arrayvec.specs.ArrayVec.{array_vec_len};
-ghost use Rattle.ft12.specs.Spelling.{address_len, checked, user, spelling, Fits};
+ghost use Rattle.ft12.specs.Borrowed.{owned};
+ghost use Rattle.ft12.specs.Spelling.{address_len, checked, user, spelling, spelling_len, Fits};
 
-use crate::frame::{Frame, LinkSize};
+use crate::frame::{Frame, FrameRef, LinkSize};
 use arrayvec::ArrayVec;
 
 /// The single character: a short confirmation.
@@ -34,9 +35,15 @@ pub(crate) fn sum_of(octets: &[u8]) -> u8
 }
 
 /// Appends control octet, address and data.
-fn push_user(out: &mut ArrayVec<u8, LONGEST>, size: LinkSize, c: u8, a: u16, body: &[u8])
+fn push_user<const CAP: usize>(
+    out: &mut ArrayVec<u8, CAP>,
+    size: LinkSize,
+    c: u8,
+    a: u16,
+    body: &[u8],
+)
     requires address { a < 256 ^ address_len size }
-    requires room { array_vec_len out.old + length (user size c a body.now) ≤ 261 }
+    requires room { array_vec_len out.old + length (user size c a body.now) ≤ CAP }
     ensures { out.new.items ≡ out.old.items ++ user size c a body.now }
 {
     out.push(c);
@@ -51,9 +58,15 @@ fn push_user(out: &mut ArrayVec<u8, LONGEST>, size: LinkSize, c: u8, a: u16, bod
 }
 
 /// Appends control octet, address and data, their sum and the end octet.
-fn push_checked(out: &mut ArrayVec<u8, LONGEST>, size: LinkSize, c: u8, a: u16, body: &[u8])
+fn push_checked<const CAP: usize>(
+    out: &mut ArrayVec<u8, CAP>,
+    size: LinkSize,
+    c: u8,
+    a: u16,
+    body: &[u8],
+)
     requires address { a < 256 ^ address_len size }
-    requires room { array_vec_len out.old + length (user size c a body.now) + 2 ≤ 261 }
+    requires room { array_vec_len out.old + length (user size c a body.now) + 2 ≤ CAP }
     ensures { out.new.items ≡ out.old.items ++ checked (user size c a body.now) }
 {
     let start = out.len();
@@ -61,6 +74,34 @@ fn push_checked(out: &mut ArrayVec<u8, LONGEST>, size: LinkSize, c: u8, a: u16, 
     let sum = sum_of(&out[start..]);
     out.push(sum);
     out.push(END);
+}
+
+/// The octets of a frame whose data stand elsewhere, in a vector that has room for them.
+///
+/// Asks that the address fits its size, and that the control octet, the address and the data are at
+/// most 255 octets.
+pub fn encode_ref<const CAP: usize>(size: LinkSize, f: FrameRef<'_>) -> ArrayVec<u8, CAP>
+    requires fits { Fits size (owned f) }
+    requires room { spelling_len size (owned f) ≤ CAP }
+    ensures { result.items ≡ spelling size (owned f.entry) }
+{
+    let mut out = ArrayVec::new();
+    match f {
+        FrameRef::Single => out.push(SINGLE),
+        FrameRef::Fixed { c, a } => {
+            out.push(START_FIXED);
+            push_checked(&mut out, size, c, a, &[]);
+        }
+        FrameRef::Data { c, a, body } => {
+            let len = (1 + size.octets() + body.len()) as u8;
+            out.push(START_DATA);
+            out.push(len);
+            out.push(len);
+            out.push(START_DATA);
+            push_checked(&mut out, size, c, a, body);
+        }
+    }
+    out
 }
 
 /// The octets of a frame, at most 261.
@@ -71,21 +112,5 @@ pub fn encode(size: LinkSize, f: &Frame) -> ArrayVec<u8, LONGEST>
     requires { Fits size f.now }
     ensures { result.items ≡ spelling size f.now }
 {
-    let mut out = ArrayVec::new();
-    match f {
-        Frame::Single => out.push(SINGLE),
-        Frame::Fixed { c, a } => {
-            out.push(START_FIXED);
-            push_checked(&mut out, size, *c, *a, &[]);
-        }
-        Frame::Data { c, a, body } => {
-            let len = (1 + size.octets() + body.len()) as u8;
-            out.push(START_DATA);
-            out.push(len);
-            out.push(len);
-            out.push(START_DATA);
-            push_checked(&mut out, size, *c, *a, body);
-        }
-    }
-    out
+    encode_ref(size, f.lent())
 }

@@ -1,5 +1,5 @@
 -- What a `Master` holds, as the machine's state, and what fits the line.
-use Rattle.std.specs.Prelude.{ℕ, ◌<◌, ◌==◌, ◌||◌, not, List, All, length, ◌++◌, Option, Some, None, if◌then◌else◌}
+use Rattle.std.specs.Prelude.{ℕ, ◌<◌, ◌==◌, ◌||◌, Bool, true, false, not, List, [], ◌∷◌, All, length, ◌++◌, Option, Some, None, option_map, if◌then◌else◌}
 use Rattle.ft12.specs.declared.frame.LinkSize.{LinkSize}
 use Rattle.ft12.specs.declared.frame.Frame.{Frame}
 use Rattle.ft12.specs.declared.frame.Front.{Front}
@@ -7,7 +7,7 @@ use Rattle.link.specs.Exchanges.{whole_of}
 use Rattle.link.specs.Procedure.{Link, Held}
 use Rattle.link.specs.Requests.{IsUserData, FitsAddress, FitsService, FitsAsked}
 use Rattle.link.specs.Turns.{StationState, Chosen, station_at}
-use Rattle.link.specs.Primary.{Outstanding, Primary, open_octets}
+use Rattle.link.specs.Primary.{Outstanding, Primary, open_octets, with_octets}
 pub use Rattle.link.specs.declared.awaited.Awaited.{Awaited}
 
 -- octets come in the exchange
@@ -44,6 +44,32 @@ abbrev pub so_far_after : (front : List ℕ → Front) → (so_far : Option (Lis
     Option (List ℕ)
 so_far_after front None piece = None
 so_far_after front (Some before) piece = open_octets (before ++ piece) (front (before ++ piece))
+
+-- no octet has come
+abbrev pub is_fresh : (so_far : Option (List ℕ)) → Bool
+is_fresh None = false
+is_fresh (Some []) = true
+is_fresh (Some (octet ∷ octets)) = false
+
+-- a request is outstanding, and nothing of its answer has come
+abbrev pub is_at_front_of : Option Outstanding → Bool
+is_at_front_of None = false
+is_at_front_of (Some o) = is_fresh o.heard
+
+abbrev pub is_at_front : Primary → Bool
+is_at_front p = is_at_front_of p.outstanding
+
+-- octets come in the exchange
+abbrev pub noted : List ℕ → Primary → Primary
+noted octets p = record p { outstanding = option_map (with_octets octets) p.outstanding }
+
+-- the frame at the front of the exchange that octets complete, if they do
+abbrev pub completed_from : (front : List ℕ → Front) → Option Outstanding → List ℕ → Option Frame
+completed_from front None octets = None
+completed_from front (Some o) octets = frame_after front o.heard octets
+
+abbrev pub completed : (front : List ℕ → Front) → Primary → List ℕ → Option Frame
+completed front p octets = completed_from front p.outstanding octets
 
 abbrev pub FitsLink : LinkSize → Link → Type 0
 FitsLink size (Held fcb service missed) = FitsService size service

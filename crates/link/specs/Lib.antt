@@ -5,6 +5,7 @@ pub mod Exchanges
 pub mod Flags
 pub mod Procedure
 pub mod Requests
+pub mod Heard
 pub mod Turns
 pub mod Primary
 pub mod Holding

@@ -1,16 +1,17 @@
 //! Which frames answer which request.
 ghost use Rattle.std.specs.Prelude.{◌≡◌, length, ◌≤◌};
+ghost use Rattle.ft12.specs.Borrowed.{owned, FitsMemory};
 ghost use Rattle.link.specs.Control.{secondary_code};
 ghost use Rattle.link.specs.Answers.{unable_answer, service_answer, code_answer, single_answer, data_answer, answer_of};
 
-use crate::asdu::Asdu;
+use crate::asdu::AsduRef;
 use crate::control::{Control, SecondaryFunction};
 use crate::service::{Asked, Service};
-use ft12::Frame;
+use ft12::FrameRef;
 
-/// What an answer says.
+/// What an answer says. Its user data stand in the frame.
 #[derive(Drop)]
-pub enum Answer {
+pub enum Answer<'a> {
     /// The status of the link: it can be reset.
     Ready,
     /// It is done (a positive acknowledgement, or the single character).
@@ -18,14 +19,14 @@ pub enum Answer {
     /// The link is busy: the user data weren't taken.
     Busy,
     /// User data.
-    Report(Asdu),
+    Report(AsduRef<'a>),
     /// No such data are there (as a function, or by the single character).
     NoData,
     /// The service isn't functioning, or isn't implemented.
     Unable,
 }
 
-fn unable(function: SecondaryFunction) -> Option<Answer>
+fn unable<'a>(function: SecondaryFunction) -> Option<Answer<'a>>
     ensures { result ≡ unable_answer (secondary_code function) }
 {
     match function {
@@ -36,7 +37,7 @@ fn unable(function: SecondaryFunction) -> Option<Answer>
     }
 }
 
-fn to_service(service: &Service, function: SecondaryFunction) -> Option<Answer>
+fn to_service<'a>(service: &Service, function: SecondaryFunction) -> Option<Answer<'a>>
     ensures { result ≡ service_answer service.now (secondary_code function) }
 {
     match (service, function) {
@@ -48,7 +49,7 @@ fn to_service(service: &Service, function: SecondaryFunction) -> Option<Answer>
 }
 
 impl Asked {
-    fn single(&self) -> Option<Answer>
+    fn single<'a>(&self) -> Option<Answer<'a>>
         ensures { result ≡ single_answer self.now }
     {
         match self {
@@ -58,7 +59,7 @@ impl Asked {
         }
     }
 
-    fn said(&self, function: SecondaryFunction) -> Option<Answer>
+    fn said<'a>(&self, function: SecondaryFunction) -> Option<Answer<'a>>
         ensures { result ≡ code_answer self.now (secondary_code function) }
     {
         match (self, function) {
@@ -70,33 +71,35 @@ impl Asked {
         }
     }
 
-    fn data(&self, octets: &[u8]) -> Option<Answer>
+    fn data<'a>(&self, octets: &'a [u8]) -> Option<Answer<'a>>
         requires { length octets.now ≤ 253 }
         ensures { result ≡ data_answer self.now octets.now }
     {
         match self {
-            Asked::Counted(_, Service::Class1 | Service::Class2) => Some(Answer::Report(Asdu::new(
-                octets,
-            ))),
+            Asked::Counted(_, Service::Class1 | Service::Class2) => {
+                Some(Answer::Report(AsduRef::new(octets)))
+            }
             _ => None,
         }
     }
 
     /// What a frame says in answer to this request to the station, or nothing where it doesn't fit.
-    pub fn answered_by(&self, station: u16, frame: &Frame) -> Option<Answer>
-        ensures { result ≡ answer_of station self.now frame.now }
+    /// Asks for at most 253 octets of data.
+    pub fn answered_by<'a>(&self, station: u16, frame: FrameRef<'a>) -> Option<Answer<'a>>
+        requires { FitsMemory frame }
+        ensures { result ≡ answer_of station self.now (owned frame.entry) }
     {
         match frame {
-            Frame::Single => self.single(),
-            Frame::Fixed { c, a } => match Control::from_octet(*c) {
-                Control::Secondary { function, .. } if *a == station => self.said(function),
+            FrameRef::Single => self.single(),
+            FrameRef::Fixed { c, a } => match Control::from_octet(c) {
+                Control::Secondary { function, .. } if a == station => self.said(function),
                 _ => None,
             },
-            Frame::Data { c, a, body } => match Control::from_octet(*c) {
+            FrameRef::Data { c, a, body } => match Control::from_octet(c) {
                 Control::Secondary {
                     function: SecondaryFunction::UserData,
                     ..
-                } if *a == station => self.data(body.as_slice()),
+                } if a == station => self.data(body),
                 _ => None,
             },
         }

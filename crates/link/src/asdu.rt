@@ -56,3 +56,84 @@ impl Asdu {
         Asdu::new(&self.octets)
     }
 }
+
+/// How many octets a command has at most: a set point with a short floating point number, with two
+/// octets each for the common address and the object's address.
+pub const LONGEST_COMMAND: usize = 12;
+
+/// The octets of a command to a station: at most [`LONGEST_COMMAND`].
+#[derive(Drop)]
+pub struct CommandOctets {
+    octets: ArrayVec<u8, LONGEST_COMMAND>,
+}
+
+impl Model for CommandOctets {
+    ghost use Rattle.std.specs.Prelude.{All, ◌<◌, List, ℕ};
+
+    ghost Value = { List ℕ };
+
+    ghost view = { λ a. a.octets.items };
+
+    ghost invariant = { λ a. All (λ n. n < 256) a.octets.items };
+}
+
+impl CommandOctets {
+    /// These octets.
+    pub fn new(octets: &[u8]) -> CommandOctets
+        requires { length octets.now ≤ 12 }
+        ensures { result ≡ octets.now }
+    {
+        CommandOctets {
+            octets: ArrayVec::try_from(octets).unwrap(),
+        }
+    }
+
+    /// The octets.
+    pub fn octets(&self) -> &[u8]
+        ensures octets { result.now ≡ self.now }
+        ensures small { length result.now ≤ 12 }
+    {
+        &self.octets
+    }
+
+    /// The same octets.
+    pub fn copied(&self) -> CommandOctets
+        ensures { result ≡ self.now }
+    {
+        CommandOctets::new(&self.octets)
+    }
+}
+
+/// The octets of an application service data unit where a frame has them: at most 253.
+#[derive(Drop)]
+pub struct AsduRef<'a> {
+    octets: &'a [u8],
+}
+
+impl<'a> Model for AsduRef<'a> {
+    ghost use Rattle.std.specs.Prelude.{◌≤◌, length, List, ℕ};
+
+    ghost Value = { List ℕ };
+
+    ghost view = { λ a. a.octets.now };
+
+    ghost invariant = { λ a. length a.octets.now ≤ 253 };
+}
+
+impl<'a> AsduRef<'a> {
+    /// These octets.
+    pub fn new(octets: &'a [u8]) -> AsduRef<'a>
+        requires { length octets.now ≤ 253 }
+        ensures { result ≡ octets.now }
+    {
+        AsduRef { octets }
+    }
+
+    /// The octets.
+    pub fn octets(&self) -> &'a [u8]
+        ensures octets { result.now ≡ self.now }
+        ensures small { length result.now ≤ 253 }
+    {
+        self.octets
+    }
+}

@@ -42,6 +42,7 @@ mod control;
 mod examples;
 mod flags;
 mod gaps;
+mod heard_request;
 mod laws;
 mod leave;
 mod life;
@@ -61,7 +62,7 @@ mod turn;
 mod visits;
 
 pub use answer::Answer;
-pub use asdu::Asdu;
+pub use asdu::{Asdu, AsduRef, CommandOctets};
 pub use asking::next_changes_nothing;
 pub use control::{Control, PrimaryFunction, SecondaryFunction, controls_are_octets};
 pub use examples::{
@@ -70,6 +71,7 @@ pub use examples::{
 };
 pub use flags::flags_are_heeded;
 pub use gaps::{gaps_are_ended_sessions, gaps_are_told};
+pub use heard_request::HeardRequest;
 pub use laws::{
     line_keeps_the_procedures, master_tells_the_log, outcomes_bear_the_reports,
     requests_are_read_back, requests_wait_their_turn, services_need_a_station_that_is_up,
@@ -79,7 +81,7 @@ pub use life::{station_is_an_outstation, station_tells_what_waits};
 pub use master::Master;
 pub use no_memory::NoMemory;
 pub use offers::{offers_wait, one_command_at_a_time};
-pub use outcome::Outcome;
+pub use outcome::{Outcome, ReportRef};
 pub use procedure::Link;
 pub use refinement::{
     commands_are_accepted, each_service_acts_once, reports_are_learnt, sessions_are_known,

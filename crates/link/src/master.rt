@@ -1,14 +1,16 @@
 //! The primary station of unbalanced transmission (IEC 60870-5-2).
-ghost use Rattle.std.specs.Prelude.{◌≡◌, ◌<◌, ◌+◌, List, [], All, length, map, None, Some, IfOk, option_map, if◌then◌else◌};
+ghost use Rattle.std.specs.Prelude.{◌≡◌, ◌<◌, ◌≤◌, ◌+◌, List, [], All, length, map, None, Some, IfSome, IfNone, IfOk, option_map, if◌then◌else◌};
 ghost use Rattle.link.specs.Counts.{saturated};
 ghost use Rattle.link.specs.Turns.{Over};
+ghost use Rattle.ft12.specs.Borrowed.{owned, FitsMemory};
 ghost use Rattle.ft12.specs.Fronts.{front_of};
 ghost use Rattle.link.specs.Requests.{IsUserData, FitsAddress, FitsAsked};
 ghost use Rattle.link.specs.Primary.{start, choice, station_asked, after_choice, asked, sending, request_of, acd_of, dfc_of, phase_after, station_answered, heard_from, heard_outcome, received, received_outcome, station_unanswered, unanswered, miss_outcome, timed_out, due_outcome, is_sending_command, may_offer, offered_to, without_offer, withdrawn};
-ghost use Rattle.link.specs.Holding.{outstanding_of, IsFittingChoice, frame_after, so_far_after};
+ghost use Rattle.link.specs.declared.outcome.Outcome.TheVariants as outcome;
+ghost use Rattle.link.specs.Holding.{outstanding_of, IsFittingChoice, frame_after, so_far_after, is_at_front, noted, completed};
 
 use crate::answer::Answer;
-use crate::asdu::Asdu;
+use crate::asdu::CommandOctets;
 use crate::awaited::Awaited;
 use crate::control::{shows_acd, shows_dfc};
 use crate::no_memory::NoMemory;
@@ -19,7 +21,7 @@ use crate::service::{Asked, Service};
 use crate::session::SessionState;
 use crate::settings::LinkSettings;
 use crate::turn::{Chosen, Phase, StationState, first_wanted, nth_station};
-use ft12::{Assembler, Frame, Heard, front_is_computed};
+use ft12::{Assembler, Frame, FrameRef, FrontRef, Heard, front_is_computed, front_ref};
 use std::alloc::Global;
 use std::marker::Model;
 
@@ -80,8 +82,9 @@ impl StationState {
         }
     }
 
-    fn answer(&mut self, request: &Asked, frame: &Frame, answer: &Answer)
-        ensures { self.new ≡ station_answered self.old request.now frame.now answer.now }
+    fn answer(&mut self, request: &Asked, frame: FrameRef<'_>, answer: &Answer<'_>)
+        ensures { self.new
+            ≡ station_answered self.old request.now (owned frame.entry) answer.now }
     {
         self.link.answer(request, answer);
         self.acd = acd_in(frame);
@@ -97,26 +100,26 @@ impl StationState {
 }
 
 #[tactic(auto, unfolding(crate::specs::Primary::acd_of))]
-fn acd_in(frame: &Frame) -> bool
-    ensures { result ≡ acd_of frame.now }
+fn acd_in(frame: FrameRef<'_>) -> bool
+    ensures { result ≡ acd_of (owned frame.entry) }
 {
     match frame {
-        Frame::Single => false,
-        Frame::Fixed { c, .. } | Frame::Data { c, .. } => shows_acd(*c),
+        FrameRef::Single => false,
+        FrameRef::Fixed { c, .. } | FrameRef::Data { c, .. } => shows_acd(c),
     }
 }
 
 #[tactic(auto, unfolding(crate::specs::Primary::dfc_of))]
-fn dfc_in(frame: &Frame) -> bool
-    ensures { result ≡ dfc_of frame.now }
+fn dfc_in(frame: FrameRef<'_>) -> bool
+    ensures { result ≡ dfc_of (owned frame.entry) }
 {
     match frame {
-        Frame::Single => false,
-        Frame::Fixed { c, .. } | Frame::Data { c, .. } => shows_dfc(*c),
+        FrameRef::Single => false,
+        FrameRef::Fixed { c, .. } | FrameRef::Data { c, .. } => shows_dfc(c),
     }
 }
 
-fn phase_of(answer: &Answer, phase: Phase) -> Phase
+fn phase_of(answer: &Answer<'_>, phase: Phase) -> Phase
     ensures { result ≡ phase_after answer.now phase }
 {
     match answer {
@@ -292,31 +295,75 @@ impl Master {
         request
     }
 
-    /// Hears octets of the line, in any pieces, and answers what came of the exchange. Its answer
-    /// is the frame at the front of its octets. Those that come while no request is outstanding,
-    /// and those after an answer or after what can't be one, are dropped.
-    pub fn octets(&mut self, octets: &[u8]) -> Outcome
-        ensures state { self.new ≡ received (front_of self.old.settings.size) self.old octets.now }
-        ensures outcome { result ≡ received_outcome
-            (front_of self.old.settings.size) self.old octets.now }
+    /// Whether a request is outstanding, and no octet of its answer has come.
+    fn is_at_front(&self) -> bool
+        ensures { result ≡ is_at_front self.now }
     {
-        let Some(awaited) = &mut self.outstanding else {
-            return Outcome::None;
-        };
-        awaited.note(octets);
-        if awaited.deaf {
-            return Outcome::None;
-        }
-        match frame_in(&mut self.assembler, octets) {
-            Some(frame) => self.hear(&frame),
-            None => Outcome::None,
+        match &self.outstanding {
+            Some(awaited) => !awaited.deaf && self.assembler.is_empty(),
+            None => false,
         }
     }
 
-    /// A frame stands at the front of the exchange.
-    fn hear(&mut self, frame: &Frame) -> Outcome
-        ensures state { self.new ≡ heard_from self.old self.old.outstanding frame.now }
-        ensures outcome { result ≡ heard_outcome self.old self.old.outstanding frame.now }
+    /// Hears octets of the line with a whole frame at their front, where a request is outstanding
+    /// and these are the first octets that come: that is its answer. Else nothing is heard, and
+    /// nothing changes.
+    pub fn hear_whole<'a>(&mut self, octets: &'a [u8]) -> Option<Outcome<'a>>
+        ensures whole { IfSome result (λ outcome.
+            (self.new ≡ received (front_of self.old.settings.size) self.old octets.now)
+            × (outcome
+            ≡ received_outcome (front_of self.old.settings.size) self.old octets.now)) }
+        ensures none { IfNone result (self.new ≡ self.old) }
+    {
+        front_is_computed();
+        if !self.is_at_front() {
+            return None;
+        }
+        let FrontRef::Whole(frame, _) = front_ref(self.settings.size, octets) else {
+            return None;
+        };
+        self.note(octets);
+        Some(self.hear(frame))
+    }
+
+    /// Octets come in the exchange.
+    fn note(&mut self, octets: &[u8])
+        ensures { self.new ≡ noted octets.now self.old }
+    {
+        if let Some(awaited) = &mut self.outstanding {
+            awaited.note(octets);
+        }
+    }
+
+    /// Gathers octets of the line, in any pieces, up to the frame that is the answer: the one at
+    /// the front of the octets of the exchange. Those that come while no request is outstanding,
+    /// and those after an answer or after what can't be one, are dropped. The frame is to be heard
+    /// ([`Master::hear`]).
+    #[inline(never)]
+    pub fn gather(&mut self, octets: &[u8]) -> Option<Frame>
+        ensures frame { result ≡ completed (front_of self.old.settings.size) self.old octets.now }
+        ensures whole { IfSome result (λ frame. (heard_from self.new self.new.outstanding frame
+            ≡ received (front_of self.old.settings.size) self.old octets.now)
+            × (heard_outcome self.new self.new.outstanding frame
+            ≡ received_outcome (front_of self.old.settings.size) self.old octets.now)) }
+        ensures none { IfNone result ((self.new
+            ≡ received (front_of self.old.settings.size) self.old octets.now)
+            × (received_outcome (front_of self.old.settings.size) self.old octets.now
+            ≡ outcome.None)) }
+    {
+        self.note(octets);
+        match &self.outstanding {
+            Some(awaited) if !awaited.deaf => frame_in(&mut self.assembler, octets),
+            _ => None,
+        }
+    }
+
+    /// Hears the frame that is the answer to the outstanding request, and says what came of the
+    /// exchange. Asks for at most 253 octets of data.
+    pub fn hear<'a>(&mut self, frame: FrameRef<'a>) -> Outcome<'a>
+        requires { FitsMemory frame }
+        ensures state { self.new ≡ heard_from self.old self.old.outstanding (owned frame.entry) }
+        ensures outcome { result ≡ heard_outcome self.old self.old.outstanding (owned frame.entry) }
     {
         match self.outstanding.take() {
             None => Outcome::None,
@@ -324,13 +371,14 @@ impl Master {
         }
     }
 
-    fn hear_for(&mut self, awaited: Awaited, frame: &Frame) -> Outcome
+    fn hear_for<'a>(&mut self, awaited: Awaited, frame: FrameRef<'a>) -> Outcome<'a>
         requires none { self.old.outstanding ≡ None }
         requires fits { FitsAsked self.old.settings.size awaited.request }
-        ensures state { heard_from self.old (Some (outstanding_of awaited None)) frame.now
-            ≡ self.new }
+        requires short { FitsMemory frame }
+        ensures state { heard_from self.old (Some (outstanding_of awaited None))
+            (owned frame.entry) ≡ self.new }
         ensures outcome { result ≡ heard_outcome self.old
-            (Some (outstanding_of awaited None)) frame.now }
+            (Some (outstanding_of awaited None)) (owned frame.entry) }
     {
         let place = self.turn;
         let there = nth_station(&self.stations, place);
@@ -356,7 +404,7 @@ impl Master {
     /// Ends, as unanswered, an exchange that is outstanding where this moment, in milliseconds, is
     /// at least `answer_ms` past its request. `Down` where the station's link is given up: with
     /// `hold` false, after one sending and its repeats.
-    pub fn due(&mut self, now: u64) -> Outcome
+    pub fn due(&mut self, now: u64) -> Outcome<'static>
         ensures state { self.new ≡ timed_out self.old now }
         ensures outcome { result ≡ due_outcome self.old now }
     {
@@ -373,7 +421,7 @@ impl Master {
     }
 
     /// The request has no answer in time.
-    fn miss(&mut self, awaited: &Awaited) -> Outcome
+    fn miss(&mut self, awaited: &Awaited) -> Outcome<'static>
         requires none { self.old.outstanding ≡ None }
         requires fits { FitsAsked self.old.settings.size awaited.now.request }
         ensures state { self.new ≡ unanswered self.old (outstanding_of awaited.now None) }
@@ -406,19 +454,20 @@ impl Master {
             && !(self.turn == station && sends_command(&self.outstanding))
     }
 
-    /// Offers a command to the station with this index: user data of at least one octet that fit a
-    /// frame (253 with one-octet addresses, 252 with two). False, and nothing changes, where the
-    /// station has an offered command, or one that was put on the line and isn't done.
+    /// Offers a command to the station with this index: user data of 1 to [`LONGEST_COMMAND`]
+    /// octets. False, and nothing changes, where the station has an offered command, or one that
+    /// was put on the line and isn't done.
     pub fn offer(&mut self, station: usize, asdu: &[u8]) -> bool
         requires station { station < length self.old.stations }
         requires asdu { IsUserData self.old.settings.size asdu.now }
+        requires short { length asdu.now ≤ 12 }
         ensures state { self.new ≡ offered_to self.old station asdu.now }
         ensures accepted { result ≡ may_offer self.old station }
     {
         if !self.is_free(station) {
             return false;
         }
-        self.stations[station].offered = Some(Asdu::new(asdu));
+        self.stations[station].offered = Some(CommandOctets::new(asdu));
         true
     }
 

@@ -1,14 +1,54 @@
 //! What the caller of a primary station is told of an exchange.
-ghost use Rattle.std.specs.Prelude.{◌≡◌};
+ghost use Rattle.std.specs.Prelude.{◌≡◌, ◌≤◌, length};
 ghost use Rattle.link.specs.Primary.{outcome_by, with_gap};
 
 use crate::answer::Answer;
+use crate::asdu::AsduRef;
 use crate::service::Asked;
-use arrayvec::ArrayVec;
+use std::marker::Model;
+
+/// The octets of a report where its frame has them: at most 253.
+#[derive(Drop)]
+pub struct ReportRef<'a> {
+    octets: &'a [u8],
+}
+
+impl<'a> Model for ReportRef<'a> {
+    ghost use Rattle.std.specs.Prelude.{◌≤◌, length, ℕ};
+    ghost use Rattle.std.specs.Coded.{coded_ℕ};
+    ghost use Rattle.arrayvec.specs.ArrayVec.{ArrayVec, array_vec_code};
+
+    ghost Value = { ArrayVec ℕ };
+
+    ghost coded = { array_vec_code coded_ℕ };
+
+    ghost view = { λ r. record { items = r.octets.now } };
+
+    ghost invariant = { λ r. length r.octets.now ≤ 253 };
+}
+
+impl<'a> ReportRef<'a> {
+    /// The octets of user data.
+    fn new(asdu: AsduRef<'a>) -> ReportRef<'a>
+        ensures { result.items ≡ asdu.entry }
+    {
+        ReportRef {
+            octets: asdu.octets(),
+        }
+    }
+
+    /// The octets.
+    pub fn octets(&self) -> &'a [u8]
+        ensures octets { result.now ≡ self.now.items }
+        ensures small { length result.now ≤ 253 }
+    {
+        self.octets
+    }
+}
 
 /// What came of an exchange. Stations are named by their index.
 #[derive(Drop)]
-pub enum Outcome {
+pub enum Outcome<'a> {
     /// Nothing that the caller has to know.
     None,
     /// The link to the station was reset: it is up. No report is lost.
@@ -18,7 +58,7 @@ pub enum Outcome {
     /// report may be lost.
     StartedGap(usize, u64),
     /// A poll was answered with these data.
-    Report(usize, ArrayVec<u8, 253>),
+    Report(usize, ReportRef<'a>),
     /// A poll was answered that there are no data.
     Empty(usize),
     /// A command was confirmed.
@@ -31,8 +71,13 @@ pub enum Outcome {
 }
 
 /// What an answer to the request is told as, where the station's session has this gap.
-pub(crate) fn told(station: usize, gap: Option<u64>, request: &Asked, answer: Answer) -> Outcome
-    ensures { result ≡ with_gap gap (outcome_by station request.now answer) }
+pub(crate) fn told<'a>(
+    station: usize,
+    gap: Option<u64>,
+    request: &Asked,
+    answer: Answer<'a>,
+) -> Outcome<'a>
+    ensures { result ≡ with_gap gap (outcome_by station request.now answer.entry) }
 {
     match (request, answer) {
         (Asked::Reset, Answer::Confirmed) => match gap {
@@ -41,7 +86,7 @@ pub(crate) fn told(station: usize, gap: Option<u64>, request: &Asked, answer: An
         },
         (Asked::Counted(_, _), Answer::Confirmed) => Outcome::Accepted(station),
         (_, Answer::Busy) => Outcome::Busy(station),
-        (_, Answer::Report(asdu)) => Outcome::Report(station, asdu.into_octets()),
+        (_, Answer::Report(asdu)) => Outcome::Report(station, ReportRef::new(asdu)),
         (_, Answer::NoData) => Outcome::Empty(station),
         (_, Answer::Unable) => Outcome::Down(station),
         (_, _) => Outcome::None,

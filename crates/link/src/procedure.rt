@@ -19,7 +19,7 @@ pub enum Link {
 
 impl Link {
     /// A request was answered.
-    pub(crate) fn answer(&mut self, request: &Asked, answer: &Answer)
+    pub(crate) fn answer(&mut self, request: &Asked, answer: &Answer<'_>)
         ensures { self.new ≡ after_answer request.now answer.now self.old }
     {
         match (request, answer) {

@@ -1,14 +1,20 @@
 //! Requests as frames and octets.
 ghost use Rattle.std.specs.Prelude.{◌≡◌, ◌≤◌, ◌<◌, length};
-ghost use Rattle.ft12.specs.Spelling.{spelling};
+ghost use Rattle.ft12.specs.declared.frame.LinkSize.TheVariants.{Two};
+ghost use Rattle.ft12.specs.Borrowed.{owned};
+ghost use Rattle.ft12.specs.Spelling.{spelling, spelling_len};
 ghost use Rattle.link.specs.Control.{primary_code};
 ghost use Rattle.link.specs.Requests.{counted_control, plain_control, request_frame, FitsAddress, FitsAsked, service_kind, kind_of, counted_reading, plain_reading, short_by, data_by, reading_of};
 
-use crate::asdu::Asdu;
 use crate::control::{Control, PrimaryFunction};
+use crate::heard_request::HeardRequest;
 use crate::service::{Asked, Service};
 use arrayvec::ArrayVec;
-use ft12::{Frame, LinkSize, encode};
+use ft12::{Frame, FrameRef, LinkSize, encode_ref};
+
+/// How many octets a request has at most: those of a command between four before the control octet,
+/// the control octet, two of an address, and two behind the data.
+const LONGEST_REQUEST: usize = 21;
 
 /// What a request asks for.
 #[derive(Clone, Copy, Debug, PartialEq, Eq)]
@@ -29,7 +35,7 @@ pub enum RequestKind {
 #[derive(Drop)]
 pub struct Request {
     /// Its octets.
-    pub octets: ArrayVec<u8, 261>,
+    pub octets: ArrayVec<u8, LONGEST_REQUEST>,
     /// The index of its station.
     pub station: usize,
     /// What it asks for.
@@ -46,7 +52,7 @@ pub enum Reading {
     /// A request that the station doesn't know.
     Unknown,
     /// A request.
-    Asks(Asked),
+    Asks(HeardRequest),
 }
 
 impl Service {
@@ -99,41 +105,43 @@ impl Asked {
         }
     }
 
-    fn frame(&self, address: u16) -> Frame
-        ensures { result ≡ request_frame address self.now }
+    /// Its frame, with the octets of its command lent.
+    fn frame(&self, address: u16) -> FrameRef<'_>
+        ensures frame { owned result ≡ request_frame address self.now }
+        ensures short { spelling_len Two (owned result) ≤ 21 }
     {
         match self {
-            Asked::Status => Frame::Fixed {
+            Asked::Status => FrameRef::Fixed {
                 c: plain_control(PrimaryFunction::LinkStatus),
                 a: address,
             },
-            Asked::Reset => Frame::Fixed {
+            Asked::Reset => FrameRef::Fixed {
                 c: plain_control(PrimaryFunction::ResetLink),
                 a: address,
             },
-            Asked::Counted(fcb, Service::Class1) => Frame::Fixed {
+            Asked::Counted(fcb, Service::Class1) => FrameRef::Fixed {
                 c: counted_control(*fcb, PrimaryFunction::Class1),
                 a: address,
             },
-            Asked::Counted(fcb, Service::Class2) => Frame::Fixed {
+            Asked::Counted(fcb, Service::Class2) => FrameRef::Fixed {
                 c: counted_control(*fcb, PrimaryFunction::Class2),
                 a: address,
             },
-            Asked::Counted(fcb, Service::Command(asdu)) => Frame::Data {
+            Asked::Counted(fcb, Service::Command(command)) => FrameRef::Data {
                 c: counted_control(*fcb, PrimaryFunction::UserData),
                 a: address,
-                body: asdu.copied().into_octets(),
+                body: command.octets(),
             },
         }
     }
 
     /// The octets of this request to the station with this address.
-    pub fn octets(&self, size: LinkSize, address: u16) -> ArrayVec<u8, 261>
+    pub fn octets(&self, size: LinkSize, address: u16) -> ArrayVec<u8, LONGEST_REQUEST>
         requires address { FitsAddress size address }
         requires fits { FitsAsked size self.now }
         ensures { result.items ≡ spelling size (request_frame address self.now) }
     {
-        encode(size, &self.frame(address))
+        encode_ref(size, self.frame(address))
     }
 }
 
@@ -141,8 +149,8 @@ fn counted(fcb: bool, function: PrimaryFunction) -> Reading
     ensures { result ≡ counted_reading fcb (primary_code function) }
 {
     match function {
-        PrimaryFunction::Class1 => Reading::Asks(Asked::Counted(fcb, Service::Class1)),
-        PrimaryFunction::Class2 => Reading::Asks(Asked::Counted(fcb, Service::Class2)),
+        PrimaryFunction::Class1 => Reading::Asks(HeardRequest::bare(Asked::Counted(fcb, Service::Class1))),
+        PrimaryFunction::Class2 => Reading::Asks(HeardRequest::bare(Asked::Counted(fcb, Service::Class2))),
         _ => Reading::Unknown,
     }
 }
@@ -151,8 +159,8 @@ fn plain(function: PrimaryFunction) -> Reading
     ensures { result ≡ plain_reading (primary_code function) }
 {
     match function {
-        PrimaryFunction::LinkStatus => Reading::Asks(Asked::Status),
-        PrimaryFunction::ResetLink => Reading::Asks(Asked::Reset),
+        PrimaryFunction::LinkStatus => Reading::Asks(HeardRequest::bare(Asked::Status)),
+        PrimaryFunction::ResetLink => Reading::Asks(HeardRequest::bare(Asked::Reset)),
         _ => Reading::Unknown,
     }
 }
@@ -175,10 +183,7 @@ fn with_data(fcb: bool, fcv: bool, function: PrimaryFunction, octets: &[u8]) -> 
         return Reading::Unknown;
     }
     match function {
-        PrimaryFunction::UserData if fcv => {
-            let service = Service::Command(Asdu::new(octets));
-            Reading::Asks(Asked::Counted(fcb, service))
-        }
+        PrimaryFunction::UserData if fcv => Reading::Asks(HeardRequest::command(fcb, octets)),
         _ => Reading::Unknown,
     }
 }

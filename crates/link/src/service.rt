@@ -1,7 +1,7 @@
 //! What a primary station asks of a secondary one.
 ghost use Rattle.std.specs.Prelude.{◌≡◌};
 
-use crate::asdu::Asdu;
+use crate::asdu::CommandOctets;
 
 /// What a request with a valid frame count bit (FCV 1) asks for.
 #[derive(Drop)]
@@ -11,7 +11,7 @@ pub enum Service {
     /// User data of class 2.
     Class2,
     /// To take user data, and confirm it.
-    Command(Asdu),
+    Command(CommandOctets),
 }
 
 impl Service {
@@ -22,7 +22,7 @@ impl Service {
         match self {
             Service::Class1 => Service::Class1,
             Service::Class2 => Service::Class2,
-            Service::Command(asdu) => Service::Command(asdu.copied()),
+            Service::Command(command) => Service::Command(command.copied()),
         }
     }
 }

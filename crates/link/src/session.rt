@@ -28,7 +28,7 @@ impl SessionState {
 
     /// A request was answered.
     #[tactic(auto, unfolding(crate::specs::Primary::session_answered))]
-    pub(crate) fn answer(&mut self, request: &Asked, answer: &Answer)
+    pub(crate) fn answer(&mut self, request: &Asked, answer: &Answer<'_>)
         ensures { self.new ≡ session_answered self.old request.now answer.now }
     {
         match (request, answer) {

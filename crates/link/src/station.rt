@@ -4,6 +4,7 @@ ghost use Rattle.std.specs.Bool.{OnTrue, OnFalse};
 ghost use Rattle.ft12.specs.Spelling.{Fits};
 ghost use Rattle.link.specs.declared.service.Asked.TheVariants as Asked;
 ghost use Rattle.link.specs.Requests.{FitsAddress, FitsFrame};
+ghost use Rattle.link.specs.Heard.{service_with};
 ghost use Rattle.link.specs.Control.{secondary_code as number};
 ghost use Rattle.link.specs.declared.control.SecondaryFunction.TheVariants as function;
 ghost use Rattle.link.specs.Secondary.{served_class1, served_class2, served_command, control_of, short_of, data_frame, one_more_given, is_same, IsServed, IsCommandServed, IsReadingHeard, with_frame, HearsOctets, fresh_station};
@@ -12,6 +13,7 @@ use crate::asdu::Asdu;
 use crate::control::{Control, SecondaryFunction};
 use crate::no_memory::NoMemory;
 use crate::request::{Reading, read_request};
+use crate::heard_request::HeardRequest;
 use crate::service::{Asked, Service};
 use arrayvec::ArrayVec;
 use ft12::{Frame, Front, LinkSize, front};
@@ -227,8 +229,10 @@ impl Station {
         }
     }
 
-    fn serve_counted(&mut self, fcb: bool, service: &Service) -> Option<Frame>
-        ensures served { IsServed self.old (Asked.Counted fcb service.now) result self.new }
+    /// Serves a service with these octets, which count where it is a command.
+    fn serve_counted(&mut self, fcb: bool, service: &Service, asdu: &Asdu) -> Option<Frame>
+        ensures served { IsServed self.old
+            (Asked.Counted fcb (service_with asdu.now service.now)) result self.new }
         ensures fits { IfSome result (Fits self.old.size) }
     {
         match self.bit {
@@ -237,17 +241,17 @@ impl Station {
             Some(_) => match service {
                 Service::Class1 => self.serve_class1(fcb),
                 Service::Class2 => self.serve_class2(fcb),
-                Service::Command(asdu) => self.serve_command(fcb, asdu),
+                Service::Command(_) => self.serve_command(fcb, asdu),
             },
         }
     }
 
     /// Answers a request to this station.
-    fn serve(&mut self, request: &Asked) -> Option<Frame>
+    fn serve(&mut self, request: &HeardRequest) -> Option<Frame>
         ensures served { IsServed self.old request.now result self.new }
         ensures fits { IfSome result (Fits self.old.size) }
     {
-        match request {
+        match &request.bare {
             Asked::Status => Some(Frame::Fixed {
                 c: self.control(SecondaryFunction::LinkStatus),
                 a: self.address,
@@ -257,7 +261,7 @@ impl Station {
                 self.last = None;
                 Some(self.short(SecondaryFunction::Confirm))
             }
-            Asked::Counted(fcb, service) => self.serve_counted(*fcb, service),
+            Asked::Counted(fcb, service) => self.serve_counted(*fcb, service, &request.asdu),
         }
     }
 

@@ -2,7 +2,7 @@
 ghost use Rattle.std.specs.Prelude.{◌≡◌, ◌<◌, List, length, IfSome};
 ghost use Rattle.link.specs.Turns.{is_poll, wanted_poll, polls_from, commands_from, next_of, wanted, station_at, place_after, first_after};
 
-use crate::asdu::Asdu;
+use crate::asdu::CommandOctets;
 use crate::procedure::Link;
 use crate::service::{Asked, Service};
 use crate::session::SessionState;
@@ -32,7 +32,7 @@ pub struct StationState {
     /// DFC of its latest answer: it takes no more user data.
     pub dfc: bool,
     /// The command that is offered to it.
-    pub offered: Option<Asdu>,
+    pub offered: Option<CommandOctets>,
     /// Its latest session.
     pub session: SessionState,
 }
@@ -96,8 +96,8 @@ impl StationState {
         ensures { result ≡ commands_from burst may_poll fcb self.now self.now.offered }
     {
         match &self.offered {
-            Some(asdu) if !self.dfc => Some(Wanted {
-                request: Asked::Counted(fcb, Service::Command(asdu.copied())),
+            Some(command) if !self.dfc => Some(Wanted {
+                request: Asked::Counted(fcb, Service::Command(command.copied())),
                 following: Phase::Polling,
             }),
             _ => self.polls_wanted(burst, may_poll, fcb, Phase::Polling),

@@ -20,3 +20,4 @@ pub mod Keeping
 pub mod BeginningLemmas
 pub mod TextLemmas
 pub mod RunLemmas
+pub mod Bare

@@ -9,9 +9,9 @@ ghost use Rattle.sim.specs.Tallies.{awaited_timed, tallied_heard, tallied_after,
 
 use crate::sim::moment_at;
 use crate::tally::Tally;
-use ft12::{Frame, Front, LinkSize, front, front_is_computed};
+use ft12::{Frame, Front, FrontRef, LinkSize, front, front_is_computed, front_ref};
 use gateway::{Config, Entry};
-use link::{Answer, Asked, NoMemory, Reading, Station, read_request};
+use link::{Answer, HeardRequest, NoMemory, Reading, Station, read_request};
 use std::alloc::Global;
 use std::marker::Model;
 
@@ -21,7 +21,7 @@ pub struct Awaited {
     /// The index of its station.
     pub station: usize,
     /// What it asks for.
-    pub request: Asked,
+    pub request: HeardRequest,
     /// When it went out, in milliseconds.
     pub since: u64,
 }
@@ -42,7 +42,7 @@ impl Model for Tallies {
 }
 
 /// The address in a request's frame, and what it asks for.
-fn asked_in(frame: &Frame) -> Option<(u16, Asked)>
+fn asked_in(frame: &Frame) -> Option<(u16, HeardRequest)>
     ensures { result ≡ asked_in frame.now }
 {
     let address = match frame {
@@ -56,7 +56,7 @@ fn asked_in(frame: &Frame) -> Option<(u16, Asked)>
 }
 
 /// The address and the request of the frame that the octets are.
-fn request_in(size: LinkSize, octets: &[u8]) -> Option<(u16, Asked)>
+fn request_in(size: LinkSize, octets: &[u8]) -> Option<(u16, HeardRequest)>
     ensures { result ≡ request_in size octets.now }
 {
     front_is_computed();
@@ -80,7 +80,7 @@ fn index_of(address: u16, stations: &[gateway::Station]) -> Option<usize>
 }
 
 /// The index of the station that octets ask, and what they ask for.
-fn sending_in(config: &Config, octets: &[u8]) -> Option<(usize, Asked)>
+fn sending_in(config: &Config, octets: &[u8]) -> Option<(usize, HeardRequest)>
     ensures { option_map sending_of result ≡ sending_in (setup_of config.now) octets.now }
 {
     let (address, request) = request_in(config.line().link, octets)?;
@@ -126,14 +126,14 @@ fn set_tally(each: &mut [Tally], index: usize, tally: Tally)
 }
 
 /// What the frame at the front of octets says in answer to the request that is awaited.
-fn answer_in(config: &Config, awaited: &Awaited, octets: &[u8]) -> Option<Answer>
+fn answer_in<'a>(config: &Config, awaited: &Awaited, octets: &'a [u8]) -> Option<Answer<'a>>
     ensures { result ≡ answer_in (setup_of config.now) awaited.now octets.now }
 {
     front_is_computed();
-    match front(config.line().link, octets) {
-        Front::Whole(frame, _) => {
+    match front_ref(config.line().link, octets) {
+        FrontRef::Whole(frame, _) => {
             let address = address_at(config.stations(), awaited.station);
-            awaited.request.answered_by(address, &frame)
+            awaited.request.answered_by(address, frame)
         }
         _ => None,
     }

@@ -3,7 +3,7 @@ ghost use Rattle.std.specs.Prelude.{◌≡◌};
 ghost use Rattle.link.specs.Turns.{is_poll};
 ghost use Rattle.sim.specs.Tallies.{fresh_tally, tally_asked, tally_reset, tally_served, tally_answered};
 
-use link::{Answer, Asked, Service};
+use link::{Answer, Asked, HeardRequest, Service};
 
 /// What is counted of a station: of its link's sessions, each from one answered reset to the next,
 /// and of its reports. No count goes past `u64::MAX`.
@@ -49,7 +49,14 @@ impl Tally {
     }
 
     /// A request goes out to the station, which has given so many reports.
-    pub(crate) fn asked(self, request: &Asked, given: u64) -> Tally
+    pub(crate) fn asked(self, request: &HeardRequest, given: u64) -> Tally
+        ensures { result ≡ tally_asked request.now given self }
+    {
+        self.asked_bare(request.asked(), given)
+    }
+
+    /// The same, where of a command no octets are known.
+    fn asked_bare(self, request: &Asked, given: u64) -> Tally
         ensures { result ≡ tally_asked request.now given self }
     {
         match request {
@@ -81,7 +88,7 @@ impl Tally {
     }
 
     /// A poll or a command is answered.
-    fn served(self, service: &Service, answer: &Answer) -> Tally
+    fn served(self, service: &Service, answer: &Answer<'_>) -> Tally
         ensures { result ≡ tally_served service.now answer.now self }
     {
         match answer {
@@ -103,7 +110,14 @@ impl Tally {
     }
 
     /// The request that went out last is answered.
-    pub(crate) fn answered(self, request: &Asked, answer: &Answer) -> Tally
+    pub(crate) fn answered(self, request: &HeardRequest, answer: &Answer<'_>) -> Tally
+        ensures { result ≡ tally_answered request.now answer.now self }
+    {
+        self.answered_bare(request.asked(), answer)
+    }
+
+    /// The same, where of a command no octets are known.
+    fn answered_bare(self, request: &Asked, answer: &Answer<'_>) -> Tally
         ensures { result ≡ tally_answered request.now answer.now self }
     {
         match (request, answer) {

@@ -1,8 +1,9 @@
 //! A primary station on a line with one-octet addresses, through its calls.
-ghost use Rattle.std.specs.Prelude.{◌≡◌, ◌<◌, All, length, IfOk};
+ghost use Rattle.std.specs.Prelude.{◌≡◌, ◌<◌, ◌≤◌, All, length, IfOk};
 ghost use Rattle.ft12.specs.declared.frame.LinkSize.TheVariants.{One};
 ghost use Rattle.link.specs.Requests.{IsUserData, FitsAddress};
 
+use arrayvec::ArrayVec;
 use ft12::LinkSize;
 use link::{LinkSettings, Master, NoMemory, Outcome, Request};
 use std::alloc::Global;
@@ -18,6 +19,45 @@ pub(super) fn settings(retries: u8, hold: bool, burst: u8) -> LinkSettings
         retries,
         hold,
         burst,
+    }
+}
+
+/// What came of an exchange, with the octets of a report.
+#[derive(Drop)]
+pub(super) enum Told {
+    None,
+    Started(usize),
+    StartedGap(usize, u64),
+    Report(usize, ArrayVec<u8, 253>),
+    Empty(usize),
+    Accepted(usize),
+    Busy(usize),
+    Down(usize),
+}
+
+fn told(outcome: &Outcome<'_>) -> Told {
+    match outcome {
+        Outcome::None => Told::None,
+        Outcome::Started(station) => Told::Started(*station),
+        Outcome::StartedGap(station, session) => Told::StartedGap(*station, *session),
+        Outcome::Report(station, report) => {
+            Told::Report(*station, ArrayVec::try_from(report.octets()).unwrap())
+        }
+        Outcome::Empty(station) => Told::Empty(*station),
+        Outcome::Accepted(station) => Told::Accepted(*station),
+        Outcome::Busy(station) => Told::Busy(*station),
+        Outcome::Down(station) => Told::Down(*station),
+    }
+}
+
+/// Octets of the line come.
+pub(super) fn hear(master: &mut Master, octets: &[u8]) -> Told {
+    if let Some(outcome) = master.hear_whole(octets) {
+        return told(&outcome);
+    }
+    match master.gather(octets) {
+        Some(frame) => told(&master.hear(frame.lent())),
+        None => Told::None,
     }
 }
 
@@ -67,12 +107,12 @@ impl Bench {
         }
     }
 
-    pub(super) fn octets(&mut self, octets: &[u8]) -> Outcome {
-        self.master.octets(octets)
+    pub(super) fn octets(&mut self, octets: &[u8]) -> Told {
+        hear(&mut self.master, octets)
     }
 
-    pub(super) fn due(&mut self, now: u64) -> Outcome {
-        self.master.due(now)
+    pub(super) fn due(&mut self, now: u64) -> Told {
+        told(&self.master.due(now))
     }
 
     pub(super) fn spoilt(&self) -> u64 {
@@ -81,7 +121,8 @@ impl Bench {
 
     /// Offers a command to the first station.
     pub(super) fn offer(&mut self, asdu: &[u8]) -> bool
-        requires { IsUserData One asdu.now }
+        requires fits { IsUserData One asdu.now }
+        requires short { length asdu.now ≤ 12 }
     {
         self.master.offer(0, asdu)
     }
@@ -93,20 +134,20 @@ impl Bench {
     /// The first station is asked for its status, and reset.
     pub(super) fn open(&mut self) -> bool {
         let status = self.sends(0, &[0x10, 0x49, 0x01, 0x4A, 0x16]);
-        let ready = matches!(self.octets(&[0x10, 0x0B, 0x01, 0x0C, 0x16]), Outcome::None);
+        let ready = matches!(self.octets(&[0x10, 0x0B, 0x01, 0x0C, 0x16]), Told::None);
         let reset = self.sends(10, &[0x10, 0x40, 0x01, 0x41, 0x16]);
-        status && ready && reset && matches!(self.octets(&[0xE5]), Outcome::Started(0))
+        status && ready && reset && matches!(self.octets(&[0xE5]), Told::Started(0))
     }
 
     /// The first station is asked for its status and reset again: whether that ends this session
     /// with a gap, or tells none.
     pub(super) fn restarts(&mut self, now: u64, gap: Option<u64>) -> bool {
         let status = self.sends(now, &[0x10, 0x49, 0x01, 0x4A, 0x16]);
-        let ready = matches!(self.octets(&[0x10, 0x0B, 0x01, 0x0C, 0x16]), Outcome::None);
+        let ready = matches!(self.octets(&[0x10, 0x0B, 0x01, 0x0C, 0x16]), Told::None);
         let reset = self.sends(now, &[0x10, 0x40, 0x01, 0x41, 0x16]);
         let told = match (self.octets(&[0xE5]), gap) {
-            (Outcome::Started(0), None) => true,
-            (Outcome::StartedGap(0, session), Some(ended)) => session == ended,
+            (Told::Started(0), None) => true,
+            (Told::StartedGap(0, session), Some(ended)) => session == ended,
             _ => false,
         };
         status && ready && reset && told

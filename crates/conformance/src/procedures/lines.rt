@@ -1,7 +1,7 @@
 //! One station, with its polls and commands.
 
-use super::bench::{Bench, settings};
-use link::{NoMemory, Outcome, RequestKind};
+use super::bench::{Bench, Told, settings};
+use link::{NoMemory, RequestKind};
 
 /// One single point, spontaneous, at 100.
 pub(super) const REPORT: [u8; 15] = [
@@ -17,9 +17,9 @@ pub(super) const CLASS2: [u8; 5] = [0x10, 0x7B, 0x01, 0x7C, 0x16];
 
 pub(super) const NEXT_CLASS2: [u8; 5] = [0x10, 0x5B, 0x01, 0x5C, 0x16];
 
-fn is_report(outcome: &Outcome) -> bool {
+fn is_report(outcome: &Told) -> bool {
     match outcome {
-        Outcome::Report(0, asdu) => {
+        Told::Report(0, asdu) => {
             asdu.as_slice() == [0x01, 0x01, 0x03, 0x01, 0x64, 0x00, 0x01].as_slice()
         }
         _ => false,
@@ -31,10 +31,10 @@ fn a_report_is_taken_once(rt: HostRuntime) -> Result<(), NoMemory> {
     let mut line = Bench::new(rt.alloc(), settings(3, true, 8), &[1])?;
     assert!(rt; line.open());
     assert!(rt; line.sends(20, &CLASS2));
-    assert!(rt; matches!(line.due(220), Outcome::None));
+    assert!(rt; matches!(line.due(220), Told::None));
     assert!(rt; line.sends(220, &CLASS2));
     assert!(rt; is_report(&line.octets(&REPORT)));
-    assert!(rt; matches!(line.octets(&REPORT), Outcome::None));
+    assert!(rt; matches!(line.octets(&REPORT), Told::None));
     assert!(rt; line.sends(230, &NEXT_CLASS2));
     Ok(())
 }
@@ -45,7 +45,7 @@ fn a_report_comes_in_two_pieces(rt: HostRuntime) -> Result<(), NoMemory> {
         let mut line = Bench::new(rt.alloc(), settings(3, true, 8), &[1])?;
         assert!(rt; line.open());
         assert!(rt; line.sends(20, &CLASS2));
-        assert!(rt; matches!(line.octets(&REPORT[..cut]), Outcome::None));
+        assert!(rt; matches!(line.octets(&REPORT[..cut]), Told::None));
         assert!(rt; is_report(&line.octets(&REPORT[cut..])), "cut at {cut}");
         assert!(rt; line.sends(50, &NEXT_CLASS2));
     }
@@ -59,14 +59,14 @@ fn a_spoilt_report_is_dropped(rt: HostRuntime) -> Result<(), NoMemory> {
     assert!(rt; line.sends(20, &CLASS2));
     let mut spoilt = REPORT;
     spoilt[13] = 0x75;
-    assert!(rt; matches!(line.octets(&spoilt), Outcome::None));
-    assert!(rt; matches!(line.octets(&REPORT), Outcome::None));
-    assert!(rt; matches!(line.due(219), Outcome::None));
+    assert!(rt; matches!(line.octets(&spoilt), Told::None));
+    assert!(rt; matches!(line.octets(&REPORT), Told::None));
+    assert!(rt; matches!(line.due(219), Told::None));
     assert!(rt; line.next(219, true).is_none());
-    assert!(rt; matches!(line.due(220), Outcome::None));
+    assert!(rt; matches!(line.due(220), Told::None));
     assert!(rt; line.sends(220, &CLASS2));
-    assert!(rt; matches!(line.octets(&REPORT[..10]), Outcome::None));
-    assert!(rt; matches!(line.due(420), Outcome::None));
+    assert!(rt; matches!(line.octets(&REPORT[..10]), Told::None));
+    assert!(rt; matches!(line.due(420), Told::None));
     assert!(rt; line.sends(420, &CLASS2));
     assert!(rt; is_report(&line.octets(&REPORT)));
     Ok(())
@@ -81,8 +81,8 @@ fn octets_after_an_answer_are_dropped(rt: HostRuntime) -> Result<(), NoMemory> {
     both[..15].copy_from_slice(&REPORT);
     assert!(rt; is_report(&line.octets(&both)));
     assert!(rt; line.sends(50, &NEXT_CLASS2));
-    assert!(rt; matches!(line.due(249), Outcome::None));
-    assert!(rt; matches!(line.due(250), Outcome::None));
+    assert!(rt; matches!(line.due(249), Told::None));
+    assert!(rt; matches!(line.due(250), Told::None));
     assert!(rt; line.sends(250, &NEXT_CLASS2));
     Ok(())
 }
@@ -91,13 +91,13 @@ fn octets_after_an_answer_are_dropped(rt: HostRuntime) -> Result<(), NoMemory> {
 fn the_single_character_answers_no_status(rt: HostRuntime) -> Result<(), NoMemory> {
     let mut line = Bench::new(rt.alloc(), settings(3, true, 8), &[1])?;
     assert!(rt; line.sends(0, &[0x10, 0x49, 0x01, 0x4A, 0x16]));
-    assert!(rt; matches!(line.octets(&[0xE5]), Outcome::None));
-    assert!(rt; matches!(line.due(200), Outcome::None));
+    assert!(rt; matches!(line.octets(&[0xE5]), Told::None));
+    assert!(rt; matches!(line.due(200), Told::None));
     assert!(rt; line.sends(200, &[0x10, 0x49, 0x01, 0x4A, 0x16]));
     let mut up = Bench::new(rt.alloc(), settings(3, true, 8), &[1])?;
     assert!(rt; up.open());
     assert!(rt; up.sends(20, &CLASS2));
-    assert!(rt; matches!(up.octets(&[0xE5]), Outcome::Empty(0)));
+    assert!(rt; matches!(up.octets(&[0xE5]), Told::Empty(0)));
     assert!(rt; up.sends(50, &NEXT_CLASS2));
     Ok(())
 }
@@ -107,9 +107,9 @@ fn silence_resets_the_link(rt: HostRuntime) -> Result<(), NoMemory> {
     let mut line = Bench::new(rt.alloc(), settings(1, false, 8), &[1])?;
     assert!(rt; line.open());
     assert!(rt; line.sends(20, &CLASS2));
-    assert!(rt; matches!(line.due(220), Outcome::None));
+    assert!(rt; matches!(line.due(220), Told::None));
     assert!(rt; line.sends(220, &CLASS2));
-    assert!(rt; matches!(line.due(420), Outcome::Down(0)));
+    assert!(rt; matches!(line.due(420), Told::Down(0)));
     assert!(rt; line.sends(420, &[0x10, 0x49, 0x01, 0x4A, 0x16]));
     Ok(())
 }
@@ -143,11 +143,11 @@ fn a_command_waits_while_dfc_is_set(rt: HostRuntime) -> Result<(), NoMemory> {
     assert!(rt;
         matches!(
             line.octets(&[0x10, 0x19, 0x01, 0x1A, 0x16]),
-            Outcome::Empty(0)
+            Told::Empty(0)
         )
     );
     assert!(rt; line.sends(50, &NEXT_CLASS2));
-    assert!(rt; matches!(line.octets(&[0xE5]), Outcome::Empty(0)));
+    assert!(rt; matches!(line.octets(&[0xE5]), Told::Empty(0)));
     let command = [
         0x68, 0x09, 0x09, 0x68, 0x73, 0x01, 0x2D, 0x01, 0x06, 0x01, 0x0A, 0x00, 0x01, 0xB4, 0x16,
     ];
@@ -167,10 +167,10 @@ fn a_command_is_sent_again_under_its_bit(rt: HostRuntime) -> Result<(), NoMemory
     assert!(rt; line.sends(100, &command));
     assert!(rt; !line.offer(&execute));
     line.withdraw();
-    assert!(rt; matches!(line.due(300), Outcome::None));
+    assert!(rt; matches!(line.due(300), Told::None));
     assert!(rt; !line.offer(&execute));
     assert!(rt; line.sends(300, &command));
-    assert!(rt; matches!(line.octets(&[0xE5]), Outcome::Accepted(0)));
+    assert!(rt; matches!(line.octets(&[0xE5]), Told::Accepted(0)));
     assert!(rt; line.sends(310, &NEXT_CLASS2));
     Ok(())
 }
@@ -181,7 +181,7 @@ fn a_busy_station_takes_no_command(rt: HostRuntime) -> Result<(), NoMemory> {
     assert!(rt; line.open());
     assert!(rt; line.sends(20, &CLASS2));
     assert!(rt; line.offer(&[0x64, 0x01, 0x06, 0x01, 0x00, 0x00, 0x14]));
-    assert!(rt; matches!(line.octets(&[0xE5]), Outcome::Empty(0)));
+    assert!(rt; matches!(line.octets(&[0xE5]), Told::Empty(0)));
     let command = [
         0x68, 0x09, 0x09, 0x68, 0x53, 0x01, 0x64, 0x01, 0x06, 0x01, 0x00, 0x00, 0x14, 0xD4, 0x16,
     ];
@@ -189,7 +189,7 @@ fn a_busy_station_takes_no_command(rt: HostRuntime) -> Result<(), NoMemory> {
     assert!(rt;
         matches!(
             line.octets(&[0x10, 0x01, 0x01, 0x02, 0x16]),
-            Outcome::Busy(0)
+            Told::Busy(0)
         )
     );
     assert!(rt; line.sends(70, &CLASS2));

@@ -1,8 +1,8 @@
 //! A primary and a secondary station over a line that loses one request or answer.
 
-use super::bench::settings;
+use super::bench::{Told, hear, settings};
 use ft12::{LinkSize, encode};
-use link::{Master, NoMemory, Outcome, Station};
+use link::{Master, NoMemory, Station};
 
 /// What is lost of the exchange with this number.
 #[derive(Clone, Copy)]
@@ -29,7 +29,7 @@ fn taken(master: &mut Master, station: &mut Station, loss: Loss) -> u64 {
         match answer {
             Some(frame) if !lost => {
                 let octets = encode(size, &frame);
-                if let Outcome::Report(_, asdu) = master.octets(octets.as_slice()) {
+                if let Told::Report(_, asdu) = hear(master, octets.as_slice()) {
                     if let Some(octet) = asdu.first() {
                         taken = taken.wrapping_mul(16).wrapping_add(u64::from(*octet));
                     }

@@ -6,10 +6,13 @@ ghost use Rattle.std.specs.List.{AllByRecursion};
 ghost use Rattle.asdu.specs.Asdu.{IsAsdu};
 ghost use Rattle.asdu.specs.InformationObjects.{monitor_objects_of};
 ghost use Rattle.asdu.specs.Reading.{value_of};
+ghost use Rattle.ft12.specs.Borrowed.{owned, FitsMemory};
+ghost use Rattle.link.specs.declared.outcome.Outcome.TheVariants as exchange;
 ghost use Rattle.link.specs.declared.settings.LinkSettings.{LinkSettings};
 ghost use Rattle.link.specs.Exchanges.{Sending, Exchanges};
 ghost use Rattle.link.specs.Leave.{is_poll_request, is_polling, is_report};
-ghost use Rattle.link.specs.Primary.{offered_to, sending, request_of};
+ghost use Rattle.link.specs.Primary.{offered_to, sending, request_of, heard_from};
+ghost use Rattle.link.specs.Primary.{heard_outcome as outcome_of_frame};
 ghost use Rattle.link.specs.Telling.{Tells};
 ghost use Rattle.command.specs.Judging.{judged};
 ghost use Rattle.command.specs.State.{oldest};
@@ -33,6 +36,7 @@ use crate::gaps::Gap;
 use asdu::{Asdu, Piece, objects_are_those_of_the_asdu, read, translate};
 use command::{Act, Commands};
 use elements::TypeId;
+use ft12::{Frame, FrameRef};
 use link::{
     Master, Outcome, Request, RequestKind, master_tells_the_log, offers_wait, polls_wait_for_leave,
 };
@@ -124,16 +128,45 @@ fn keep_all(commands: &mut Commands, pieces: &[Piece]) -> bool
 }
 
 impl SerialSide {
-    /// Takes octets of the line, and answers what came of them.
-    fn hear(&mut self, octets: &[u8]) -> Outcome
-        ensures state { self.new ≡ heard octets.now self.old }
-        ensures outcome { result ≡ heard_outcome octets.now self.old }
-        ensures report { is_report result ≡ true →
-            (is_polling self.old.line ≡ true) × (is_polling self.new.line ≡ false) }
+    /// Takes octets of the line whose front is the whole answer to the request that is outstanding,
+    /// and answers what came of them. Else nothing changes.
+    fn hear_whole<'a>(&mut self, octets: &'a [u8]) -> Option<Outcome<'a>>
+        ensures whole { IfSome result (λ outcome. (self.new ≡ heard octets.now self.old)
+            × (outcome ≡ heard_outcome octets.now self.old)) }
+        ensures none { IfNone result (self.new ≡ self.old) }
+        ensures report { IfSome result (λ outcome. is_report outcome ≡ true →
+            (is_polling self.old.line ≡ true) × (is_polling self.new.line ≡ false)) }
         ensures polls { is_polling self.new.line ≡ true → is_polling self.old.line ≡ true }
     {
         polls_wait_for_leave();
-        self.line.octets(octets)
+        self.line.hear_whole(octets)
+    }
+
+    /// Gathers octets of the line up to the frame that is the answer.
+    fn gather(&mut self, octets: &[u8]) -> Option<Frame>
+        ensures whole { IfSome result (λ frame. (record self.new {
+          line =
+              heard_from self.new.line self.new.line.outstanding frame;
+        } ≡ heard octets.now self.old)
+            × (outcome_of_frame self.new.line self.new.line.outstanding frame
+            ≡ heard_outcome octets.now self.old)) }
+        ensures none { IfNone result ((self.new ≡ heard octets.now self.old)
+            × (heard_outcome octets.now self.old ≡ exchange.None)) }
+    {
+        self.line.gather(octets)
+    }
+
+    /// Hears the frame that is the answer, and says what came of the exchange.
+    fn hear_frame<'a>(&mut self, frame: FrameRef<'a>) -> Outcome<'a>
+        requires { FitsMemory frame }
+        ensures state { self.new ≡ record self.old {
+          line =
+              heard_from self.old.line self.old.line.outstanding (owned frame.entry);
+        } }
+        ensures outcome { result
+            ≡ outcome_of_frame self.old.line self.old.line.outstanding (owned frame.entry) }
+    {
+        self.line.hear(frame)
     }
 
     /// The command on a station's line was accepted.
@@ -347,18 +380,33 @@ impl Gateway {
     pub(crate) fn hear(&mut self, octets: &[u8]) -> bool
         ensures { Hears self.old octets.now result self.new }
     {
-        let outcome = self.serial.hear(octets);
+        match self.serial.hear_whole(octets) {
+            Some(outcome) => self.learn(&outcome),
+            None => self.hear_piece(octets),
+        }
+    }
+
+    /// As `hear`, for octets that aren't a whole answer by themselves.
+    #[inline(never)]
+    fn hear_piece(&mut self, octets: &[u8]) -> bool
+        ensures { Hears self.old octets.now result self.new }
+    {
+        polls_wait_for_leave();
+        let Some(frame) = self.serial.gather(octets) else {
+            return true;
+        };
+        let outcome = self.serial.hear_frame(frame.lent());
         self.learn(&outcome)
     }
 
     /// What came of an exchange.
-    fn learn(&mut self, outcome: &Outcome) -> bool
+    fn learn(&mut self, outcome: &Outcome<'_>) -> bool
         requires room { is_report outcome.now ≡ true →
             (3 ≤ free_places self.old.centre.queue) × (is_polling self.old.serial.line ≡ false) }
         ensures { Learns self.old outcome.now result self.new }
     {
         match outcome {
-            Outcome::Report(_, report) => self.take_report(report),
+            Outcome::Report(_, report) => self.take_report(report.octets()),
             Outcome::Accepted(station) => {
                 self.serial.accept(*station);
                 true

@@ -1,5 +1,6 @@
 use Rattle.std.proofs.Common.{◌<◌, ℕ, sym, subst}
 use Rattle.std.proofs.lemmas.List.{length-set}
+use Rattle.ft12.specs.Borrowed.{owned}
 use Rattle.link.specs.Turns.{StationState}
 use Rattle.link.specs.Holding.{FitsStation}
 use Rattle.link.proofs.Fitting.{set_fits, answered_fits}
@@ -16,7 +17,7 @@ invariant_of-self-in-Some c =
             (sym (length-set c.self.inside.stations.items c.self.inside.turn c.answer.new.self)) f.turn;
         stations = set_fits size c.self.inside.stations.items c.self.inside.turn c.answer.new.self f.turn f.stations
             (subst (λ (s : StationState). FitsStation size s) (sym c.answer.ensures)
-            (answered_fits size c.index_mut.result.now c.args.awaited.request c.args.frame.now c.in-Some.answer
+            (answered_fits size c.index_mut.result.now c.args.awaited.request (owned c.args.frame) c.in-Some.answer
             (subst (λ (s : StationState). FitsStation size s) (sym c.index_mut.ensures.value)
             (f.stations c.self.inside.turn c.index_mut.result.now f.turn))));
         outstanding = f.outstanding;
