@@ -149,7 +149,9 @@ pub fn calls_by_example()
         ∷ [])) ∷ Came 2 (TcpIn (0x68 ∷ 0x04 ∷ 0x07 ∷ [])) ∷ Came 1 Opened ∷ []) ≡ started 0 1 1)
         × (centre_of (Went 2 (TcpOut (0x68 ∷ 0x04 ∷ 0x0B ∷ [])) ∷ Came 1 Opened ∷ []) ≡ opened)
         × (centre_of (Went 2 (Closed Grammar) ∷ Came 1 Opened ∷ []) ≡ shut)
-        × (centre_of (Came 2 CutOff ∷ Came 1 Opened ∷ []) ≡ shut) × (centre_of [] ≡ shut) }
+        × (centre_of (Came 2 CutOff ∷ Came 1 Opened ∷ []) ≡ shut) × (centre_of [] ≡ shut)
+        × (centre_of (Came 3 Opened ∷ Came 2 (TcpIn (0x68 ∷ 0x04 ∷ 0x07 ∷ [])) ∷ Came 1 Opened ∷ [])
+        ≡ opened) }
     ensures turned_round { data_apdu (started 32769 32770 0) command
         ≡ 0x68 ∷ 0x0E ∷ 0x02 ∷ 0x00 ∷ 0x04 ∷ 0x00 ∷ command }
 {}
@@ -165,13 +167,13 @@ pub fn closing_lines_by_example()
         (told.Came (entry.Tick 0) ∷ told.Came (entry.Open 1) ∷ told.Came (entry.Open 4) ∷ [])
         ≡ line (codes "connection 1 objects 0") ++ line (codes "connection 2 objects 0")) }
     ensures sessions { (line_of_sessions 0 (record {
-      sessions = 2;
-      gaps = 1;
+      sessions = 3;
+      gaps = 2;
       lost = 1;
       taken = 7;
       given = 8;
       is_polled = true;
-    }) ≡ line (codes "sessions 1 2 gaps 1 lost 1"))
+    }) ≡ line (codes "sessions 1 3 gaps 2 lost 1"))
         × (line_of_sessions 0 (record {
           sessions = 1;
           gaps = 0;

@@ -11,7 +11,7 @@ pub returns-clause-counts : goal.returns-clause-counts
 returns-clause-counts c = (refl, refl, refl, λ plan. refl)
 
 pub returns-clause-centre : goal.returns-clause-centre
-returns-clause-centre c = (refl, refl, refl, refl, refl, refl, refl, refl, refl)
+returns-clause-centre c = (refl, refl, refl, refl, refl, refl, refl, refl, refl, refl)
 
 pub returns-clause-turned_round : goal.returns-clause-turned_round
 returns-clause-turned_round c = refl
