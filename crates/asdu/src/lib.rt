@@ -13,6 +13,7 @@
 //! pieces, as many as `parts` says. What `write` makes is the same ASDU in the other sizes.
 #![tactic(auto)]
 
+mod examples;
 mod header;
 mod laws;
 mod objects;
@@ -23,6 +24,7 @@ mod translation;
 mod unit;
 mod writing;
 
+pub use examples::resized_asdus_by_example;
 pub use header::Head;
 pub use laws::{
     objects_are_those_of_the_asdu, one_asdu_one_spelling, pieces_are_as_large_as_can_be,

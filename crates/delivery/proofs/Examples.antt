@@ -62,6 +62,14 @@ own_address : on_line_of example 0 (100 ∷ 1 ∷ 6 ∷ 0 ∷ 255 ∷ 255 ∷ 0 
     ∷ []
 own_address = refl
 
+-- in the largest sizes: a test with originator 9 and a tag, to the station with common address 0x1234
+in_wide_sizes : on_line_of (record example {
+  sizes = record { cause = causes.Two; ca = cas.Two; ioa = ioas.Three };
+  stations = record { ca = 0x1234; select = false } ∷ [];
+}) 0 (58 ∷ 1 ∷ 0x86 ∷ 9 ∷ 0xFF ∷ 0xFF ∷ 1 ∷ 2 ∷ 3 ∷ 0x81 ∷ 0 ∷ 0 ∷ 30 ∷ 12 ∷ 24 ∷ 11 ∷ 25 ∷ [])
+    ≡ 45 ∷ 1 ∷ 0x86 ∷ 9 ∷ 0x34 ∷ 0x12 ∷ 1 ∷ 2 ∷ 3 ∷ 0x81 ∷ []
+in_wide_sizes = refl
+
 -- The line: status, reset, and the command with FCB 1
 
 abbrev status : List ℕ

@@ -4,3 +4,4 @@ pub mod Ends
 pub mod Stations
 pub mod Watching
 pub mod Telling
+pub mod Examples

@@ -9,11 +9,14 @@
 //! from which event or action is one small function of what has passed and of what was seen of the
 //! port's ends ([`Watch`]); an event or action has one line at most; lines of one kind are a second
 //! apart, and those left out are counted ([`lines_of_a_kind_are_a_second_apart`]); a sink that
-//! takes no line any more ends the telling, and nothing else; the words of each line. That a line's
-//! UTC time is right, and what standard error does with it, is no matter of a proof.
+//! takes no line any more ends the telling, and nothing else; the words of each line. Of all this
+//! there are literal examples ([`stations_by_example`], [`moments_by_example`],
+//! [`log_lines_by_example`]). That a line's UTC time is right, and what standard error does with
+//! it, is no matter of a proof.
 #![tactic(auto)]
 
 mod ends;
+mod examples;
 mod laws;
 mod limit;
 mod note;
@@ -24,6 +27,7 @@ mod stations;
 mod teller;
 mod watch;
 
+pub use examples::{log_lines_by_example, moments_by_example, stations_by_example};
 pub use laws::lines_of_a_kind_are_a_second_apart;
 pub use note::{Line, Note, Tally, Trouble};
 pub use port::Journal;

@@ -1,5 +1,5 @@
 //! A secondary station of unbalanced transmission (IEC 60870-5-2).
-ghost use Rattle.std.specs.Prelude.{◌≡◌, ◌<◌, ◌≤◌, ◌+◌, ◌^◌, ◌∷◌, ◌++◌, [], List, ℕ, length, map, IfSome, OnOk, OnErr};
+ghost use Rattle.std.specs.Prelude.{◌≡◌, ◌<◌, ◌≤◌, ◌+◌, ◌^◌, ◌∷◌, ◌++◌, [], List, ℕ, length, map, true, IfSome, OnOk, OnErr};
 ghost use Rattle.std.specs.Bool.{OnTrue, OnFalse};
 ghost use Rattle.ft12.specs.Spelling.{Fits};
 ghost use Rattle.link.specs.declared.service.Asked.TheVariants as Asked;
@@ -7,6 +7,7 @@ ghost use Rattle.link.specs.Requests.{FitsAddress, FitsFrame};
 ghost use Rattle.link.specs.Heard.{service_with};
 ghost use Rattle.link.specs.Control.{secondary_code as number};
 ghost use Rattle.link.specs.declared.control.SecondaryFunction.TheVariants as function;
+ghost use Rattle.link.specs.Life.{Report1, Report2, called};
 ghost use Rattle.link.specs.Secondary.{served_class1, served_class2, served_command, control_of, short_of, data_frame, one_more_given, is_same, IsServed, IsCommandServed, IsReadingHeard, with_frame, HearsOctets, fresh_station};
 
 use crate::asdu::Asdu;
@@ -309,8 +310,7 @@ impl Station {
     /// addresses). Where there is no memory nothing changes.
     pub fn report1(&mut self, report: &[u8]) -> Result<(), NoMemory>
         requires { FitsFrame self.old.size report.now }
-        ensures ok { OnOk result (self.new
-            ≡ record self.old { class1 = self.old.class1 ++ report.now ∷ [] }) }
+        ensures ok { OnOk result (self.new ≡ called self.old (Report1 true report.now)) }
         ensures err { OnErr result (self.new ≡ self.old) }
     {
         match self.class1.push_back(Asdu::new(report)) {
@@ -323,8 +323,7 @@ impl Station {
     /// addresses). Where there is no memory nothing changes.
     pub fn report2(&mut self, report: &[u8]) -> Result<(), NoMemory>
         requires { FitsFrame self.old.size report.now }
-        ensures ok { OnOk result (self.new
-            ≡ record self.old { class2 = self.old.class2 ++ report.now ∷ [] }) }
+        ensures ok { OnOk result (self.new ≡ called self.old (Report2 true report.now)) }
         ensures err { OnErr result (self.new ≡ self.old) }
     {
         match self.class2.push_back(Asdu::new(report)) {

@@ -11,3 +11,4 @@ pub mod Texts
 pub mod Outstations
 pub mod Closing
 pub mod Runs
+pub mod Examples

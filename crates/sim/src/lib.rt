@@ -25,6 +25,10 @@
 //! gateway and the order of actions in each step, and delivers what was taken; where a write fails
 //! it is the beginning of that text (`specs/Runs.antt`).
 //!
+//! Worked examples have literal texts and octets: of scripts ([`scripts_by_example`]), of what they
+//! do to requests and answers ([`losses_by_example`]), of calls ([`calls_by_example`]) and of
+//! closing lines ([`closing_lines_by_example`]).
+//!
 //! Not proved: that a report is ever asked for, or that want of memory is the only cause of
 //! `NoMemory`.
 #![tactic(auto)]
@@ -33,6 +37,7 @@ mod beginning;
 mod centre;
 mod directive;
 mod due;
+mod examples;
 mod hearing;
 mod laws;
 mod line;
@@ -45,6 +50,9 @@ mod tally;
 mod text;
 
 pub use directive::{Class, Directive, Fate};
+pub use examples::{
+    calls_by_example, closing_lines_by_example, losses_by_example, scripts_by_example,
+};
 pub use laws::{connections_are_counted, stations_are_honest};
 pub use reading::read_script;
 pub use script::Script;

@@ -1,0 +1,134 @@
+//! What is told, by worked examples: literal octets, moments and lines.
+ghost use Rattle.std.specs.Prelude.{◌≡◌, ◌∷◌, [], codes, true, false, Some, None};
+ghost use Rattle.ft12.specs.declared.frame.LinkSize.TheVariants.{One, Two};
+ghost use Rattle.gateway.specs.declared.counts.Counts.{Counts};
+ghost use Rattle.live.specs.declared.wires.CutCause.TheVariants as cut;
+ghost use Rattle.session.specs.declared.kinds.Close.TheVariants as close;
+ghost use Rattle.journal.specs.Ends.{new_line, new_door, new_connection, door_seen, connection_sent};
+ghost use Rattle.journal.specs.Examples.{at, lines_of_looks, lines_of_requests};
+ghost use Rattle.journal.specs.Notes.{line_text, words};
+ghost use Rattle.journal.specs.Stations.{address_of, asking_of, new_station, asked, gap};
+ghost use Rattle.journal.specs.Watching.{Watching, counted, is_full, is_look_due};
+ghost use Rattle.journal.specs.declared.note.Note.TheVariants as note;
+ghost use Rattle.journal.specs.declared.note.Trouble.TheVariants as trouble;
+ghost use Rattle.journal.specs.declared.stations.Asking.TheVariants.{Status, Counted, Other};
+
+/// What is told of stations, by the octets of requests to them (IEC 60870-5-2, 5.1.2): whose they
+/// are, what they ask for, and the lines of a station that is asked, reset, polled, silent, polled
+/// again and asked once more. Another station's requests tell nothing of it.
+pub fn stations_by_example()
+    ensures addresses { (address_of One (0x10 ∷ 0x49 ∷ 0x07 ∷ 0x50 ∷ 0x16 ∷ []) ≡ 7)
+        × (address_of Two (0x10 ∷ 0x49 ∷ 0x02 ∷ 0x01 ∷ 0x4C ∷ 0x16 ∷ []) ≡ 258)
+        × (address_of One (0x68 ∷ 0x03 ∷ 0x03 ∷ 0x68 ∷ 0x73 ∷ 0x07 ∷ 0x05 ∷ 0x7F ∷ 0x16 ∷ [])
+        ≡ 7) }
+    ensures askings { (asking_of (0x10 ∷ 0x49 ∷ 0x07 ∷ []) ≡ Status)
+        × (asking_of (0x10 ∷ 0x40 ∷ 0x07 ∷ []) ≡ Other)
+        × (asking_of (0x10 ∷ 0x7A ∷ 0x07 ∷ []) ≡ Counted true)
+        × (asking_of (0x10 ∷ 0x5B ∷ 0x07 ∷ []) ≡ Counted false)
+        × (asking_of (0x68 ∷ 0x03 ∷ 0x03 ∷ 0x68 ∷ 0x73 ∷ []) ≡ Counted true)
+        × (asking_of (0x10 ∷ 0x09 ∷ 0x07 ∷ []) ≡ Other) }
+    // `retries` is 1: a third sending is one too many.
+    ensures life { lines_of_requests One ((0, 0x10 ∷ 0x49 ∷ 0x07 ∷ [])
+        ∷ (1000, 0x10 ∷ 0x40 ∷ 0x07 ∷ []) ∷ (2000, 0x10 ∷ 0x7B ∷ 0x07 ∷ [])
+        ∷ (3000, 0x10 ∷ 0x7B ∷ 0x07 ∷ []) ∷ (4000, 0x10 ∷ 0x7B ∷ 0x07 ∷ [])
+        ∷ (5000, 0x10 ∷ 0x5B ∷ 0x07 ∷ []) ∷ (6000, 0x10 ∷ 0x49 ∷ 0x07 ∷ []) ∷ [])
+        (new_station 2 7 ∷ [])
+        ≡ at 0 (note.Asked 7) ∷ at 2000 (note.Up 7) ∷ at 4000 (note.Silent 7)
+        ∷ at 5000 (note.Again 7) ∷ at 6000 (note.Down 7) ∷ [] }
+    ensures others { (asked One (0x10 ∷ 0x49 ∷ 0x08 ∷ []) 0 (new_station 2 7 ∷ [])
+        ≡ (new_station 2 7 ∷ [], None))
+        × ((gap 1 5 (new_station 2 7 ∷ new_station 2 8 ∷ [])).1 ≡ Some (at 5 (note.Gap 8)))
+        × ((gap 2 5 (new_station 2 7 ∷ [])).1 ≡ None) }
+{}
+
+/// What is told of the line, of who is sent away, of the connection, of the queue and of the
+/// counts, and when.
+pub fn moments_by_example()
+    ensures line { lines_of_looks
+        ((0, false) ∷ (500, false) ∷ (1000, true) ∷ (2000, false) ∷ (3000, true) ∷ (3500, false)
+        ∷ (4000, false) ∷ []) new_line
+        ≡ at 0 note.LineNotThere ∷ at 1000 note.LineReached ∷ at 2000 note.LineLost
+        ∷ at 3000 note.LineReachedAgain ∷ at 3500 note.LineLost ∷ [] }
+    ensures door { ((door_seen (record { count = 3; last = None }) 7 new_door).1
+        ≡ Some (at 7 (note.SentAway 3 None)))
+        × ((door_seen (record { count = 5; last = None }) 1007
+        (door_seen (record { count = 3; last = None }) 7 new_door).0).1
+        ≡ Some (at 1007 (note.SentAway 2 None)))
+        × ((door_seen (record { count = 5; last = None }) 1006
+        (door_seen (record { count = 3; last = None }) 7 new_door).0).1 ≡ None)
+        × ((door_seen (record { count = 0; last = None }) 7 new_door).1 ≡ None) }
+    // STARTDT con, STOPDT con and TESTFR act (IEC 60870-5-104, 5)
+    ensures connection { ((connection_sent (0x68 ∷ 0x04 ∷ 0x0B ∷ 0x00 ∷ 0x00 ∷ 0x00 ∷ []) 5
+        new_connection).1 ≡ Some (at 5 note.Started))
+        × ((connection_sent (0x68 ∷ 0x04 ∷ 0x23 ∷ 0x00 ∷ 0x00 ∷ 0x00 ∷ []) 5 new_connection).1
+        ≡ Some (at 5 note.Stopped))
+        × ((connection_sent (0x68 ∷ 0x04 ∷ 0x43 ∷ 0x00 ∷ 0x00 ∷ 0x00 ∷ []) 5 new_connection).1
+        ≡ None) }
+    ensures queue { (is_full 97 100 ≡ false) × (is_full 98 100 ≡ true) × (is_full 100 100 ≡ true) }
+    ensures looks { (w : Watching) →
+        (is_look_due (record w { moment = 5999; looked = 5000 }) ≡ false)
+        × (is_look_due (record w { moment = 6000; looked = 5000 }) ≡ true) }
+    ensures counts { (w : Watching) (c : Counts) →
+        ((counted c 5 (record w { moment = 64999; counted = 5000 })).1 ≡ None)
+        × ((counted c 5 (record w { moment = 65000; counted = 5000; places = 9 })).1
+        ≡ Some (at 65000 (note.Counts (record {
+          counts = c;
+          taken = 5;
+          places = 9;
+          connections = w.connection.count;
+        })))) }
+{}
+
+/// The lines behind their UTC time (docs/TEXTS.md has them in words).
+pub fn log_lines_by_example()
+    ensures lines { (line_text (at 10 (note.Up 1)) ≡ codes "10 station 1 up")
+        × (line_text (record { moment = 10; note = note.LineLost; left_out = 3 })
+        ≡ codes "10 line lost (3 left out)") }
+    ensures ends { (words note.LineReached ≡ codes "line reached")
+        × (words note.LineReachedAgain ≡ codes "line reached again")
+        × (words note.LineLost ≡ codes "line lost")
+        × (words note.LineNotThere ≡ codes "line not there")
+        × (words (note.Opened None) ≡ codes "connection opened")
+        × (words note.Started ≡ codes "connection started")
+        × (words note.Stopped ≡ codes "connection stopped")
+        × (words (note.SentAway 2 None) ≡ codes "2 sent away") }
+    ensures stations { (words (note.Asked 7) ≡ codes "station 7 asked for its status")
+        × (words (note.Silent 7) ≡ codes "station 7 doesn't answer")
+        × (words (note.Again 7) ≡ codes "station 7 answers again")
+        × (words (note.Down 7) ≡ codes "station 7 down")
+        × (words (note.Gap 7) ≡ codes "station 7 gap: reports of it may be lost")
+        × (words note.QueueFull ≡ codes "queue full")
+        × (words note.QueueFree ≡ codes "queue free again") }
+    ensures cuts { (words (note.Cut cut.Gone) ≡ codes "connection cut: its other end has gone")
+        × (words (note.Cut cut.NotTaken)
+        ≡ codes "connection cut: it didn't take what was written")
+        × (words (note.Cut cut.Late) ≡ codes "connection cut: what came would be told too late")
+        × (words (note.Cut cut.Restarted)
+        ≡ codes "connection cut: the gateway was started again") }
+    ensures closes { (words (note.Closed close.Grammar)
+        ≡ codes "connection closed: octets that begin no APDU")
+        × (words (note.Closed close.SendNumber)
+        ≡ codes "connection closed: an N(S) that isn't the next one")
+        × (words (note.Closed close.ReceiveNumber)
+        ≡ codes "connection closed: an N(R) of frames that weren't sent")
+        × (words (note.Closed close.Stopped)
+        ≡ codes "connection closed: an I frame while data transfer is stopped")
+        × (words (note.Closed close.Timeout)
+        ≡ codes "connection closed: no acknowledgement for t1")
+        × (words (note.Closed close.OwnAnswers)
+        ≡ codes "connection closed: an own answer found no place")
+        × (words (note.Closed close.Replaced)
+        ≡ codes "connection closed: a new connection takes its place") }
+    ensures troubles { (words (note.Trouble trouble.LineRefused) ≡ codes "line refused")
+        × (words (note.Trouble trouble.NameUnknown) ≡ codes "name unknown")
+        × (words (note.Trouble trouble.LineUnreached) ≡ codes "line not reached")
+        × (words (note.Trouble trouble.PortInUse) ≡ codes "port in use")
+        × (words (note.Trouble trouble.PortForbidden) ≡ codes "port not allowed")
+        × (words (note.Trouble trouble.PortUnusable) ≡ codes "port can't be listened at") }
+    ensures counts { words (note.Counts (record {
+      counts = record { skipped = 1; mirrors = 2; lost = 3; spoilt = 4 };
+      taken = 5;
+      places = 6;
+      connections = 7;
+    })) ≡ codes "counts skipped 1 mirrors 2 lost 3 spoilt 4 taken 5 of 6 connections 7" }
+{}

@@ -1,0 +1,185 @@
+//! Scripts, calls and closing lines by worked examples: literal texts and octets.
+ghost use Rattle.std.specs.Prelude.{◌≡◌, ◌++◌, ◌∷◌, [], ℕ, List, codes, replicate, true, false, Some, None};
+ghost use Rattle.ft12.specs.declared.frame.Frame.TheVariants.{Single, Fixed};
+ghost use Rattle.ft12.specs.declared.frame.LinkSize.TheVariants.{One, Two};
+ghost use Rattle.gateway.specs.Log.{Input, LineIn, Opened, TcpIn, CutOff, Ticked, WallIs, LineOut, TcpOut, Closed, GapOut, Came, Went};
+ghost use Rattle.gateway.specs.declared.entries.Entry.TheVariants as entry;
+ghost use Rattle.gateway.specs.declared.entries.Told.TheVariants as told;
+ghost use Rattle.session.specs.declared.kinds.Close.TheVariants.{Grammar};
+ghost use Rattle.sim.specs.declared.directive.Class.TheVariants as class;
+ghost use Rattle.sim.specs.declared.directive.Directive.TheVariants.{Turns, Ack, Wall, Report, LoseRequest, LoseAnswer, SpoilAnswer, Cut, Send};
+ghost use Rattle.sim.specs.declared.directive.Fate.TheVariants.{Unheard, AnswerLost, AnswerSpoilt, Answered};
+ghost use Rattle.sim.specs.Calls.{calls_in, moment_of, event_at, lasting, next_moment};
+ghost use Rattle.sim.specs.Centres.{shut, opened, centre_of, data_apdu};
+ghost use Rattle.sim.specs.Directives.{of_three, of_four, reporting_by, sending_by};
+ghost use Rattle.sim.specs.Examples.{started, command, with_script, says, line, wrong_line};
+ghost use Rattle.sim.specs.Lives.{Plan, arriving, later, requests_in, waiting_in};
+ghost use Rattle.sim.specs.Losses.{turns_of, ack_of, wall_at, is_cut_at, sent_at, fate_of, report_said};
+ghost use Rattle.sim.specs.Scripts.{clashes};
+ghost use Rattle.traces.specs.Fields.{octets_of};
+ghost use Rattle.sim.specs.Texts.{station_line, connection_line, connection_lines, line_of_sessions};
+
+/// What each line of a script says, the edges of its ranges and what no line says (docs/TEXTS.md
+/// has them in words); which lines clash; and the first wrong line of a text.
+pub fn scripts_by_example()
+    ensures numbers { (says (codes "turns 000000008") ≡ Some (Turns 8))
+        × (says (codes "turns 0000000001") ≡ None) × (says (codes "turns x") ≡ None)
+        × (says (codes "turns  1") ≡ None) × (says (codes "Turns 1") ≡ None)
+        × (says (codes "ack 1") ≡ Some (Ack 1)) × (says (codes "ack 32767") ≡ Some (Ack 32767))
+        × (says (codes "ack 0") ≡ None) × (says (codes "ack 32768") ≡ None)
+        × (says (codes "cut 7") ≡ Some (Cut 7))
+        × (says (codes "wall 999999999999999") ≡ Some (Wall 999999999999999))
+        × (says (codes "wall 1000000000000000") ≡ None) }
+    ensures losses { (says (codes "lose request 0") ≡ Some (LoseRequest 0))
+        × (says (codes "lose answer 3") ≡ Some (LoseAnswer 3))
+        × (says (codes "lose reply 3") ≡ None)
+        × (says (codes "spoil answer 3 999999999") ≡ Some (SpoilAnswer 3 999999999))
+        × (says (codes "spoil request 3 1") ≡ None) }
+    // What octets stand in hexadecimal `traces` says.
+    ensures octets { (text octets : List ℕ) → octets_of text ≡ Some octets →
+        (of_four One 2 (codes "report") (codes "2") (codes "1") text
+        ≡ reporting_by One 2 (Some 2) (Some 1) (Some octets))
+        × (of_three (codes "send") (codes "4") text ≡ sending_by (Some 4) (Some octets)) }
+    ensures stations { (reporting_by One 2 (Some 2) (Some 1) (Some (10 ∷ 255 ∷ []))
+        ≡ Some (Report 1 class.One (10 ∷ 255 ∷ [])))
+        × (reporting_by One 2 (Some 1) (Some 2) (Some (7 ∷ []))
+        ≡ Some (Report 0 class.Two (7 ∷ [])))
+        × (reporting_by One 2 (Some 0) (Some 1) (Some (0 ∷ [])) ≡ None)
+        × (reporting_by One 2 (Some 3) (Some 1) (Some (0 ∷ [])) ≡ None)
+        × (reporting_by One 2 (Some 1) (Some 0) (Some (0 ∷ [])) ≡ None)
+        × (reporting_by One 2 (Some 1) (Some 3) (Some (0 ∷ [])) ≡ None) }
+    ensures lengths { (reporting_by One 1 (Some 1) (Some 2) (Some (replicate 253 7))
+        ≡ Some (Report 0 class.Two (replicate 253 7)))
+        × (reporting_by One 1 (Some 1) (Some 2) (Some (replicate 254 7)) ≡ None)
+        × (reporting_by Two 1 (Some 1) (Some 2) (Some (replicate 252 7))
+        ≡ Some (Report 0 class.Two (replicate 252 7)))
+        × (reporting_by Two 1 (Some 1) (Some 2) (Some (replicate 253 7)) ≡ None)
+        × (sending_by (Some 1) (Some (replicate 9 7)) ≡ Some (Send 1 (replicate 9 7)))
+        × (sending_by (Some 1) (Some (replicate 8 7)) ≡ None)
+        × (sending_by (Some 1) (Some (replicate 249 7)) ≡ Some (Send 1 (replicate 249 7)))
+        × (sending_by (Some 1) (Some (replicate 250 7)) ≡ None) }
+    ensures clash { (clashes (Turns 1) (Turns 2) ≡ true) × (clashes (Ack 1) (Ack 2) ≡ true)
+        × (clashes (Wall 1) (Wall 2) ≡ true)
+        × (clashes (SpoilAnswer 1 2) (SpoilAnswer 1 3) ≡ true)
+        × (clashes (SpoilAnswer 1 2) (SpoilAnswer 2 2) ≡ false)
+        × (clashes (Send 1 command) (Send 1 []) ≡ true)
+        × (clashes (Send 1 command) (Send 2 command) ≡ false)
+        × (clashes (Cut 1) (Cut 1) ≡ false) × (clashes (LoseAnswer 1) (LoseAnswer 1) ≡ false)
+        × (clashes (Report 0 class.One []) (Report 0 class.One []) ≡ false) }
+    ensures texts { (wrong_line (line (codes "turns 1")) ≡ None)
+        × (wrong_line (codes "turns 1") ≡ None) × (wrong_line [] ≡ Some 1)
+        × (wrong_line (line (codes "# turns 1") ++ line [] ++ line (codes "ack 1")) ≡ Some 4)
+        × (wrong_line (line (codes "turns 1") ++ line [] ++ line (codes "cut")) ≡ Some 3)
+        × (wrong_line (line (codes "turns 1") ++ line (codes "turns 1")) ≡ Some 2) }
+{}
+
+/// What a script has become of a request, of an answer and of a call, and what it says where it has
+/// no such line.
+pub fn losses_by_example()
+    ensures fates { (fate_of (SpoilAnswer 1 4 ∷ LoseAnswer 1 ∷ LoseRequest 1 ∷ []) 1 ≡ Unheard)
+        × (fate_of (SpoilAnswer 1 4 ∷ LoseAnswer 1 ∷ []) 1 ≡ AnswerLost)
+        × (fate_of (SpoilAnswer 1 4 ∷ []) 1 ≡ AnswerSpoilt 4)
+        × (fate_of (SpoilAnswer 2 4 ∷ LoseAnswer 2 ∷ LoseRequest 2 ∷ []) 1 ≡ Answered) }
+    // The status of station 1: FT1.2, function 11.
+    ensures answers { (arriving One Answered (Some (Fixed 0x0B 1))
+        ≡ Some (0x10 ∷ 0x0B ∷ 0x01 ∷ 0x0C ∷ 0x16 ∷ []))
+        × (arriving One (AnswerSpoilt 1) (Some (Fixed 0x0B 1))
+        ≡ Some (0x10 ∷ 0xF4 ∷ 0x01 ∷ 0x0C ∷ 0x16 ∷ []))
+        × (arriving One (AnswerSpoilt 8) (Some (Fixed 0x0B 1))
+        ≡ Some (0x10 ∷ 0x0B ∷ 0x01 ∷ 0xF3 ∷ 0x16 ∷ []))
+        × (arriving One AnswerLost (Some Single) ≡ None)
+        × (arriving One Unheard (Some Single) ≡ None) × (arriving One Answered None ≡ None)
+        × (later (Some Single) None ≡ Some Single)
+        × (later None (Some Single) ≡ Some Single) }
+    ensures numbers { (turns_of (Ack 5 ∷ Turns 9 ∷ []) ≡ 9) × (turns_of [] ≡ 0)
+        × (ack_of (Turns 9 ∷ Ack 5 ∷ []) ≡ 5) × (ack_of (Turns 9 ∷ []) ≡ 1)
+        × (wall_at (Wall 17 ∷ []) 1 ≡ Some 17) × (wall_at (Wall 17 ∷ []) 2 ≡ None)
+        × (wall_at [] 1 ≡ None) }
+    ensures calls { (is_cut_at (Cut 2 ∷ Cut 4 ∷ []) 4 ≡ true)
+        × (is_cut_at (Cut 2 ∷ Cut 4 ∷ []) 3 ≡ false)
+        × (sent_at (Send 2 [] ∷ Send 3 command ∷ []) 3 ≡ Some command)
+        × (sent_at (Send 2 command ∷ []) 3 ≡ None) }
+    ensures reports { (report_said 0 class.One (Report 0 class.One command) ≡ command ∷ [])
+        × (report_said 0 class.One (Report 1 class.One command) ≡ [])
+        × (report_said 0 class.One (Report 0 class.Two command) ≡ []) }
+    // An answer waits until it is given, or the next request goes out.
+    ensures waiting { (plan : Plan) →
+        (waiting_in (with_script plan []) (Went 1 (LineOut []) ∷ []) (Some Single ∷ [])
+        ≡ Some (0xE5 ∷ []))
+        × (waiting_in (with_script plan []) (Came 2 Ticked ∷ Went 1 (LineOut []) ∷ [])
+        (Some Single ∷ []) ≡ Some (0xE5 ∷ []))
+        × (waiting_in (with_script plan []) (Came 2 (LineIn []) ∷ Went 1 (LineOut []) ∷ [])
+        (Some Single ∷ []) ≡ None)
+        × (waiting_in (with_script plan (LoseAnswer 2 ∷ []))
+        (Went 3 (LineOut []) ∷ Came 2 Ticked ∷ Went 1 (LineOut []) ∷ [])
+        (Some Single ∷ Some Single ∷ []) ≡ None)
+        × (requests_in (Went 3 (LineOut []) ∷ Came 2 Ticked ∷ Went 1 (LineOut []) ∷ []) ≡ 2) }
+{}
+
+/// What each call gives, the first of seven that applies, and how long it takes; and what the
+/// control centre knows and sends (IEC 60870-5-104, 5.1 and 5.3).
+pub fn calls_by_example()
+    ensures events { (event_at (Wall 17 ∷ []) 1 shut None ≡ WallIs 17)
+        × (event_at (Wall 17 ∷ []) 2 shut None ≡ Opened)
+        × (event_at (Cut 2 ∷ []) 2 shut None ≡ Opened)
+        × (event_at (Cut 2 ∷ []) 2 opened None ≡ CutOff)
+        × (event_at (Send 3 command ∷ []) 3 opened (Some (0xE5 ∷ []))
+        ≡ TcpIn (0x68 ∷ 0x04 ∷ 0x07 ∷ 0x00 ∷ 0x00 ∷ 0x00 ∷ []))
+        × (event_at (Send 3 command ∷ []) 3 (started 1 2 0) (Some (0xE5 ∷ []))
+        ≡ TcpIn (0x68 ∷ 0x0E ∷ 0x02 ∷ 0x00 ∷ 0x04 ∷ 0x00 ∷ command))
+        × (event_at [] 3 (started 1 2 1) (Some (0xE5 ∷ []))
+        ≡ TcpIn (0x68 ∷ 0x04 ∷ 0x01 ∷ 0x00 ∷ 0x04 ∷ 0x00 ∷ []))
+        × (event_at (Ack 2 ∷ []) 3 (started 1 2 1) (Some (0xE5 ∷ [])) ≡ LineIn (0xE5 ∷ []))
+        × (event_at (Ack 2 ∷ []) 3 (started 1 2 1) None ≡ Ticked) }
+    ensures lasts { (lasting 200 Ticked ≡ 200) × (lasting 200 Opened ≡ 1)
+        × (lasting 200 (LineIn (0xE5 ∷ [])) ≡ 1) }
+    ensures counts { (calls_in (Went 5 (LineOut []) ∷ Came 5 Ticked ∷ Came 4 Opened ∷ []) ≡ 2)
+        × (moment_of (Went 5 (LineOut []) ∷ Came 5 Ticked ∷ Came 4 Opened ∷ []) ≡ 5)
+        × (moment_of [] ≡ 0)
+        × ((plan : Plan) → next_moment plan (Came 999999999999999 Ticked ∷ []) Opened
+        ≡ 999999999999999) }
+    ensures centre { (centre_of (Came 1 Opened ∷ []) ≡ opened)
+        × (centre_of (Came 2 (TcpIn (0x68 ∷ 0x04 ∷ 0x07 ∷ [])) ∷ Came 1 Opened ∷ [])
+        ≡ started 0 0 0)
+        × (centre_of (Went 3 (TcpOut (0x68 ∷ 0x0E ∷ 0x00 ∷ []))
+        ∷ Came 2 (TcpIn (0x68 ∷ 0x04 ∷ 0x07 ∷ [])) ∷ Came 1 Opened ∷ []) ≡ started 0 1 0)
+        × (centre_of (Came 4 (TcpIn (0x68 ∷ 0x0E ∷ 0x00 ∷ [])) ∷ Went 3 (TcpOut (0x68 ∷ 0x0E ∷ 0x00
+        ∷ [])) ∷ Came 2 (TcpIn (0x68 ∷ 0x04 ∷ 0x07 ∷ [])) ∷ Came 1 Opened ∷ []) ≡ started 1 1 1)
+        × (centre_of (Came 4 (TcpIn (0x68 ∷ 0x04 ∷ 0x01 ∷ [])) ∷ Went 3 (TcpOut (0x68 ∷ 0x0E ∷ 0x00
+        ∷ [])) ∷ Came 2 (TcpIn (0x68 ∷ 0x04 ∷ 0x07 ∷ [])) ∷ Came 1 Opened ∷ []) ≡ started 0 1 1)
+        × (centre_of (Went 2 (TcpOut (0x68 ∷ 0x04 ∷ 0x0B ∷ [])) ∷ Came 1 Opened ∷ []) ≡ opened)
+        × (centre_of (Went 2 (Closed Grammar) ∷ Came 1 Opened ∷ []) ≡ shut)
+        × (centre_of (Came 2 CutOff ∷ Came 1 Opened ∷ []) ≡ shut) × (centre_of [] ≡ shut)
+        × (centre_of (Came 3 Opened ∷ Came 2 (TcpIn (0x68 ∷ 0x04 ∷ 0x07 ∷ [])) ∷ Came 1 Opened ∷ [])
+        ≡ opened) }
+    ensures turned_round { data_apdu (started 32769 32770 0) command
+        ≡ 0x68 ∷ 0x0E ∷ 0x02 ∷ 0x00 ∷ 0x04 ∷ 0x00 ∷ command }
+{}
+
+/// The closing lines of a run (docs/TEXTS.md has them in words): stations and connections are
+/// counted from 1, and a link with one session has no line of sessions.
+pub fn closing_lines_by_example()
+    ensures stations { station_line 1 4 3 2
+        ≡ line (codes "station 1 reports 4 given 3 accepted 2") }
+    ensures connections { (connection_line 2 3 ≡ line (codes "connection 2 objects 3"))
+        × (connection_lines 1 [] ≡ [])
+        × (connection_lines 1
+        (told.Came (entry.Tick 0) ∷ told.Came (entry.Open 1) ∷ told.Came (entry.Open 4) ∷ [])
+        ≡ line (codes "connection 1 objects 0") ++ line (codes "connection 2 objects 0")) }
+    ensures sessions { (line_of_sessions 0 (record {
+      sessions = 3;
+      gaps = 2;
+      lost = 1;
+      taken = 7;
+      given = 8;
+      is_polled = true;
+    }) ≡ line (codes "sessions 1 3 gaps 2 lost 1"))
+        × (line_of_sessions 0 (record {
+          sessions = 1;
+          gaps = 0;
+          lost = 0;
+          taken = 7;
+          given = 8;
+          is_polled = true;
+        }) ≡ []) }
+{}
