@@ -75,16 +75,20 @@ def copied(crate, room, named):
 
 
 def pairs_of(path):
-    """The file, the old and the new text of each pair of an edit."""
-    pairs, file, old = [], None, None
+    """The file, the old and the new text of each pair of an edit. A line `and: ..` adds one to the text before it."""
+    pairs = []
     with open(path) as text:
         for line in text.read().split("\n"):
-            if line.startswith("file: "):
-                file = line[len("file: ") :].strip()
-            elif line.startswith("old: "):
-                old = line[len("old: ") :]
-            elif line.startswith("new:"):
-                pairs.append((file, old, re.sub(r"\A ", "", line[len("new:") :])))
+            word, _, rest = line.partition(":")
+            rest = re.sub(r"\A ", "", rest)
+            if word == "file":
+                file = rest.strip()
+            elif word == "old":
+                pairs.append([file, rest, None])
+            elif word == "new":
+                pairs[-1][2] = rest
+            elif word == "and":
+                pairs[-1][1 if pairs[-1][2] is None else 2] += "\n" + rest
     return pairs
 
 
