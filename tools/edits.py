@@ -154,9 +154,12 @@ def laws_of(here):
 
 
 def laws_refused(said, laws):
-    """The laws that aren't proved, where nothing else isn't."""
-    unproved = re.findall(r"^fn (\S+): (?:not proved|no proof)", said, re.M)
-    return unproved if all(name.split("::")[-1] in laws for name in unproved) else []
+    """The laws that aren't proved, where nothing else isn't but what calls them."""
+    unproved = dict(re.findall(r"^fn (\S+): (not proved|no proof.*)", said, re.M))
+    refused = [name for name in unproved if name.split("::")[-1] in laws]
+    callers = [said for name, said in unproved.items() if name not in refused]
+    called = [re.findall(r"`(\S+)`", said) for said in callers]
+    return refused if all(names and set(names) <= set(unproved) for names in called) else []
 
 
 def judged(edit, twin, attempt, laws):
