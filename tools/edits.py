@@ -14,7 +14,8 @@ the wording of a proof. So each edit is tried in a copy of the repository by `rt
     PROVED   it isn't refused
 
 With `--alike` the edits in tools/alike/CRATE are tried in place of those of the gate, and by its name one of either. Those are of the
-same form, and the gate leaves them out for what they cost: most turn body and machine alike, and are to be refused by laws.
+same form, but that a line `and: ..` adds one to the text before it, and the gate leaves them out for what they cost: most turn body
+and machine alike, and are to be refused by laws.
 
 An edit may have a harmless twin, a file of the same name in tools/twins/CRATE: an edit of the same shape that changes no answer. The
 twin is tried too, and is to be proved. One that is refused by a proof alone needs it.
