@@ -25,6 +25,13 @@ impl<P: Watched + Drop, S: Sink + Drop> Journal<P, S> {
         Journal { port, teller }
     }
 
+    /// The port inside.
+    pub fn port(&self) -> &P
+        ensures { result.now ≡ self.now.port }
+    {
+        &self.port
+    }
+
     /// Looks at the gateway between two events, and tells of its queue and of what it counted.
     pub fn look(&mut self, gateway: &Gateway)
         ensures passes { self.new.port ≡ self.old.port }

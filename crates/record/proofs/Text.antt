@@ -1,11 +1,16 @@
 -- The text of a record, call by call.
-use Rattle.std.proofs.Common.{◌≡◌, ℕ, Bool, true, false, List, [], ◌++◌, Option, Some, None, refl, sym, ap, subst, ◌∙◌, append_assoc, if◌then◌else◌}
-use Rattle.std.proofs.lemmas.List.{append-nil}
+use Rattle.std.proofs.Common.{◌≡◌, ℕ, Bool, true, false, List, [], ◌∷◌, ◌++◌, reverse, Option, Some, None, IfSome, refl, sym, ap, subst, ◌∙◌, append_assoc, if◌then◌else◌}
+use Rattle.std.proofs.lemmas.List.{append-nil, reverse-reverse}
+use Rattle.std.specs.List.{AllByRecursion}
+use Rattle.gateway.specs.Log.{Log, LogEntry, tell}
+use Rattle.traces.specs.Printed.{IsPrintable, entries_in, line_of_entry, lines_of_log}
+use Rattle.traces.specs.Progress.{all_told}
 use Rattle.record.specs.Law.{grows_by}
-use Rattle.record.specs.Recording.{Recording, Gives, Notes, added, text_of, given, held_by}
+use Rattle.record.specs.Recording.{Recording, IsKept, Gives, Notes, added, text_of, log_of, told_behind, told_first, unless_over, passed, given, held_by, held_or_over}
+use Rattle.record.specs.Written.{log_in, IsText, IsWritten, AreLines}
 
 -- two texts behind one another
-added_twice : (t : Option (List ℕ)) (a b : List ℕ) → added t (a ++ b) ≡ added (added t a) b
+pub added_twice : (t : Option (List ℕ)) (a b : List ℕ) → added t (a ++ b) ≡ added (added t a) b
 added_twice None a b = refl
 added_twice (Some x) a b = ap Some (sym (append_assoc x a b))
 
@@ -13,22 +18,27 @@ nothing_added : (t : Option (List ℕ)) (a : List ℕ) → added (added t a) [] 
 nothing_added None a = refl
 nothing_added (Some x) a = ap Some (append-nil (x ++ a))
 
--- by whether the record was over, and whether there was memory
-noted : (over memory : Bool) (old : Recording) (line : List ℕ) → old.is_over ≡ over →
-    grows_by (if over then old else held_by memory line old).is_over old line
-    (if over then old else held_by memory line old)
-noted true memory old line over =
-    let P : Bool → Type 0 = λ b. grows_by b old line old in subst P (sym over) refl
-noted false false old line over = refl
-noted false true old line over =
-    let new = held_by true line old in
-    let P : Bool → Type 0 = λ b. grows_by b old line new in
-    subst P (sym over) (added_twice old.taken old.held line)
+pub nothing_held : (t : Option (List ℕ)) → IsWritten t → IsWritten (added t [])
+nothing_held None w = w
+nothing_held (Some x) w = subst IsText (sym (append-nil x)) w
 
-pub notes_line : (old new : Recording) (line : List ℕ) → Notes old line new → grows_by new.is_over old line new
-notes_line old new line n =
-    let P : Recording → Type 0 = λ r. grows_by r.is_over old line r in
-    subst P (sym n.done) (noted old.is_over n.has_memory old line refl)
+-- by whether the record was over, and whether there was memory
+noted : (over memory : Bool) (old : Recording) (news : Log) → old.is_over ≡ over →
+    grows_by (if over then passed news old else held_by memory news old).is_over old (lines_of_log news)
+    (if over then passed news old else held_by memory news old)
+noted true memory old news over =
+    let P : Bool → Type 0 = λ b. grows_by b old (lines_of_log news) (passed news old) in subst P (sym over) refl
+noted false false old news over = refl
+noted false true old news over =
+    let new = held_by true news old in
+    let P : Bool → Type 0 = λ b. grows_by b old (lines_of_log news) new in
+    subst P (sym over) (added_twice old.taken old.held (lines_of_log news))
+
+pub notes_line : (old new : Recording) (news : Log) → Notes old news new
+    → grows_by new.is_over old (lines_of_log news) new
+notes_line old new news n =
+    let P : Recording → Type 0 = λ r. grows_by r.is_over old (lines_of_log news) r in
+    subst P (sym n.done) (noted old.is_over n.has_memory old news refl)
 
 gave : (over taken : Bool) (old : Recording) → text_of (if over then old else given taken old) ≡ text_of old
 gave true taken old = refl
@@ -50,5 +60,104 @@ gives_taken old new g goes =
     let P : Recording → Type 0 = λ r. r.is_over ≡ false → r.taken ≡ text_of old in
     subst P (sym g.done) (took old.is_over g.taken old refl) goes
 
-pub ends : (old new : Recording) (line : List ℕ) → Notes old line new → old.is_over ≡ true → new ≡ old
-ends old new line n over = n.done ∙ ap (λ b. if b then old else held_by n.has_memory line old) over
+pub ends : (old new : Recording) (news : Log) → Notes old news new → old.is_over ≡ true → new ≡ passed news old
+ends old new news n over =
+    n.done ∙ ap (λ b. if b then passed news old else held_by n.has_memory news old) over
+
+-- Reading back
+
+-- each log is read back from its lines
+abbrev pub ReadsBack : Type 0
+ReadsBack = (log : Log) → AllByRecursion IsPrintable log → entries_in (lines_of_log log) ≡ Some (reverse log)
+
+lines_behind : (news log : Log) → lines_of_log (news ++ log) ≡ lines_of_log log ++ lines_of_log news
+lines_behind [] log = sym (append-nil (lines_of_log log))
+lines_behind (entry ∷ news) log =
+    ap (λ text. text ++ line_of_entry entry) (lines_behind news log)
+    ∙ append_assoc (lines_of_log log) (lines_of_log news) (line_of_entry entry)
+
+all_printable : (news log : Log) → AllByRecursion IsPrintable news → AllByRecursion IsPrintable log
+    → AllByRecursion IsPrintable (news ++ log)
+all_printable [] log ok all = all
+all_printable (entry ∷ news) log ok all = (ok.0, all_printable news log ok.1 all)
+
+log_read : ReadsBack → (log : Log) → AllByRecursion IsPrintable log → log_in (lines_of_log log) ≡ log
+log_read reads log all = ap (λ told. reverse (all_told told)) (reads log all) ∙ reverse-reverse log
+
+-- the lines of a log are its text
+log_text : ReadsBack → (log : Log) → AllByRecursion IsPrintable log → IsText (lines_of_log log)
+log_text reads log all = record {
+  lines = ap lines_of_log (log_read reads log all);
+  printable = subst (AllByRecursion IsPrintable) (sym (log_read reads log all)) all;
+}
+
+more : (text : List ℕ) (news : Log) → IsText text → text ++ lines_of_log news ≡ lines_of_log (news ++ log_in text)
+more text news is =
+    ap (λ t. t ++ lines_of_log news) (sym is.lines) ∙ sym (lines_behind news (log_in text))
+
+more_text : ReadsBack → (text : List ℕ) (news : Log) → AllByRecursion IsPrintable news → IsText text
+    → IsText (text ++ lines_of_log news)
+more_text reads text news ok is =
+    subst IsText (sym (more text news is))
+    (log_text reads (news ++ log_in text) (all_printable news (log_in text) ok is.printable))
+
+more_log : ReadsBack → (text : List ℕ) (news : Log) → AllByRecursion IsPrintable news → IsText text
+    → log_in (text ++ lines_of_log news) ≡ news ++ log_in text
+more_log reads text news ok is =
+    ap log_in (more text news is)
+    ∙ log_read reads (news ++ log_in text) (all_printable news (log_in text) ok is.printable)
+
+-- what was written stays so with more lines
+pub more_written : ReadsBack → (t : Option (List ℕ)) (held lines : List ℕ) → AreLines lines
+    → IsWritten (added t held) → IsWritten (added t (held ++ lines))
+more_written reads None held lines are is = is
+more_written reads (Some text) held lines are is =
+    subst IsText (append_assoc text held lines)
+    (subst (λ more. IsText ((text ++ held) ++ more)) (sym are.are)
+    (more_text reads (text ++ held) are.news are.printable is))
+
+pub gave_written : (t : Option (List ℕ)) (held : List ℕ) → IsWritten (added t held)
+    → IsWritten (added (added t held) [])
+gave_written t held is = nothing_held (added t held) is
+
+-- The log
+
+-- what was written and what was missed, and these lines behind it
+told_more : ReadsBack → (t : Option (List ℕ)) (held : List ℕ) (missed : Option Log) (news : Log)
+    → AllByRecursion IsPrintable news → IsWritten (added t held) → IfSome missed (λ log. log ≡ [])
+    → told_behind (added t (held ++ lines_of_log news)) missed ≡ tell (told_behind (added t held) missed) news
+told_more reads None held missed news ok is none = refl
+told_more reads (Some text) held None news ok is none = refl
+told_more reads (Some text) held (Some log) news ok is none =
+    rw none (ap Some (ap log_in (sym (append_assoc text held (lines_of_log news)))
+    ∙ more_log reads (text ++ held) news ok is))
+
+-- an event or an action was written down
+pub held_told : ReadsBack → (old new : Recording) (news : Log) → AllByRecursion IsPrintable news → IsKept old
+    → old.is_over ≡ false → new ≡ held_or_over true (lines_of_log news) old → log_of new ≡ tell (log_of old) news
+held_told reads old new news ok kept goes is =
+    ap log_of is ∙ told_more reads old.taken old.held old.missed news ok kept.written (kept.whole goes)
+
+told_missed : (t : Option (List ℕ)) (missed : Option Log) (news : Log)
+    → told_behind t (tell missed news) ≡ tell (told_behind t missed) news
+told_missed None missed news = refl
+told_missed (Some text) None news = refl
+told_missed (Some text) (Some log) news = ap Some (append_assoc news log (log_in text))
+
+-- or it passed unwritten
+pub missed_told : (old new : Recording) (news : Log) (missed : Option Log) (over : Bool) → missed ≡ tell old.missed news
+    → new ≡ record old { is_over = over; missed = missed } → log_of new ≡ tell (log_of old) news
+missed_told old new news missed over tells is =
+    ap log_of is ∙ ap (told_behind (text_of old)) tells ∙ told_missed (text_of old) old.missed news
+
+pub gives_log : (old new : Recording) → Gives old new → new.missed ≡ old.missed → log_of new ≡ log_of old
+gives_log old new g same =
+    ap (λ t. told_behind t new.missed) (gives_text old new g) ∙ ap (told_behind (text_of old)) same
+
+-- A port
+
+-- what is told first, with these news
+pub told_on : (a b c d : Option Log) (news : Log) → c ≡ tell a news → d ≡ tell b news
+    → told_first c d ≡ tell (told_first a b) news
+told_on None b c d news one other = rw (one, other) refl
+told_on (Some log) b c d news one other = rw one refl

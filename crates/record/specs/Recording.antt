@@ -1,8 +1,10 @@
 -- The text of a record (this gateway's own profile).
+use Rattle.gateway.specs.Log.{Log, tell}
 use Rattle.gateway.specs.Ports.{told_by}
 use Rattle.gateway.specs.declared.ports.Next.{Next}
 use Rattle.traces.specs.Printed.{lines_of_log}
-use Rattle.std.specs.Prelude.{◌≡◌, ℕ, Bool, true, false, List, [], ◌++◌, Option, Some, None, if◌then◌else◌}
+use Rattle.record.specs.Written.{log_in, IsWritten}
+use Rattle.std.specs.Prelude.{◌≡◌, ℕ, Bool, true, false, List, [], ◌++◌, Option, Some, None, IfSome, if◌then◌else◌}
 
 -- a text, and one behind it, where it is told
 abbrev pub added : Option (List ℕ) → List ℕ → Option (List ℕ)
@@ -10,15 +12,37 @@ added None more = None
 added (Some text) more = Some (text ++ more)
 
 -- what the sheet took, where it tells that; the lines that are held back until the next event is
--- asked for; and whether the sheet took no more, or memory ran out, which ends the record
+-- asked for; whether the sheet took no more, or memory ran out, which ends the record; and what
+-- passed unwritten, where the sheet tells that
 pub record Recording : Type 0 where
   pub taken : Option (List ℕ)
   pub held : List ℕ
   pub is_over : Bool
+  pub missed : Option Log
 
 -- the text of the record: what was taken, and what is held
 abbrev pub text_of : Recording → Option (List ℕ)
 text_of r = added r.taken r.held
+
+-- what a text tells, and what passed unwritten, the newest first
+abbrev pub told_behind : Option (List ℕ) → Option Log → Option Log
+told_behind None missed = None
+told_behind (Some text) None = None
+told_behind (Some text) (Some missed) = Some (missed ++ log_in text)
+
+abbrev pub log_of : Recording → Option Log
+log_of r = told_behind (text_of r) r.missed
+
+-- what always holds of a record: its text is the lines of a log, and until it is over nothing
+-- passed unwritten
+pub record IsKept (r : Recording) : Type 0 where
+  pub written : IsWritten (text_of r)
+  pub whole : r.is_over ≡ false → IfSome r.missed (λ log. log ≡ [])
+
+-- the first of two logs that is told
+abbrev pub told_first : Option Log → Option Log → Option Log
+told_first None other = other
+told_first (Some log) other = Some log
 
 -- nothing is written any more once the record is over
 abbrev pub unless_over : Recording → Recording → Recording
@@ -34,23 +58,32 @@ pub record Gives (old new : Recording) : Type 0 where
   pub taken : Bool
   pub done : new ≡ unless_over old (given taken old)
 
--- a line is held, or the record is over
-abbrev pub held_by : (has_memory : Bool) → List ℕ → Recording → Recording
-held_by true line r = record r { held = r.held ++ line }
-held_by false line r = record r { is_over = true }
+-- what passes once the record is over isn't written
+abbrev pub passed : Log → Recording → Recording
+passed news r = record r { missed = tell r.missed news }
 
--- this line was written down
-pub record Notes (old : Recording) (line : List ℕ) (new : Recording) : Type 0 where
+-- lines are held, or there is no memory for them, and the record is over
+abbrev pub held_or_over : (has_memory : Bool) → List ℕ → Recording → Recording
+held_or_over true lines r = record r { held = r.held ++ lines }
+held_or_over false lines r = record r { is_over = true }
+
+-- the lines of what passed are held, or the record is over
+abbrev pub held_by : (has_memory : Bool) → Log → Recording → Recording
+held_by true news r = held_or_over true (lines_of_log news) r
+held_by false news r = passed news (held_or_over false (lines_of_log news) r)
+
+-- this passed, and was written down unless the record is over
+pub record Notes (old : Recording) (news : Log) (new : Recording) : Type 0 where
   pub has_memory : Bool
-  pub done : new ≡ unless_over old (held_by has_memory line old)
+  pub done : new ≡ (if old.is_over then passed news old else held_by has_memory news old)
 
 -- an event was written down, and the sheet was given what is held
 pub record Hears (old : Recording) (next : Next) (buf : List ℕ) (new : Recording) : Type 0 where
   pub noted : Recording
-  pub notes : Notes old (lines_of_log (told_by next buf)) noted
+  pub notes : Notes old (told_by next buf) noted
   pub gives : Gives noted new
 
 -- an action was written down, where it went out
-abbrev pub Puts : (has_gone : Bool) → Recording → List ℕ → Recording → Type 0
-Puts true old line new = Notes old line new
-Puts false old line new = new ≡ old
+abbrev pub Puts : (has_gone : Bool) → Recording → Log → Recording → Type 0
+Puts true old news new = Notes old news new
+Puts false old news new = new ≡ old

@@ -5,12 +5,12 @@
 //! trace has it, an action as a run over a trace prints it. The line of an event goes to a
 //! [`Sheet`] before the gateway hears of the event, with the lines of the step before it.
 //!
-//! Proved, for any port and any sheet that tells what it took: the recorder's log, script and
-//! failures are those of the port inside; what was taken and what is held are the lines of all that
-//! passed, in their order, until the record is over; it is over where the sheet takes no more or
-//! memory ran out, and the text stays as it is from then on, at the end of a line, while events and
-//! actions pass as before. That each line reads back as what passed is
-//! `traces::printed_lines_read_back`.
+//! Proved, for any port and any sheet that tells what it took: what was taken and what is held are
+//! the lines of all that passed, in their order, until the record is over; it is over where the
+//! sheet takes no more or memory ran out, and the text stays as it is from then on, at the end of a
+//! line, while events and actions pass as before. The recorder's log is what this text tells, line
+//! by line, and behind it what the sheet was told that it missed: so what is proved of a run's log
+//! is proved of its record. Where the sheet doesn't tell them the log is that of the port inside.
 #![tactic(auto)]
 
 mod laws;

@@ -1,17 +1,20 @@
 //! The lines of what passes a port.
-ghost use Rattle.std.specs.Prelude.{◌≡◌, IfOk, string_bytes};
+ghost use Rattle.std.specs.Prelude.{◌≡◌, ◌∷◌, [], IfOk, OnOk, string_bytes};
+ghost use Rattle.std.specs.List.{AllByRecursion};
+ghost use Rattle.gateway.specs.Log.{Went};
 ghost use Rattle.gateway.specs.Ports.{FitsBuffer, output_of, told_by};
 ghost use Rattle.traces.specs.Actions.{line_of};
-ghost use Rattle.traces.specs.Printed.{lines_of_log};
+ghost use Rattle.traces.specs.Printed.{IsPrintable, lines_of_log};
 
-use gateway::{Action, Next, Told};
+use gateway::{Action, Next};
 use std::alloc::{AllocError, Global};
-use traces::{append_event, append_line};
+use traces::{append_action, append_event};
 
 /// The line of an event, or nothing where a port has none. An `Err` is want of memory.
 pub(crate) fn event_line(alloc: Global, next: Next, buf: &[u8; 1024]) -> Result<String, AllocError>
     requires { FitsBuffer next }
-    ensures { IfOk result (λ line. string_bytes line ≡ lines_of_log (told_by next buf.now)) }
+    ensures line { IfOk result (λ line. string_bytes line ≡ lines_of_log (told_by next buf.now)) }
+    ensures printable { OnOk result (AllByRecursion IsPrintable (told_by next buf.now)) }
 {
     let mut line = String::new(alloc);
     append_event(alloc, &mut line, next, buf)?;
@@ -24,10 +27,10 @@ pub(crate) fn action_line(
     now: u64,
     action: &Action<'_>,
 ) -> Result<String, AllocError>
-    ensures { IfOk result (λ line. string_bytes line ≡ line_of now (output_of action.now)) }
+    ensures line { IfOk result (λ line. string_bytes line ≡ line_of now (output_of action.now)) }
+    ensures printable { OnOk result (IsPrintable (Went now (output_of action.now))) }
 {
-    let told = Told::went(alloc, now, action)?;
     let mut line = String::new(alloc);
-    append_line(alloc, &mut line, &told)?;
+    append_action(alloc, &mut line, now, action)?;
     Ok(line)
 }

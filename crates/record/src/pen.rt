@@ -1,17 +1,22 @@
 //! Lines that are held, and given to a sheet.
-ghost use Rattle.std.specs.Prelude.{◌≡◌, [], true, false};
+ghost use Rattle.std.specs.Prelude.{◌≡◌, ◌++◌, ◌∷◌, [], true, IfSome, false};
+ghost use Rattle.std.specs.List.{AllByRecursion};
+ghost use Rattle.gateway.specs.Log.{Went, tell};
 ghost use Rattle.gateway.specs.Ports.{FitsBuffer, output_of, told_by};
-ghost use Rattle.record.specs.Recording.{Gives, Notes};
+ghost use Rattle.record.specs.Recording.{Gives, IsKept, Notes, added, held_or_over, log_of};
+ghost use Rattle.record.specs.Written.{AreLines, IsWritten};
 ghost use Rattle.traces.specs.Actions.{line_of};
-ghost use Rattle.traces.specs.Printed.{lines_of_log};
+ghost use Rattle.traces.specs.Printed.{IsPrintable, lines_of_log};
 
 use crate::lines::{action_line, event_line};
 use crate::sheet::Sheet;
 use gateway::{Action, Next};
 use std::alloc::Global;
 use std::marker::Model;
+use traces::printed_lines_read_back;
 
-/// Writes lines down, and gives them to its sheet, until that takes none any more.
+/// Writes lines down, and gives them to its sheet, until that takes none any more. What it has
+/// written is always the lines of a log.
 #[derive(Drop)]
 pub struct Pen<W: Sheet + Drop> {
     alloc: Global,
@@ -22,7 +27,7 @@ pub struct Pen<W: Sheet + Drop> {
 }
 
 impl<W: Sheet + Drop> Model for Pen<W> {
-    ghost use Rattle.record.specs.Recording.{Recording};
+    ghost use Rattle.record.specs.Recording.{IsKept, Recording};
 
     ghost Value = { Recording };
 
@@ -30,14 +35,28 @@ impl<W: Sheet + Drop> Model for Pen<W> {
       taken = W.taken p.sheet;
       held = p.held.items;
       is_over = p.is_over;
+      missed = W.missed p.sheet;
     } };
+
+    ghost invariant = { λ p. IsKept (record {
+      taken = W.taken p.sheet;
+      held = p.held.items;
+      is_over = p.is_over;
+      missed = W.missed p.sheet;
+    }) };
 }
 
 impl<W: Sheet + Drop> Pen<W> {
-    /// One that writes to this sheet, at first these lines.
+    /// One that writes to this sheet, which hasn't missed anything, at first these lines.
     pub fn new(alloc: Global, sheet: W, first: Vec<u8>) -> Pen<W>
-        ensures { result
-            ≡ record { taken = W.taken sheet; held = first.items; is_over = false } }
+        requires written { IsWritten (added (W.taken sheet) first.items) }
+        requires whole { IfSome (W.missed sheet) (λ log. log ≡ []) }
+        ensures { result ≡ record {
+          taken = W.taken sheet;
+          held = first.items;
+          is_over = false;
+          missed = W.missed sheet;
+        } }
     {
         Pen {
             alloc,
@@ -49,7 +68,13 @@ impl<W: Sheet + Drop> Pen<W> {
 
     /// One that writes nothing.
     pub fn idle(alloc: Global, sheet: W) -> Pen<W>
-        ensures { result ≡ record { taken = W.taken sheet; held = []; is_over = true } }
+        requires { IsWritten (W.taken sheet) }
+        ensures { result ≡ record {
+          taken = W.taken sheet;
+          held = [];
+          is_over = true;
+          missed = W.missed sheet;
+        } }
     {
         Pen {
             alloc,
@@ -61,14 +86,16 @@ impl<W: Sheet + Drop> Pen<W> {
 
     /// The record is over: nothing is written down any more.
     pub fn is_over(&self) -> bool
-        ensures { result ≡ self.now.is_over }
+        ensures over { result ≡ self.now.is_over }
+        ensures kept { IsKept self.now }
     {
         self.is_over
     }
 
     /// Gives the sheet what is held. Where it doesn't take that the record is over.
     pub fn give(&mut self)
-        ensures { Gives self.old self.new }
+        ensures gives { Gives self.old self.new }
+        ensures log { log_of self.new ≡ log_of self.old }
     {
         if self.is_over {
             return;
@@ -88,40 +115,70 @@ impl<W: Sheet + Drop> Pen<W> {
         self.is_over = true;
     }
 
-    /// Holds a line. Where there is no memory for it the record is over.
-    fn hold(&mut self, line: &str)
-        requires { self.old.is_over ≡ false }
-        ensures { Notes self.old line.now self.new }
+    /// Holds lines. Where there is no memory for them the record is over.
+    fn hold(&mut self, lines: &str) -> bool
+        requires { AreLines lines.now }
+        ensures { self.new ≡ held_or_over result lines.now self.old }
     {
-        if self.held.extend_from_slice(line.as_bytes()).is_err() {
+        printed_lines_read_back();
+        if self.held.extend_from_slice(lines.as_bytes()).is_err() {
             self.end();
+            return false;
         }
+        true
     }
 
-    /// Writes an event down, whose octets are the front of the buffer.
-    pub(crate) fn note_event(&mut self, next: Next, buf: &[u8; 1024])
+    /// Holds the line of an event. Where there is no memory for it the record is over.
+    fn hold_event(&mut self, next: Next, buf: &[u8; 1024]) -> bool
         requires { FitsBuffer next }
-        ensures { Notes self.old (lines_of_log (told_by next buf.now)) self.new }
+        ensures held { self.new ≡ held_or_over result (lines_of_log (told_by next buf.now)) self.old }
+        ensures printable { result ≡ true → AllByRecursion IsPrintable (told_by next buf.now) }
     {
-        if self.is_over {
-            return;
-        }
         match event_line(self.alloc, next, buf) {
             Ok(line) => self.hold(line.as_str()),
-            Err(_) => self.end(),
+            Err(_) => {
+                self.end();
+                false
+            }
         }
     }
 
-    /// Writes an action down.
-    pub(crate) fn note_action(&mut self, now: u64, action: &Action<'_>)
-        ensures { Notes self.old (line_of now (output_of action.now)) self.new }
+    /// Holds the line of an action. Where there is no memory for it the record is over.
+    fn hold_action(&mut self, now: u64, action: &Action<'_>) -> bool
+        ensures held { self.new ≡ held_or_over result (line_of now (output_of action.now)) self.old }
+        ensures printable { result ≡ true → IsPrintable (Went now (output_of action.now)) }
     {
-        if self.is_over {
-            return;
-        }
         match action_line(self.alloc, now, action) {
             Ok(line) => self.hold(line.as_str()),
-            Err(_) => self.end(),
+            Err(_) => {
+                self.end();
+                false
+            }
+        }
+    }
+
+    /// Writes an event down, whose octets are the front of the buffer. Once the record is over it
+    /// passes unwritten.
+    pub(crate) fn note_event(&mut self, next: Next, buf: &[u8; 1024])
+        requires { FitsBuffer next }
+        ensures notes { Notes self.old (told_by next buf.now) self.new }
+        ensures log { log_of self.new ≡ tell (log_of self.old) (told_by next buf.now) }
+    {
+        printed_lines_read_back();
+        if self.is_over || !self.hold_event(next, buf) {
+            self.sheet.miss_event(next, buf);
+        }
+    }
+
+    /// Writes an action down. Once the record is over it passes unwritten.
+    pub(crate) fn note_action(&mut self, now: u64, action: &Action<'_>)
+        ensures notes { Notes self.old (Went now (output_of action.now) ∷ []) self.new }
+        ensures log { log_of self.new
+            ≡ tell (log_of self.old) (Went now (output_of action.now) ∷ []) }
+    {
+        printed_lines_read_back();
+        if self.is_over || !self.hold_action(now, action) {
+            self.sheet.miss_action(now, action);
         }
     }
 }

@@ -3,8 +3,7 @@ ghost use Rattle.std.specs.Prelude.{◌≡◌, ◌+◌, ◌<◌, ◌∷◌, [], 
 ghost use Rattle.gateway.specs.Log.{Went, tell};
 ghost use Rattle.gateway.specs.Ports.{FitsBuffer, faults_of, output_of, told_by};
 ghost use Rattle.gateway.specs.declared.ports.Next.TheVariants.{Done};
-ghost use Rattle.record.specs.Recording.{Hears, Puts};
-ghost use Rattle.traces.specs.Actions.{line_of};
+ghost use Rattle.record.specs.Recording.{Hears, IsKept, Puts, log_of, told_first};
 
 use crate::pen::Pen;
 use crate::sheet::Sheet;
@@ -12,7 +11,8 @@ use gateway::{Action, Next, Port};
 use live::{Sight, Watched};
 
 /// A port that passes each event and each action of another one on unchanged, and writes them down.
-/// Once the record is over they pass unwritten.
+/// Once the record is over they pass unwritten. Where the sheet tells what it took and what it
+/// missed, the log is what the record's text tells, and behind that what was missed.
 #[derive(Drop)]
 pub struct Recorder<P: Port + Drop, W: Sheet + Drop> {
     port: P,
@@ -29,14 +29,18 @@ impl<P: Port + Drop, W: Sheet + Drop> Recorder<P, W> {
 
     /// The record is over.
     pub fn is_over(&self) -> bool
-        ensures { result ≡ self.now.pen.is_over }
+        ensures over { result ≡ self.now.pen.is_over }
+        ensures kept { IsKept self.now.pen }
     {
         self.pen.is_over()
     }
 }
 
 impl<P: Port + Drop, W: Sheet + Drop> Port for Recorder<P, W> {
-    ghost log = { λ r. P.log r.port };
+    ghost use Rattle.record.specs.Recording.{log_of, told_first};
+
+    /// What it wrote down, where its sheet tells that, or else the log of the port inside.
+    ghost log = { λ r. told_first (log_of r.pen) (P.log r.port) };
 
     ghost failed = { λ r. P.failed r.port };
 
@@ -51,7 +55,8 @@ impl<P: Port + Drop, W: Sheet + Drop> Port for Recorder<P, W> {
     #[tactic(auto, using(crate::proofs::Passing::hears))]
     fn next(&mut self, buf: &mut [u8; 1024]) -> Next
         requires { P.failed self.old.port < u64.MAX }
-        ensures told { P.log self.new.port ≡ tell (P.log self.old.port) (told_by result buf.new) }
+        ensures told { told_first (log_of self.new.pen) (P.log self.new.port)
+            ≡ tell (told_first (log_of self.old.pen) (P.log self.old.port)) (told_by result buf.new) }
         ensures fits { FitsBuffer result }
         ensures done { result ≡ Done → P.ended self.new.port ≡ true }
         ensures script { P.script self.new.port ≡ P.script self.old.port }
@@ -66,13 +71,14 @@ impl<P: Port + Drop, W: Sheet + Drop> Port for Recorder<P, W> {
 
     fn put(&mut self, now: u64, action: &Action<'_>) -> bool
         requires { P.failed self.old.port < u64.MAX }
-        ensures told { P.log self.new.port
-            ≡ (if result then tell (P.log self.old.port) (Went now (output_of action.now) ∷ [])
-            else P.log self.old.port) }
+        ensures told { told_first (log_of self.new.pen) (P.log self.new.port)
+            ≡ (if result then tell (told_first (log_of self.old.pen) (P.log self.old.port))
+                (Went now (output_of action.now) ∷ [])
+            else told_first (log_of self.old.pen) (P.log self.old.port)) }
         ensures script { P.script self.new.port ≡ P.script self.old.port }
         ensures cause { P.failed self.new.port
             ≡ P.failed self.old.port + (if result then 0 else 1) }
-        ensures puts { Puts result self.old.pen (line_of now (output_of action.now)) self.new.pen }
+        ensures puts { Puts result self.old.pen (Went now (output_of action.now) ∷ []) self.new.pen }
     {
         let has_gone = self.port.put(now, action);
         if has_gone {

@@ -1,24 +1,45 @@
 //! Where the text of a record goes.
 ghost use Rattle.std.specs.Prelude.{None};
 
+use gateway::{Action, Next};
 use std::io::{Eprint, Print};
 
-/// Where a text goes. One that tells what it took adds each text that it took.
+/// Where a text goes. One that tells what it took adds each text that it took, and one that tells
+/// what passed unwritten adds that.
 pub trait Sheet {
+    ghost use Rattle.gateway.specs.Log.{LogEntry, Went, tell};
+    ghost use Rattle.gateway.specs.Ports.{FitsBuffer, output_of, told_by};
     ghost use Rattle.record.specs.Recording.{added};
-    ghost use Rattle.std.specs.Prelude.{◌≡◌, ℕ, List, Option, if◌then◌else◌};
+    ghost use Rattle.std.specs.Prelude.{◌≡◌, ℕ, ◌∷◌, [], List, Option, if◌then◌else◌};
 
     /// What it took, where it tells that.
     ghost taken: { Self → Option (List ℕ) };
 
+    /// What passed once the record was over, the newest first, where it tells that.
+    ghost missed: { Self → Option (List LogEntry) };
+
     /// Takes a text. `false` says that it didn't: a front of the text may then stand where it goes.
     fn take(&mut self, text: &[u8]) -> bool
-        ensures { taken self.new
-            ≡ (if result then added (taken self.old) text.now else taken self.old) };
+        ensures text { taken self.new
+            ≡ (if result then added (taken self.old) text.now else taken self.old) }
+        ensures missed { missed self.new ≡ missed self.old };
 
     /// The record is over: nothing is given to it any more.
     fn end(&mut self)
-        ensures { taken self.new ≡ taken self.old };
+        ensures text { taken self.new ≡ taken self.old }
+        ensures missed { missed self.new ≡ missed self.old };
+
+    /// An event passes that isn't written, whose octets are the front of the buffer.
+    fn miss_event(&mut self, next: Next, buf: &[u8; 1024])
+        requires { FitsBuffer next }
+        ensures text { taken self.new ≡ taken self.old }
+        ensures missed { missed self.new ≡ tell (missed self.old) (told_by next buf.now) };
+
+    /// An action passes that isn't written.
+    fn miss_action(&mut self, now: u64, action: &Action<'_>)
+        ensures text { taken self.new ≡ taken self.old }
+        ensures missed { missed self.new
+            ≡ tell (missed self.old) (Went now (output_of action.now) ∷ []) };
 }
 
 /// Standard output. Where the record ends before the run a line on standard error tells it.
@@ -37,6 +58,8 @@ impl<'a, R> StandardOutput<'a, R> {
 impl<R: Print + Eprint> Sheet for StandardOutput<'_, R> {
     ghost taken = { λ _. None };
 
+    ghost missed = { λ _. None };
+
     fn take(&mut self, text: &[u8]) -> bool {
         self.rt.write_all(text).is_ok()
     }
@@ -44,4 +67,8 @@ impl<R: Print + Eprint> Sheet for StandardOutput<'_, R> {
     fn end(&mut self) {
         let _ = eprintln!(self.rt; "the record ends here: it can't be written");
     }
+
+    fn miss_event(&mut self, _next: Next, _buf: &[u8; 1024]) {}
+
+    fn miss_action(&mut self, _now: u64, _action: &Action<'_>) {}
 }

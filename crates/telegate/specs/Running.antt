@@ -1,5 +1,5 @@
 -- What the command that runs live answers (this gateway's own profile).
-use Rattle.std.specs.Prelude.{◌≡◌, ◌⊎◌, ℕ, ◌+◌, Bool, true, List, [], Option, Some, None, IfSome, Result, Ok, Err, MatchResult}
+use Rattle.std.specs.Prelude.{◌≡◌, ◌⊎◌, ℕ, ◌+◌, ◌++◌, Bool, true, false, List, [], Option, Some, None, IfSome, Result, Ok, Err, MatchResult}
 use Rattle.audit.specs.Audit.{IsAuditFault}
 use Rattle.audit.specs.Resume.{IsResumption}
 use Rattle.audit.specs.declared.resume.Resumed.{Resumed}
@@ -12,11 +12,13 @@ use Rattle.gateway.specs.Runs.{MoreEvents}
 use Rattle.gateway.specs.Setups.{setup_of}
 use Rattle.gateway.specs.State.{State}
 use Rattle.gateway.specs.Traffic.{IsFaithful, HasRested}
+use Rattle.record.specs.Recording.{Recording, text_of}
 use Rattle.settings.specs.Settings.{IsLiveReadOfText}
 use Rattle.settings.specs.declared.live.LiveSettings.{LiveSettings}
 use Rattle.telegate.specs.declared.fault.Fault.{Fault}
 use Rattle.telegate.specs.declared.fault.Fault.TheVariants.{Config, Record, NoMemory}
 use Rattle.telegate.specs.declared.fault.Fault.TheVariants as fault
+use Rattle.traces.specs.Printed.{lines_of_log}
 use Rattle.traces.specs.declared.reading.TextFault.TheVariants.{Line}
 use Rattle.telegate.specs.declared.running.Stop.{Stop}
 use Rattle.telegate.specs.declared.running.Stop.TheVariants as stop
@@ -57,6 +59,25 @@ HasRunTo p told stop.NoMemory = Unit {0}
 abbrev pub HasRunFaithfully : {A : Type 0} → Setup → Option Log → Result A Stop → Type 0
 HasRunFaithfully p told result =
     MatchResult result (λ _. IsRunTold p told × IfSome told (HasRested p)) (HasRunTo p told)
+
+-- What a run leaves on its record: the text is the lines of a log, which, with what passed once the
+-- record was over, keeps every promise. Until it is over nothing passed unwritten.
+pub record IsRecordOf {A : Type 0} (p : Setup) (is_over : Bool) (text : List ℕ) (missed : Log)
+    (result : Result A Stop) : Type 0 where
+  pub log : Log
+  pub lines : text ≡ lines_of_log log
+  pub whole : is_over ≡ false → missed ≡ []
+  pub faithful : HasRunFaithfully p (Some (missed ++ log)) result
+
+-- where the text, and what passed unwritten, are told
+abbrev pub IsTextOf : {A : Type 0} → Setup → (is_over : Bool) → (text : Option (List ℕ))
+    → (missed : Option Log) → Result A Stop → Type 0
+IsTextOf p is_over None missed result = Unit {0}
+IsTextOf p is_over (Some text) None result = Unit {0}
+IsTextOf p is_over (Some text) (Some missed) result = IsRecordOf p is_over text missed result
+
+abbrev pub IsRecorded : {A : Type 0} → Setup → Recording → Result A Stop → Type 0
+IsRecorded p r result = IsTextOf p r.is_over (text_of r) r.missed result
 
 -- A run begins anew, with an empty log, or it goes on where a record ends: with the gateway of the
 -- run over its events, whose log keeps every promise.

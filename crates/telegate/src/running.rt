@@ -4,7 +4,8 @@ ghost use Rattle.gateway.specs.Agrees.{Follows, Rests};
 ghost use Rattle.gateway.specs.Config.{Settings};
 ghost use Rattle.gateway.specs.Reports.{Setup};
 ghost use Rattle.gateway.specs.Setups.{setup_of};
-ghost use Rattle.telegate.specs.Running.{IsReadLiveConfig, IsStartBy, HasEnded, HasRun, HasRunFaithfully};
+ghost use Rattle.record.specs.Recording.{log_of};
+ghost use Rattle.telegate.specs.Running.{IsReadLiveConfig, IsStartBy, HasEnded, HasRun, HasRunFaithfully, IsRecorded};
 
 use crate::fault::Fault;
 use crate::host::Wishes;
@@ -213,7 +214,7 @@ where
         port = port.cut_first();
     }
     let recorder = Recorder::new(port, scribes.pen);
-    serve(start.gateway, &mut Journal::new(recorder, scribes.teller))
+    serve_recorded(start.gateway, &mut Journal::new(recorder, scribes.teller))
 }
 
 /// The settings of a file for a live run.
@@ -259,6 +260,23 @@ fn serve<P: Watched + Drop, S: Sink + Drop>(
         }
     }
     Ok(())
+}
+
+/// Runs the gateway over a port whose events and actions are written down.
+#[tactic(auto, using(crate::proofs::Recorded::recorded))]
+fn serve_recorded<P: Watched + Drop, W: Sheet + Drop, S: Sink + Drop>(
+    gateway: Gateway,
+    journal: &mut Journal<Recorder<P, W>, S>,
+) -> Result<(), Stop>
+    requires { P.failed journal.old.port.port < u64.MAX }
+    // Where the gateway begins with the state that the text of the record leads to, what is then
+    // written is the text of a run that keeps every promise of a gateway with these settings.
+    ensures { (p : Setup) → Follows p gateway (log_of journal.old.port.pen) →
+        Rests p (log_of journal.old.port.pen) → IsRecorded p journal.new.port.pen result }
+{
+    let result = serve(gateway, journal);
+    let _is_over = journal.port().is_over();
+    result
 }
 
 /// Why an end can't be had.

@@ -29,7 +29,7 @@ fn append_gap(lines: &mut String, now: u64, station: usize, session: u64) -> Res
 }
 
 /// Appends the line of an action. An `Err` is want of memory.
-pub(crate) fn append_action(
+pub fn append_action(
     alloc: Global,
     lines: &mut String,
     now: u64,

@@ -29,7 +29,7 @@ mod reading;
 mod recorded;
 mod text_port;
 
-pub use actions::append_line;
+pub use actions::{append_action, append_line};
 pub use decimal::decimal as read_decimal;
 pub use examples::printed_lines_by_example;
 pub use judging::judge;

@@ -1,7 +1,8 @@
 //! The lines of events, as a recorded run has them.
 ghost use Rattle.std.specs.Prelude.{◌≡◌, ◌++◌, OnOk, string_bytes};
 ghost use Rattle.gateway.specs.Ports.{FitsBuffer, told_by};
-ghost use Rattle.traces.specs.Printed.{lines_of_log};
+ghost use Rattle.std.specs.List.{AllByRecursion};
+ghost use Rattle.traces.specs.Printed.{IsPrintable, lines_of_log};
 
 use gateway::Next;
 use std::alloc::{AllocError, Global};
@@ -15,8 +16,9 @@ pub fn append_event(
     buf: &[u8; 1024],
 ) -> Result<(), AllocError>
     requires { FitsBuffer next }
-    ensures { OnOk result (string_bytes lines.new
+    ensures line { OnOk result (string_bytes lines.new
         ≡ string_bytes lines.old ++ lines_of_log (told_by next buf.now)) }
+    ensures printable { OnOk result (AllByRecursion IsPrintable (told_by next buf.now)) }
 {
     match next {
         Next::Line(now, len) => {

@@ -14,12 +14,16 @@ struct FewTexts {
     takes: u32,
     /// How often the record ended.
     ends: u32,
+    /// How many events and actions passed unwritten.
+    missed: u32,
 }
 
 impl Sheet for FewTexts {
     ghost use Rattle.std.specs.Prelude.{None};
 
     ghost taken = { λ _. None };
+
+    ghost missed = { λ _. None };
 
     fn take(&mut self, text: &[u8]) -> bool {
         if self.takes == 0 {
@@ -34,6 +38,14 @@ impl Sheet for FewTexts {
 
     fn end(&mut self) {
         self.ends = self.ends.saturating_add(1);
+    }
+
+    fn miss_event(&mut self, _next: Next, _buf: &[u8; 1024]) {
+        self.missed = self.missed.saturating_add(1);
+    }
+
+    fn miss_action(&mut self, _now: u64, _action: &Action<'_>) {
+        self.missed = self.missed.saturating_add(1);
     }
 }
 
@@ -72,6 +84,7 @@ fn the_line_of_an_event_goes_out_before_it_is_passed_on(rt: HostRuntime) -> Resu
         text: String::new(rt.alloc()),
         takes: 2,
         ends: 0,
+        missed: 0,
     };
     let first = Vec::from_slice(rt.alloc(), b"0 T\n")?;
     let mut port = Recorder::new(Ticks(0), Pen::new(rt.alloc(), sheet, first));
@@ -89,6 +102,7 @@ fn the_line_of_an_event_goes_out_before_it_is_passed_on(rt: HostRuntime) -> Resu
     assert!(rt; matches!(port.next(&mut [0; 1024]), Next::Tick(4)));
     assert_eq!(rt; port.pen.sheet.text.as_str(), text);
     assert_eq!(rt; port.pen.sheet.ends, 1);
+    assert_eq!(rt; port.pen.sheet.missed, 1);
     Ok(())
 }
 
@@ -98,6 +112,7 @@ fn an_idle_pen_writes_nothing(rt: HostRuntime) {
         text: String::new(rt.alloc()),
         takes: 9,
         ends: 0,
+        missed: 0,
     };
     let mut port = Recorder::new(Ticks(0), Pen::idle(rt.alloc(), sheet));
     assert!(rt; matches!(port.next(&mut [0; 1024]), Next::Tick(1)));
@@ -105,4 +120,5 @@ fn an_idle_pen_writes_nothing(rt: HostRuntime) {
     assert!(rt; matches!(port.next(&mut [0; 1024]), Next::Tick(2)));
     assert_eq!(rt; port.pen.sheet.text.as_str(), "");
     assert_eq!(rt; port.pen.sheet.ends, 0);
+    assert_eq!(rt; port.pen.sheet.missed, 3);
 }

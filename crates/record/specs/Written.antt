@@ -1,0 +1,25 @@
+-- What a text of lines tells (this gateway's own profile).
+use Rattle.gateway.specs.Log.{Log}
+use Rattle.std.specs.List.{AllByRecursion}
+use Rattle.std.specs.Prelude.{◌≡◌, ℕ, List, reverse, Option, Some, None, IfSome}
+use Rattle.traces.specs.Printed.{IsPrintable, entries_in, lines_of_log}
+use Rattle.traces.specs.Progress.{all_told}
+
+-- what a text tells, the newest first
+abbrev pub log_in : List ℕ → Log
+log_in text = reverse (all_told (entries_in text))
+
+-- a text is the lines of the log that it tells
+pub record IsText (text : List ℕ) : Type 0 where
+  pub lines : lines_of_log (log_in text) ≡ text
+  pub printable : AllByRecursion IsPrintable (log_in text)
+
+-- where a text is told
+abbrev pub IsWritten : Option (List ℕ) → Type 0
+IsWritten told = IfSome told IsText
+
+-- lines of events and actions that can be printed
+pub record AreLines (lines : List ℕ) : Type 0 where
+  pub news : Log
+  pub printable : AllByRecursion IsPrintable news
+  pub are : lines ≡ lines_of_log news
