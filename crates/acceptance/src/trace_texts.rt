@@ -261,7 +261,7 @@ fn a_text_gives_its_events_and_a_page_gets_the_actions(rt: HostRuntime) -> Resul
     let alloc = rt.alloc();
     // The last line lacks its line feed.
     let text = b"# a comment\n\n7 S E568\n9 O\n12 W 5".as_slice();
-    assert_eq!(rt; judge(alloc, text)?, 3);
+    assert_eq!(rt; judge(text)?, 3);
     let mut port = TextPort::new(alloc, text);
     let mut buf = [0; 1024];
     assert!(rt; matches!(port.next(&mut buf), Next::Tick(0)));
@@ -299,11 +299,11 @@ fn a_wrong_line_is_judged_by_its_number(rt: HostRuntime) -> Result<(), Fail> {
         (b"#\n7 S\n".as_slice(), 2),
     ] {
         assert_eq!(rt;
-            judge(rt.alloc(), text).err(),
+            judge(text).err(),
             Some(TextFault::Line(number))
         );
     }
-    assert_eq!(rt; judge(rt.alloc(), b"")?, 0);
+    assert_eq!(rt; judge(b"")?, 0);
     Ok(())
 }
 

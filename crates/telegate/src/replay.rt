@@ -26,7 +26,7 @@ pub(crate) fn replay(
     ensures { IsReplayed config.now trace.now closing result }
 {
     let config = read_config(alloc, config)?;
-    match judge(alloc, trace) {
+    match judge(trace) {
         Ok(events) => run(alloc, &config, trace, events, closing),
         Err(TextFault::Line(n)) => Err(Fault::Trace(n)),
         Err(TextFault::NoMemory) => Err(Fault::NoMemory),

@@ -24,7 +24,7 @@ use Rattle.traces.specs.Fields.{digits_after, decimal_of, octets_of, some_octets
 use Rattle.traces.specs.Event.{event_of, event_from, event_in, bare_at, octets_at, wall_at}
 use Rattle.traces.specs.Trace.{lines_of, is_skipped}
 use Rattle.traces.specs.Actions.{line_of, lines_of_actions}
-use Rattle.traces.specs.Printed.{FitsTrace, IsFirstOf, IsPrintable, IsPrintableEvent, IsPrintableAction, line_of_event, line_of_entry, lines_of_log, number_in, octets_in_hex, cause_numbered, gap_at, came_at, went_at, entry_from, entry_in, before_those, entries_of_lines, entries_of_parts, entries_in, actions_of, ArePrinted}
+use Rattle.traces.specs.Printed.{FitsTrace, IsFirstOf, IsPrintable, IsPrintableEvent, IsPrintableAction, line_of_event, line_of_entry, lines_of_log, number_in, octets_in_hex, cause_numbered, gap_at, came_at, went_at, entry_from, entry_in, before_those, entries_of_parts, entries_in, actions_of, ArePrinted}
 
 -- Fields without separators
 

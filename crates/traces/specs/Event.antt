@@ -51,9 +51,6 @@ octets_at None kind octets = None
 octets_at (Some now) kind None = None
 octets_at (Some now) kind (Some octets) = octets_event kind now octets
 
-abbrev pub octets_in : List ℕ → List ℕ → List ℕ → Option Event
-octets_in moment kind text = octets_at (decimal_of moment) kind (octets_of text)
-
 -- the wall clock shows a number: milliseconds since 1970-01-01 UTC
 abbrev pub wall_at : Option ℕ → Option ℕ → Option Event
 wall_at None number = None
@@ -61,10 +58,13 @@ wall_at (Some now) None = None
 wall_at (Some now) (Some number) = Some (wall now number)
 
 -- an event with octets or a number, by its kind
+abbrev pub valued_at : Option ℕ → (kind text : List ℕ) → Option Event
+valued_at now kind text =
+    if bytes_eq kind (codes "W") then wall_at now (decimal_of text)
+    else octets_at now kind (octets_of text)
+
 abbrev pub valued_in : List ℕ → List ℕ → List ℕ → Option Event
-valued_in moment kind text =
-    if bytes_eq kind (codes "W") then wall_at (decimal_of moment) (decimal_of text)
-    else octets_in moment kind text
+valued_in moment kind text = valued_at (decimal_of moment) kind text
 
 abbrev pub event_from : List (List ℕ) → Option Event
 event_from (moment ∷ kind ∷ []) = bare_in moment kind

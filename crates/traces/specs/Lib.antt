@@ -5,3 +5,4 @@ pub mod Actions
 pub mod Traced
 pub mod Printed
 pub mod Progress
+pub mod FirstLines

@@ -3,8 +3,8 @@
 use Rattle.std.specs.Prelude.{◌≡◌, ℕ, suc, Bool, true, false, ◌&&◌, List, [], ◌∷◌, ◌++◌, map, take, drop, reverse, length, Option, Some, None, Result, MatchResult}
 use Rattle.std.specs.List.{filter_map, AllByRecursion}
 use Rattle.std.specs.Option.{is_none}
-use Rattle.gateway.specs.Log.{Log, LogEntry, Came, Went, LineIn, Opened, TcpIn, CutOff, Ticked, WallIs, events_of}
-use Rattle.gateway.specs.Ports.{told_by, FitsBuffer, faults_of}
+use Rattle.gateway.specs.Log.{Log, LogEntry, Came, LineIn, Opened, TcpIn, CutOff, Ticked, WallIs, events_of}
+use Rattle.gateway.specs.Ports.{told_by, FitsBuffer}
 use Rattle.gateway.specs.declared.ports.Next.{Next}
 use Rattle.gateway.specs.declared.ports.Next.TheVariants as answers
 use Rattle.traces.specs.Actions.{lines_of_actions}

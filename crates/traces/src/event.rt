@@ -1,96 +1,155 @@
-//! The event of one line.
-ghost use Rattle.std.specs.Prelude.{◌≡◌, IfOk, IfSome, option_map};
+//! The first line of a text.
+ghost use Rattle.std.specs.Prelude.{◌≡◌, ◌∷◌, [], true, Some, IfOk, IfSome, IsSome, is_some, option_map};
 ghost use Rattle.gateway.specs.Entries.{FitsPort};
-ghost use Rattle.traces.specs.Fields.{decimal_of};
-ghost use Rattle.traces.specs.Event.{event_of, bare_in, octets_in, wall_at, valued_in, event_in};
+ghost use Rattle.gateway.specs.Ports.{FitsBuffer, told_by};
+ghost use Rattle.traces.specs.Event.{event_of, bare_event, event_from, valued_at};
+ghost use Rattle.traces.specs.FirstLines.{IsFirstLine, IsEventAt, first_line, first_fields, later_lines, spelled_by, spelled_event};
+ghost use Rattle.traces.specs.Progress.{came, tells_event};
+ghost use Rattle.traces.specs.Trace.{is_skipped};
 
 use crate::decimal::decimal;
-use crate::lines::cut;
-use crate::octets::read_octets;
-use gateway::Entry;
+use crate::lines::{FieldEnd, cut, field};
+use crate::octets::{are_octets, read_octets, write_octets};
+use crate::reading::LINE_FEED;
+use gateway::{Entry, Next};
 use std::alloc::{AllocError, Global};
 
-/// The event of one line, if it is one.
-pub(crate) fn event(alloc: Global, line: &[u8]) -> Result<Option<Entry>, AllocError>
-    ensures event { IfOk result (λ e. option_map event_of e ≡ event_in line.now) }
-    ensures fits { IfOk result (λ e. IfSome e FitsPort) }
+/// An event as a line spells it: its octets are still digits, which may be wrong ones.
+#[derive(Clone, Copy)]
+pub(crate) enum Spelled<'a> {
+    Line(u64, &'a [u8]),
+    Open(u64),
+    Bytes(u64, &'a [u8]),
+    Cut(u64),
+    Tick(u64),
+    Wall(u64, u64),
+}
+
+/// The first line of a text, with the lines behind it.
+#[derive(Clone, Copy)]
+pub(crate) enum FirstLine<'a> {
+    /// Empty, or a comment.
+    Skipped(Option<&'a [u8]>),
+    /// An event, if its octets are right.
+    Event(Spelled<'a>, Option<&'a [u8]>),
+    Wrong,
+}
+
+/// The first line of a text. Of the octets of an event only the end is looked for.
+pub(crate) fn first_line(text: &[u8]) -> FirstLine<'_>
+    ensures { IsFirstLine text.entry.now result }
 {
-    let (moment, Some(rest)) = cut(line, b' ') else {
-        return Ok(None);
+    if begins_skipped(text) {
+        let (_, rest) = cut(text, LINE_FEED);
+        return FirstLine::Skipped(rest);
+    }
+    match event_at(text) {
+        Some((event, rest)) => FirstLine::Event(event, rest),
+        None => FirstLine::Wrong,
+    }
+}
+
+/// Whether the first line of a text is empty or a comment.
+fn begins_skipped(text: &[u8]) -> bool
+    ensures { result ≡ is_skipped (first_line text.now) }
+{
+    match text {
+        [] => true,
+        [first, ..] => *first == LINE_FEED || *first == b'#',
+    }
+}
+
+/// The event that the first line of a text spells, and the lines behind it.
+#[tactic(auto, using(crate::proofs::FirstLineLemmas::too_many))]
+fn event_at(text: &[u8]) -> Option<(Spelled<'_>, Option<&[u8]>)>
+    ensures { IsEventAt text.entry.now result }
+{
+    let (moment, FieldEnd::Space(text)) = field(text) else {
+        return None;
     };
-    let (kind, rest) = cut(rest, b' ');
-    let Some(rest) = rest else {
-        return Ok(bare(moment, kind));
-    };
-    let (text, rest) = cut(rest, b' ');
-    match rest {
-        None => with_value(alloc, moment, kind, text),
-        Some(_) => Ok(None),
+    let now = decimal(moment)?;
+    let (kind, end) = field(text);
+    match end {
+        FieldEnd::LineEnd(rest) => Some((bare(now, kind)?, rest)),
+        FieldEnd::Space(text) => {
+            let (value, end) = field(text);
+            match end {
+                FieldEnd::LineEnd(rest) => Some((valued(now, kind, value)?, rest)),
+                FieldEnd::Space(_) => None,
+            }
+        }
     }
 }
 
 /// An event without octets.
-fn bare(moment: &[u8], kind: &[u8]) -> Option<Entry>
-    ensures event { option_map event_of result ≡ bare_in moment.now kind.now }
-    ensures fits { IfSome result FitsPort }
+fn bare<'a>(now: u64, kind: &[u8]) -> Option<Spelled<'a>>
+    ensures { spelled_by result ≡ bare_event kind.now now }
 {
-    let now = decimal(moment)?;
     match kind {
-        b"T" => Some(Entry::Tick(now)),
-        b"O" => Some(Entry::Open(now)),
-        b"C" => Some(Entry::Cut(now)),
+        b"T" => Some(Spelled::Tick(now)),
+        b"O" => Some(Spelled::Open(now)),
+        b"C" => Some(Spelled::Cut(now)),
         _ => None,
     }
 }
 
 /// An event with octets or a number.
-fn with_value(
-    alloc: Global,
-    moment: &[u8],
-    kind: &[u8],
-    text: &[u8],
-) -> Result<Option<Entry>, AllocError>
-    ensures event { IfOk result (λ e. option_map event_of e
-        ≡ valued_in moment.now kind.now text.now) }
-    ensures fits { IfOk result (λ e. IfSome e FitsPort) }
+fn valued<'a>(now: u64, kind: &[u8], value: &'a [u8]) -> Option<Spelled<'a>>
+    ensures { spelled_by result ≡ valued_at (Some now) kind.now value.now }
 {
-    if kind == b"W".as_slice() {
-        return Ok(wall(moment, text));
-    }
-    with_octets(alloc, moment, kind, text)
-}
-
-/// The wall clock shows a number.
-fn wall(moment: &[u8], number: &[u8]) -> Option<Entry>
-    ensures event { option_map event_of result
-        ≡ wall_at (decimal_of moment.now) (decimal_of number.now) }
-    ensures fits { IfSome result FitsPort }
-{
-    let now = decimal(moment)?;
-    let number = decimal(number)?;
-    Some(Entry::Wall(now, number))
-}
-
-/// An event with octets.
-fn with_octets(
-    alloc: Global,
-    moment: &[u8],
-    kind: &[u8],
-    text: &[u8],
-) -> Result<Option<Entry>, AllocError>
-    ensures event { IfOk result (λ e. option_map event_of e
-        ≡ octets_in moment.now kind.now text.now) }
-    ensures fits { IfOk result (λ e. IfSome e FitsPort) }
-{
-    let Some(now) = decimal(moment) else {
-        return Ok(None);
-    };
-    let Some(octets) = read_octets(alloc, text)? else {
-        return Ok(None);
-    };
     match kind {
-        b"S" => Ok(Some(Entry::Line(now, octets))),
-        b"R" => Ok(Some(Entry::Bytes(now, octets))),
-        _ => Ok(None),
+        b"S" => Some(Spelled::Line(now, value)),
+        b"R" => Some(Spelled::Bytes(now, value)),
+        b"W" => Some(Spelled::Wall(now, decimal(value)?)),
+        _ => None,
+    }
+}
+
+/// Whether the octets of an event are right.
+pub(crate) fn is_right(event: &Spelled<'_>) -> bool
+    ensures { result ≡ is_some (spelled_event event.now) }
+{
+    match event {
+        Spelled::Line(_, digits) | Spelled::Bytes(_, digits) => are_octets(*digits),
+        _ => true,
+    }
+}
+
+/// An event that is spelled right, as a port gives it: its octets are put at the front of the
+/// buffer.
+pub(crate) fn announce(event: &Spelled<'_>, buf: &mut [u8; 1024]) -> Next
+    requires { IsSome (spelled_event event.now) }
+    ensures told { IfSome (spelled_event event.now) (λ e. told_by result buf.new ≡ came e ∷ []) }
+    ensures some { tells_event result ≡ true }
+    ensures fits { FitsBuffer result }
+{
+    match event {
+        Spelled::Line(now, digits) => Next::Line(*now, write_octets(*digits, buf)),
+        Spelled::Open(now) => Next::Open(*now),
+        Spelled::Bytes(now, digits) => Next::Bytes(*now, write_octets(*digits, buf)),
+        Spelled::Cut(now) => Next::Cut(*now),
+        Spelled::Tick(now) => Next::Tick(*now),
+        Spelled::Wall(now, number) => Next::Wall(*now, *number),
+    }
+}
+
+/// The entry that is spelled so, if its octets are right.
+pub(crate) fn entry(alloc: Global, event: &Spelled<'_>) -> Result<Option<Entry>, AllocError>
+    ensures event { IfOk result (λ e. option_map event_of e ≡ spelled_event event.now) }
+    ensures fits { IfOk result (λ e. IfSome e FitsPort) }
+{
+    match event {
+        Spelled::Line(now, digits) => match read_octets(alloc, *digits)? {
+            Some(octets) => Ok(Some(Entry::Line(*now, octets))),
+            None => Ok(None),
+        },
+        Spelled::Open(now) => Ok(Some(Entry::Open(*now))),
+        Spelled::Bytes(now, digits) => match read_octets(alloc, *digits)? {
+            Some(octets) => Ok(Some(Entry::Bytes(*now, octets))),
+            None => Ok(None),
+        },
+        Spelled::Cut(now) => Ok(Some(Entry::Cut(*now))),
+        Spelled::Tick(now) => Ok(Some(Entry::Tick(*now))),
+        Spelled::Wall(now, number) => Ok(Some(Entry::Wall(*now, *number))),
     }
 }

@@ -1,13 +1,12 @@
 //! The judgement of a trace before it is run.
 ghost use Rattle.traces.specs.Progress.{IsJudgement};
 
-use crate::event::event;
-use crate::lines::{cut, is_skipped};
-use crate::reading::{LINE_FEED, TextFault};
-use std::alloc::Global;
+use crate::event::{FirstLine, first_line, is_right};
+use crate::reading::TextFault;
 
-/// How many events the lines of a trace tell. The first wrong line is the fault.
-pub fn judge(alloc: Global, text: &[u8]) -> Result<u64, TextFault>
+/// How many events the lines of a trace tell. The first wrong line is the fault. It takes no
+/// memory; `NoMemory` says that there are more lines than any memory holds.
+pub fn judge(text: &[u8]) -> Result<u64, TextFault>
     ensures { IsJudgement text.now result }
 {
     let mut count = 0u64;
@@ -16,16 +15,14 @@ pub fn judge(alloc: Global, text: &[u8]) -> Result<u64, TextFault>
         let Some(text) = left else {
             return Ok(count);
         };
-        let (line, rest) = cut(text, LINE_FEED);
-        left = rest;
-        if is_skipped(line) {
-            continue;
-        }
-        match event(alloc, line)? {
-            Some(_) => count += 1,
-            None => return Err(TextFault::Line(number)),
+        match first_line(text) {
+            FirstLine::Skipped(rest) => left = rest,
+            FirstLine::Event(event, rest) if is_right(&event) => {
+                count += 1;
+                left = rest;
+            }
+            _ => return Err(TextFault::Line(number)),
         }
     }
-    // No memory holds so many lines.
     Err(TextFault::NoMemory)
 }

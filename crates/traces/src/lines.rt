@@ -3,6 +3,7 @@ ghost use Rattle.std.specs.List.{slice_split};
 ghost use Rattle.std.specs.Option.{option_copied};
 ghost use Rattle.std.specs.Prelude.{◌≡◌, ◌==◌, ◌∷◌, ◌<◌, length, position, map, IfOk, IfSome};
 ghost use Rattle.traces.specs.Fields.{parts_after};
+ghost use Rattle.traces.specs.FirstLines.{IsFirstField, ends_field};
 ghost use Rattle.traces.specs.Trace.{is_skipped};
 
 use std::alloc::{AllocError, Global};
@@ -32,6 +33,38 @@ pub(crate) fn cut(text: &[u8], separator: u8) -> (&[u8], Option<&[u8]>)
     match place(text, separator) {
         Some(i) => (&text[..i], Some(&text[i + 1..])),
         None => (text, None),
+    }
+}
+
+/// What ends a field of a line.
+#[derive(Clone, Copy)]
+pub(crate) enum FieldEnd<'a> {
+    /// A space, with what follows it.
+    Space(&'a [u8]),
+    /// The line's end, with the lines behind it.
+    LineEnd(Option<&'a [u8]>),
+}
+
+/// The place of the first octet that ends a field.
+fn end_place(text: &[u8]) -> Option<usize>
+    ensures first { result ≡ position (λ b. ends_field b) text.now }
+    ensures within { IfSome result (λ i. i < length text.now) }
+{
+    text.iter().position(|b| *b == b' ' || *b == b'\n')
+}
+
+/// The first field of a text, and what ends it.
+pub(crate) fn field(text: &[u8]) -> (&[u8], FieldEnd<'_>)
+    ensures { IsFirstField text.entry.now result.0.now result.1 }
+{
+    let Some(i) = end_place(text) else {
+        return (text, FieldEnd::LineEnd(None));
+    };
+    let behind = &text[i + 1..];
+    if text[i] == b' ' {
+        (&text[..i], FieldEnd::Space(behind))
+    } else {
+        (&text[..i], FieldEnd::LineEnd(Some(behind)))
     }
 }
 

@@ -1,5 +1,7 @@
 //! Octets in hexadecimal.
-ghost use Rattle.std.specs.Prelude.{◌≡◌, ◌≤◌, IfOk, IfSome, length, option_map};
+ghost use Rattle.std.specs.Prelude.{◌≡◌, ◌≤◌, IfOk, IfSome, IsSome, is_some, length, option_map, take};
+ghost use Rattle.hex.specs.Hex.{is_hex_digit};
+ghost use Rattle.std.specs.List.{list_all};
 ghost use Rattle.traces.specs.Fields.{octets_of};
 
 use hex::FromHexError;
@@ -20,4 +22,43 @@ pub fn read_octets(alloc: Global, text: &[u8]) -> Result<Option<Vec<u8>>, AllocE
         Err(FromHexError::OutOfMemory) => Err(AllocError),
         Err(_) => Ok(None),
     }
+}
+
+/// Whether a text is 1 to 1,024 octets in hexadecimal.
+pub(crate) fn are_octets(text: &[u8]) -> bool
+    ensures { result ≡ is_some (octets_of text.now) }
+{
+    if text.len() % 2 != 0 || text.len() < 2 || text.len() > 2 * MOST_OCTETS {
+        return false;
+    }
+    are_digits(text)
+}
+
+/// Whether a text has digits alone. It looks at all of them, which takes less time than an end at
+/// the first other octet.
+fn are_digits(text: &[u8]) -> bool
+    ensures { result ≡ list_all is_hex_digit text.now }
+{
+    let mut all = true;
+    for octet in text {
+        all &= is_digit(*octet);
+    }
+    all
+}
+
+fn is_digit(octet: u8) -> bool
+    ensures { result ≡ is_hex_digit octet }
+{
+    matches!(octet, b'0'..=b'9' | b'A'..=b'F' | b'a'..=b'f')
+}
+
+/// Puts octets that stand in hexadecimal at the front of the buffer, and answers their number.
+pub(crate) fn write_octets(text: &[u8], buf: &mut [u8; 1024]) -> usize
+    requires { IsSome (octets_of text.now) }
+    ensures octets { IfSome (octets_of text.now) (λ octets. take result buf.new ≡ octets) }
+    ensures most { result ≤ 1024 }
+{
+    let len = text.len() / 2;
+    let _ = hex::decode_to_slice(text, &mut buf[..len]);
+    len
 }

@@ -5,8 +5,7 @@ ghost use Rattle.gateway.specs.Entries.{FitsPort};
 ghost use Rattle.traces.specs.Trace.{IsTraceOf};
 ghost use Rattle.traces.specs.declared.reading.TextFault.TheVariants.{NoMemory};
 
-use crate::event::event;
-use crate::lines::{cut, is_skipped};
+use crate::event::{FirstLine, entry, first_line};
 use gateway::Entry;
 use std::alloc::{AllocError, AllocFailed, Global};
 use thiserror::Error;
@@ -57,14 +56,16 @@ pub fn read_trace(alloc: Global, text: &[u8]) -> Result<Vec<Entry>, TextFault>
         let Some(text) = left else {
             return Ok(entries);
         };
-        let (line, rest) = cut(text, LINE_FEED);
-        left = rest;
-        if is_skipped(line) {
-            continue;
-        }
-        match event(alloc, line)? {
-            Some(entry) => entries.push(entry)?,
-            None => return Err(TextFault::Line(number)),
+        match first_line(text) {
+            FirstLine::Skipped(rest) => left = rest,
+            FirstLine::Event(event, rest) => match entry(alloc, &event)? {
+                Some(entry) => {
+                    entries.push(entry)?;
+                    left = rest;
+                }
+                None => return Err(TextFault::Line(number)),
+            },
+            FirstLine::Wrong => return Err(TextFault::Line(number)),
         }
     }
     // No memory holds so many lines.

@@ -10,10 +10,8 @@ ghost use Rattle.traces.specs.Progress.{IsFirst, IsRight, script_in, log_in, com
 ghost use Rattle.traces.specs.Trace.{first_wrong, lines_of};
 
 use crate::actions::append_action;
-use crate::event::event;
-use crate::lines::{cut, is_skipped};
-use crate::reading::LINE_FEED;
-use gateway::{Action, Next, Port, announce};
+use crate::event::{FirstLine, announce, first_line};
+use gateway::{Action, Next, Port};
 use std::alloc::Global;
 use std::marker::Model;
 
@@ -64,11 +62,7 @@ impl<'a> Model for TextPort<'a> {
 /// The first event of these lines, whose octets are put at the front of the buffer, and the lines
 /// behind it.
 #[tactic(auto, using(crate::proofs::ProgressLemmas::events_skip, crate::proofs::ProgressLemmas::right_first))]
-fn first_event<'a>(
-    alloc: Global,
-    text: Option<&'a [u8]>,
-    buf: &mut [u8; 1024],
-) -> (Next, Option<&'a [u8]>)
+fn first_event<'a>(text: Option<&'a [u8]>, buf: &mut [u8; 1024]) -> (Next, Option<&'a [u8]>)
     requires { AllByRecursion IsRight (parts_after 10 (option_copied text)) }
     ensures { IsFirst (parts_after 10 (option_copied text.entry)) (option_copied result.1)
         result.0 buf.new }
@@ -78,15 +72,11 @@ fn first_event<'a>(
         let Some(text) = left else {
             return (Next::Done, None);
         };
-        let (line, rest) = cut(text, LINE_FEED);
-        if !is_skipped(line) {
-            return match event(alloc, line) {
-                Ok(Some(entry)) => (announce(&entry, buf), rest),
-                Ok(None) => unreachable!(),
-                Err(_) => (Next::Fault, left),
-            };
+        match first_line(text) {
+            FirstLine::Skipped(rest) => left = rest,
+            FirstLine::Event(event, rest) => return (announce(&event, buf), rest),
+            FirstLine::Wrong => unreachable!(),
         }
-        left = rest;
     }
     // No memory holds so many lines.
     (Next::Fault, left)
@@ -166,7 +156,7 @@ impl<'a> Port for TextPort<'a> {
             self.marks.push_reserved(true);
             return Next::Tick(0);
         }
-        let (next, left) = first_event(self.alloc, self.left, buf);
+        let (next, left) = first_event(self.left, buf);
         if is_event(next) {
             self.left = left;
             self.marks.push_reserved(true);

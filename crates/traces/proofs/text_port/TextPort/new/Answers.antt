@@ -1,4 +1,4 @@
-use Rattle.std.proofs.Common.{refl, []}
+use Rattle.std.proofs.Common.{refl}
 use Rattle.traces.specs.Trace.{lines_of}
 use Rattle.traces.proofs.ProgressLemmas.{all_right}
 use Rattle.traces.proofs.text_port.TextPort.new.Goals as goal

@@ -1,4 +1,4 @@
-use Rattle.std.proofs.Common.{◌≡◌, rules, ap, Some, true, false, not, sym, ◌∙◌, ◌++◌, ◌∷◌, []}
+use Rattle.std.proofs.Common.{◌≡◌, rules, ap, Some, true, false, ◌∙◌, ◌++◌, ◌∷◌, []}
 use Rattle.std.specs.Option.{option_copied}
 use Rattle.gateway.specs.Log.{Came, Ticked}
 use Rattle.gateway.specs.Ports.{told_by}

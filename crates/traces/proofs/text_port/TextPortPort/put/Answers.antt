@@ -1,4 +1,4 @@
-use Rattle.std.proofs.Common.{◌≡◌, rules, ap, Some, true, false, sym, ◌∙◌, ◌++◌, ◌∷◌, []}
+use Rattle.std.proofs.Common.{◌≡◌, rules, ap, Some, false, sym, ◌∙◌, ◌++◌, ◌∷◌, []}
 use Rattle.gateway.specs.Ports.{output_of}
 use Rattle.gateway.specs.Log.{Went}
 use Rattle.traces.specs.Actions.{line_of}

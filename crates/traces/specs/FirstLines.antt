@@ -1,0 +1,73 @@
+-- How a text is read from its front (texts of this gateway's own profile): its first line, field by field, with octets
+-- that are still in hexadecimal.
+use Rattle.std.specs.Prelude.{◌≡◌, ℕ, ◌==◌, ◌||◌, Bool, true, false, List, [], ◌∷◌, drop, Option, Some, None, option_map}
+use Rattle.std.specs.Borrow.{Bor}
+use Rattle.std.specs.List.{slice_split}
+use Rattle.std.specs.Option.{option_copied}
+use Rattle.traces.specs.declared.lines.FieldEnd.{FieldEnd}
+use Rattle.traces.specs.declared.lines.FieldEnd.TheVariants as ends
+use Rattle.traces.specs.declared.event.Spelled.{Spelled}
+use Rattle.traces.specs.declared.event.Spelled.TheVariants as spellings
+use Rattle.traces.specs.declared.event.FirstLine.{FirstLine}
+use Rattle.traces.specs.declared.event.FirstLine.TheVariants as firsts
+use Rattle.traces.specs.Fields.{octets_of, parts_after}
+use Rattle.traces.specs.Event.{Event, line, opening, received, cut, tick, wall, event_in}
+use Rattle.traces.specs.Trace.{lines_of, is_skipped}
+
+abbrev pub first_of : List (List ℕ) → List ℕ
+first_of [] = []
+first_of (part ∷ parts) = part
+
+-- the first line of a text, its fields, and the lines behind it
+abbrev pub first_line : List ℕ → List ℕ
+first_line text = first_of (lines_of text)
+
+abbrev pub first_fields : List ℕ → List (List ℕ)
+first_fields text = slice_split (λ b. b == 32) (first_line text)
+
+abbrev pub later_lines : List ℕ → List (List ℕ)
+later_lines text = drop 1 (lines_of text)
+
+-- a space, or a line feed
+abbrev pub ends_field : ℕ → Bool
+ends_field octet = (octet == 32) || (octet == 10)
+
+-- the first field of a text, and what ends it
+abbrev pub IsFirstField : (text field : List ℕ) → FieldEnd → Type 0
+IsFirstField text field (ends.Space behind) =
+    (first_fields text ≡ field ∷ first_fields behind.now)
+    × (later_lines text ≡ later_lines behind.now)
+IsFirstField text field (ends.LineEnd rest) =
+    (first_fields text ≡ field ∷ [])
+    × (later_lines text ≡ parts_after 10 (option_copied rest))
+
+-- the event that is spelled so, if its octets are in hexadecimal
+abbrev pub spelled_event : Spelled → Option Event
+spelled_event (spellings.Line now digits) = option_map (line now) (octets_of digits.now)
+spelled_event (spellings.Open now) = Some (opening now)
+spelled_event (spellings.Bytes now digits) = option_map (received now) (octets_of digits.now)
+spelled_event (spellings.Cut now) = Some (cut now)
+spelled_event (spellings.Tick now) = Some (tick now)
+spelled_event (spellings.Wall now number) = Some (wall now number)
+
+abbrev pub spelled_by : Option Spelled → Option Event
+spelled_by None = None
+spelled_by (Some event) = spelled_event event
+
+-- the event of the first line of a text, if it has one, and the lines behind it
+abbrev pub IsEventAt : List ℕ → Option (Spelled × Option (Bor (List ℕ))) → Type 0
+IsEventAt text None = event_in (first_line text) ≡ None
+IsEventAt text (Some found) =
+    (event_in (first_line text) ≡ spelled_event found.0)
+    × (later_lines text ≡ parts_after 10 (option_copied found.1))
+
+-- what the first line of a text is, and the lines behind it
+abbrev pub IsFirstLine : List ℕ → FirstLine → Type 0
+IsFirstLine text (firsts.Skipped rest) =
+    (is_skipped (first_line text) ≡ true)
+    × (later_lines text ≡ parts_after 10 (option_copied rest))
+IsFirstLine text (firsts.Event event rest) =
+    (is_skipped (first_line text) ≡ false) × (event_in (first_line text) ≡ spelled_event event)
+    × (later_lines text ≡ parts_after 10 (option_copied rest))
+IsFirstLine text firsts.Wrong =
+    (is_skipped (first_line text) ≡ false) × (event_in (first_line text) ≡ None)
