@@ -21,7 +21,6 @@ use Rattle.gateway.specs.Log.{Log}
 use Rattle.gateway.specs.Streams.{spelled, IsRefused}
 use Rattle.gateway.specs.Reports.{Setup}
 use Rattle.gateway.specs.Serial.{Serial, has_place}
-use Rattle.gateway.specs.Centre.{Centre}
 use Rattle.gateway.specs.Walls.{wall_of, wall_on}
 use Rattle.gateway.specs.State.{State, wall_now, with_centre, with_octets, disconnected, received, framed}
 use Rattle.gateway.specs.Works.{has_lacked_place}

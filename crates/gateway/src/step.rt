@@ -88,6 +88,9 @@ impl Gateway {
         ensures puts { Puts P.log P.script P.failed port.old port.new (faults_unless result) }
     {
         calls_come_to_an_end();
+        if self.is_confirmed() {
+            return true;
+        }
         if !self.send_confirmation(port) {
             return false;
         }

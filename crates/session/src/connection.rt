@@ -1,10 +1,11 @@
 //! The session of one connection.
 
-ghost use Rattle.std.specs.Prelude.{◌≡◌, ◌+◌, ◌-◌, ◌^◌, ◌<◌, ◌≤◌, if◌then◌else◌, true, false, Some, None, IfOk, IfSome, length, take, option_map};
+ghost use Rattle.std.specs.Prelude.{◌≡◌, ◌+◌, ◌-◌, ◌^◌, ◌<◌, ◌≤◌, if◌then◌else◌, true, false, Some, None, IfOk, IfSome, length, take, option_map, IsTrue, ◌↔◌};
 ghost use Rattle.apci.specs.Borrowed.{owned};
 ghost use Rattle.apci.specs.Short.{apdu_of};
 ghost use Rattle.apci.specs.Spelling.{Fits};
 ghost use Rattle.session.specs.Session.{from_queue};
+ghost use Rattle.session.specs.Ends.{IsConfirmed};
 
 use crate::kinds::{Close, Kind, Taken, Transfer, Unacknowledged};
 use apci::{Apdu, ApduRef, Short, Uf};
@@ -337,6 +338,19 @@ impl Session {
         Short::S {
             nr: self.next_received,
         }
+    }
+
+    /// Whether no confirmation is due, so that `confirm` answers None.
+    pub fn is_confirmed(&self) -> bool
+        ensures { IsTrue result ↔ IsConfirmed self.now }
+    {
+        if !self.is_open() {
+            return true;
+        }
+        if self.is_stopping() && (self.unconfirmed > 0 || self.unacknowledged.is_empty()) {
+            return false;
+        }
+        self.reply.is_none()
     }
 
     /// The next confirmation that is due, if any. A STOPDT act has an S frame first, where received

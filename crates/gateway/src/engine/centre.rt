@@ -7,6 +7,7 @@ ghost use Rattle.apci.specs.Borrowed.{owned};
 ghost use Rattle.apci.specs.Short.{apdu_of};
 ghost use Rattle.session.specs.Session.{confirmed, pulled, may_send, is_open, is_transferring, outcome_of};
 ghost use Rattle.session.specs.Session.{timed_out as answers_late};
+ghost use Rattle.session.specs.Ends.{IsConfirmed};
 ghost use Rattle.events.specs.Pieces.{AreAsdus};
 ghost use Rattle.events.specs.Queue.{free_places, octets_of};
 ghost use Rattle.gateway.specs.Agrees.{IsSpent};
@@ -308,6 +309,13 @@ impl Gateway {
         ensures fits { IfSome result (λ frame. Fits (apdu_of frame)) }
     {
         self.centre.confirm()
+    }
+
+    /// Whether no confirmation is due.
+    pub(crate) fn is_confirmed(&self) -> bool
+        ensures { IsTrue result ↔ IsConfirmed self.now.centre.session }
+    {
+        self.centre.session.is_confirmed()
     }
 
     /// The next S frame or TESTFR act that is due.

@@ -1,4 +1,4 @@
-use Rattle.std.proofs.Common.{◌≡◌, ◌++◌, ◌+◌, Some, None, [], ◌∷◌, sym, ap, subst, refl, List, ℕ, length, take, arith, ◌∙◌}
+use Rattle.std.proofs.Common.{◌≡◌, ◌++◌, Some, None, [], ◌∷◌, sym, ap, subst, refl, List, ℕ, take, arith, ◌∙◌}
 use Rattle.std.proofs.lemmas.List.{append-nil, take_all}
 use Rattle.apci.specs.declared.apdu.Apdu.TheVariants.{I}
 use Rattle.apci.specs.Assembly.{Assembly}
