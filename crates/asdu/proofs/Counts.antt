@@ -1,18 +1,12 @@
 -- How many pieces an ASDU of a line needs.
-use Rattle.std.proofs.Common.{◌≡◌, ℕ, zero, suc, ◌+◌, ◌*◌, ◌<◌, ◌≤◌, Bool, true, false, arith}
+use Rattle.std.proofs.Common.{◌≡◌, ℕ, ◌+◌, ◌*◌, ◌<◌, ◌≤◌, Bool, true, false, arith}
 use Rattle.std.proofs.Math.Nat.{mul-le-mul_left, lt_of_mul-lt-mul_right}
 use Rattle.std.specs.Int.{div_ceil}
 use Rattle.std.proofs.lemmas.Grind.{div_ceil_times}
 use Rattle.elements.specs.declared.types.TypeId.{TypeId}
 use Rattle.elements.specs.declared.types.TypeId.TheVariants.{MSpNa1, MDpNa1, MStNa1, MBoNa1, MMeNa1, MMeNb1, MMeNc1, MItNa1, MSpTb1, MDpTb1, MStTb1, MBoTb1, MMeTd1, MMeTe1, MMeTf1, MItTb1, MEiNa1, CScNa1, CDcNa1, CRcNa1, CSeNa1, CSeNb1, CIcNa1, CScTa1, CDcTa1, CRcTa1, CSeTa1, CSeTb1}
-use Rattle.std.proofs.Common.{length}
-use Rattle.asdu.specs.declared.unit.Asdu.{Asdu}
-use Rattle.asdu.specs.Sizes.{ioa_len, header_len}
-use Rattle.asdu.proofs.Accepted.{IsWhole-accepted}
-use Rattle.asdu.proofs.Joined.{header_len-low, ioa_len-low}
 use Rattle.asdu.specs.Asdu.{content_len}
 use Rattle.asdu.specs.Refusals.{body_len}
-use Rattle.asdu.specs.Fields.{number_at, is_sequence}
 use Rattle.asdu.specs.Translation.{piece_size}
 
 located-three : (t : TypeId) (n : ℕ) → n * (1 + content_len t) ≤ 249 → n ≤ 3 * piece_size t false
@@ -75,6 +69,42 @@ counted-three CRcTa1 n most h = omega arith
 counted-three CSeTa1 n most h = omega arith
 counted-three CSeTb1 n most h = omega arith
 
+content_len-high : (t : TypeId) → content_len t ≤ 12
+content_len-high MSpNa1 = omega arith
+content_len-high MDpNa1 = omega arith
+content_len-high MStNa1 = omega arith
+content_len-high MBoNa1 = omega arith
+content_len-high MMeNa1 = omega arith
+content_len-high MMeNb1 = omega arith
+content_len-high MMeNc1 = omega arith
+content_len-high MItNa1 = omega arith
+content_len-high MSpTb1 = omega arith
+content_len-high MDpTb1 = omega arith
+content_len-high MStTb1 = omega arith
+content_len-high MBoTb1 = omega arith
+content_len-high MMeTd1 = omega arith
+content_len-high MMeTe1 = omega arith
+content_len-high MMeTf1 = omega arith
+content_len-high MItTb1 = omega arith
+content_len-high MEiNa1 = omega arith
+content_len-high CScNa1 = omega arith
+content_len-high CDcNa1 = omega arith
+content_len-high CRcNa1 = omega arith
+content_len-high CSeNa1 = omega arith
+content_len-high CSeNb1 = omega arith
+content_len-high CIcNa1 = omega arith
+content_len-high CScTa1 = omega arith
+content_len-high CDcTa1 = omega arith
+content_len-high CRcTa1 = omega arith
+content_len-high CSeTa1 = omega arith
+content_len-high CSeTb1 = omega arith
+
+-- a piece has an object
+pub piece_size-some : (t : TypeId) (b : Bool) → 1 ≤ piece_size t b
+piece_size-some t false = let high = content_len-high t in let three = located-three t 1 (omega arith) in omega arith
+piece_size-some t true =
+    let high = content_len-high t in let three = counted-three t 1 (omega arith) (omega arith) in omega arith
+
 -- three pieces are enough
 pub three_pieces : (t : TypeId) (w : ℕ) (b : Bool) (n header : ℕ) → 4 ≤ header → 1 ≤ w → n ≤ 127
     → header + body_len t w b n ≤ 253 → n ≤ 3 * piece_size t b
@@ -83,30 +113,6 @@ three_pieces t w false n header h w1 most fits =
     let more : n * (1 + content_len t) ≤ n * (w + content_len t) = mul-le-mul_left n wider in
     located-three t n (omega arith)
 three_pieces t w true n header h w1 most fits = counted-three t n most (omega arith)
-
--- where all pieces so far are full and objects are left, there is room for one more
-pub room_for_one : (pieces most left n : ℕ) → 1 ≤ left → pieces * most + left ≡ n → n ≤ 3 * most → pieces < 3
-room_for_one zero most left n some e h = omega arith
-room_for_one (suc zero) most left n some e h = omega arith
-room_for_one (suc (suc zero)) most left n some e h = omega arith
-room_for_one (suc (suc (suc k))) most left n some e h = absurd (omega arith)
-
--- one more piece, which is full
-pub count-step : (k l most left m others n : ℕ) → k * most + left ≡ n → others + m ≡ left → m ≡ most → l ≡ k + 1
-    → l * most + others ≡ n
-count-step k l most left m others n before split full longer = rw longer (omega arith)
-
--- there is room for a piece while objects are left
-pub room : (a : Asdu) (most pieces left : ℕ) → length a.octets.now ≤ 253
-    → most ≡ piece_size a.kind (is_sequence a.octets.now) → 1 ≤ left → pieces * most + left ≡ number_at a.octets.now
-    → pieces < 3
-room a most pieces left short e some count =
-    let xs = a.octets.now in
-    let whole = (IsWhole-accepted a.sizes a.kind xs a.named a.well_formed).whole in
-    let enough : number_at xs ≤ 3 * piece_size a.kind (is_sequence xs) =
-    three_pieces a.kind (ioa_len a.sizes.ioa) (is_sequence xs) (number_at xs) (header_len a.sizes)
-    (header_len-low a.sizes) (ioa_len-low a.sizes.ioa) (omega arith) (omega (arith, whole)) in
-    room_for_one pieces most left (number_at xs) some count (rw e enough)
 
 -- a number of pieces that is enough, and not too large
 pub div_ceil-is : (k m n : ℕ) → 0 < m → n ≤ k * m → k * m < n + m → k ≡ div_ceil n m
@@ -117,13 +123,3 @@ div_ceil-is k m n some low high =
     let a : k < div_ceil n m + 1 = lt_of_mul-lt-mul_right m up in
     let b : div_ceil n m < k + 1 = lt_of_mul-lt-mul_right m down in
     omega arith
-
--- pieces so far and what is left hold all objects
-pub enough-step : (k l most left m others n : ℕ) → k * most + left ≡ n → others + m ≡ left → m ≤ most → l ≡ k + 1
-    → n ≤ l * most + others
-enough-step k l most left m others n before split small longer = rw longer (omega arith)
-
--- and no piece too many is there
-pub tight-step : (k l most left m others n : ℕ) → k * most + left ≡ n → others + m ≡ left → 1 ≤ m → l ≡ k + 1
-    → l * most + others < n + most
-tight-step k l most left m others n before split some longer = rw longer (omega arith)

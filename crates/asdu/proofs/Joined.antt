@@ -1,8 +1,6 @@
 -- Pieces joined are the source.
-use Rattle.std.proofs.Common.{◌≡◌, ℕ, ◌≤◌, Bool, true, false, List, [], ◌∷◌, ◌++◌, length, take, drop, map, refl, sym, ap, ◌∙◌, arith, append_assoc}
+use Rattle.std.proofs.Common.{◌≡◌, ℕ, ◌≤◌, Bool, true, false, List, [], ◌∷◌, ◌++◌, length, map, refl, sym, ap, ◌∙◌, arith}
 use Rattle.std.specs.List.{flat_map, AllByRecursion}
-use Rattle.std.proofs.lemmas.List.{append-nil, map-append, take-append-drop}
-use Rattle.std.proofs.lemmas.Grind.{flat_map-append}
 use Rattle.asdu.specs.Sizes.{tcp, cause_len, ca_len, ioa_len, header_len}
 use Rattle.asdu.specs.declared.sizes.CauseSize.{CauseSize}
 use Rattle.asdu.specs.declared.sizes.CauseSize.TheVariants as causes
@@ -11,43 +9,13 @@ use Rattle.asdu.specs.declared.sizes.CaSize.TheVariants as cas
 use Rattle.asdu.specs.declared.sizes.IoaSize.{IoaSize}
 use Rattle.asdu.specs.declared.sizes.IoaSize.TheVariants as ioas
 use Rattle.asdu.specs.declared.sizes.Sizes.{Sizes}
-use Rattle.asdu.specs.Asdu.{Info, AsduValue, spelled}
-use Rattle.asdu.specs.InformationObjects.{InformationObject, object_in, objects_of, value_objects, monitor_objects_of, only_if, is_passed_on}
+use Rattle.asdu.specs.Asdu.{AsduValue, spelled}
+use Rattle.asdu.specs.InformationObjects.{InformationObject, objects_of, value_objects, monitor_objects_of, only_if, is_passed_on}
 use Rattle.asdu.proofs.Related.{objects_of-IsAsdu, monitor_objects_of-IsAsdu, length-value_objects}
 use Rattle.asdu.specs.Writing.{with_infos}
 use Rattle.asdu.proofs.Spelling.{body_len-low}
 use Rattle.asdu.proofs.Pieces.{length-spelled}
 use Rattle.asdu.specs.Translation.{AllButLast, IsPiece}
-
--- one more piece
-pub joined-step : {X : Type 0} (f : X → List InformationObject) (v : AsduValue) (ps : List X) (p : X) (m : ℕ)
-    (is js ks : List Info) (all : List InformationObject) → f p ≡ value_objects (with_infos v js) → js ≡ take m is
-    → ks ≡ drop m is → flat_map f ps ++ value_objects (with_infos v is) ≡ all
-    → flat_map f (ps ++ p ∷ []) ++ value_objects (with_infos v ks) ≡ all
-joined-step f v ps p m is js ks all e1 e2 e3 e4 =
-    let tag : Info → InformationObject = object_in v in
-    let more : flat_map f (ps ++ p ∷ []) ≡ flat_map f ps ++ map tag js =
-    flat_map-append f ps (p ∷ []) ∙ ap (λ os. flat_map f ps ++ os) (append-nil (f p) ∙ e1) in
-    let whole : map tag js ++ map tag ks ≡ map tag is =
-    ap (λ zs. map tag zs ++ map tag ks) e2
-    ∙ ap (λ zs. map tag (take m is) ++ map tag zs) e3
-    ∙ sym (map-append tag (take m is) (drop m is))
-    ∙ ap (map tag) (take-append-drop m is) in
-    ap (λ os. os ++ map tag ks) more
-    ∙ append_assoc (flat_map f ps) (map tag js) (map tag ks)
-    ∙ ap (λ os. flat_map f ps ++ os) whole
-    ∙ e4
-
-pub All-push : {X : Type 0} (P : X → Type 0) (xs : List X) (x : X) → AllByRecursion P xs → P x
-    → AllByRecursion P (xs ++ x ∷ [])
-All-push P [] x h here = (here, tt)
-All-push P (y ∷ ys) x h here = (h.0, All-push P ys x h.1 here)
-
-pub AllButLast-push : {X : Type 0} (P : X → Type 0) (xs : List X) (x : X) → AllByRecursion P xs
-    → AllButLast P (xs ++ x ∷ [])
-AllButLast-push P [] x h = tt
-AllButLast-push P (y ∷ []) x h = (h.0, tt)
-AllButLast-push P (y ∷ z ∷ zs) x h = (h.0, AllButLast-push P (z ∷ zs) x h.1)
 
 cause_len-low : (c : CauseSize) → 1 ≤ cause_len c
 cause_len-low causes.One = omega arith
@@ -113,8 +81,14 @@ lengths octets v (p ∷ ps) h =
     let low = body_len-low u.kind 3 u.sequence (length u.infos) spells.value.some in
     ((omega arith, h.0.fits), lengths octets v ps h.1)
 
--- no object is left
-pub joined-end : (v : AsduValue) (is : List Info) (os all : List InformationObject) → length is ≡ 0
-    → os ++ value_objects (with_infos v is) ≡ all → os ≡ all
-joined-end v [] os all none h = sym (append-nil os) ∙ h
-joined-end v (i ∷ is) os all none h = absurd (omega arith)
+-- ---- Of a list's octets
+
+module _ {X Y : Type 0} (f : X → Y) where
+  pub All-of_map : (P : Y → Type 0) (xs : List X) → AllByRecursion P (map f xs) → AllByRecursion (λ x. P (f x)) xs
+  All-of_map P [] h = tt
+  All-of_map P (x ∷ xs) h = (h.0, All-of_map P xs h.1)
+
+  pub AllButLast-of_map : (P : Y → Type 0) (xs : List X) → AllButLast P (map f xs) → AllButLast (λ x. P (f x)) xs
+  AllButLast-of_map P [] h = tt
+  AllButLast-of_map P (x ∷ []) h = tt
+  AllButLast-of_map P (x ∷ y ∷ xs) h = (h.0, AllButLast-of_map P (y ∷ xs) h.1)

@@ -1,13 +1,16 @@
 pub mod Accepted
 pub mod Answers
+pub mod Chunks
 pub mod Counts
 pub mod Joined
 pub mod ObjectChecks
 pub mod ObjectLists
 pub mod Pieces
 pub mod Related
+pub mod Reports
 pub mod Spelling
 pub mod Splits
 pub mod Steps
 pub mod Tags
+pub mod Texts
 pub mod WorkedExamples

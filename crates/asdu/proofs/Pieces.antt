@@ -63,7 +63,7 @@ IsInfo-wider t ioa i h = record {
       h.tag;
 }
 
-AreInfos-wider : (t : TypeId) (ioa : IoaSize) (is : List Info) → AllByRecursion (IsInfo t (ioa_len ioa)) is
+pub AreInfos-wider : (t : TypeId) (ioa : IoaSize) (is : List Info) → AllByRecursion (IsInfo t (ioa_len ioa)) is
     → AllByRecursion (IsInfo t 3) is
 AreInfos-wider t ioa [] h = tt
 AreInfos-wider t ioa (i ∷ is) h = (IsInfo-wider t ioa i h.0, AreInfos-wider t ioa is h.1)

@@ -2,13 +2,14 @@
 //! its contract.
 ghost use Rattle.std.specs.Prelude.{◌≡◌, ◌≤◌, ℕ, Bool, List, [], length, true, false};
 ghost use Rattle.std.specs.Int.{div_ceil};
-ghost use Rattle.std.specs.List.{AllByRecursion};
+ghost use Rattle.std.specs.List.{AllByRecursion, flat_map};
 ghost use Rattle.elements.specs.Octets.{AreOctets};
 ghost use Rattle.asdu.specs.declared.sizes.Sizes.{Sizes};
 ghost use Rattle.asdu.specs.Asdu.{AsduValue, IsAsdu, IsNoAsdu};
 ghost use Rattle.asdu.specs.Refusals.{is_read};
 ghost use Rattle.asdu.specs.InformationObjects.{value_objects, objects_of, monitor_objects_of, is_passed_on, only_if};
-ghost use Rattle.asdu.specs.Translation.{parts, piece_size};
+ghost use Rattle.asdu.specs.Sizes.{tcp};
+ghost use Rattle.asdu.specs.Translation.{parts, piece_size, report_pieces, AllButLast, IsLargest, IsPiece};
 ghost use Rattle.elements.specs.declared.types.TypeId.{TypeId};
 ghost use Rattle.asdu.specs.Examples.{IsWorkedSo, IsRefusedSo, PassedExamples, PartExamples, IsMost, TagsByType, octet_examples, refusal_examples};
 
@@ -50,6 +51,29 @@ pub fn worked_examples_hold()
 /// a number of seven bits.
 pub fn pieces_are_as_large_as_can_be()
     ensures { (t : TypeId) (sequence : Bool) → IsMost t sequence }
+{}
+
+/// The pieces of a report have its objects, each once and in their order, and so those that are
+/// passed on. Each has the report's header and some of its objects, and all but the last are as
+/// large as can be. Of a report that a line can carry there are at most three.
+pub fn pieces_carry_the_report()
+    ensures joined { (s : Sizes) (v : AsduValue) (xs : List ℕ) → IsAsdu s v xs →
+        flat_map (λ p. objects_of tcp p) (report_pieces v) ≡ objects_of s xs }
+    ensures monitored { (s : Sizes) (v : AsduValue) (xs : List ℕ) → IsAsdu s v xs →
+        flat_map (λ p. monitor_objects_of tcp p) (report_pieces v) ≡ monitor_objects_of s xs }
+    ensures some_monitored { (s : Sizes) (v : AsduValue) (xs : List ℕ) → IsAsdu s v xs →
+        is_passed_on v.kind v.cause ≡ true →
+        AllByRecursion (λ p. 1 ≤ length (monitor_objects_of tcp p)) (report_pieces v) }
+    ensures pieces { (s : Sizes) (v : AsduValue) (xs : List ℕ) → IsAsdu s v xs →
+        AllByRecursion (λ p. IsPiece v p) (report_pieces v) }
+    ensures lengths { (s : Sizes) (v : AsduValue) (xs : List ℕ) → IsAsdu s v xs →
+        AllByRecursion (λ p. (9 ≤ length p) × (length p ≤ 249)) (report_pieces v) }
+    ensures full { (s : Sizes) (v : AsduValue) (xs : List ℕ) → IsAsdu s v xs →
+        AllButLast (λ p. IsLargest v p) (report_pieces v) }
+    ensures number { (s : Sizes) (v : AsduValue) (xs : List ℕ) → IsAsdu s v xs →
+        length (report_pieces v) ≡ parts s xs }
+    ensures few { (s : Sizes) (v : AsduValue) (xs : List ℕ) → IsAsdu s v xs →
+        length xs ≤ 253 → length (report_pieces v) ≤ 3 }
 {}
 
 /// Commands with a time tag are types 58 to 62, each 13 above the same command without one (IEC

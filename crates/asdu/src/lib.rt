@@ -3,14 +3,16 @@
 //! sizes.
 //!
 //! `read` answers an `Asdu`, borrowed from its octets; `Asdu::objects` goes over its objects,
-//! borrowed too; `translate` cuts a report of a serial line into ASDUs of a connection, and `write`
-//! spells an ASDU in other sizes. Nothing here takes memory. The crate knows no frames and no
-//! links, and judges neither causes, values nor time tags.
+//! borrowed too; `Translation` writes a report of a serial line as ASDUs of a connection, one after
+//! another, and `translate` answers them all; `write` spells an ASDU in other sizes. Nothing here
+//! takes memory. The crate knows no frames and no links, and judges neither causes, values nor time
+//! tags.
 //!
 //! What its public calls carry: `read` accepts exactly the octets that are an ASDU (`IsAsdu`), and
-//! else names the first fault. The objects of the pieces of `translate`, joined, are the objects of
-//! the source, in all their parts, and so are those that are passed on; there are at most three
-//! pieces, as many as `parts` says. What `write` makes is the same ASDU in the other sizes.
+//! else names the first fault. The pieces of a report are `report_pieces`: their objects, joined, are
+//! the objects of the source, in all their parts, and so are those that are passed on; there are at
+//! most three pieces, as many as `parts` says (`pieces_carry_the_report`). What `write` makes is the
+//! same ASDU in the other sizes.
 #![tactic(auto)]
 
 mod examples;
@@ -28,12 +30,12 @@ pub use examples::resized_asdus_by_example;
 pub use header::Head;
 pub use laws::{
     objects_are_those_of_the_asdu, one_asdu_one_spelling, pieces_are_as_large_as_can_be,
-    tagged_types_are_thirteen_above, worked_examples_hold,
+    pieces_carry_the_report, tagged_types_are_thirteen_above, worked_examples_hold,
 };
 pub use objects::{Object, Objects};
 pub use reading::{head, read};
 pub use sizes::{CaSize, CauseSize, IoaSize, Sizes};
 pub use tagging::{is_plain_command, is_tagged_command, retag, retagged_commands_come_back, untag};
-pub use translation::{Piece, Pieces, translate};
+pub use translation::{Piece, Pieces, Translation, translate};
 pub use unit::{Asdu, Refused};
 pub use writing::{can_write, write};

@@ -101,6 +101,17 @@ impl<'a> Objects<'a> {
         (first, others)
     }
 
+    /// The octets of all that are left.
+    pub(crate) fn text(self) -> &'a [u8]
+        ensures { result.now ≡ take
+            (rest_len self.entry.kind (ioa_len self.entry.ioa) self.entry.next_address
+            self.entry.left)
+            self.entry.octets.now }
+    {
+        let (_, octets) = self.place_of(self.left);
+        &self.octets[..octets]
+    }
+
     /// The address to count from after so many objects, and the place of what follows them.
     fn place_of(self, number: usize) -> (Option<u32>, usize)
         requires { number ≤ self.left }

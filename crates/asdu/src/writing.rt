@@ -1,5 +1,5 @@
 //! Writing ASDUs.
-ghost use Rattle.std.specs.Prelude.{◌≡◌, ◌+◌, ◌<◌, ◌≤◌, ◌^◌, ◌∷◌, [], ◌++◌, length, is_some, true};
+ghost use Rattle.std.specs.Prelude.{◌≡◌, ◌+◌, ◌<◌, ◌≤◌, ◌^◌, ◌∷◌, [], ◌++◌, length, is_some, true, false, None};
 ghost use Rattle.std.specs.List.{AllByRecursion};
 ghost use Rattle.byteorder.specs.Endian.{little_bytes};
 ghost use Rattle.arrayvec.specs.ArrayVec.{array_vec_len};
@@ -8,11 +8,12 @@ ghost use Rattle.asdu.specs.Asdu.{vsq, IsInfo, IsAsdu, spelled, originator_octet
 ghost use Rattle.asdu.specs.Refusals.{body_len};
 ghost use Rattle.asdu.specs.Fields.{is_sequence};
 ghost use Rattle.asdu.specs.Reading.{value_of};
-ghost use Rattle.asdu.specs.Objects.{infos_left, info_of};
-ghost use Rattle.asdu.specs.Writing.{CanBeWritten, with_infos, carried, header_of, lead, lead_len, spelled_info};
+ghost use Rattle.asdu.specs.Objects.{infos_left};
+ghost use Rattle.asdu.specs.Writing.{CanBeWritten, with_infos, carried, header_of, lead, lead_len, spelled_infos};
 
+use crate::objects::content_octets;
 use crate::reading::body_octets;
-use crate::{Asdu, CaSize, CauseSize, IoaSize, Object, Objects, Sizes};
+use crate::{Asdu, CaSize, CauseSize, IoaSize, Objects, Sizes};
 use arrayvec::ArrayVec;
 
 /// The same ASDU in other sizes, without its originator where the cause has one octet; in its own
@@ -79,16 +80,35 @@ pub(crate) fn spell<const N: usize>(sizes: Sizes, asdu: &Asdu, chunk: Objects) -
         (is_sequence asdu.now.octets.now) chunk.left ≤ N }
     ensures spells { IsAsdu sizes
         (with_infos (carried sizes (value_of asdu.now)) (infos_left chunk.entry)) result.items }
-    ensures fits { array_vec_len result ≤ N }
 {
     let mut out = ArrayVec::new();
-    append_header(&mut out, sizes, asdu, chunk.left);
-    append_lead(&mut out, sizes.ioa, chunk.next_address);
-    let sequence = chunk.next_address.is_some();
-    for object in chunk {
-        append_object(&mut out, sizes.ioa, object, sequence);
-    }
+    spell_into(&mut out, sizes, asdu, chunk);
     out
+}
+
+/// Writes the ASDU with these of its objects.
+pub(crate) fn spell_into<const N: usize>(
+    out: &mut ArrayVec<u8, N>,
+    sizes: Sizes,
+    asdu: &Asdu,
+    chunk: Objects,
+)
+    requires empty { out.old.items ≡ [] }
+    requires kind { chunk.kind ≡ asdu.now.kind }
+    requires mode { is_some chunk.next_address ≡ is_sequence asdu.now.octets.now }
+    requires some { 1 ≤ chunk.left }
+    requires most { chunk.left ≤ 127 }
+    requires ca { (value_of asdu.now).ca < 256 ^ ca_len sizes.ca }
+    requires infos { AllByRecursion (IsInfo asdu.now.kind (ioa_len sizes.ioa)) (infos_left chunk) }
+    requires room { header_len sizes
+        + body_len asdu.now.kind (ioa_len sizes.ioa)
+        (is_sequence asdu.now.octets.now) chunk.left ≤ N }
+    ensures { IsAsdu sizes
+        (with_infos (carried sizes (value_of asdu.now)) (infos_left chunk.entry)) out.new.items }
+{
+    append_header(out, sizes, asdu, chunk.left);
+    append_lead(out, sizes.ioa, chunk.next_address);
+    append_objects(out, sizes.ioa, chunk);
 }
 
 /// Appends type, VSQ, cause, originator and common address.
@@ -150,24 +170,54 @@ fn append_lead<const N: usize>(out: &mut ArrayVec<u8, N>, size: IoaSize, address
     }
 }
 
-/// Appends an object, without its address in a sequence.
-fn append_object<const N: usize>(
-    out: &mut ArrayVec<u8, N>,
-    size: IoaSize,
-    object: Object,
-    sequence: bool,
-)
+/// Appends objects, in a sequence without their addresses.
+fn append_objects<const N: usize>(out: &mut ArrayVec<u8, N>, size: IoaSize, objects: Objects)
     requires { array_vec_len out.old
-        + length (spelled_info (ioa_len size) sequence (info_of object)) ≤ N }
-    ensures { out.new.items
-        ≡ out.old.items ++ spelled_info (ioa_len size) sequence (info_of object.entry) }
+        + length (spelled_infos (ioa_len size) (is_some objects.next_address) (infos_left objects))
+        ≤ N }
+    ensures { out.new.items ≡ out.old.items
+        ++ spelled_infos (ioa_len size) (is_some objects.entry.next_address)
+        (infos_left objects.entry) }
 {
-    if !sequence {
-        append_address(out, size, object.address);
+    if objects.next_address.is_some() {
+        append(out, objects.text());
+    } else {
+        append_located(out, size, objects);
     }
-    append(out, object.element);
-    if let Some(tag) = object.tag {
-        append(out, tag);
+}
+
+/// Appends objects with their addresses. Where these keep their size the octets stay as they are.
+fn append_located<const N: usize>(out: &mut ArrayVec<u8, N>, size: IoaSize, objects: Objects)
+    requires mode { objects.next_address ≡ None }
+    requires room { array_vec_len out.old
+        + length (spelled_infos (ioa_len size) false (infos_left objects)) ≤ N }
+    ensures { out.new.items ≡ out.old.items
+        ++ spelled_infos (ioa_len size) false (infos_left objects.entry) }
+{
+    if objects.ioa == size {
+        append(out, objects.text());
+    } else {
+        append_resized(out, size, objects);
+    }
+}
+
+/// Appends objects whose addresses change their size.
+fn append_resized<const N: usize>(out: &mut ArrayVec<u8, N>, size: IoaSize, objects: Objects)
+    requires mode { objects.next_address ≡ None }
+    requires room { array_vec_len out.old
+        + length (spelled_infos (ioa_len size) false (infos_left objects)) ≤ N }
+    ensures { out.new.items ≡ out.old.items
+        ++ spelled_infos (ioa_len size) false (infos_left objects.entry) }
+{
+    let address = objects.ioa.octets();
+    let both = address + content_octets(objects.kind);
+    let mut octets = objects.octets;
+    let mut left = objects.left;
+    while left > 0 {
+        append_address(out, size, objects.ioa.read(octets));
+        append(out, &octets[address..both]);
+        octets = &octets[both..];
+        left -= 1;
     }
 }
 

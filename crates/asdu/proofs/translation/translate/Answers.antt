@@ -1,179 +1,136 @@
-use Rattle.std.proofs.Common.{◌≡◌, ℕ, ◌≤◌, List, length, subst, sym, ap, ◌∙◌, arith}
-use Rattle.std.specs.List.{AllByRecursion}
-use Rattle.std.proofs.Common.{◌++◌}
-use Rattle.std.specs.List.{flat_map}
+use Rattle.std.proofs.Common.{◌≡◌, ℕ, ◌≤◌, Bool, true, List, [], ◌∷◌, ◌++◌, length, map, sym, ap, subst, ◌∙◌, arith, append_assoc, length-append}
+use Rattle.std.specs.Prelude.{◌==◌}
+use Rattle.std.specs.List.{flat_map, AllByRecursion}
+use Rattle.std.proofs.lemmas.Bool.{eqb-true}
+use Rattle.std.proofs.lemmas.List.{append-nil, length-map, map-append, nil_from_length}
+use Rattle.std.proofs.lemmas.List.Folds.{flat_map-map}
 use Rattle.arrayvec.specs.ArrayVec.{ArrayVec as Stored}
-use Rattle.asdu.specs.Sizes.{tcp, ioa_len}
-use Rattle.asdu.specs.Asdu.{IsInfo}
-use Rattle.asdu.specs.InformationObjects.{objects_of, value_objects, only_if, is_passed_on}
-use Rattle.asdu.specs.Fields.{number_at, is_sequence, ca_at}
+use Rattle.asdu.specs.Sizes.{tcp}
+use Rattle.asdu.specs.Asdu.{AsduValue}
+use Rattle.asdu.specs.InformationObjects.{objects_of, monitor_objects_of}
 use Rattle.asdu.specs.Reading.{value_of}
-use Rattle.asdu.specs.Objects.{infos_left}
-use Rattle.asdu.specs.Translation.{AllButLast, IsLargest, IsPiece, piece_size}
-use Rattle.asdu.specs.Writing.{with_infos}
-use Rattle.asdu.proofs.Counts.{room, count-step, enough-step, tight-step, div_ceil-is}
-use Rattle.asdu.proofs.Joined.{joined-end, monitored-pieces, joined-step, some_monitored, lengths, All-push, AllButLast-push}
-use Rattle.asdu.proofs.Related.{objects_of-IsAsdu, number_at-IsAsdu, monitor_objects_of-IsAsdu, objects_of-value_of, parts-IsAsdu}
-use Rattle.std.specs.Int.{div_ceil}
-use Rattle.elements.specs.declared.types.TypeId.{TypeId}
+use Rattle.asdu.specs.Translation.{AllButLast, IsLargest, IsPiece, report_pieces}
 use Rattle.asdu.proofs.Accepted.{IsAsdu-value_of}
-use Rattle.asdu.proofs.Pieces.{AreInfos-rest_at, body_len-piece, ca-two}
-use Rattle.asdu.proofs.Steps.{length-rest_at}
+use Rattle.asdu.proofs.Joined.{All-of_map, AllButLast-of_map}
+use Rattle.asdu.proofs.Reports.{pieces_joined, pieces_monitored, pieces_some_monitored, pieces_are, pieces_lengths, pieces_full, pieces_number, pieces_few}
 use Rattle.asdu.proofs.translation.translate.Goals as goal
+
+-- nothing is left to be written
+written : (v : AsduValue) (ps : List (Stored ℕ)) (rest : List (List ℕ)) (b : Bool)
+    → map (λ p. p.items) ps ++ rest ≡ report_pieces v → b ≡ (length rest == 0) → b ≡ true
+    → map (λ p. p.items) ps ≡ report_pieces v
+written v ps rest b all is over =
+    let none : rest ≡ [] = nil_from_length rest (eqb-true (length rest) 0 (sym is ∙ over)) in
+    sym (append-nil (map (λ p. p.items) ps)) ∙ ap (λ qs. map (λ p. p.items) ps ++ qs) (sym none) ∙ all
+
+pub loop-left-init : goal.loop-left-init
+loop-left-init c =
+    ap (λ (ps : List (Stored ℕ)). map (λ p. p.items) ps ++ c.new-left.result) c.new-pieces.ensures ∙ c.new-left.ensures
 
 pub push-requires : goal.push-requires
 push-requires c =
     let asdu = c.args.asdu.now in
-    let most = c.most_objects-most.ensures.value ∙ ap (piece_size asdu.kind) c.is_sequence.ensures in
-    let some : 1 ≤ c.loop-left.left.left = omega arith in (
-      omega arith,
-      room asdu c.most_objects-most.result
-          (length c.loop-left.pieces.items) c.loop-left.left.left c.requires most some
-          (c.loop-left.invariant.count some),
-    )
-
-pub spell-requires : goal.spell-requires
-spell-requires c =
-    let asdu = c.args.asdu.now in
-    let loop = c.loop-left.invariant in
-    let chunk = c.split_at.result.0 in
-    let source = (IsAsdu-value_of asdu asdu.are_octets).value in
-    let kind : chunk.kind ≡ asdu.kind = c.split_at.ensures.kinds.0 ∙ loop.kind in
-    let mode = c.split_at.ensures.modes.0 ∙ loop.mode in
-    let infos = AreInfos-rest_at chunk.kind chunk.ioa chunk.next_address chunk.left chunk.octets.now chunk.enough
-    chunk.in_range chunk.are_octets in
-    let P : TypeId → Type 0 = λ t. AllByRecursion (IsInfo t 3) (infos_left chunk) in
-    let most = c.most_objects-most.ensures.value ∙ ap (piece_size asdu.kind) c.is_sequence.ensures in
-    let few : chunk.left ≤ piece_size asdu.kind (is_sequence asdu.octets.now) = omega arith in
-    let short = body_len-piece asdu.kind (is_sequence asdu.octets.now) chunk.left few in (
-      omega arith,
-      (
-        kind,
-        (
-          mode,
-          (
-            omega arith,
-            (
-              omega arith,
-              (
-                ca-two asdu.sizes.ca (ca_at asdu.sizes asdu.octets.now) source.ca,
-                (
-                  subst P kind infos,
-                  omega arith,
-                ),
-              ),
-            ),
-          ),
-        ),
-      ),
-    )
+    let v = value_of asdu in
+    let pieces : List (Stored ℕ) = c.loop-left.pieces.items in
+    let few = pieces_few asdu.sizes v asdu.octets.now (IsAsdu-value_of asdu asdu.are_octets) c.requires in
+    let all = ap (λ (ps : List (List ℕ)). length ps) c.loop-left.invariant in
+    let sum = length-append (map (λ (p : Stored ℕ). p.items) pieces) c.loop-left.left in
+    let same = length-map pieces (λ (p : Stored ℕ). p.items) in
+    let more = ap (λ (ps : List (List ℕ)). length ps) c.write_next.ensures in
+    (omega arith, omega arith)
 
 pub loop-left-preserved : goal.loop-left-preserved
 loop-left-preserved c =
-    let asdu = c.args.asdu.now in
-    let v = value_of asdu in
-    let loop = c.loop-left.invariant in
-    let left = c.loop-left.left in
-    let pieces = c.loop-left.pieces.items in
-    let chunk = c.split_at.result.0 in
-    let others = c.split_at.result.1 in
-    let p = c.spell.result in
-    let some : 1 ≤ left.left = omega arith in
-    let most : c.most_objects-most.result ≡ piece_size asdu.kind (is_sequence asdu.octets.now) =
-    c.most_objects-most.ensures.value ∙ ap (piece_size asdu.kind) c.is_sequence.ensures in
-    let spells = c.spell.ensures.spells in
-    let count : length (infos_left chunk) ≡ chunk.left =
-    length-rest_at chunk.kind (ioa_len chunk.ioa) chunk.next_address chunk.left chunk.octets.now in
-    let number : number_at p.items ≡ length (infos_left chunk) =
-    number_at-IsAsdu tcp (with_infos v (infos_left chunk)) p.items spells in
-    let Pieces : List (Stored ℕ) → Type 0 = λ ps. AllByRecursion (λ q. IsPiece v q.items) ps in
-    let Full : List (Stored ℕ) → Type 0 = λ ps. AllByRecursion (λ q. IsLargest v q.items) ps in
-    let Last : List (Stored ℕ) → Type 0 = λ ps. AllButLast (λ q. IsLargest v q.items) ps in
-    let pushed = c.push.ensures.items in
-    let here : IsPiece v p.items = record {
-      infos = infos_left chunk;
-      spells = spells;
-      size = omega arith;
-      fits = c.spell.ensures.fits;
-    } in
-    let whole : 1 ≤ others.left → chunk.left ≡ c.most_objects-most.result = λ more. omega arith in
-    record {
-      kind = c.split_at.ensures.kinds.1 ∙ loop.kind;
-      mode = c.split_at.ensures.modes.1 ∙ loop.mode;
-      joined =
-          ap (λ ps. flat_map (λ q. objects_of tcp q.items) ps
-          ++ value_objects (with_infos v (infos_left others))) pushed
-          ∙ joined-step (λ q. objects_of tcp q.items) v pieces p c.min.result (infos_left left) (infos_left chunk)
-          (infos_left others) (value_objects v)
-          (objects_of-IsAsdu tcp (with_infos v (infos_left chunk)) p.items spells) c.split_at.ensures.first
-          c.split_at.ensures.others loop.joined;
-      pieces = subst Pieces (sym pushed) (All-push (λ q. IsPiece v q.items) pieces p loop.pieces here);
-      full = λ more. subst Full (sym pushed) (All-push (λ q. IsLargest v q.items) pieces p (loop.full some) (number
-          ∙ count ∙ whole more ∙ most));
-      last = subst Last (sym pushed) (AllButLast-push (λ q. IsLargest v q.items) pieces p (loop.full some));
-      count = λ more.
-          count-step (length pieces) (length c.push.new.self.items) c.most_objects-most.result left.left chunk.left
-          others.left (number_at asdu.octets.now)
-          (loop.count some) (omega arith) (whole more) c.push.ensures.len;
-      enough = enough-step (length pieces) (length c.push.new.self.items) c.most_objects-most.result left.left
-          chunk.left others.left (number_at asdu.octets.now)
-          (loop.count some) (omega arith) (omega arith) c.push.ensures.len;
-      tight = tight-step (length pieces) (length c.push.new.self.items) c.most_objects-most.result left.left chunk.left
-          others.left (number_at asdu.octets.now)
-          (loop.count some) (omega arith) (omega arith) c.push.ensures.len;
-      few =
-          let before = room asdu c.most_objects-most.result (length pieces) left.left c.requires most some
-          (loop.count some) in
-          let longer = c.push.ensures.len in
-          omega arith;
-    }
+    let pieces : List (Stored ℕ) = c.loop-left.pieces.items in
+    let p : Stored ℕ = c.write_next.new.piece in
+    let rest = c.write_next.new.self in
+    ap (λ (ps : List (Stored ℕ)). map (λ q. q.items) ps ++ rest) c.push.ensures.items
+    ∙ ap (λ ps. ps ++ rest) (map-append (λ (q : Stored ℕ). q.items) pieces (p ∷ []))
+    ∙ append_assoc (map (λ (q : Stored ℕ). q.items) pieces) (p.items ∷ []) rest
+    ∙ ap (λ ps. map (λ (q : Stored ℕ). q.items) pieces ++ ps) (sym c.write_next.ensures)
+    ∙ c.loop-left.invariant
 
-pub returns-clause-monitored : goal.returns-clause-monitored
-returns-clause-monitored c =
-    let asdu = c.args.asdu.now in
-    let v = value_of asdu in
-    let loop = c.loop-left.invariant in
-    let left = c.loop-left.left in
-    let pieces = c.loop-left.pieces.items in
-    let sent = flat_map (λ p. objects_of tcp p.items) pieces in
-    let count : length (infos_left left) ≡ left.left =
-    length-rest_at left.kind (ioa_len left.ioa) left.next_address left.left left.octets.now in
-    let all : sent ≡ value_objects v = joined-end v (infos_left left) sent (value_objects v)
-    (omega arith) loop.joined in
-    let source = monitor_objects_of-IsAsdu asdu.sizes v asdu.octets.now (IsAsdu-value_of asdu asdu.are_octets) in
-    monitored-pieces (λ p. p.items) v pieces loop.pieces ∙ ap (only_if (is_passed_on v.kind v.cause)) all ∙ sym source
+pub returns-clause-spelled : goal.returns-clause-spelled
+returns-clause-spelled c =
+    written (value_of c.args.asdu.now) c.loop-left.pieces.items c.loop-left.left c.is_over.result c.loop-left.invariant
+    c.is_over.ensures c.loop-left-test.false
 
 pub returns-clause-joined : goal.returns-clause-joined
 returns-clause-joined c =
     let asdu = c.args.asdu.now in
     let v = value_of asdu in
-    let loop = c.loop-left.invariant in
-    let left = c.loop-left.left in
-    let sent = flat_map (λ p. objects_of tcp p.items) c.loop-left.pieces.items in
-    let count : length (infos_left left) ≡ left.left =
-    length-rest_at left.kind (ioa_len left.ioa) left.next_address left.left left.octets.now in
-    joined-end v (infos_left left) sent (value_objects v) (omega arith) loop.joined ∙ sym (objects_of-value_of asdu)
+    let ps : List (Stored ℕ) = c.loop-left.pieces.items in
+    let e = written v ps c.loop-left.left c.is_over.result c.loop-left.invariant c.is_over.ensures c.loop-left-test.false in
+    sym (flat_map-map (λ xs. objects_of tcp xs) (λ (p : Stored ℕ). p.items) ps)
+    ∙ ap (λ (xs : List (List ℕ)). flat_map (λ x. objects_of tcp x) xs) e
+    ∙ pieces_joined asdu.sizes v asdu.octets.now (IsAsdu-value_of asdu asdu.are_octets)
+
+pub returns-clause-monitored : goal.returns-clause-monitored
+returns-clause-monitored c =
+    let asdu = c.args.asdu.now in
+    let v = value_of asdu in
+    let ps : List (Stored ℕ) = c.loop-left.pieces.items in
+    let e = written v ps c.loop-left.left c.is_over.result c.loop-left.invariant c.is_over.ensures c.loop-left-test.false in
+    sym (flat_map-map (λ xs. monitor_objects_of tcp xs) (λ (p : Stored ℕ). p.items) ps)
+    ∙ ap (λ (xs : List (List ℕ)). flat_map (λ x. monitor_objects_of tcp x) xs) e
+    ∙ pieces_monitored asdu.sizes v asdu.octets.now (IsAsdu-value_of asdu asdu.are_octets)
 
 pub returns-clause-some_monitored : goal.returns-clause-some_monitored
-returns-clause-some_monitored c = λ passed. some_monitored (λ p. p.items)
-    (value_of c.args.asdu.now) c.loop-left.pieces.items passed c.loop-left.invariant.pieces
+returns-clause-some_monitored c = λ passed.
+    let asdu = c.args.asdu.now in
+    let v = value_of asdu in
+    let ps : List (Stored ℕ) = c.loop-left.pieces.items in
+    let P : List ℕ → Type 0 = λ x. 1 ≤ length (monitor_objects_of tcp x) in
+    let e = written v ps c.loop-left.left c.is_over.result c.loop-left.invariant c.is_over.ensures c.loop-left-test.false in
+    All-of_map (λ (p : Stored ℕ). p.items) P ps (subst (λ (xs : List (List ℕ)). AllByRecursion P xs) (sym e)
+    (pieces_some_monitored asdu.sizes v asdu.octets.now (IsAsdu-value_of asdu asdu.are_octets) passed))
+
+pub returns-clause-pieces : goal.returns-clause-pieces
+returns-clause-pieces c =
+    let asdu = c.args.asdu.now in
+    let v = value_of asdu in
+    let ps : List (Stored ℕ) = c.loop-left.pieces.items in
+    let P : List ℕ → Type 0 = λ x. IsPiece v x in
+    let e = written v ps c.loop-left.left c.is_over.result c.loop-left.invariant c.is_over.ensures c.loop-left-test.false in
+    All-of_map (λ (p : Stored ℕ). p.items) P ps (subst (λ (xs : List (List ℕ)). AllByRecursion P xs) (sym e)
+    (pieces_are asdu.sizes v asdu.octets.now (IsAsdu-value_of asdu asdu.are_octets)))
 
 pub returns-clause-lengths : goal.returns-clause-lengths
 returns-clause-lengths c =
-    lengths (λ p. p.items) (value_of c.args.asdu.now) c.loop-left.pieces.items c.loop-left.invariant.pieces
+    let asdu = c.args.asdu.now in
+    let v = value_of asdu in
+    let ps : List (Stored ℕ) = c.loop-left.pieces.items in
+    let P : List ℕ → Type 0 = λ x. (9 ≤ length x) × (length x ≤ 249) in
+    let e = written v ps c.loop-left.left c.is_over.result c.loop-left.invariant c.is_over.ensures c.loop-left-test.false in
+    All-of_map (λ (p : Stored ℕ). p.items) P ps (subst (λ (xs : List (List ℕ)). AllByRecursion P xs) (sym e)
+    (pieces_lengths asdu.sizes v asdu.octets.now (IsAsdu-value_of asdu asdu.are_octets)))
+
+pub returns-clause-full : goal.returns-clause-full
+returns-clause-full c =
+    let asdu = c.args.asdu.now in
+    let v = value_of asdu in
+    let ps : List (Stored ℕ) = c.loop-left.pieces.items in
+    let P : List ℕ → Type 0 = λ x. IsLargest v x in
+    let e = written v ps c.loop-left.left c.is_over.result c.loop-left.invariant c.is_over.ensures c.loop-left-test.false in
+    AllButLast-of_map (λ (p : Stored ℕ). p.items) P ps (subst (λ (xs : List (List ℕ)). AllButLast P xs) (sym e)
+    (pieces_full asdu.sizes v asdu.octets.now (IsAsdu-value_of asdu asdu.are_octets)))
 
 pub returns-clause-number : goal.returns-clause-number
 returns-clause-number c =
     let asdu = c.args.asdu.now in
     let v = value_of asdu in
-    let read = IsAsdu-value_of asdu asdu.are_octets in
-    let most : c.most_objects-most.result ≡ piece_size asdu.kind (is_sequence asdu.octets.now) =
-    c.most_objects-most.ensures.value ∙ ap (piece_size asdu.kind) c.is_sequence.ensures in
-    let n = number_at asdu.octets.now in
-    let all : n ≡ length v.infos = number_at-IsAsdu asdu.sizes v asdu.octets.now read in
-    let loop = c.loop-left.invariant in
-    let is : length c.loop-left.pieces.items ≡ div_ceil n c.most_objects-most.result =
-    div_ceil-is (length c.loop-left.pieces.items) c.most_objects-most.result n
-    (omega (arith, c.most_objects-most.ensures.some)) (omega (arith, loop.enough)) (omega (arith, loop.tight)) in
-    is ∙ ap (λ m. div_ceil n m) most ∙ ap (λ k. div_ceil k (piece_size asdu.kind (is_sequence asdu.octets.now))) all
-    ∙ sym (parts-IsAsdu asdu.sizes v asdu.octets.now read)
+    let ps : List (Stored ℕ) = c.loop-left.pieces.items in
+    let e = written v ps c.loop-left.left c.is_over.result c.loop-left.invariant c.is_over.ensures c.loop-left-test.false in
+    sym (length-map ps (λ (p : Stored ℕ). p.items)) ∙ ap (λ (xs : List (List ℕ)). length xs) e
+    ∙ pieces_number asdu.sizes v asdu.octets.now (IsAsdu-value_of asdu asdu.are_octets)
+
+pub returns-clause-few : goal.returns-clause-few
+returns-clause-few c =
+    let asdu = c.args.asdu.now in
+    let v = value_of asdu in
+    let ps : List (Stored ℕ) = c.loop-left.pieces.items in
+    let e = written v ps c.loop-left.left c.is_over.result c.loop-left.invariant c.is_over.ensures c.loop-left-test.false in
+    let same = length-map ps (λ (p : Stored ℕ). p.items) in
+    let all = ap (λ (xs : List (List ℕ)). length xs) e in
+    let few = pieces_few asdu.sizes v asdu.octets.now (IsAsdu-value_of asdu asdu.are_octets) c.requires in
+    omega arith
