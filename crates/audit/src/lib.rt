@@ -7,15 +7,18 @@
 //! of those of the run over its events, and else the first line that differs; and the log of that
 //! run keeps every promise of a gateway with these settings. Of [`resume_record`]: the gateway is
 //! then that of the run over the record's events, and what it tells to write are the run's lines
-//! that the record lacks.
+//! that the record lacks. What the lines of a record say has literal examples
+//! ([`record_lines_by_example`]).
 #![tactic(auto)]
 
 mod audit;
 mod compare;
+mod examples;
 mod lines;
 mod record;
 mod resume;
 mod run;
 
 pub use audit::{Verdict, audit_record};
+pub use examples::record_lines_by_example;
 pub use resume::{Resumed, Resumption, resume_record};

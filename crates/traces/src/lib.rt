@@ -12,7 +12,8 @@
 //! events of `Trace`'s log and those still to come are always the tick and all entries; and unless
 //! a write failed, its writer has got the lines of the log's actions in their order, and nothing
 //! else; and each line that is printed, of an event or an action, reads back as that very entry
-//! ([`printed_lines_read_back`], [`printed_lines_by_example`]).
+//! ([`printed_lines_read_back`], [`printed_lines_by_example`]). What lines of a trace tell has
+//! literal examples too ([`trace_lines_by_example`]).
 #![tactic(auto)]
 
 mod actions;
@@ -26,6 +27,7 @@ mod lines;
 mod octets;
 mod port;
 mod reading;
+mod readings;
 mod recorded;
 mod text_port;
 
@@ -38,5 +40,6 @@ pub use lines::{is_skipped, parts};
 pub use octets::read_octets;
 pub use port::{Beginning, Trace};
 pub use reading::{TextFault, read_trace};
+pub use readings::trace_lines_by_example;
 pub use recorded::append_event;
 pub use text_port::TextPort;

@@ -1,0 +1,17 @@
+use Rattle.std.proofs.Common.{refl}
+use Rattle.audit.proofs.examples.record_lines_by_example.Goals as goal
+
+pub returns-clause-lines : goal.returns-clause-lines
+returns-clause-lines c = (refl, refl)
+
+pub returns-clause-kinds : goal.returns-clause-kinds
+returns-clause-kinds c = (refl, refl, refl, refl, refl, refl)
+
+pub returns-clause-trace : goal.returns-clause-trace
+returns-clause-trace c = refl
+
+pub returns-clause-differences : goal.returns-clause-differences
+returns-clause-differences c = (refl, refl, refl, refl)
+
+pub returns-clause-rests : goal.returns-clause-rests
+returns-clause-rests c = (refl, refl, refl, refl)
