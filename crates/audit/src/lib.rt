@@ -12,10 +12,12 @@
 
 mod audit;
 mod compare;
+mod laws;
 mod lines;
 mod record;
 mod resume;
 mod run;
 
 pub use audit::{Verdict, audit_record};
+pub use laws::a_record_is_made_whole;
 pub use resume::{Resumed, Resumption, resume_record};
