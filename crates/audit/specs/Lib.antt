@@ -1,3 +1,4 @@
 pub mod Record
+pub mod Whole
 pub mod Audit
 pub mod Resume

@@ -12,7 +12,8 @@ use Rattle.traces.specs.Printed.{lines_of_log}
 use Rattle.traces.specs.Trace.{IsTraceOf}
 use Rattle.traces.specs.declared.reading.TextFault.{TextFault}
 use Rattle.audit.specs.Audit.{IsRunOver, IsAuditFault}
-use Rattle.audit.specs.Record.{whole_lines, trace_of, first_difference, rest_of}
+use Rattle.audit.specs.Record.{whole_lines, trace_of, first_difference}
+use Rattle.audit.specs.Whole.{IsRestOf}
 use Rattle.audit.specs.declared.resume.Resumed.{Resumed}
 use Rattle.audit.specs.declared.resume.Resumption.{Resumption}
 use Rattle.audit.specs.declared.resume.Resumption.TheVariants.{Goes, Differs}
@@ -31,14 +32,15 @@ last_moment moment [] = moment
 last_moment moment (entry ∷ entries) = last_moment (moment_of entry) entries
 
 -- The gateway is that of the run over the record's events, whose log keeps every promise, and what
--- is missing of the record of that run is its rest; or a line of the record isn't the run's.
+-- is missing of the record of that run is its rest: with it the record is that of the whole run; or
+-- a line of the record isn't the run's.
 abbrev pub IsGoing : Settings → (text : List ℕ) → (entries : List Entry) → Log → State → Resumption
     → Type 0
 IsGoing settings text entries log gateway (Goes run) =
     (first_difference 1 (whole_lines text) (whole_lines (lines_of_log log)) ≡ None)
     × Follows (setup_of settings) gateway (Some log)
     × (run.moment ≡ last_moment 0 entries)
-    × (run.rest.items ≡ rest_of text (whole_lines (lines_of_log log)))
+    × IsRestOf text run.rest.items (lines_of_log log)
 IsGoing settings text entries log gateway (Differs n) =
     first_difference 1 (whole_lines text) (whole_lines (lines_of_log log)) ≡ Some n
 

@@ -14,6 +14,7 @@
 mod audit;
 mod compare;
 mod examples;
+mod laws;
 mod lines;
 mod record;
 mod resume;
@@ -21,4 +22,5 @@ mod run;
 
 pub use audit::{Verdict, audit_record};
 pub use examples::record_lines_by_example;
+pub use laws::a_record_is_made_whole;
 pub use resume::{Resumed, Resumption, resume_record};

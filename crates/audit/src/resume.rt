@@ -8,6 +8,7 @@ ghost use Rattle.audit.specs.Record.{ended};
 ghost use Rattle.audit.specs.Resume.{IsResumed, last_moment, moment_of};
 
 use crate::compare::{first_difference, rest_behind};
+use crate::laws::a_record_is_made_whole;
 use crate::record::{mark_behind, trace_of, whole_lines};
 use crate::run::run_over;
 use gateway::{Entry, Gateway};
@@ -82,6 +83,7 @@ pub fn resume_record(
     ensures { (settings : Settings) → Follows (setup_of settings) gateway.old (Some []) →
         IsResumed settings text.now gateway.new result }
 {
+    a_record_is_made_whole();
     let lines = whole_lines(alloc, text)?;
     let (trace, _actions) = trace_of(alloc, lines.as_slice())?;
     let entries = read_trace(alloc, trace.as_slice())?;

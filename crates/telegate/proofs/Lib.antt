@@ -1,4 +1,5 @@
 pub mod RunLemmas
+pub mod Recorded
 pub mod Commands
 pub mod Kept
 pub mod Files

@@ -4,7 +4,7 @@ ghost use Rattle.gateway.specs.Agrees.{Follows, Rests};
 ghost use Rattle.gateway.specs.Config.{Settings};
 ghost use Rattle.gateway.specs.Reports.{Setup};
 ghost use Rattle.gateway.specs.Setups.{setup_of};
-ghost use Rattle.record.specs.Recording.{log_of};
+ghost use Rattle.record.specs.Recording.{log_of, told_first};
 ghost use Rattle.telegate.specs.Running.{IsReadLiveConfig, IsStartBy, HasEnded, HasRun, HasRunFaithfully, IsRecorded};
 
 use crate::fault::Fault;
@@ -263,7 +263,6 @@ fn serve<P: Watched + Drop, S: Sink + Drop>(
 }
 
 /// Runs the gateway over a port whose events and actions are written down.
-#[tactic(auto, using(crate::proofs::Recorded::recorded))]
 fn serve_recorded<P: Watched + Drop, W: Sheet + Drop, S: Sink + Drop>(
     gateway: Gateway,
     journal: &mut Journal<Recorder<P, W>, S>,
@@ -271,8 +270,10 @@ fn serve_recorded<P: Watched + Drop, W: Sheet + Drop, S: Sink + Drop>(
     requires { P.failed journal.old.port.port < u64.MAX }
     // Where the gateway begins with the state that the text of the record leads to, what is then
     // written is the text of a run that keeps every promise of a gateway with these settings.
-    ensures { (p : Setup) → Follows p gateway (log_of journal.old.port.pen) →
-        Rests p (log_of journal.old.port.pen) → IsRecorded p journal.new.port.pen result }
+    ensures { (p : Setup) →
+        Follows p gateway (told_first (log_of journal.old.port.pen) (P.log journal.old.port.port)) →
+        Rests p (told_first (log_of journal.old.port.pen) (P.log journal.old.port.port)) →
+        IsRecorded p journal.new.port.pen result }
 {
     let result = serve(gateway, journal);
     let _is_over = journal.port().is_over();

@@ -3,6 +3,7 @@ use Rattle.traces.specs.Printed.{lines_of_log}
 use Rattle.traces.specs.Trace.{IsTraceOf}
 use Rattle.audit.specs.Resume.{last_moment}
 use Rattle.audit.specs.Record.{whole_lines, trace_of, first_difference, rest_of}
+use Rattle.audit.proofs.Whole.{with_rest}
 use Rattle.audit.proofs.resume.resume_record.Goals as goal
 
 pub returns-in-Some : goal.returns-in-Some
@@ -35,5 +36,11 @@ returns c = λ settings begins.
           ∙ trace) c.in_ok-entries.ensures.entries;
       log = run.0;
       run = run.1;
-      goes = (found, run.3, moment, search (rules, run.2));
+      goes = (
+        found,
+        run.3,
+        moment,
+        with_rest c.args.text.now _ (lines_of_log run.0) (search (rules, run.2))
+        (λ plain. c.a_record_is_made_whole.ensures c.args.text.now (lines_of_log run.0) plain found),
+      );
     }
