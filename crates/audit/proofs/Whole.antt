@@ -204,11 +204,10 @@ uncut text (line ∷ lines) tail is fails =
     is ∙ append_assoc (line ++ 10 ∷ []) (flat_map ended lines) tail
     ∙ append_assoc line (10 ∷ []) (flat_map ended lines ++ tail) in
     let none : (list_any (λ b. b == 33) line || list_any (λ b. b == 33) rest) ≡ false =
-    sym (list_any-append (λ b. b == 33) line rest) ∙ ap (list_any (λ b. b == 33)) (sym parts) ∙ fails in
-    (
+    sym (list_any-append (λ b. b == 33) line rest) ∙ ap (list_any (λ b. b == 33)) (sym parts) ∙ fails in (
       first (is_cut line) (list_any (λ b. b == 33) rest) none,
       uncut (flat_map ended lines ++ tail) lines tail refl
-      (second (is_cut line) (list_any (λ b. b == 33) rest) none),
+          (second (is_cut line) (list_any (λ b. b == 33) rest) none),
     )
   where
     first : (a b : Bool) → (a || b) ≡ false → a ≡ false

@@ -41,6 +41,6 @@ returns c = λ settings begins.
         run.3,
         moment,
         with_rest c.args.text.now _ (lines_of_log run.0) (search (rules, run.2))
-        (λ plain. c.a_record_is_made_whole.ensures c.args.text.now (lines_of_log run.0) plain found),
+            (λ plain. c.a_record_is_made_whole.ensures c.args.text.now (lines_of_log run.0) plain found),
       );
     }
