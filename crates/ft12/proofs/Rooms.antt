@@ -1,6 +1,5 @@
 -- How many octets the frames that fit have.
 use Rattle.std.proofs.Common.{◌≡◌, ℕ, ◌+◌, ◌≤◌, List, length, arith}
-use Rattle.std.proofs.lemmas.List.{length-append}
 use Rattle.ft12.specs.declared.frame.LinkSize.{LinkSize}
 use Rattle.ft12.specs.declared.frame.LinkSize.TheVariants.{One, Two}
 use Rattle.ft12.specs.declared.frame.Frame.{Frame}

@@ -1,10 +1,10 @@
 -- A frame that stands in the first octets is heard as the machine hears the octets.
-use Rattle.std.proofs.Common.{◌≡◌, ℕ, Bool, true, false, List, [], ◌∷◌, ◌++◌, Option, Some, None, option_map, refl, sym, ap, ◌∙◌, if◌then◌else◌}
+use Rattle.std.proofs.Common.{◌≡◌, ℕ, true, List, [], ◌∷◌, Option, Some, None, option_map, refl, sym, ap, ◌∙◌}
 use Rattle.ft12.specs.declared.frame.Frame.{Frame}
 use Rattle.ft12.specs.declared.frame.Front.{Front}
 use Rattle.link.specs.Answers.{Answer}
 use Rattle.link.specs.Exchanges.{whole_of}
-use Rattle.link.specs.Holding.{Awaited, awaited_with, outstanding_of, frame_after, is_fresh, is_at_front_of, is_at_front, noted}
+use Rattle.link.specs.Holding.{is_fresh, is_at_front_of, is_at_front, noted}
 use Rattle.link.specs.Primary.{Outstanding, Primary, answer_at, said_by, took, open_octets, with_octets, received_after, received_from, received, heard_from, heard_outcome, received_outcome, outcome_at, outcome_after, outcome_from}
 
 -- a frame stands at the front of the first octets
@@ -27,10 +27,11 @@ heard_at_front front p octets frame free whole = from p.outstanding free
         × (heard_outcome (at (Some (with_octets octets o))) (Some (with_octets octets o)) frame
         ≡ outcome_after front p o h octets)
     after o None fresh = let bad : ⊥ = cc in absurd bad
-    after o (Some []) fresh =
-        (said (with_octets octets o) (answer_at p (with_octets octets o) frame)
-        ∙ sym (ap (λ (w : Option Frame). took p (with_octets octets o) (open_octets octets (front octets)) w) whole),
-        sym (ap (λ (w : Option Frame). outcome_at p o w) whole))
+    after o (Some []) fresh = (
+      said (with_octets octets o) (answer_at p (with_octets octets o) frame)
+          ∙ sym (ap (λ (w : Option Frame). took p (with_octets octets o) (open_octets octets (front octets)) w) whole),
+      sym (ap (λ (w : Option Frame). outcome_at p o w) whole),
+    )
     after o (Some (x ∷ xs)) fresh = let bad : ⊥ = cc in absurd bad
 
     from : (oo : Option Outstanding) → is_at_front_of oo ≡ true →

@@ -1,9 +1,11 @@
 //! Requests as frames and octets.
-ghost use Rattle.std.specs.Prelude.{◌≡◌, ◌≤◌, ◌<◌, length};
+ghost use Rattle.std.specs.Prelude.{◌≡◌, ◌≤◌, ◌<◌, [], length};
 ghost use Rattle.ft12.specs.declared.frame.LinkSize.TheVariants.{Two};
 ghost use Rattle.ft12.specs.Borrowed.{owned};
 ghost use Rattle.ft12.specs.Spelling.{spelling, spelling_len};
 ghost use Rattle.link.specs.Control.{primary_code};
+ghost use Rattle.link.specs.declared.request.Reading.TheVariants as reading;
+ghost use Rattle.link.specs.Heard.{with_data as joined};
 ghost use Rattle.link.specs.Requests.{counted_control, plain_control, request_frame, FitsAddress, FitsAsked, service_kind, kind_of, counted_reading, plain_reading, short_by, data_by, reading_of};
 
 use crate::control::{Control, PrimaryFunction};
@@ -145,12 +147,19 @@ impl Asked {
     }
 }
 
+/// A request without user data.
+fn asks(request: Asked) -> Reading
+    ensures { result ≡ reading.Asks (joined [] request) }
+{
+    Reading::Asks(HeardRequest::bare(request))
+}
+
 fn counted(fcb: bool, function: PrimaryFunction) -> Reading
     ensures { result ≡ counted_reading fcb (primary_code function) }
 {
     match function {
-        PrimaryFunction::Class1 => Reading::Asks(HeardRequest::bare(Asked::Counted(fcb, Service::Class1))),
-        PrimaryFunction::Class2 => Reading::Asks(HeardRequest::bare(Asked::Counted(fcb, Service::Class2))),
+        PrimaryFunction::Class1 => asks(Asked::Counted(fcb, Service::Class1)),
+        PrimaryFunction::Class2 => asks(Asked::Counted(fcb, Service::Class2)),
         _ => Reading::Unknown,
     }
 }
@@ -159,8 +168,8 @@ fn plain(function: PrimaryFunction) -> Reading
     ensures { result ≡ plain_reading (primary_code function) }
 {
     match function {
-        PrimaryFunction::LinkStatus => Reading::Asks(HeardRequest::bare(Asked::Status)),
-        PrimaryFunction::ResetLink => Reading::Asks(HeardRequest::bare(Asked::Reset)),
+        PrimaryFunction::LinkStatus => asks(Asked::Status),
+        PrimaryFunction::ResetLink => asks(Asked::Reset),
         _ => Reading::Unknown,
     }
 }

@@ -12,9 +12,9 @@ ghost use Rattle.link.specs.Secondary.{served_class1, served_class2, served_comm
 
 use crate::asdu::Asdu;
 use crate::control::{Control, SecondaryFunction};
+use crate::heard_request::HeardRequest;
 use crate::no_memory::NoMemory;
 use crate::request::{Reading, read_request};
-use crate::heard_request::HeardRequest;
 use crate::service::{Asked, Service};
 use arrayvec::ArrayVec;
 use ft12::{Frame, Front, LinkSize, front};

@@ -35,7 +35,7 @@ pub(super) enum Told {
     Down(usize),
 }
 
-fn told(outcome: &Outcome<'_>) -> Told {
+fn kept(outcome: &Outcome<'_>) -> Told {
     match outcome {
         Outcome::None => Told::None,
         Outcome::Started(station) => Told::Started(*station),
@@ -53,10 +53,10 @@ fn told(outcome: &Outcome<'_>) -> Told {
 /// Octets of the line come.
 pub(super) fn hear(master: &mut Master, octets: &[u8]) -> Told {
     if let Some(outcome) = master.hear_whole(octets) {
-        return told(&outcome);
+        return kept(&outcome);
     }
     match master.gather(octets) {
-        Some(frame) => told(&master.hear(frame.lent())),
+        Some(frame) => kept(&master.hear(frame.lent())),
         None => Told::None,
     }
 }
@@ -112,7 +112,7 @@ impl Bench {
     }
 
     pub(super) fn due(&mut self, now: u64) -> Told {
-        told(&self.master.due(now))
+        kept(&self.master.due(now))
     }
 
     pub(super) fn spoilt(&self) -> u64 {

@@ -140,12 +140,7 @@ fn a_command_waits_while_dfc_is_set(rt: HostRuntime) -> Result<(), NoMemory> {
     assert!(rt; line.open());
     assert!(rt; line.sends(20, &CLASS2));
     assert!(rt; line.offer(&[0x2D, 0x01, 0x06, 0x01, 0x0A, 0x00, 0x01]));
-    assert!(rt;
-        matches!(
-            line.octets(&[0x10, 0x19, 0x01, 0x1A, 0x16]),
-            Told::Empty(0)
-        )
-    );
+    assert!(rt; matches!(line.octets(&[0x10, 0x19, 0x01, 0x1A, 0x16]), Told::Empty(0)));
     assert!(rt; line.sends(50, &NEXT_CLASS2));
     assert!(rt; matches!(line.octets(&[0xE5]), Told::Empty(0)));
     let command = [
@@ -186,12 +181,7 @@ fn a_busy_station_takes_no_command(rt: HostRuntime) -> Result<(), NoMemory> {
         0x68, 0x09, 0x09, 0x68, 0x53, 0x01, 0x64, 0x01, 0x06, 0x01, 0x00, 0x00, 0x14, 0xD4, 0x16,
     ];
     assert!(rt; line.sends(60, &command));
-    assert!(rt;
-        matches!(
-            line.octets(&[0x10, 0x01, 0x01, 0x02, 0x16]),
-            Told::Busy(0)
-        )
-    );
+    assert!(rt; matches!(line.octets(&[0x10, 0x01, 0x01, 0x02, 0x16]), Told::Busy(0)));
     assert!(rt; line.sends(70, &CLASS2));
     Ok(())
 }

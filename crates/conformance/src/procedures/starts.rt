@@ -54,12 +54,7 @@ fn a_refused_reset_is_dropped(rt: HostRuntime) -> Result<(), NoMemory> {
     assert!(rt; line.next(209, true).is_none());
     assert!(rt; matches!(line.due(210), Told::None));
     assert!(rt; line.sends(210, &[0x10, 0x49, 0x02, 0x4B, 0x16]));
-    assert!(rt;
-        matches!(
-            line.octets(&[0x10, 0x0F, 0x02, 0x11, 0x16]),
-            Told::Down(1)
-        )
-    );
+    assert!(rt; matches!(line.octets(&[0x10, 0x0F, 0x02, 0x11, 0x16]), Told::Down(1)));
     assert!(rt; line.sends(220, &[0x10, 0x49, 0x01, 0x4A, 0x16]));
     Ok(())
 }

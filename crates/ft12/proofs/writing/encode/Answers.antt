@@ -1,6 +1,4 @@
-use Rattle.std.proofs.Common.{rules, subst, sym, ◌≤◌}
-use Rattle.ft12.specs.declared.frame.Frame.{Frame}
-use Rattle.ft12.specs.Spelling.{spelling_len, Fits}
+use Rattle.std.proofs.Common.{rules}
 use Rattle.ft12.proofs.Rooms.{longest}
 use Rattle.ft12.proofs.writing.encode.Goals as goal
 

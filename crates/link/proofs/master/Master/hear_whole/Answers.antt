@@ -5,7 +5,7 @@ use Rattle.ft12.specs.declared.frame.Front.TheVariants.{Whole}
 use Rattle.ft12.specs.Fronts.{front_of}
 use Rattle.link.specs.Exchanges.{whole_of}
 use Rattle.link.specs.Holding.{is_at_front, noted}
-use Rattle.link.specs.Primary.{Primary, received, received_outcome, heard_from, heard_outcome}
+use Rattle.link.specs.Primary.{Primary, heard_from, heard_outcome}
 use Rattle.link.proofs.Hearing.{heard_at_front}
 use Rattle.link.proofs.master.Master.hear_whole.Goals as goal
 
@@ -20,6 +20,7 @@ returns-clause-whole c =
     (sym (ap whole_of (c.front_is_computed.ensures.only _ octets (Whole frame c.in-Whole.field-1)
     c.in-Whole.ensures))) in
     let heard = heard_at_front (front_of p.settings.size) p octets frame free whole in
-    let noted_is : c.note.new.self ≡ noted octets p = search (rules, c.note.ensures) in
-    (c.hear.ensures.state ∙ ap (λ (q : Primary). heard_from q q.outstanding frame) noted_is ∙ heard.0,
-    c.hear.ensures.outcome ∙ ap (λ (q : Primary). heard_outcome q q.outstanding frame) noted_is ∙ heard.1)
+    let noted_is : c.note.new.self ≡ noted octets p = search (rules, c.note.ensures) in (
+      c.hear.ensures.state ∙ ap (λ (q : Primary). heard_from q q.outstanding frame) noted_is ∙ heard.0,
+      c.hear.ensures.outcome ∙ ap (λ (q : Primary). heard_outcome q q.outstanding frame) noted_is ∙ heard.1,
+    )
