@@ -1,5 +1,4 @@
 pub mod RunLemmas
-pub mod Recorded
 pub mod Commands
 pub mod Kept
 pub mod Files
