@@ -46,9 +46,12 @@ impl<'a> Model for Translation<'a> {
 impl<'a> Translation<'a> {
     ghost use Rattle.std.specs.Prelude.{◌∷◌, ◌==◌};
 
-    /// All pieces of a report are still to be written.
+    /// All pieces of a report are still to be written. Each has 9 to 249 octets, and there are at
+    /// most three of a report of at most 253 octets.
     pub fn new(asdu: &'a Asdu<'a>) -> Translation<'a>
-        ensures { result ≡ report_pieces (value_of asdu.now) }
+        ensures pieces { result ≡ report_pieces (value_of asdu.now) }
+        ensures lengths { AllByRecursion (λ p. (9 ≤ length p) × (length p ≤ 249)) result }
+        ensures few { length asdu.now.octets.now ≤ 253 → length result ≤ 3 }
     {
         Translation {
             asdu,

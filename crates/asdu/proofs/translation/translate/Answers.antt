@@ -25,7 +25,7 @@ written v ps rest b all is over =
 
 pub loop-left-init : goal.loop-left-init
 loop-left-init c =
-    ap (λ (ps : List (Stored ℕ)). map (λ p. p.items) ps ++ c.new-left.result) c.new-pieces.ensures ∙ c.new-left.ensures
+    ap (λ (ps : List (Stored ℕ)). map (λ p. p.items) ps ++ c.new-left.result) c.new-pieces.ensures ∙ c.new-left.ensures.pieces
 
 pub push-requires : goal.push-requires
 push-requires c =
