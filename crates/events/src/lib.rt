@@ -1,6 +1,6 @@
-//! The queue of ASDUs that wait for the control centre: the pieces of reports, from `push` until a
-//! connection acknowledged them (this gateway's own profile; IEC 60870-5-104, 5.1, for what
-//! acknowledging is).
+//! The queue of ASDUs that wait for the control centre: the pieces of reports, from `push_report`
+//! or `push` until a connection acknowledged them (this gateway's own profile; IEC 60870-5-104, 5.1,
+//! for what acknowledging is).
 //!
 //! [`Events`] is a list with two marks, its oldest piece and its first unsent one, in a ring of
 //! fixed places. Pieces go behind the newest, are lent to be sent from the mark on, and leave from
@@ -16,11 +16,13 @@
 ghost use Rattle.std.specs.Map.Iter.{TakesFirst, deref};
 ghost use Rattle.std.specs.Iterator.{at_most};
 ghost use Rattle.std.specs.Prelude.{◌≡◌, ◌<◌, ◌≤◌, ◌↔◌, [], ◌∷◌, length, drop, IfOk, IfSome, IfNone, IsTrue};
+ghost use Rattle.asdu.specs.Reading.{value_of};
+ghost use Rattle.asdu.specs.Translation.{report_pieces};
 ghost use Rattle.events.specs.Pieces.{AreAsdus};
 
 mod laws;
 
-use asdu::{Piece, Pieces};
+use asdu::{Asdu, Piece, Pieces, Translation};
 use circular_buffer::{HeapCircularBuffer, Iter};
 pub use laws::pieces_are_kept_in_order;
 use std::alloc::Global;
@@ -89,6 +91,25 @@ impl Events {
         prove!(count <= self.ring.capacity() - self.ring.len());
         for piece in pieces {
             let _ = self.ring.try_push_back(piece);
+        }
+    }
+
+    /// Appends the pieces of a report of at most 253 octets, unsent, each written in its place. The
+    /// queue may not be full.
+    pub fn push_report(&mut self, asdu: &Asdu)
+        requires room { 3 ≤ free_places self.old }
+        requires short { length asdu.now.octets.now ≤ 253 }
+        ensures { self.new ≡ pushed (report_pieces (value_of asdu.now)) self.old }
+    {
+        let mut left = Translation::new(asdu);
+        prove!(self.sent <= self.ring.len());
+        while !left.is_over() {
+            let newest = self.ring.len();
+            let _ = self.ring.try_push_back(Piece::new());
+            let Some(piece) = self.ring.get_mut(newest) else {
+                unreachable!();
+            };
+            left.write_next(piece);
         }
     }
 

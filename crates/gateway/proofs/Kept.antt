@@ -23,19 +23,13 @@ use Rattle.session.specs.Session.{is_transferring}
 use Rattle.gateway.specs.Steps.{Keeps, Mirrors, LearnsReport}
 use Rattle.gateway.specs.Works.{is_command_by, is_command_report, IsPassedOn}
 
-objects_map : (ps : List (ArrayVec ℕ)) → flat_map objects (octets_of ps)
-    ≡ flat_map (λ p. monitor_objects_of tcp p.items) ps
-objects_map [] = refl
-objects_map (p ∷ ps) = ap (λ xs. monitor_objects_of tcp p.items ++ xs) (objects_map ps)
-
 some : (n : ℕ) → 1 ≤ n → not (n == 0) ≡ true
 some n h = grind (arith, Rattle.std.proofs.lemmas.Bool.Decides.nat_tests)
 
-pub whole_map : (ps : List (ArrayVec ℕ)) → AllByRecursion (λ p. 1 ≤ length (monitor_objects_of tcp p.items)) ps
-    → list_all has_objects (octets_of ps) ≡ true
-whole_map [] h = refl
-whole_map (p ∷ ps) h = ap (λ b. b && list_all has_objects (octets_of ps)) (some (length (objects p.items)) h.0)
-    ∙ whole_map ps h.1
+all_whole : (ps : List (List ℕ)) → AllByRecursion (λ p. 1 ≤ length (objects p)) ps
+    → list_all has_objects ps ≡ true
+all_whole [] h = refl
+all_whole (p ∷ ps) h = ap (λ b. b && list_all has_objects ps) (some (length (objects p)) h.0) ∙ all_whole ps h.1
 
 length_map : (ps : List (ArrayVec ℕ)) → length (octets_of ps) ≡ length ps
 length_map [] = refl
@@ -50,25 +44,22 @@ parts_some sizes report h = ap (λ b. if b then 0 else parts sizes report)
     none n h = grind (arith, Rattle.std.proofs.lemmas.Bool.Decides.nat_tests)
 
 -- a report that is passed on
-pub keeps_report : (s t : State) (report octets : List ℕ) (sizes : Sizes) (ps : List (ArrayVec ℕ)) → sizes ≡ s.sizes
-    → octets ≡ report → flat_map (λ p. monitor_objects_of tcp p.items) ps ≡ monitor_objects_of sizes octets
-    → AllByRecursion (λ p. 1 ≤ length (monitor_objects_of tcp p.items)) ps →
-    length ps ≡ parts sizes octets → 1 ≤ length (monitor_objects_of sizes octets)
-    → counted s.sizes report s.serial.counts ≡ s.serial.counts → t ≡ with_centre (pushed (octets_of ps) s.centre) s
+pub keeps_report : (s t : State) (report : List ℕ) (ps : List (List ℕ))
+    → flat_map objects ps ≡ monitor_objects s.sizes report → AllByRecursion (λ p. 1 ≤ length (objects p)) ps
+    → length ps ≡ parts s.sizes report → 1 ≤ length (monitor_objects s.sizes report)
+    → counted s.sizes report s.serial.counts ≡ s.serial.counts → t ≡ with_centre (pushed ps s.centre) s
     → Keeps s report t
-keeps_report s t report octets sizes ps same is joined each number passed counts after = record {
-  pieces = octets_of ps;
-  objects_are = objects_map ps ∙ joined ∙ ap (λ z. monitor_objects z octets) same
-      ∙ ap (λ x. monitor_objects s.sizes x) is;
-  whole = whole_map ps each;
-  number = length_map ps ∙ number ∙ sym (parts_some sizes octets passed) ∙ ap (λ z. parts_of z octets) same
-      ∙ ap (λ x. parts_of s.sizes x) is;
+keeps_report s t report ps joined each number passed counts after = record {
+  pieces = ps;
+  objects_are = joined;
+  whole = all_whole ps each;
+  number = number ∙ sym (parts_some s.sizes report passed);
   after = after ∙ ap
       (λ (c : Tally).
       let made : State = record s {
         serial = record s.serial { counts = c };
         centre =
-            pushed (octets_of ps) s.centre;
+            pushed ps s.centre;
       } in made) (sym counts);
 }
 

@@ -8,8 +8,9 @@ ghost use Rattle.apci.specs.Short.{apdu_of};
 ghost use Rattle.session.specs.Session.{confirmed, pulled, may_send, is_open, is_transferring, outcome_of};
 ghost use Rattle.session.specs.Session.{timed_out as answers_late};
 ghost use Rattle.session.specs.Ends.{IsConfirmed};
-ghost use Rattle.events.specs.Pieces.{AreAsdus};
-ghost use Rattle.events.specs.Queue.{free_places, octets_of};
+ghost use Rattle.asdu.specs.Reading.{value_of};
+ghost use Rattle.asdu.specs.Translation.{report_pieces};
+ghost use Rattle.events.specs.Queue.{free_places};
 ghost use Rattle.gateway.specs.Agrees.{IsSpent};
 ghost use Rattle.gateway.specs.Centre.{closed, opened, taken, pushed, next_frame, own_sent};
 ghost use Rattle.gateway.specs.Serial.{judged, has_place};
@@ -21,7 +22,7 @@ ghost use Rattle.gateway.specs.Polls.{has_room};
 
 use super::{Found, Gateway};
 use apci::{Apdu, ApduRef, Assembler, FrontRef, Heard, Short, front_ref, write_information};
-use asdu::Pieces;
+use asdu::Asdu;
 use events::Events;
 use session::{Close, Kind, Session, Taken};
 use std::marker::Model;
@@ -90,13 +91,13 @@ impl CentreSide {
         !self.queue.is_full()
     }
 
-    /// Keeps the pieces of a report.
-    pub(super) fn push(&mut self, pieces: Pieces)
+    /// Keeps the pieces of a report of at most 253 octets.
+    pub(super) fn push(&mut self, report: &Asdu<'_>)
         requires room { 3 ≤ free_places self.old.queue }
-        requires asdus { AreAsdus pieces.items }
-        ensures { self.new ≡ pushed (octets_of pieces.items) self.old }
+        requires short { length report.now.octets.now ≤ 253 }
+        ensures { self.new ≡ pushed (report_pieces (value_of report.now)) self.old }
     {
-        self.queue.push(pieces);
+        self.queue.push_report(report);
     }
 
     /// Looks for an APDU in the octets that came. After a refusal the assembler begins afresh.

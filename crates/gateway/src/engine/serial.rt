@@ -33,7 +33,7 @@ use super::centre::CentreSide;
 use super::tagging::with_tag;
 use crate::counts::Tally;
 use crate::gaps::Gap;
-use asdu::{Asdu, Piece, objects_are_those_of_the_asdu, read, translate};
+use asdu::{Asdu, Piece, objects_are_those_of_the_asdu, pieces_carry_the_report, read, translate};
 use command::{Act, Commands};
 use elements::TypeId;
 use ft12::{Frame, FrameRef};
@@ -440,7 +440,8 @@ impl Gateway {
             return true;
         };
         if asdu.is_passed_on() {
-            self.centre.push(translate(&asdu));
+            pieces_carry_the_report();
+            self.centre.push(&asdu);
             return true;
         }
         if !is_answer(asdu.kind) {

@@ -1,12 +1,14 @@
-use Rattle.std.proofs.Common.{◌≡◌, true, false, not, ◌==◌, refl, ap, sym, ◌∙◌}
+use Rattle.std.proofs.Common.{◌≡◌, ◌≤◌, length, true, false, not, ◌==◌, refl, ap, sym, subst, ◌∙◌}
 use Rattle.elements.specs.Types.{row}
-use Rattle.asdu.specs.Asdu.{AsduValue}
+use Rattle.asdu.specs.Asdu.{AsduValue, IsAsdu}
 use Rattle.asdu.specs.InformationObjects.{is_passed_on}
 use Rattle.asdu.specs.Reading.{value_of}
+use Rattle.asdu.specs.Translation.{report_pieces}
 use Rattle.gateway.specs.declared.counts.Tally.{Tally}
 use Rattle.gateway.specs.Serial.{Serial}
 use Rattle.gateway.specs.Centre.{Centre}
 use Rattle.gateway.specs.State.{State, with_serial, with_centre}
+use Rattle.gateway.specs.Objects.{monitor_objects}
 use Rattle.gateway.specs.Counting.{is_answer_type}
 use Rattle.gateway.specs.Works.{is_command_report}
 use Rattle.gateway.proofs.Kept.{keeps_report, keeps_none, counted_as, passed_counts, skipped_counts, command_as, passed_monitor, learns_kept}
@@ -30,11 +32,16 @@ returns-then-is_passed_on c =
     command_as s.sizes report u c.in-Ok.ensures.objects c.in-Ok.ensures.found.value.some
     ∙ passed_monitor (row u.kind).monitor (row u.kind).tagged (is_passed_on u.kind u.cause) (not (u.cause == 108))
     (not (u.cause == 236)) refl (sym c.if-is_passed_on.ensures.value) in
+    let found : IsAsdu s.sizes u report = c.in-Ok.ensures.found in
+    let law = c.pieces_carry_the_report.ensures in
+    let passed : 1 ≤ length (monitor_objects s.sizes report) =
+    subst (λ z. 1 ≤ length (monitor_objects z report)) c.in-Ok.ensures.source.0
+    (subst (λ x. 1 ≤ length (monitor_objects asdu.sizes x)) c.in-Ok.ensures.source.1
+    (c.if-is_passed_on.ensures.passed refl)) in
     rw (← c.self.view_is) (learns_kept (is_command_report s.sizes report) s _ report true of_command
-    (keeps_report s _ report asdu.octets.now asdu.sizes c.translate.result.items c.in-Ok.ensures.source.0
-    c.in-Ok.ensures.source.1 c.translate.ensures.monitored
-    (c.translate.ensures.some_monitored (sym c.if-is_passed_on.ensures.value)) c.translate.ensures.number
-    (c.if-is_passed_on.ensures.passed refl)
+    (keeps_report s _ report (report_pieces u) (law.monitored s.sizes u report found)
+    (law.some_monitored s.sizes u report found (sym c.if-is_passed_on.ensures.value))
+    (law.number s.sizes u report found) passed
     (counted_as s report asdu.octets.now asdu.sizes u c.in-Ok.ensures.source.0 c.in-Ok.ensures.source.1
     c.in-Ok.ensures.objects c.in-Ok.ensures.found.value.some
     ∙ passed_counts (is_answer_type u.kind) (is_passed_on u.kind u.cause) s.serial.counts
