@@ -73,7 +73,7 @@ impl<P: Port + Drop, W: Sheet + Drop> Port for Recorder<P, W> {
         requires { P.failed self.old.port < u64.MAX }
         ensures told { told_first (log_of self.new.pen) (P.log self.new.port)
             ≡ (if result then tell (told_first (log_of self.old.pen) (P.log self.old.port))
-                (Went now (output_of action.now) ∷ [])
+            (Went now (output_of action.now) ∷ [])
             else told_first (log_of self.old.pen) (P.log self.old.port)) }
         ensures script { P.script self.new.port ≡ P.script self.old.port }
         ensures cause { P.failed self.new.port
