@@ -2,11 +2,12 @@
 use Rattle.std.proofs.Common.{◌≡◌, ℕ, Bool, true, false, List, [], ◌∷◌, ◌++◌, reverse, Option, Some, None, IfSome, refl, sym, ap, subst, ◌∙◌, append_assoc, if◌then◌else◌}
 use Rattle.std.proofs.lemmas.List.{append-nil, reverse-reverse}
 use Rattle.std.specs.List.{AllByRecursion}
-use Rattle.gateway.specs.Log.{Log, LogEntry, tell}
+use Rattle.std.specs.Prelude.{is_err, Result, Ok, Err, OnOk}
+use Rattle.gateway.specs.Log.{Log, tell}
 use Rattle.traces.specs.Printed.{IsPrintable, entries_in, line_of_entry, lines_of_log}
 use Rattle.traces.specs.Progress.{all_told}
 use Rattle.record.specs.Law.{grows_by}
-use Rattle.record.specs.Recording.{Recording, IsKept, Gives, Notes, added, text_of, log_of, told_behind, told_first, unless_over, passed, given, held_by, held_or_over}
+use Rattle.record.specs.Recording.{Recording, IsKept, Gives, Notes, added, text_of, log_of, told_behind, told_first, passed, given, held_by, held_or_over}
 use Rattle.record.specs.Written.{log_in, IsText, IsWritten, AreLines}
 
 -- two texts behind one another
@@ -153,6 +154,11 @@ missed_told old new news missed over tells is =
 pub gives_log : (old new : Recording) → Gives old new → new.missed ≡ old.missed → log_of new ≡ log_of old
 gives_log old new g same =
     ap (λ t. told_behind t new.missed) (gives_text old new g) ∙ ap (told_behind (text_of old)) same
+
+-- what holds where a call succeeds
+pub on_success : {T E : Type 0} (r : Result T E) (P : Type 0) → is_err r ≡ false → OnOk r P → P
+on_success (Ok v) P good h = h
+on_success (Err e) P good h = cc
 
 -- A port
 

@@ -1,7 +1,7 @@
 -- What a text of lines tells (this gateway's own profile).
 use Rattle.gateway.specs.Log.{Log}
 use Rattle.std.specs.List.{AllByRecursion}
-use Rattle.std.specs.Prelude.{◌≡◌, ℕ, List, reverse, Option, Some, None, IfSome}
+use Rattle.std.specs.Prelude.{◌≡◌, ℕ, List, reverse, Option, IfSome}
 use Rattle.traces.specs.Printed.{IsPrintable, entries_in, lines_of_log}
 use Rattle.traces.specs.Progress.{all_told}
 

@@ -1,14 +1,12 @@
-//! The lines of what passes a port.
-ghost use Rattle.std.specs.Prelude.{◌≡◌, ◌∷◌, [], IfOk, OnOk, string_bytes};
+//! The lines of events that pass a port.
+ghost use Rattle.std.specs.Prelude.{◌≡◌, IfOk, OnOk, string_bytes};
 ghost use Rattle.std.specs.List.{AllByRecursion};
-ghost use Rattle.gateway.specs.Log.{Went};
-ghost use Rattle.gateway.specs.Ports.{FitsBuffer, output_of, told_by};
-ghost use Rattle.traces.specs.Actions.{line_of};
+ghost use Rattle.gateway.specs.Ports.{FitsBuffer, told_by};
 ghost use Rattle.traces.specs.Printed.{IsPrintable, lines_of_log};
 
-use gateway::{Action, Next};
+use gateway::Next;
 use std::alloc::{AllocError, Global};
-use traces::{append_action, append_event};
+use traces::append_event;
 
 /// The line of an event, or nothing where a port has none. An `Err` is want of memory.
 pub(crate) fn event_line(alloc: Global, next: Next, buf: &[u8; 1024]) -> Result<String, AllocError>
@@ -18,19 +16,5 @@ pub(crate) fn event_line(alloc: Global, next: Next, buf: &[u8; 1024]) -> Result<
 {
     let mut line = String::new(alloc);
     append_event(alloc, &mut line, next, buf)?;
-    Ok(line)
-}
-
-/// The line of an action. An `Err` is want of memory.
-pub(crate) fn action_line(
-    alloc: Global,
-    now: u64,
-    action: &Action<'_>,
-) -> Result<String, AllocError>
-    ensures line { IfOk result (λ line. string_bytes line ≡ line_of now (output_of action.now)) }
-    ensures printable { OnOk result (IsPrintable (Went now (output_of action.now))) }
-{
-    let mut line = String::new(alloc);
-    append_action(alloc, &mut line, now, action)?;
     Ok(line)
 }

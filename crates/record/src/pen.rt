@@ -8,12 +8,12 @@ ghost use Rattle.record.specs.Written.{AreLines, IsWritten};
 ghost use Rattle.traces.specs.Actions.{line_of};
 ghost use Rattle.traces.specs.Printed.{IsPrintable, lines_of_log};
 
-use crate::lines::{action_line, event_line};
+use crate::lines::event_line;
 use crate::sheet::Sheet;
 use gateway::{Action, Next};
 use std::alloc::Global;
 use std::marker::Model;
-use traces::printed_lines_read_back;
+use traces::{print_action, printed_lines_read_back};
 
 /// Writes lines down, and gives them to its sheet, until that takes none any more. What it has
 /// written is always the lines of a log.
@@ -150,13 +150,12 @@ impl<W: Sheet + Drop> Pen<W> {
             ≡ held_or_over result (line_of now (output_of action.now)) self.old }
         ensures printable { result ≡ true → IsPrintable (Went now (output_of action.now)) }
     {
-        match action_line(self.alloc, now, action) {
-            Ok(line) => self.hold(line.as_str()),
-            Err(_) => {
-                self.end();
-                false
-            }
+        printed_lines_read_back();
+        if print_action(self.alloc, &mut self.held, now, action).is_err() {
+            self.end();
+            return false;
         }
+        true
     }
 
     /// Writes an event down, whose octets are the front of the buffer. Once the record is over it

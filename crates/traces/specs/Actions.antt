@@ -6,6 +6,11 @@ use Rattle.gateway.specs.Log.{Log, LogEntry, Output, LineOut, TcpOut, Closed, Ga
 use Rattle.gateway.specs.Entries.{number_of, told_of}
 use Rattle.gateway.specs.declared.entries.Told.{Told}
 
+-- an action with octets, by its letter
+abbrev pub octets_line : (now letter : ℕ) → (octets : List ℕ) → List ℕ
+octets_line now letter octets =
+    decimal now ++ codes " > " ++ letter ∷ codes " " ++ encode_upper octets ++ 10 ∷ []
+
 -- octets to the line (S), an APDU to TCP (T), a close with the number of its cause (X), or a gap
 -- (G) with the number of the station, from 1, and that of the session that ended
 abbrev pub request_line : (now : ℕ) → (octets : List ℕ) → List ℕ

@@ -1,21 +1,16 @@
 //! The lines of actions.
-ghost use Rattle.std.specs.Prelude.{◌≡◌, ◌++◌, IfOk, OnOk, string_bytes};
+ghost use Rattle.std.specs.Prelude.{◌≡◌, ◌+◌, ◌*◌, ◌++◌, IfSome, OnOk, OnErr, string_bytes};
+ghost use Rattle.gateway.specs.Entries.{number_of};
 ghost use Rattle.gateway.specs.Log.{Went, GapOut};
 ghost use Rattle.gateway.specs.Ports.{output_of};
-ghost use Rattle.hex.specs.Hex.{IsBytes, encode_upper};
-ghost use Rattle.traces.specs.Actions.{line_of, gap_line, stored_line};
+ghost use Rattle.hex.specs.Hex.{IsBytes};
+ghost use Rattle.traces.specs.Actions.{line_of, octets_line, close_line, gap_line, stored_line};
 ghost use Rattle.traces.specs.Printed.{IsPrintable};
 
+use crate::printing::{push_digits, push_letter, push_number};
 use gateway::{Action, Told, cause_number};
+use session::Close;
 use std::alloc::{AllocError, Global};
-
-/// Octets in hexadecimal, in upper case.
-fn digits_of(alloc: Global, octets: &[u8]) -> Result<String, AllocError>
-    ensures digits { IfOk result (λ digits. string_bytes digits ≡ encode_upper octets.now) }
-    ensures octets { IsBytes octets.now }
-{
-    hex::encode_upper(alloc, octets)
-}
 
 /// Appends the line of a gap of a station, from 0.
 fn append_gap(lines: &mut String, now: u64, station: usize, session: u64) -> Result<(), AllocError>
@@ -28,31 +23,82 @@ fn append_gap(lines: &mut String, now: u64, station: usize, session: u64) -> Res
     writeln!(lines, "{now} > G {place} {session}")
 }
 
-/// Appends the line of an action. An `Err` is want of memory.
-pub fn append_action(
+/// Most octets of a line of an action beside its octets in hexadecimal: a moment of 20 digits, the
+/// letter with what surrounds it, and the line's end.
+const MOST_BESIDE: usize = 26;
+
+/// The room that the line of an action with so many octets needs at most.
+fn room_for(octets: usize) -> Option<usize>
+    ensures { IfSome result (λ room. room ≡ 2 * octets + 26) }
+{
+    octets.checked_mul(2)?.checked_add(MOST_BESIDE)
+}
+
+/// Prints the line of an action with octets.
+fn print_octets(page: &mut Vec<u8>, now: u64, letter: u8, octets: &[u8]) -> Result<(), AllocError>
+    ensures line { OnOk result (page.new.items ≡ page.old.items
+        ++ octets_line now letter octets.now) }
+    ensures none { OnErr result (page.new.items ≡ page.old.items) }
+    ensures octets { OnOk result (IsBytes octets.now) }
+{
+    let Some(room) = room_for(octets.len()) else {
+        return Err(AllocError);
+    };
+    page.try_reserve(room)?;
+    push_number(page, now);
+    push_letter(page, letter);
+    push_digits(page, octets);
+    page.push_reserved(b'\n');
+    Ok(())
+}
+
+/// Prints the line of a close.
+fn print_close(alloc: Global, page: &mut Vec<u8>, now: u64, cause: Close) -> Result<(), AllocError>
+    ensures line { OnOk result (page.new.items ≡ page.old.items
+        ++ close_line now (number_of cause)) }
+    ensures none { OnErr result (page.new.items ≡ page.old.items) }
+{
+    let mut line = String::new(alloc);
+    let number = cause_number(cause);
+    writeln!(line, "{now} > X {number}")?;
+    page.extend_from_slice(line.as_bytes())
+}
+
+/// Prints the line of a gap of a station, from 0.
+fn print_gap(
     alloc: Global,
-    lines: &mut String,
+    page: &mut Vec<u8>,
+    now: u64,
+    station: usize,
+    session: u64,
+) -> Result<(), AllocError>
+    ensures line { OnOk result (page.new.items ≡ page.old.items
+        ++ gap_line now station session) }
+    ensures none { OnErr result (page.new.items ≡ page.old.items) }
+    ensures printable { IsPrintable (Went now (GapOut station session)) }
+{
+    let mut line = String::new(alloc);
+    append_gap(&mut line, now, station, session)?;
+    page.extend_from_slice(line.as_bytes())
+}
+
+/// Prints the line of an action on a page. An `Err` is want of memory, and then nothing was printed.
+pub fn print_action(
+    alloc: Global,
+    page: &mut Vec<u8>,
     now: u64,
     action: &Action<'_>,
 ) -> Result<(), AllocError>
-    ensures line { OnOk result (string_bytes lines.new ≡ string_bytes lines.old
+    ensures line { OnOk result (page.new.items ≡ page.old.items
         ++ line_of now (output_of action.now)) }
+    ensures none { OnErr result (page.new.items ≡ page.old.items) }
     ensures printable { OnOk result (IsPrintable (Went now (output_of action.now))) }
 {
     match action {
-        Action::Line(octets) => {
-            let text = digits_of(alloc, *octets)?;
-            writeln!(lines, "{now} > S {text}")
-        }
-        Action::Tcp(octets) => {
-            let text = digits_of(alloc, *octets)?;
-            writeln!(lines, "{now} > T {text}")
-        }
-        Action::Close(cause) => {
-            let number = cause_number(*cause);
-            writeln!(lines, "{now} > X {number}")
-        }
-        Action::Gap { station, session } => append_gap(lines, now, *station, *session),
+        Action::Line(octets) => print_octets(page, now, b'S', *octets),
+        Action::Tcp(octets) => print_octets(page, now, b'T', *octets),
+        Action::Close(cause) => print_close(alloc, page, now, *cause),
+        Action::Gap { station, session } => print_gap(alloc, page, now, *station, *session),
     }
 }
 

@@ -26,12 +26,13 @@ mod laws;
 mod lines;
 mod octets;
 mod port;
+mod printing;
 mod reading;
 mod readings;
 mod recorded;
 mod text_port;
 
-pub use actions::{append_action, append_line};
+pub use actions::{append_line, print_action};
 pub use decimal::decimal as read_decimal;
 pub use examples::printed_lines_by_example;
 pub use judging::judge;

@@ -9,7 +9,7 @@ ghost use Rattle.traces.specs.Fields.{parts_after};
 ghost use Rattle.traces.specs.Progress.{IsFirst, IsRight, script_in, log_in, coming_in, tells_event};
 ghost use Rattle.traces.specs.Trace.{first_wrong, lines_of};
 
-use crate::actions::append_action;
+use crate::actions::print_action;
 use crate::event::{FirstLine, announce, first_line};
 use gateway::{Action, Next, Port};
 use std::alloc::Global;
@@ -29,8 +29,6 @@ pub struct TextPort<'a> {
     /// Whether an entry of the log is an event, the oldest first.
     marks: Vec<bool>,
     page: Vec<u8>,
-    /// The line that is being printed.
-    line: String,
     failures: u64,
 }
 
@@ -109,7 +107,6 @@ impl<'a> TextPort<'a> {
             is_started: false,
             marks: Vec::new(alloc),
             page: Vec::new(alloc),
-            line: String::new(alloc),
             failures: 0,
         }
     }
@@ -128,7 +125,6 @@ impl<'a> TextPort<'a> {
             is_started: _,
             marks: _,
             page,
-            line: _,
             failures: _,
         } = self;
         page
@@ -175,10 +171,7 @@ impl<'a> Port for TextPort<'a> {
             self.failures += 1;
             return false;
         }
-        self.line.clear();
-        if append_action(self.alloc, &mut self.line, now, action).is_err()
-            || self.page.extend_from_slice(self.line.as_bytes()).is_err()
-        {
+        if print_action(self.alloc, &mut self.page, now, action).is_err() {
             self.failures += 1;
             return false;
         }
