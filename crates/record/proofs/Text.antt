@@ -3,11 +3,13 @@ use Rattle.std.proofs.Common.{◌≡◌, ℕ, Bool, true, false, List, [], ◌�
 use Rattle.std.proofs.lemmas.List.{append-nil, reverse-reverse}
 use Rattle.std.specs.List.{AllByRecursion}
 use Rattle.std.specs.Prelude.{is_err, Result, Ok, Err, OnOk}
-use Rattle.gateway.specs.Log.{Log, tell}
+use Rattle.gateway.specs.Log.{Log, LogEntry, tell}
+use Rattle.gateway.specs.Ports.{told_by}
+use Rattle.gateway.specs.declared.ports.Next.{Next}
 use Rattle.traces.specs.Printed.{IsPrintable, entries_in, line_of_entry, lines_of_log}
 use Rattle.traces.specs.Progress.{all_told}
 use Rattle.record.specs.Law.{grows_by}
-use Rattle.record.specs.Recording.{Recording, IsKept, Gives, Notes, added, text_of, log_of, told_behind, told_first, passed, given, held_by, held_or_over}
+use Rattle.record.specs.Recording.{Recording, IsKept, Gives, Hears, Notes, added, text_of, log_of, told_behind, told_first, unless_over, passed, given, held_by, held_or_over}
 use Rattle.record.specs.Written.{log_in, IsText, IsWritten, AreLines}
 
 -- two texts behind one another
@@ -60,6 +62,38 @@ pub gives_taken : (old new : Recording) → Gives old new → new.is_over ≡ fa
 gives_taken old new g goes =
     let P : Recording → Type 0 = λ r. r.is_over ≡ false → r.taken ≡ text_of old in
     subst P (sym g.done) (took old.is_over g.taken old refl) goes
+
+kept_over : (over taken : Bool) (old : Recording) → old.is_over ≡ over
+    → (if over then old else given taken old).is_over ≡ true →
+    (if over then old else given taken old) ≡ record old { is_over = true }
+kept_over true taken old over ends = ap (λ b. record old { is_over = b }) over
+kept_over false true old over ends = let no : false ≡ true = sym over ∙ ends in absurd (cc)
+kept_over false false old over ends = refl
+
+pub gives_over : (old new : Recording) → Gives old new → new.is_over ≡ true → new ≡ record old { is_over = true }
+gives_over old new g ends =
+    let P : Recording → Type 0 = λ r. r.is_over ≡ true → r ≡ record old { is_over = true } in
+    subst P (sym g.done) (kept_over old.is_over g.taken old refl) ends
+
+-- where the record goes on, it did before
+went_on : (over taken : Bool) (old : Recording) → old.is_over ≡ over
+    → (if over then old else given taken old).is_over ≡ false → old.is_over ≡ false
+went_on true taken old over goes = goes
+went_on false taken old over goes = over
+
+gave_on : (old new : Recording) → Gives old new → new.is_over ≡ false → old.is_over ≡ false
+gave_on old new g goes =
+    let P : Recording → Type 0 = λ r. r.is_over ≡ false → old.is_over ≡ false in
+    subst P (sym g.done) (went_on old.is_over g.taken old refl) goes
+
+-- the line of an event that came has been taken, with all that was held
+pub hears_line : (old new : Recording) (next : Next) (buf : List ℕ) → Hears old next buf new → new.is_over ≡ false
+    → new.taken ≡ added (text_of old) (lines_of_log (told_by next buf))
+hears_line old new next buf h goes =
+    let grows : grows_by h.noted.is_over old (lines_of_log (told_by next buf)) h.noted
+    = notes_line old h.noted (told_by next buf) h.notes in
+    let P : Bool → Type 0 = λ b. grows_by b old (lines_of_log (told_by next buf)) h.noted in
+    gives_taken h.noted new h.gives goes ∙ subst P (gave_on h.noted new h.gives goes) grows
 
 pub ends : (old new : Recording) (news : Log) → Notes old news new → old.is_over ≡ true → new ≡ passed news old
 ends old new news n over =

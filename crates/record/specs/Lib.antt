@@ -1,3 +1,4 @@
 pub mod Written
 pub mod Recording
 pub mod Law
+pub mod Examples

@@ -1,13 +1,16 @@
 //! What holds of every record.
-ghost use Rattle.std.specs.Prelude.{◌≡◌, true, false};
+ghost use Rattle.std.specs.Prelude.{◌≡◌, ℕ, List, true, false};
 ghost use Rattle.gateway.specs.Log.{Log};
+ghost use Rattle.gateway.specs.Ports.{told_by};
+ghost use Rattle.gateway.specs.declared.ports.Next.{Next};
 ghost use Rattle.record.specs.Law.{grows_by};
-ghost use Rattle.record.specs.Recording.{Recording, Gives, Notes, passed, text_of};
+ghost use Rattle.record.specs.Recording.{Recording, Gives, Hears, Notes, added, passed, text_of};
 ghost use Rattle.traces.specs.Printed.{lines_of_log};
 
 /// The text of a record grows by the line of what passed, and by nothing else. Once the record is
-/// over it stays as it is, and what passes is missed; until then, when an event is passed on, the
-/// sheet has taken the text of all that passed before, and the event's line.
+/// over it stays as it is, nothing more is given to the sheet, and what passes is missed; until
+/// then, when an event is passed on, the sheet has taken the text of all that passed before, and the
+/// event's line.
 pub fn a_record_is_the_text_of_what_passed()
     ensures notes { (old new : Recording) (news : Log) → Notes old news new →
         grows_by new.is_over old (lines_of_log news) new }
@@ -16,4 +19,9 @@ pub fn a_record_is_the_text_of_what_passed()
         new.taken ≡ text_of old }
     ensures ends { (old new : Recording) (news : Log) → Notes old news new →
         old.is_over ≡ true → new ≡ passed news old }
+    ensures over { (old new : Recording) → Gives old new → new.is_over ≡ true →
+        new ≡ record old { is_over = true } }
+    ensures hears { (old new : Recording) (next : Next) (buf : List ℕ) → Hears old next buf new →
+        new.is_over ≡ false →
+        new.taken ≡ added (text_of old) (lines_of_log (told_by next buf)) }
 {}

@@ -13,12 +13,14 @@
 //! is proved of its record. Where the sheet doesn't tell them the log is that of the port inside.
 #![tactic(auto)]
 
+mod examples;
 mod laws;
 mod lines;
 mod pen;
 mod recorder;
 mod sheet;
 
+pub use examples::{records_by_example, texts_are_read_by_example};
 pub use laws::a_record_is_the_text_of_what_passed;
 pub use pen::Pen;
 pub use recorder::Recorder;

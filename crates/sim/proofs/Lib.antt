@@ -5,6 +5,7 @@ pub mod Steps
 pub mod Standing
 pub mod Spoils
 pub mod HearingLemmas
+pub mod Hearings
 pub mod Below
 pub mod Requests
 pub mod Turns

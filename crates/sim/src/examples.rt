@@ -1,10 +1,12 @@
 //! Scripts, calls and closing lines by worked examples: literal texts and octets.
-ghost use Rattle.std.specs.Prelude.{◌≡◌, ◌++◌, ◌∷◌, [], ℕ, List, codes, replicate, true, false, Some, None};
+ghost use Rattle.std.specs.Prelude.{◌≡◌, ◌++◌, ◌∷◌, [], ℕ, List, codes, replicate, true, false, Option, Some, None};
+ghost use Rattle.ft12.specs.declared.frame.Frame.{Frame};
 ghost use Rattle.ft12.specs.declared.frame.Frame.TheVariants.{Single, Fixed};
 ghost use Rattle.ft12.specs.declared.frame.LinkSize.TheVariants.{One, Two};
 ghost use Rattle.gateway.specs.Log.{Input, LineIn, Opened, TcpIn, CutOff, Ticked, WallIs, LineOut, TcpOut, Closed, GapOut, Came, Went};
 ghost use Rattle.gateway.specs.declared.entries.Entry.TheVariants as entry;
 ghost use Rattle.gateway.specs.declared.entries.Told.TheVariants as told;
+ghost use Rattle.link.specs.Secondary.{Secondary};
 ghost use Rattle.session.specs.declared.kinds.Close.TheVariants.{Grammar};
 ghost use Rattle.sim.specs.declared.directive.Class.TheVariants as class;
 ghost use Rattle.sim.specs.declared.directive.Directive.TheVariants.{Turns, Ack, Wall, Report, LoseRequest, LoseAnswer, SpoilAnswer, Cut, Send};
@@ -12,12 +14,14 @@ ghost use Rattle.sim.specs.declared.directive.Fate.TheVariants.{Unheard, AnswerL
 ghost use Rattle.sim.specs.Calls.{calls_in, moment_of, event_at, lasting, next_moment};
 ghost use Rattle.sim.specs.Centres.{shut, opened, centre_of, data_apdu};
 ghost use Rattle.sim.specs.Directives.{of_three, of_four, reporting_by, sending_by};
-ghost use Rattle.sim.specs.Examples.{started, command, with_script, says, line, wrong_line};
-ghost use Rattle.sim.specs.Lives.{Plan, arriving, later, requests_in, waiting_in};
+ghost use Rattle.sim.specs.Examples.{started, busy, command, with_script, says, line, wrong_line, unreset, was_reset, two_stations, with_two_stations, reset_of_1, reset_of_2, spoilt_reset, Leaves};
+ghost use Rattle.sim.specs.Lives.{Plan, AreLived, arriving, later, requests_in, waiting_in};
 ghost use Rattle.sim.specs.Losses.{turns_of, ack_of, wall_at, is_cut_at, sent_at, fate_of, report_said};
-ghost use Rattle.sim.specs.Scripts.{clashes};
+ghost use Rattle.sim.specs.Scripts.{clashes, lines_of};
 ghost use Rattle.traces.specs.Fields.{octets_of};
 ghost use Rattle.sim.specs.Texts.{station_line, connection_line, connection_lines, line_of_sessions};
+
+use ft12::{spellings_cancel, spoilt_lines_are_no_lines};
 
 /// What each line of a script says, the edges of its ranges and what no line says (docs/TEXTS.md
 /// has them in words); which lines clash; and the first wrong line of a text.
@@ -66,6 +70,11 @@ pub fn scripts_by_example()
         × (clashes (Send 1 command) (Send 2 command) ≡ false)
         × (clashes (Cut 1) (Cut 1) ≡ false) × (clashes (LoseAnswer 1) (LoseAnswer 1) ≡ false)
         × (clashes (Report 0 class.One []) (Report 0 class.One []) ≡ false) }
+    // What follows the last line feed is a line where there is something.
+    ensures lines { (lines_of (line (codes "a") ++ line [] ++ line (codes "b"))
+        ≡ codes "a" ∷ [] ∷ codes "b" ∷ [])
+        × (lines_of (line (codes "a") ++ codes "b") ≡ codes "a" ∷ codes "b" ∷ [])
+        × (lines_of [] ≡ []) }
     ensures texts { (wrong_line (line (codes "turns 1")) ≡ None)
         × (wrong_line (codes "turns 1") ≡ None) × (wrong_line [] ≡ Some 1)
         × (wrong_line (line (codes "# turns 1") ++ line [] ++ line (codes "ack 1")) ≡ Some 4)
@@ -83,6 +92,7 @@ pub fn losses_by_example()
     // The status of station 1: FT1.2, function 11.
     ensures answers { (arriving One Answered (Some (Fixed 0x0B 1))
         ≡ Some (0x10 ∷ 0x0B ∷ 0x01 ∷ 0x0C ∷ 0x16 ∷ []))
+        × (arriving One Answered (Some Single) ≡ Some (0xE5 ∷ []))
         × (arriving One (AnswerSpoilt 1) (Some (Fixed 0x0B 1))
         ≡ Some (0x10 ∷ 0xF4 ∷ 0x01 ∷ 0x0C ∷ 0x16 ∷ []))
         × (arriving One (AnswerSpoilt 8) (Some (Fixed 0x0B 1))
@@ -115,6 +125,27 @@ pub fn losses_by_example()
         (Some Single ∷ Some Single ∷ []) ≡ None)
         × (requests_in (Went 3 (LineOut []) ∷ Came 2 Ticked ∷ Went 1 (LineOut []) ∷ []) ≡ 2) }
 {}
+
+/// What stations hear, as literal octets, and how they answer (IEC 60870-5-2, 5.1: a reset of the
+/// link is confirmed, here by `E5`): a request that isn't lost is heard by all and answered by the
+/// one whose address it has, whatever becomes of that answer. Octets that are no frame are heard by
+/// none.
+pub fn hearings_by_example()
+    ensures heard { Leaves Answered reset_of_1 (Some Single) (was_reset 1 ∷ unreset 2 ∷ [])
+        × Leaves Answered reset_of_2 (Some Single) (unreset 1 ∷ was_reset 2 ∷ [])
+        × Leaves AnswerLost reset_of_1 (Some Single) (was_reset 1 ∷ unreset 2 ∷ [])
+        × Leaves (AnswerSpoilt 1) reset_of_2 (Some Single) (unreset 1 ∷ was_reset 2 ∷ []) }
+    ensures unheard { Leaves Unheard reset_of_1 None two_stations
+        × Leaves Answered spoilt_reset None two_stations }
+    ensures lived { (plan : Plan) (answers : List (Option Frame)) (stations : List Secondary) →
+        AreLived (with_two_stations plan (LoseRequest 2 ∷ []))
+        (Went 3 (LineOut reset_of_2) ∷ Came 2 Ticked ∷ Went 1 (LineOut reset_of_1) ∷ [])
+        answers stations →
+        (answers ≡ None ∷ Some Single ∷ []) × (stations ≡ was_reset 1 ∷ unreset 2 ∷ []) }
+{
+    spellings_cancel();
+    spoilt_lines_are_no_lines();
+}
 
 /// What each call gives, the first of seven that applies, and how long it takes; and what the
 /// control centre knows and sends (IEC 60870-5-104, 5.1 and 5.3).
@@ -152,6 +183,12 @@ pub fn calls_by_example()
         × (centre_of (Came 2 CutOff ∷ Came 1 Opened ∷ []) ≡ shut) × (centre_of [] ≡ shut)
         × (centre_of (Came 3 Opened ∷ Came 2 (TcpIn (0x68 ∷ 0x04 ∷ 0x07 ∷ [])) ∷ Came 1 Opened ∷ [])
         ≡ opened) }
+    // Nothing is left of a connection once it is over.
+    ensures reopened { (centre_of busy ≡ started 1 1 1)
+        × (centre_of (Came 5 Opened ∷ busy) ≡ opened)
+        × (centre_of (Came 5 CutOff ∷ busy) ≡ shut)
+        × (centre_of (Went 5 (Closed Grammar) ∷ busy) ≡ shut)
+        × (centre_of (Came 6 Opened ∷ Came 5 CutOff ∷ busy) ≡ opened) }
     ensures turned_round { data_apdu (started 32769 32770 0) command
         ≡ 0x68 ∷ 0x0E ∷ 0x02 ∷ 0x00 ∷ 0x04 ∷ 0x00 ∷ command }
 {}

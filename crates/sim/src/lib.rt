@@ -26,8 +26,9 @@
 //! it is the beginning of that text (`specs/Runs.antt`).
 //!
 //! Worked examples have literal texts and octets: of scripts ([`scripts_by_example`]), of what they
-//! do to requests and answers ([`losses_by_example`]), of calls ([`calls_by_example`]) and of
-//! closing lines ([`closing_lines_by_example`]).
+//! do to requests and answers ([`losses_by_example`]), of what stations hear
+//! ([`hearings_by_example`]), of calls ([`calls_by_example`]) and of closing lines
+//! ([`closing_lines_by_example`]).
 //!
 //! Not proved: that a report is ever asked for, or that want of memory is the only cause of
 //! `NoMemory`.
@@ -51,7 +52,8 @@ mod text;
 
 pub use directive::{Class, Directive, Fate};
 pub use examples::{
-    calls_by_example, closing_lines_by_example, losses_by_example, scripts_by_example,
+    calls_by_example, closing_lines_by_example, hearings_by_example, losses_by_example,
+    scripts_by_example,
 };
 pub use laws::{connections_are_counted, stations_are_honest};
 pub use reading::read_script;

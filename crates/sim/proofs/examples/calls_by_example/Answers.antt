@@ -13,5 +13,8 @@ returns-clause-counts c = (refl, refl, refl, λ plan. refl)
 pub returns-clause-centre : goal.returns-clause-centre
 returns-clause-centre c = (refl, refl, refl, refl, refl, refl, refl, refl, refl, refl)
 
+pub returns-clause-reopened : goal.returns-clause-reopened
+returns-clause-reopened c = (refl, refl, refl, refl, refl)
+
 pub returns-clause-turned_round : goal.returns-clause-turned_round
 returns-clause-turned_round c = refl

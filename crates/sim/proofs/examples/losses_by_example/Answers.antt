@@ -5,7 +5,7 @@ pub returns-clause-fates : goal.returns-clause-fates
 returns-clause-fates c = (refl, refl, refl, refl)
 
 pub returns-clause-answers : goal.returns-clause-answers
-returns-clause-answers c = (refl, refl, refl, refl, refl, refl, refl, refl)
+returns-clause-answers c = (refl, refl, refl, refl, refl, refl, refl, refl, refl)
 
 pub returns-clause-numbers : goal.returns-clause-numbers
 returns-clause-numbers c = (refl, refl, refl, refl, refl, refl, refl)

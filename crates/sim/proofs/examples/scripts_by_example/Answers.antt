@@ -24,5 +24,8 @@ returns-clause-lengths c = (refl, refl, refl, refl, refl, refl, refl, refl)
 pub returns-clause-clash : goal.returns-clause-clash
 returns-clause-clash c = (refl, refl, refl, refl, refl, refl, refl, refl, refl, refl)
 
+pub returns-clause-lines : goal.returns-clause-lines
+returns-clause-lines c = (refl, refl, refl)
+
 pub returns-clause-texts : goal.returns-clause-texts
 returns-clause-texts c = (refl, refl, refl, refl, refl, refl)
