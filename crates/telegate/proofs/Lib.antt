@@ -6,3 +6,4 @@ pub mod Printing
 pub mod Addresses
 pub mod Turning
 pub mod AuditLemmas
+pub mod Worded

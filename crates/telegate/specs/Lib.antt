@@ -6,3 +6,4 @@ pub mod CommandLine
 pub mod Shell
 pub mod Guests
 pub mod Audits
+pub mod Examples

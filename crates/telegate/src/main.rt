@@ -10,8 +10,9 @@
 //! or the version. Proved of `perform`: what it appends to a writer that tells its octets is the
 //! text of the command's answer and nothing else, nothing where a text is refused, and a beginning
 //! of the answer's text where the writer failed; the exit status is that of the answer or of the
-//! first fault. What the system's files, terminals and sockets do, and the lines of faults, are
-//! tested.
+//! first fault. Literal words, with what they ask for or how they end, are worked examples
+//! (`words_by_example`). What the system's files, terminals and sockets do, and the lines of
+//! faults, are tested.
 #![tactic(auto)]
 
 mod answer;
@@ -19,6 +20,7 @@ mod auditing;
 mod check;
 mod closing;
 mod command_line;
+mod examples;
 mod fault;
 mod guests;
 mod help;
