@@ -1,5 +1,5 @@
 -- A record that is made whole: the lines of a text, and what stands behind the last line feed.
-use Rattle.std.proofs.Common.{◌≡◌, ℕ, ◌+◌, ◌-◌, ◌==◌, Bool, true, false, ◌||◌, if◌then◌else◌, List, [], ◌∷◌, ◌++◌, codes, length, take, Option, Some, None, suc, refl, sym, ap, subst, ◌∙◌, append_assoc, arith, length-append}
+use Rattle.std.proofs.Common.{◌≡◌, ℕ, ◌+◌, ◌-◌, ◌==◌, Bool, true, false, ◌||◌, if◌then◌else◌, List, [], ◌∷◌, ◌++◌, codes, length, take, Some, None, refl, sym, ap, subst, ◌∙◌, append_assoc, arith, length-append}
 use Rattle.std.proofs.lemmas.Bool.{eqb-true}
 use Rattle.std.proofs.lemmas.Grind.{flat_map-append}
 use Rattle.std.proofs.lemmas.List.{append-nil}
@@ -9,8 +9,9 @@ use Rattle.std.proofs.lemmas.List.Splits.{slice_split_at, slice_split_none}
 use Rattle.std.proofs.lemmas.Slice.Eq.{bytes_eq-Decides}
 use Rattle.std.specs.List.{All, AllByRecursion, flat_map, list_any, slice_get, slice_split}
 use Rattle.std.specs.Str.{bytes_eq}
+use Rattle.traces.specs.Printed.{HasNoMark}
 use Rattle.audit.specs.Record.{whole_lines, is_cut, is_first, behind_first, first_difference, rest_behind, ended, mark_after, mark_behind, rest_of}
-use Rattle.audit.specs.Whole.{kept_lines, HasNoMark, IsMadeWhole, IsRestOf}
+use Rattle.audit.specs.Whole.{kept_lines, IsMadeWhole, IsRestOf}
 
 -- Lines and what stands behind them
 
@@ -339,8 +340,8 @@ made_whole text run plain none =
     (ap (λ ls. first_difference 1 ls (whole_lines run)) (sym is) ∙ none))
 
 pub with_rest : (text rest run : List ℕ) → rest ≡ rest_of text (whole_lines run)
-    → (HasNoMark run → IsMadeWhole text (rest_of text (whole_lines run)) (whole_lines run)) → IsRestOf text rest run
+    → IsMadeWhole text (rest_of text (whole_lines run)) (whole_lines run) → IsRestOf text rest run
 with_rest text rest run is made = record {
   is = is;
-  makes = λ plain. subst (λ r. IsMadeWhole text r (whole_lines run)) (sym is) (made plain);
+  makes = subst (λ r. IsMadeWhole text r (whole_lines run)) (sym is) made;
 }

@@ -1,5 +1,6 @@
 -- What the audit of a recorded run answers (this gateway's own profile).
 use Rattle.std.specs.Prelude.{◌≡◌, ℕ, List, length, map, count_by, Result, Ok, Err, Some, None, Vec, MatchResult}
+use Rattle.std.specs.List.{AllByRecursion}
 use Rattle.std.specs.declared.alloc.Global.{Global}
 use Rattle.gateway.specs.Config.{Settings}
 use Rattle.gateway.specs.Entries.{event_of}
@@ -9,7 +10,7 @@ use Rattle.gateway.specs.Setups.{setup_of}
 use Rattle.gateway.specs.Traffic.{IsFaithful, HasRested}
 use Rattle.gateway.specs.declared.entries.Entry.{Entry}
 use Rattle.delivery.specs.Delivery.{Delivers}
-use Rattle.traces.specs.Printed.{lines_of_log}
+use Rattle.traces.specs.Printed.{IsPrintable, lines_of_log}
 use Rattle.traces.specs.Trace.{IsTraceOf}
 use Rattle.traces.specs.declared.reading.TextFault.{TextFault}
 use Rattle.traces.specs.declared.reading.TextFault.TheVariants.{Line, NoMemory}
@@ -17,14 +18,15 @@ use Rattle.audit.specs.Record.{whole_lines, is_action, trace_of, first_differenc
 use Rattle.audit.specs.declared.audit.Verdict.{Verdict}
 use Rattle.audit.specs.declared.audit.Verdict.TheVariants.{Same, Differs}
 
--- The run over these entries: its events are these, and it keeps every promise of a gateway with
--- these settings, and so delivers what the outstations reported.
+-- The run over these entries: its events are these, it keeps every promise of a gateway with these
+-- settings, and so delivers what the outstations reported, and its lines can be printed.
 pub record IsRunOver (settings : Settings) (entries : List Entry) (log : Log) : Type 0 where
   pub events : events_of log ≡ map event_of entries
   pub faithful : IsFaithful (setup_of settings) log
   pub rests : HasRested (setup_of settings) log
   pub ordered : KeepsOrder log
   pub delivers : Delivers (setup_of settings) log
+  pub printable : AllByRecursion IsPrintable log
 
 -- the same: each whole line of the record is that of the run, and so many are events and actions;
 -- else the first line that isn't

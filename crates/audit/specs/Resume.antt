@@ -14,7 +14,6 @@ use Rattle.traces.specs.declared.reading.TextFault.{TextFault}
 use Rattle.audit.specs.Audit.{IsRunOver, IsAuditFault}
 use Rattle.audit.specs.Record.{whole_lines, trace_of, first_difference}
 use Rattle.audit.specs.Whole.{IsRestOf}
-use Rattle.audit.specs.declared.resume.Resumed.{Resumed}
 use Rattle.audit.specs.declared.resume.Resumption.{Resumption}
 use Rattle.audit.specs.declared.resume.Resumption.TheVariants.{Goes, Differs}
 

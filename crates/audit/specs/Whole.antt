@@ -1,16 +1,11 @@
 -- A record that is made whole (this gateway's own profile).
-use Rattle.std.specs.Prelude.{◌≡◌, ℕ, ◌==◌, Bool, true, false, if◌then◌else◌, List, [], ◌∷◌, ◌++◌, None}
-use Rattle.std.specs.List.{list_any}
+use Rattle.std.specs.Prelude.{◌≡◌, ℕ, if◌then◌else◌, List, [], ◌∷◌, ◌++◌, None}
 use Rattle.audit.specs.Record.{whole_lines, is_cut, first_difference, rest_of}
 
 -- the lines that weren't cut short
 abbrev pub kept_lines : List (List ℕ) → List (List ℕ)
 kept_lines [] = []
 kept_lines (line ∷ lines) = if is_cut line then kept_lines lines else line ∷ kept_lines lines
-
--- a text without the mark of a line that was cut short
-abbrev pub HasNoMark : List ℕ → Type 0
-HasNoMark text = list_any (λ b. b == 33) text ≡ false
 
 -- With this rest behind it a record is that of the whole run: its lines but for those that were cut
 -- short are the lines of the run, and none differs.
@@ -21,4 +16,4 @@ pub record IsMadeWhole (text rest : List ℕ) (run : List (List ℕ)) : Type 0 w
 -- what is missing of the record of this run
 pub record IsRestOf (text rest run : List ℕ) : Type 0 where
   pub is : rest ≡ rest_of text (whole_lines run)
-  pub makes : HasNoMark run → IsMadeWhole text rest (whole_lines run)
+  pub makes : IsMadeWhole text rest (whole_lines run)

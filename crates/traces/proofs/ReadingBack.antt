@@ -1,14 +1,15 @@
 -- A printed line is read as the entry that it was printed of.
-use Rattle.std.proofs.Common.{◌≡◌, ℕ, ◌+◌, ◌-◌, ◌*◌, ◌^◌, ◌<◌, ◌≤◌, ◌==◌, nat_le, ◌&&◌, Bool, true, false, List, [], ◌∷◌, ◌++◌, length, reverse, Option, Some, None, option_map, if◌then◌else◌, refl, sym, ap, ◌∙◌, arith, append_assoc}
+use Rattle.std.proofs.Common.{◌≡◌, ℕ, ◌+◌, ◌-◌, ◌*◌, ◌^◌, ◌<◌, ◌≤◌, ◌==◌, nat_le, ◌&&◌, ◌||◌, Bool, true, false, List, [], ◌∷◌, ◌++◌, length, reverse, Option, Some, None, option_map, if◌then◌else◌, refl, sym, ap, ◌∙◌, arith, append_assoc}
 use Rattle.std.proofs.lemmas.List.{append-nil, reverse-append}
 use Rattle.std.proofs.lemmas.List.Elements.{All-append, All-cons, All-nil}
+use Rattle.std.proofs.lemmas.List.Folds.{list_any_none, list_any-append}
 use Rattle.std.proofs.lemmas.List.Splits.{slice_split_at, slice_split_none, length-slice_split}
 use Rattle.std.proofs.lemmas.Fmt.{decimal_is_IsNumeral_wide, length-decimal-le_wide}
 use Rattle.std.proofs.lemmas.Str.Parse.{digit_from_value}
 use Rattle.std.proofs.lemmas.Str.{digit_value_digit}
 use Rattle.std.specs.Str.Parse.{IsNumeral, AllDigits, digits_value_after, digits_value}
 use Rattle.std.specs.Char.{digit_value}
-use Rattle.std.specs.List.{All, AllByRecursion, slice_split}
+use Rattle.std.specs.List.{All, AllByRecursion, list_any, slice_split}
 use Rattle.std.specs.Option.{option_and_then}
 use Rattle.std.specs.Result.{result_ok}
 use Rattle.std.specs.Fmt.{decimal}
@@ -24,19 +25,19 @@ use Rattle.traces.specs.Fields.{digits_after, decimal_of, octets_of, some_octets
 use Rattle.traces.specs.Event.{event_of, event_from, event_in, bare_at, octets_at, wall_at}
 use Rattle.traces.specs.Trace.{lines_of, is_skipped}
 use Rattle.traces.specs.Actions.{line_of, lines_of_actions}
-use Rattle.traces.specs.Printed.{FitsTrace, IsFirstOf, IsPrintable, IsPrintableEvent, IsPrintableAction, line_of_event, line_of_entry, lines_of_log, number_in, octets_in_hex, cause_numbered, gap_at, came_at, went_at, entry_from, entry_in, before_those, entries_of_parts, entries_in, actions_of, ArePrinted}
+use Rattle.traces.specs.Printed.{FitsTrace, HasNoMark, IsFirstOf, IsPrintable, IsPrintableEvent, IsPrintableAction, line_of_event, line_of_entry, lines_of_log, number_in, octets_in_hex, cause_numbered, gap_at, came_at, went_at, entry_from, entry_in, before_those, entries_of_parts, entries_in, actions_of, ArePrinted}
 
 -- Fields without separators
 
--- a field has neither spaces nor line feeds
+-- a field has neither spaces nor line feeds, nor `!`
 abbrev IsPlain : List ℕ → Type 0
-IsPlain field = All (λ b. 32 < b) field
+IsPlain field = All (λ b. 33 < b) field
 
-plain_split : (separator : ℕ) (field : List ℕ) → separator ≤ 32 → IsPlain field
+plain_split : (separator : ℕ) (field : List ℕ) → separator ≤ 33 → IsPlain field
     → All (λ b. (b == separator) ≡ false) field
 plain_split separator field le plain i x is = other _ (plain i x is)
   where
-    other : (b : ℕ) → 32 < b → (b == separator) ≡ false
+    other : (b : ℕ) → 33 < b → (b == separator) ≡ false
     other b lt = grind arith
 
 -- fields with a space between each two
@@ -52,13 +53,28 @@ spaced_fields field (next ∷ fields) plain all =
     slice_split_at (λ b. b == 32) field 32 (spaced next fields) (plain_split 32 field (omega arith) plain) refl
     ∙ ap (λ (l : List (List ℕ)). field ∷ l) (spaced_fields next fields all.0 all.1)
 
--- and has no line feed
+-- and of the octets up to `!` it has spaces alone
+spaced_without : (other : ℕ) (field : List ℕ) (fields : List (List ℕ)) → other ≤ 33 → (32 == other) ≡ false
+    → IsPlain field → AllByRecursion IsPlain fields → All (λ b. (b == other) ≡ false) (spaced field fields)
+spaced_without other field [] le differs plain all = plain_split other field le plain
+spaced_without other field (next ∷ fields) le differs plain all =
+    All-append (λ b. (b == other) ≡ false) field (32 ∷ spaced next fields) (plain_split other field le plain)
+    (All-cons (λ b. (b == other) ≡ false) 32 (spaced next fields) differs
+    (spaced_without other next fields le differs all.0 all.1))
+
+-- so it has no line feed
 spaced_line : (field : List ℕ) (fields : List (List ℕ)) → IsPlain field → AllByRecursion IsPlain fields
     → All (λ b. (b == 10) ≡ false) (spaced field fields)
-spaced_line field [] plain all = plain_split 10 field (omega arith) plain
-spaced_line field (next ∷ fields) plain all =
-    All-append (λ b. (b == 10) ≡ false) field (32 ∷ spaced next fields) (plain_split 10 field (omega arith) plain)
-    (All-cons (λ b. (b == 10) ≡ false) 32 (spaced next fields) refl (spaced_line next fields all.0 all.1))
+spaced_line field fields plain all = spaced_without 10 field fields (omega arith) refl plain all
+
+-- nor `!`, which no line feed is either
+line_unmarked : (field : List ℕ) (fields : List (List ℕ)) → IsPlain field → AllByRecursion IsPlain fields
+    → HasNoMark (spaced field fields ++ 10 ∷ [])
+line_unmarked field fields plain all =
+    list_any_none (λ b. b == 33) (spaced field fields ++ 10 ∷ [])
+    (All-append (λ b. (b == 33) ≡ false) (spaced field fields) (10 ∷ [])
+    (spaced_without 33 field fields (omega arith) refl plain all)
+    (All-cons (λ b. (b == 33) ≡ false) 10 [] refl (All-nil (λ b. (b == 33) ≡ false))))
 
 -- Texts of lines
 
@@ -85,8 +101,8 @@ fields_first field fields text plain all =
 -- Numbers
 
 digits_plain : (ds : List ℕ) → AllDigits 10 ds → IsPlain ds
-digits_plain [] all = All-nil (λ b. 32 < b)
-digits_plain (d ∷ ds) all = All-cons (λ b. 32 < b) d ds (omega (arith, digit_from_value d all.0))
+digits_plain [] all = All-nil (λ b. 33 < b)
+digits_plain (d ∷ ds) all = All-cons (λ b. 33 < b) d ds (omega (arith, digit_from_value d all.0))
     (digits_plain ds all.1)
 
 digits_read : (n : ℕ) (ds : List ℕ) → AllDigits 10 ds → digits_after n ds ≡ Some (digits_value_after 10 n ds)
@@ -127,12 +143,12 @@ number_read n lt =
 
 -- Octets
 
-hex_plain : (c : ℕ) → is_hex_digit c ≡ true → 32 < c
+hex_plain : (c : ℕ) → is_hex_digit c ≡ true → 33 < c
 hex_plain c is = go (nat_le 65 c && nat_le c 70) (nat_le 97 c && nat_le c 102) (nat_le 48 c
     && nat_le c 57) refl refl refl
   where
     go : (x y z : Bool) → (nat_le 65 c && nat_le c 70) ≡ x → (nat_le 97 c && nat_le c 102) ≡ y
-        → (nat_le 48 c && nat_le c 57) ≡ z → 32 < c
+        → (nat_le 48 c && nat_le c 57) ≡ z → 33 < c
     go true y z e f g = grind arith
     go false true z e f g = grind arith
     go false false true e f g = grind arith
@@ -168,8 +184,8 @@ cause_small Replaced = omega arith
 
 -- Words
 
-word : (c : ℕ) → 32 < c → IsPlain (c ∷ [])
-word c lt = All-cons (λ b. 32 < b) c [] lt (All-nil (λ b. 32 < b))
+word : (c : ℕ) → 33 < c → IsPlain (c ∷ [])
+word c lt = All-cons (λ b. 33 < b) c [] lt (All-nil (λ b. 33 < b))
 
 -- Entries
 
@@ -189,12 +205,26 @@ lined_gap a b c d text =
     ∙ ap (λ (l : List ℕ). l ++ 10 ∷ text) (append_assoc ((a ++ b) ++ c) (32 ∷ []) d ∙ append_assoc (a ++ b) c (32 ∷ d)
     ∙ append_assoc a b (c ++ 32 ∷ d))
 
-read_as : (line field : List ℕ) (fields : List (List ℕ)) (text : List ℕ) (entry : LogEntry)
-    → line ++ text ≡ spaced field fields ++ 10 ∷ text → IsPlain field → AllByRecursion IsPlain fields →
-    entry_from (field ∷ fields) ≡ Some entry → entries_in (line ++ text) ≡ before_those (Some entry) (entries_in text)
-read_as line field fields text entry same plain all is =
-    ap entries_in same ∙ fields_first field fields text plain all
-    ∙ ap (λ (o : Option LogEntry). before_those o (entries_in text)) is
+-- a line of fields that tells this entry
+record IsShaped (line : List ℕ) (entry : LogEntry) : Type 0 where
+  field : List ℕ
+  fields : List (List ℕ)
+  same : (text : List ℕ) → line ++ text ≡ spaced field fields ++ 10 ∷ text
+  plain : IsPlain field
+  all : AllByRecursion IsPlain fields
+  is : entry_from (field ∷ fields) ≡ Some entry
+
+shaped : (line field : List ℕ) (fields : List (List ℕ)) (entry : LogEntry)
+    → ((text : List ℕ) → line ++ text ≡ spaced field fields ++ 10 ∷ text) → IsPlain field
+    → AllByRecursion IsPlain fields → entry_from (field ∷ fields) ≡ Some entry → IsShaped line entry
+shaped line field fields entry same plain all is = record {
+  field = field;
+  fields = fields;
+  same = same;
+  plain = plain;
+  all = all;
+  is = is;
+}
 
 came : (now : ℕ) (told : Option Input) (event : Input) → now < 2 ^ 64 → told ≡ Some event
     → came_at (number_in (decimal now)) told ≡ Some (Came now event)
@@ -224,42 +254,42 @@ gap_read station session lt less =
     same = omega arith
 
 -- events
-event_first : (now : ℕ) (event : Input) (text : List ℕ) → now < 2 ^ 64 → IsPrintableEvent event
-    → entries_in (line_of_event now event ++ text) ≡ before_those (Some (Came now event)) (entries_in text)
-event_first now (LineIn octets) text lt ok =
-    read_as (line_of_event now (LineIn octets)) (decimal now) ((83 ∷ []) ∷ encode_upper octets ∷ []) text
+event_shaped : (now : ℕ) (event : Input) → now < 2 ^ 64 → IsPrintableEvent event
+    → IsShaped (line_of_event now event) (Came now event)
+event_shaped now (LineIn octets) lt ok =
+    shaped (line_of_event now (LineIn octets)) (decimal now) ((83 ∷ []) ∷ encode_upper octets ∷ [])
     (Came now (LineIn octets))
-    (lined (decimal now) (32 ∷ 83 ∷ 32 ∷ []) (encode_upper octets) text) (moment_plain now lt) (
+    (lined (decimal now) (32 ∷ 83 ∷ 32 ∷ []) (encode_upper octets)) (moment_plain now lt) (
       word 83 (omega arith),
       (octets_plain octets ok, tt),
     )
     (came now (option_map LineIn (octets_in_hex (encode_upper octets))) (LineIn octets) lt
     (ap (option_map LineIn) (octets_read octets ok)))
-event_first now Opened text lt ok =
-    read_as (line_of_event now Opened) (decimal now) ((79 ∷ []) ∷ []) text (Came now Opened)
-    (lined_two (decimal now) (32 ∷ 79 ∷ []) text) (moment_plain now lt) (word 79 (omega arith), tt)
+event_shaped now Opened lt ok =
+    shaped (line_of_event now Opened) (decimal now) ((79 ∷ []) ∷ []) (Came now Opened)
+    (lined_two (decimal now) (32 ∷ 79 ∷ [])) (moment_plain now lt) (word 79 (omega arith), tt)
     (came now (Some Opened) Opened lt refl)
-event_first now (TcpIn octets) text lt ok =
-    read_as (line_of_event now (TcpIn octets)) (decimal now) ((82 ∷ []) ∷ encode_upper octets ∷ []) text
+event_shaped now (TcpIn octets) lt ok =
+    shaped (line_of_event now (TcpIn octets)) (decimal now) ((82 ∷ []) ∷ encode_upper octets ∷ [])
     (Came now (TcpIn octets))
-    (lined (decimal now) (32 ∷ 82 ∷ 32 ∷ []) (encode_upper octets) text) (moment_plain now lt) (
+    (lined (decimal now) (32 ∷ 82 ∷ 32 ∷ []) (encode_upper octets)) (moment_plain now lt) (
       word 82 (omega arith),
       (octets_plain octets ok, tt),
     )
     (came now (option_map TcpIn (octets_in_hex (encode_upper octets))) (TcpIn octets) lt
     (ap (option_map TcpIn) (octets_read octets ok)))
-event_first now CutOff text lt ok =
-    read_as (line_of_event now CutOff) (decimal now) ((67 ∷ []) ∷ []) text (Came now CutOff)
-    (lined_two (decimal now) (32 ∷ 67 ∷ []) text) (moment_plain now lt) (word 67 (omega arith), tt)
+event_shaped now CutOff lt ok =
+    shaped (line_of_event now CutOff) (decimal now) ((67 ∷ []) ∷ []) (Came now CutOff)
+    (lined_two (decimal now) (32 ∷ 67 ∷ [])) (moment_plain now lt) (word 67 (omega arith), tt)
     (came now (Some CutOff) CutOff lt refl)
-event_first now Ticked text lt ok =
-    read_as (line_of_event now Ticked) (decimal now) ((84 ∷ []) ∷ []) text (Came now Ticked)
-    (lined_two (decimal now) (32 ∷ 84 ∷ []) text) (moment_plain now lt) (word 84 (omega arith), tt)
+event_shaped now Ticked lt ok =
+    shaped (line_of_event now Ticked) (decimal now) ((84 ∷ []) ∷ []) (Came now Ticked)
+    (lined_two (decimal now) (32 ∷ 84 ∷ [])) (moment_plain now lt) (word 84 (omega arith), tt)
     (came now (Some Ticked) Ticked lt refl)
-event_first now (WallIs number) text lt ok =
-    read_as (line_of_event now (WallIs number)) (decimal now) ((87 ∷ []) ∷ decimal number ∷ []) text
+event_shaped now (WallIs number) lt ok =
+    shaped (line_of_event now (WallIs number)) (decimal now) ((87 ∷ []) ∷ decimal number ∷ [])
     (Came now (WallIs number))
-    (lined (decimal now) (32 ∷ 87 ∷ 32 ∷ []) (decimal number) text) (moment_plain now lt) (
+    (lined (decimal now) (32 ∷ 87 ∷ 32 ∷ []) (decimal number)) (moment_plain now lt) (
       word 87 (omega arith),
       (moment_plain number ok, tt),
     )
@@ -267,35 +297,35 @@ event_first now (WallIs number) text lt ok =
     (ap (option_map WallIs) (number_read number (omega (arith, ok)))))
 
 -- actions
-action_first : (now : ℕ) (action : Output) (text : List ℕ) → now < 2 ^ 64 → IsPrintableAction action
-    → entries_in (line_of now action ++ text) ≡ before_those (Some (Went now action)) (entries_in text)
-action_first now (LineOut octets) text lt ok =
-    read_as (line_of now (LineOut octets)) (decimal now) ((62 ∷ []) ∷ (83 ∷ []) ∷ encode_upper octets ∷ []) text
+action_shaped : (now : ℕ) (action : Output) → now < 2 ^ 64 → IsPrintableAction action
+    → IsShaped (line_of now action) (Went now action)
+action_shaped now (LineOut octets) lt ok =
+    shaped (line_of now (LineOut octets)) (decimal now) ((62 ∷ []) ∷ (83 ∷ []) ∷ encode_upper octets ∷ [])
     (Went now (LineOut octets))
-    (lined (decimal now) (32 ∷ 62 ∷ 32 ∷ 83 ∷ 32 ∷ []) (encode_upper octets) text) (moment_plain now lt)
+    (lined (decimal now) (32 ∷ 62 ∷ 32 ∷ 83 ∷ 32 ∷ []) (encode_upper octets)) (moment_plain now lt)
     (word 62 (omega arith), (word 83 (omega arith), (octets_plain octets ok, tt)))
     (went now (option_map LineOut (octets_in_hex (encode_upper octets))) (LineOut octets) lt
     (ap (option_map LineOut) (octets_read octets ok)))
-action_first now (TcpOut octets) text lt ok =
-    read_as (line_of now (TcpOut octets)) (decimal now) ((62 ∷ []) ∷ (84 ∷ []) ∷ encode_upper octets ∷ []) text
+action_shaped now (TcpOut octets) lt ok =
+    shaped (line_of now (TcpOut octets)) (decimal now) ((62 ∷ []) ∷ (84 ∷ []) ∷ encode_upper octets ∷ [])
     (Went now (TcpOut octets))
-    (lined (decimal now) (32 ∷ 62 ∷ 32 ∷ 84 ∷ 32 ∷ []) (encode_upper octets) text) (moment_plain now lt)
+    (lined (decimal now) (32 ∷ 62 ∷ 32 ∷ 84 ∷ 32 ∷ []) (encode_upper octets)) (moment_plain now lt)
     (word 62 (omega arith), (word 84 (omega arith), (octets_plain octets ok, tt)))
     (went now (option_map TcpOut (octets_in_hex (encode_upper octets))) (TcpOut octets) lt
     (ap (option_map TcpOut) (octets_read octets ok)))
-action_first now (Closed cause) text lt ok =
-    read_as (line_of now (Closed cause)) (decimal now) ((62 ∷ []) ∷ (88 ∷ []) ∷ decimal (number_of cause) ∷ []) text
+action_shaped now (Closed cause) lt ok =
+    shaped (line_of now (Closed cause)) (decimal now) ((62 ∷ []) ∷ (88 ∷ []) ∷ decimal (number_of cause) ∷ [])
     (Went now (Closed cause))
-    (lined (decimal now) (32 ∷ 62 ∷ 32 ∷ 88 ∷ 32 ∷ []) (decimal (number_of cause)) text) (moment_plain now lt)
+    (lined (decimal now) (32 ∷ 62 ∷ 32 ∷ 88 ∷ 32 ∷ []) (decimal (number_of cause))) (moment_plain now lt)
     (word 62 (omega arith), (word 88 (omega arith), (number_plain (number_of cause) (cause_small cause), tt)))
     (went now (option_map Closed (option_and_then cause_numbered (number_in (decimal (number_of cause)))))
     (Closed cause) lt
     (ap (λ (o : Option ℕ). option_map Closed (option_and_then cause_numbered o))
     (number_read (number_of cause) (cause_small cause)) ∙ ap (option_map Closed) (cause_read cause)))
-action_first now (GapOut station session) text lt ok =
-    read_as (line_of now (GapOut station session)) (decimal now) ((62 ∷ []) ∷ (71 ∷ []) ∷ decimal (station + 1)
-    ∷ decimal session ∷ []) text (Went now (GapOut station session))
-    (lined_gap (decimal now) (32 ∷ 62 ∷ 32 ∷ 71 ∷ 32 ∷ []) (decimal (station + 1)) (decimal session) text)
+action_shaped now (GapOut station session) lt ok =
+    shaped (line_of now (GapOut station session)) (decimal now) ((62 ∷ []) ∷ (71 ∷ []) ∷ decimal (station + 1)
+    ∷ decimal session ∷ []) (Went now (GapOut station session))
+    (lined_gap (decimal now) (32 ∷ 62 ∷ 32 ∷ 71 ∷ 32 ∷ []) (decimal (station + 1)) (decimal session))
     (moment_plain now lt) (
       word 62 (omega arith),
       (
@@ -306,10 +336,22 @@ action_first now (GapOut station session) text lt ok =
     (went now (gap_at (number_in (decimal (station + 1))) (number_in (decimal session))) (GapOut station session) lt
     (gap_read station session ok.0 ok.1))
 
+entry_shaped : (entry : LogEntry) → IsPrintable entry → IsShaped (line_of_entry entry) entry
+entry_shaped (Came now event) ok = event_shaped now event ok.0 ok.1
+entry_shaped (Went now action) ok = action_shaped now action ok.0 ok.1
+
 pub first_read : (entry : LogEntry) (text : List ℕ) → IsPrintable entry
     → entries_in (line_of_entry entry ++ text) ≡ before_those (Some entry) (entries_in text)
-first_read (Came now event) text ok = event_first now event text ok.0 ok.1
-first_read (Went now action) text ok = action_first now action text ok.0 ok.1
+first_read entry text ok =
+    let s = entry_shaped entry ok in
+    ap entries_in (s.same text) ∙ fields_first s.field s.fields text s.plain s.all
+    ∙ ap (λ (o : Option LogEntry). before_those o (entries_in text)) s.is
+
+entry_unmarked : (entry : LogEntry) → IsPrintable entry → HasNoMark (line_of_entry entry)
+entry_unmarked entry ok =
+    let s = entry_shaped entry ok in
+    ap (list_any (λ b. b == 33)) (sym (append-nil (line_of_entry entry)) ∙ s.same [])
+    ∙ line_unmarked s.field s.fields s.plain s.all
 
 -- Logs
 
@@ -325,6 +367,14 @@ log_before (entry ∷ log) text all =
     ap entries_in (append_assoc (lines_of_log log) (line_of_entry entry) text)
     ∙ log_before log (line_of_entry entry ++ text) all.1
     ∙ ap (told_before log) (first_read entry text all.0)
+
+-- no line has the mark of one that was cut short
+pub log_unmarked : (log : Log) → AllByRecursion IsPrintable log → HasNoMark (lines_of_log log)
+log_unmarked [] all = refl
+log_unmarked (entry ∷ log) all =
+    list_any-append (λ b. b == 33) (lines_of_log log) (line_of_entry entry)
+    ∙ ap (λ b. b || list_any (λ b. b == 33) (line_of_entry entry)) (log_unmarked log all.1)
+    ∙ entry_unmarked entry all.0
 
 told_reversed : (log : Log) (entries : List LogEntry) → told_before log (Some entries) ≡ Some (reverse log ++ entries)
 told_reversed [] entries = refl

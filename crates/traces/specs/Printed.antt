@@ -1,17 +1,19 @@
 -- The text of a log (texts of this gateway's own profile): a line for each event, as a trace has
 -- it, and one for each action, as a run prints it; and what such a text tells, line by line.
-use Rattle.std.specs.Prelude.{◌≡◌, ℕ, ◌-◌, ◌<◌, ◌≤◌, ◌^◌, ◌==◌, nat_le, ◌&&◌, if◌then◌else◌, List, [], ◌∷◌, ◌++◌, codes, length, Option, Some, None, option_map}
+use Rattle.std.specs.Prelude.{◌≡◌, ℕ, ◌-◌, ◌<◌, ◌≤◌, ◌^◌, ◌==◌, nat_le, ◌&&◌, false, if◌then◌else◌, List, [], ◌∷◌, ◌++◌, codes, length, Option, Some, None, option_map}
 use Rattle.std.specs.Option.{option_and_then}
 use Rattle.std.specs.Result.{result_ok}
-use Rattle.std.specs.List.{slice_split}
+use Rattle.std.specs.List.{list_any, slice_split}
 use Rattle.std.specs.Str.{bytes_eq}
 use Rattle.std.specs.Fmt.{decimal}
 use Rattle.hex.specs.Hex.{encode_upper, decode_of, IsBytes}
 use Rattle.session.specs.declared.kinds.Close.{Close}
 use Rattle.gateway.specs.Log.{Log, LogEntry, Came, Went, Input, LineIn, Opened, TcpIn, CutOff, Ticked, WallIs, Output, LineOut, TcpOut, Closed, GapOut, last_moment}
-use Rattle.gateway.specs.Entries.{cause_of}
+use Rattle.gateway.specs.Entries.{cause_of, told_of}
 use Rattle.gateway.specs.declared.entries.Entry.{Entry}
 use Rattle.gateway.specs.declared.entries.Entry.TheVariants as entries
+use Rattle.gateway.specs.declared.entries.Told.{Told}
+use Rattle.gateway.specs.declared.entries.Told.TheVariants as stored
 use Rattle.traces.specs.Fields.{digits_after}
 use Rattle.traces.specs.Actions.{line_of}
 use Rattle.traces.specs.Event.{event_of}
@@ -55,11 +57,20 @@ abbrev pub IsPrintable : LogEntry → Type 0
 IsPrintable (Came now event) = (now < 2 ^ 64) × IsPrintableEvent event
 IsPrintable (Went now action) = (now < 2 ^ 64) × IsPrintableAction action
 
+-- an action that is stored is one of these; of an event this says nothing
+abbrev pub IsPrintableTold : Told → Type 0
+IsPrintableTold (stored.Came entry) = Unit {0}
+IsPrintableTold told = IsPrintable (told_of told)
+
 -- each action of a log is one of these
 abbrev pub ArePrinted : Log → Type 0
 ArePrinted [] = Unit {0}
 ArePrinted (Came now event ∷ log) = ArePrinted log
 ArePrinted (Went now action ∷ log) = IsPrintable (Went now action) × ArePrinted log
+
+-- a text without `!` (33), with which who goes on with a record ends a line that was cut short
+abbrev pub HasNoMark : List ℕ → Type 0
+HasNoMark text = list_any (λ b. b == 33) text ≡ false
 
 -- Traces
 

@@ -5,8 +5,9 @@ ghost use Rattle.gateway.specs.Log.{Went, GapOut};
 ghost use Rattle.gateway.specs.Ports.{output_of};
 ghost use Rattle.hex.specs.Hex.{IsBytes};
 ghost use Rattle.traces.specs.Actions.{line_of, octets_line, close_line, gap_line, stored_line};
-ghost use Rattle.traces.specs.Printed.{IsPrintable};
+ghost use Rattle.traces.specs.Printed.{IsPrintable, IsPrintableTold};
 
+use crate::octets::hex_digits;
 use crate::printing::{push_digits, push_letter, push_number};
 use gateway::{Action, Told, cause_number};
 use session::Close;
@@ -82,7 +83,7 @@ fn print_gap(
     page.extend_from_slice(line.as_bytes())
 }
 
-/// Prints the line of an action on a page. An `Err` is want of memory, and then nothing was printed.
+/// Prints the line of an action on a page. An `Err` is want of memory; then nothing was printed.
 pub fn print_action(
     alloc: Global,
     page: &mut Vec<u8>,
@@ -104,20 +105,24 @@ pub fn print_action(
 
 /// Appends the line of an action that is stored; an event has none. An `Err` is want of memory.
 pub fn append_line(alloc: Global, lines: &mut String, told: &Told) -> Result<(), AllocError>
-    ensures { OnOk result (string_bytes lines.new ≡ string_bytes lines.old
+    ensures line { OnOk result (string_bytes lines.new ≡ string_bytes lines.old
         ++ stored_line told.now) }
+    ensures printable { OnOk result (IsPrintableTold told.now) }
 {
     match told {
         Told::Came(_) => Ok(()),
         Told::Line(now, octets) => {
-            let digits = hex::encode_upper(alloc, octets.as_slice())?;
+            let now = *now;
+            let digits = hex_digits(alloc, octets.as_slice())?;
             writeln!(lines, "{now} > S {digits}")
         }
         Told::Tcp(now, octets) => {
-            let digits = hex::encode_upper(alloc, octets.as_slice())?;
+            let now = *now;
+            let digits = hex_digits(alloc, octets.as_slice())?;
             writeln!(lines, "{now} > T {digits}")
         }
         Told::Close(now, cause) => {
+            let now = *now;
             let number = cause_number(*cause);
             writeln!(lines, "{now} > X {number}")
         }

@@ -1,6 +1,6 @@
 //! Octets in hexadecimal.
-ghost use Rattle.std.specs.Prelude.{◌≡◌, ◌≤◌, IfOk, IfSome, IsSome, is_some, length, option_map, take};
-ghost use Rattle.hex.specs.Hex.{is_hex_digit};
+ghost use Rattle.std.specs.Prelude.{◌≡◌, ◌≤◌, IfOk, IfSome, IsSome, is_some, length, option_map, string_bytes, take};
+ghost use Rattle.hex.specs.Hex.{IsBytes, encode_upper, is_hex_digit};
 ghost use Rattle.std.specs.List.{list_all};
 ghost use Rattle.traces.specs.Fields.{octets_of};
 
@@ -22,6 +22,14 @@ pub fn read_octets(alloc: Global, text: &[u8]) -> Result<Option<Vec<u8>>, AllocE
         Err(FromHexError::OutOfMemory) => Err(AllocError),
         Err(_) => Ok(None),
     }
+}
+
+/// Octets in hexadecimal, in upper case. An `Err` is want of memory.
+pub fn hex_digits(alloc: Global, octets: &[u8]) -> Result<String, AllocError>
+    ensures digits { IfOk result (λ digits. string_bytes digits ≡ encode_upper octets.now) }
+    ensures octets { IsBytes octets.now }
+{
+    hex::encode_upper(alloc, octets)
 }
 
 /// Whether a text is 1 to 1,024 octets in hexadecimal.

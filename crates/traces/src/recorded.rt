@@ -4,6 +4,7 @@ ghost use Rattle.gateway.specs.Ports.{FitsBuffer, told_by};
 ghost use Rattle.std.specs.List.{AllByRecursion};
 ghost use Rattle.traces.specs.Printed.{IsPrintable, lines_of_log};
 
+use crate::octets::hex_digits;
 use gateway::Next;
 use std::alloc::{AllocError, Global};
 
@@ -22,12 +23,12 @@ pub fn append_event(
 {
     match next {
         Next::Line(now, len) => {
-            let digits = hex::encode_upper(alloc, &buf[..len])?;
+            let digits = hex_digits(alloc, &buf[..len])?;
             writeln!(lines, "{now} S {digits}")
         }
         Next::Open(now) => writeln!(lines, "{now} O"),
         Next::Bytes(now, len) => {
-            let digits = hex::encode_upper(alloc, &buf[..len])?;
+            let digits = hex_digits(alloc, &buf[..len])?;
             writeln!(lines, "{now} R {digits}")
         }
         Next::Cut(now) => writeln!(lines, "{now} C"),

@@ -2,7 +2,7 @@ use Rattle.std.proofs.Common.{◌≡◌, Some, None, Ok, subst, ◌∙◌, rules
 use Rattle.traces.specs.Printed.{lines_of_log}
 use Rattle.traces.specs.Trace.{IsTraceOf}
 use Rattle.audit.specs.Resume.{last_moment}
-use Rattle.audit.specs.Record.{whole_lines, trace_of, first_difference, rest_of}
+use Rattle.audit.specs.Record.{whole_lines, trace_of, first_difference}
 use Rattle.audit.proofs.Whole.{with_rest}
 use Rattle.audit.proofs.resume.resume_record.Goals as goal
 
@@ -41,6 +41,6 @@ returns c = λ settings begins.
         run.3,
         moment,
         with_rest c.args.text.now _ (lines_of_log run.0) (search (rules, run.2))
-            (λ plain. c.a_record_is_made_whole.ensures c.args.text.now (lines_of_log run.0) plain found),
+            (c.a_record_is_made_whole.ensures c.args.text.now run.0 run.1.printable found),
       );
     }

@@ -1,4 +1,4 @@
-use Rattle.traces.proofs.ReadingBack.{first_read, log_read, actions_read, event_told}
+use Rattle.traces.proofs.ReadingBack.{first_read, log_read, log_unmarked, actions_read, event_told}
 use Rattle.traces.proofs.laws.printed_lines_read_back.Goals as goal
 
 pub returns-clause-first : goal.returns-clause-first
@@ -12,3 +12,6 @@ returns-clause-actions c = λ log all. actions_read log all
 
 pub returns-clause-events : goal.returns-clause-events
 returns-clause-events c = λ entry text fits. event_told entry text fits
+
+pub returns-clause-marks : goal.returns-clause-marks
+returns-clause-marks c = λ log all. log_unmarked log all
