@@ -69,7 +69,11 @@ pub two_are : (name first second : Text) (one_given other_given : Option Text) (
     ((one.now ≡ first) × (other.now ≡ second))
 two_are name first second one_given other_given one other a b = record {
   there = λ h. ((word_is first one_given one.now a).there h.1, (word_is second other_given other.now b).there h.2);
-  back = λ same. (refl, (word_is first one_given one.now a).back same.0, (word_is second other_given other.now b).back same.1);
+  back = λ same. (
+    refl,
+    (word_is first one_given one.now a).back same.0,
+    (word_is second other_given other.now b).back same.1,
+  );
 }
 
 -- two words and two flags

@@ -42,8 +42,8 @@ AskTwo words of first second = (one other : Bor Text)
 
 -- for a run over a trace, with these closing lines
 abbrev pub AskReplay : List Text → (config trace : Text) → (left counts : Bool) → Type 0
-AskReplay words config trace left counts = (c t : Bor Text) (l n : Bool) → Ask words (Replay c t l n)
-    ((c.now ≡ config) × (t.now ≡ trace) × (l ≡ left) × (n ≡ counts))
+AskReplay words config trace left counts = (c t : Bor Text) (l n : Bool) →
+    Ask words (Replay c t l n) ((c.now ≡ config) × (t.now ≡ trace) × (l ≡ left) × (n ≡ counts))
 
 -- for a live run
 abbrev pub AskRun : List Text → (config : Text) → (redial log recorded : Bool)

@@ -34,11 +34,31 @@ returns-clause-replays c = (
 pub returns-clause-runs : goal.returns-clause-runs
 unfolding bundle_met walked flags_fault walk_fault defaults_fault
 returns-clause-runs c = (
-  λ c r l w from guests. (refl, run_is (codes "a") false false false None None _ _ _ _ _ _ c r l w from guests refl refl refl refl refl refl),
-  λ c r l w from guests. (refl, run_is (codes "a") true false false None None _ _ _ _ _ _ c r l w from guests refl refl refl refl refl refl),
-  λ c r l w from guests. (refl, run_is (codes "a") false true false None None _ _ _ _ _ _ c r l w from guests refl refl refl refl refl refl),
-  λ c r l w from guests. (refl, run_is (codes "a") false false true (Some (codes "b")) None _ _ _ _ _ _ c r l w from guests refl refl refl refl refl refl),
-  λ c r l w from guests. (refl, run_is (codes "a") false false false None (Some (codes "b" ∷ codes "c" ∷ [])) _ _ _ _ _ _ c r l w from guests refl refl refl refl refl refl),
+  λ c r l w from guests. (
+    refl,
+    run_is (codes "a") false false false None None _ _ _ _ _ _ c r l w from guests refl
+        refl refl refl refl refl,
+  ),
+  λ c r l w from guests. (
+    refl,
+    run_is (codes "a") true false false None None _ _ _ _ _ _ c r l w from guests refl refl
+        refl refl refl refl,
+  ),
+  λ c r l w from guests. (
+    refl,
+    run_is (codes "a") false true false None None _ _ _ _ _ _ c r l w from guests refl refl
+        refl refl refl refl,
+  ),
+  λ c r l w from guests. (
+    refl,
+    run_is (codes "a") false false true
+        (Some (codes "b")) None _ _ _ _ _ _ c r l w from guests refl refl refl refl refl refl,
+  ),
+  λ c r l w from guests. (
+    refl,
+    run_is (codes "a") false false false None
+        (Some (codes "b" ∷ codes "c" ∷ [])) _ _ _ _ _ _ c r l w from guests refl refl refl refl refl refl,
+  ),
 )
 
 pub returns-clause-wrong : goal.returns-clause-wrong
