@@ -12,7 +12,7 @@ use Rattle.asdu.specs.declared.sizes.Sizes.{Sizes}
 use Rattle.command.specs.declared.content.Element.{Element}
 use Rattle.command.specs.declared.content.Element.TheVariants.{Octet, SetPoint}
 use Rattle.command.specs.declared.station.StationInfo.{StationInfo}
-use Rattle.command.specs.Standard.{common_address, object_address, has_tag, plain_type, operates, tag_length, tag_of, element_part, whole_length, are_near, is_fresh, not_fresh, is_process_type, is_activation, is_deactivating, last_octet, selects, executes, have_one_target, are_equal, apart_from_select, have_one_element, is_test, have_one_test_bit, is_positive_confirmation, is_negative_confirmation, is_object_of, is_only_object_of, confirms_command, refuses_command, is_for_each, is_for_station, must_be_selected, station_of, first_cause, malformed, may_operate, not_permitted, names_object, cause_of_fault}
+use Rattle.command.specs.Standard.{common_address, object_address, has_tag, plain_type, operates, tag_length, tag_of, element_part, whole_length, is_fresh, not_fresh, is_process_type, is_activation, is_deactivating, last_octet, selects, executes, have_one_target, are_equal, apart_from_select, have_one_element, is_test, have_one_test_bit, is_positive_confirmation, is_negative_confirmation, is_object_of, is_only_object_of, confirms_command, refuses_command, is_for_each, is_for_station, must_be_selected, station_of, first_cause, malformed, may_operate, not_permitted, names_object, cause_of_fault}
 use Rattle.command.specs.Octets.{negative}
 use Rattle.command.specs.Command.{is_process_command, is_tagged, line_kind, is_set_point, element_len, tag_len, command_len, element_at, element_octets, command_at, qualifier, without_select, is_select, is_execute, is_permitted}
 use Rattle.command.specs.Selection.{target_of, same_target, same_element, same_test}

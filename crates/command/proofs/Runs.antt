@@ -9,7 +9,6 @@ use Rattle.command.specs.declared.waiting.Waiting.{Waiting}
 use Rattle.command.specs.declared.waiting.Line.{Line}
 use Rattle.command.specs.declared.waiting.Line.TheVariants as line
 use Rattle.command.specs.declared.selection.Sign.TheVariants as sign
-use Rattle.command.specs.declared.selection.Selection.{Selection}
 use Rattle.command.specs.Octets.{answer, negative}
 use Rattle.command.specs.Selection.{advanced}
 use Rattle.command.specs.State as state

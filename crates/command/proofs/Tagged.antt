@@ -1,8 +1,8 @@
 -- What goes out is fresh, and the tags that are kept are those of the latest first sendings.
-use Rattle.std.proofs.Common.{◌≡◌, ℕ, zero, suc, ◌+◌, ◌-◌, ◌≤◌, ◌<◌, ◌&&◌, ◌||◌, Bool, true, false, not, List, [], ◌∷◌, ◌++◌, length, map, reverse, take, drop, slice_index, refl, sym, subst, ap, ◌∙◌, arith, rules}
-use Rattle.std.specs.Prelude.{◌==◌, Option, Some, None, if◌then◌else◌, option_map, nat_le}
+use Rattle.std.proofs.Common.{◌≡◌, ℕ, zero, suc, ◌+◌, ◌-◌, ◌≤◌, ◌&&◌, Bool, true, false, not, List, [], ◌∷◌, ◌++◌, length, map, reverse, take, drop, slice_index, refl, sym, subst, ap, ◌∙◌, arith, rules}
+use Rattle.std.specs.Prelude.{Option, Some, None, if◌then◌else◌, option_map, nat_le}
 use Rattle.std.proofs.lemmas.Bool.{and_parts, leb-true}
-use Rattle.std.proofs.lemmas.List.{length-append, length-drop, length-reverse, reverse-append, take-append-drop, take-append-le, take_all}
+use Rattle.std.proofs.lemmas.List.{length-drop, length-reverse, reverse-append, take-append-drop, take-append-le, take_all}
 use Rattle.elements.specs.TimeTag.{verdict_of}
 use Rattle.elements.specs.declared.tag.Cp56.{Cp56}
 use Rattle.elements.specs.declared.tag.Verdict.{Verdict}
@@ -13,11 +13,11 @@ use Rattle.command.specs.declared.content.Target.{Target}
 use Rattle.command.specs.declared.station.StationInfo.{StationInfo}
 use Rattle.command.specs.declared.tags.Sending.{Sending}
 use Rattle.command.specs.declared.waiting.Waiting.{Waiting}
-use Rattle.command.specs.Command.{is_tagged, line_kind, is_process_command, command_at}
-use Rattle.command.specs.Selection.{target_of, same_target}
+use Rattle.command.specs.Command.{is_tagged, line_kind, is_process_command}
+use Rattle.command.specs.Selection.{same_target}
 use Rattle.command.specs.Tags.{tag_octets, tag_at, sending_of, with_sending, newest_tag}
-use Rattle.command.specs.Mirrors.{mirrored, target_at, tag_for}
-use Rattle.command.specs.Standard.{has_tag, is_activation, is_fresh, not_fresh, negative_of, operates, is_object_of, tag_of, tag_if_any, malformed, cause_of_fault, IsFresh}
+use Rattle.command.specs.Mirrors.{target_at, tag_for}
+use Rattle.command.specs.Standard.{has_tag, is_activation, is_fresh, negative_of, operates, is_object_of, tag_of, tag_if_any, cause_of_fault, IsFresh}
 use Rattle.command.specs.State as state
 use Rattle.command.specs.State.{State, oldest, has_answer_place, first_answer}
 use Rattle.command.specs.History.{Judged, Sent, Accepted, Refused, GivenUp, Mirrored, Offered, Answered, Ended, History, first, first_known, is_for, forwarded_to, sent_count, next_for, GivesOwnAnswers, IsFreshIfTagged, walls_of, SendsFreshCommands, if_operates, first_sendings, tag_among, mirror_tag}

@@ -117,9 +117,18 @@ impl Commands {
     fn tell(&mut self, sign: Sign)
         ensures { self.new ≡ told sign self.old }
     {
-        if self.selections.is_empty() {
-            return;
+        // Most of the time nothing is selected, and each event comes by here.
+        if !self.selections.is_empty() {
+            self.advance(sign);
         }
+    }
+
+    /// Selections hear of something. Apart, so that the copy of the list stands in no function that
+    /// each event calls.
+    #[inline(never)]
+    fn advance(&mut self, sign: Sign)
+        ensures { self.new ≡ told sign self.old }
+    {
         self.selections = advanced(self.selections.as_slice(), self.select_ms, sign);
     }
 
@@ -148,6 +157,7 @@ impl Commands {
         ensures whole { IfNone result (length octets.now ≡ command_len (slice_index octets.now 0)) }
     {
         if !is_command_type(octets[0]) {
+            // The type first: of one that isn't known nothing behind it can be read.
             return Some(44);
         }
         self.cause_fault(octets, wall)
@@ -177,6 +187,7 @@ impl Commands {
         ensures whole { IfNone result (length octets.now ≡ command_len (slice_index octets.now 0)) }
     {
         let Some(head) = head(Sizes::TCP, octets) else {
+            // Nine octets came, and so many has the header of 104 with one object address.
             unreachable!();
         };
         if !is_addressee(self.stations.as_slice(), head.kind, head.ca) {
@@ -197,6 +208,8 @@ impl Commands {
         ensures fits { IfSome (answer_of result)
             (λ answer. (9 ≤ length answer) × (length answer ≤ 249)) }
     {
+        // Looked up before it ends: an execute uses its selection up whether it may go or not, so
+        // that no second one operates the switch by the same select.
         let lacks_selection = self.lacks_selection(command, now);
         self.end_selection(command);
         if lacks_selection {
@@ -258,6 +271,7 @@ impl Commands {
     fn count_others(&self, command: Command) -> usize
         ensures { result ≡ length (others command self.now) }
     {
+        // A select of a target that is selected already replaces that one, and wants no place.
         advanced(
             self.selections.as_slice(),
             self.select_ms,
@@ -296,6 +310,7 @@ impl Commands {
             station,
             command,
             came: now,
+            // The command itself isn't among those yet: they go out before it.
             stage: Stage::Queued(count_waiting(self.waiting.as_slice(), station)),
         });
     }
@@ -343,6 +358,7 @@ impl Commands {
         requires { length octets.now ≡ command_len (slice_index octets.now 0) }
         ensures { self.new ≡ noted octets.now self.old }
     {
+        // An interrogation is answered without the tag of a command.
         if is_process_command(line_kind(octets[0])) {
             let _oldest = self.sendings.push_back(Sending::of(octets));
         }
@@ -408,6 +424,7 @@ impl Commands {
         let head = asdu.head();
         let mut objects = asdu.objects();
         let object = objects.next()?;
+        // No command has two objects, so this answers none.
         if objects.next().is_some() {
             return None;
         }
@@ -425,6 +442,7 @@ impl Commands {
         requires ca { ca ≡ (value_of asdu.now).ca }
         ensures { self.new ≡ all_over (value_of asdu.now) (value_of asdu.now).infos self.old }
     {
+        // An end too early costs a second select; one too late may operate a switch.
         for object in asdu.objects() {
             self.tell(Sign::Over(Target {
                 kind,
@@ -506,6 +524,8 @@ impl Commands {
     pub fn cut(&mut self)
         ensures { self.new ≡ closed self.old }
     {
+        // What is on the line stays there until the station answers or falls silent: it may act
+        // on it yet. Only its answer has nobody left to go to.
         self.waiting.clear();
         self.selections.clear();
         self.sendings.clear();

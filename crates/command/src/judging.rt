@@ -49,6 +49,7 @@ fn is_known(stations: &[StationInfo], ca: u16) -> bool
 pub(crate) fn is_object(sizes: Sizes, kind: u8, address: u32) -> bool
     ensures { result ≡ object sizes kind address }
 {
+    // An interrogation is for the station as a whole, which is what object 0 means.
     if kind == 100 {
         address == 0
     } else {
@@ -64,6 +65,7 @@ pub(crate) fn form_fault(octets: &[u8], max_age_ms: u64, wall: Option<u64>) -> O
     ensures known { IfSome result (λ cause. cause < 64) }
     ensures whole { IfNone result (length octets.now ≡ command_len (slice_index octets.now 0)) }
 {
+    // One object: with two, half of a command could be refused and half of it executed.
     if octets[1] != 1 || octets.len() != command_octets_of(octets[0]) {
         return Some(negative_cause(octets));
     }

@@ -120,6 +120,7 @@ pub(crate) fn place_of(waiting: &[Waiting], station: usize) -> Option<usize>
         oldest station waiting.now ≡ Some (slice_index_or waiting.now i w)) }
     ensures none { IfNone result (oldest station waiting.now ≡ None) }
 {
+    // By place, since the caller takes it out of the list.
     for i in 0..waiting.len() {
         if waiting[i].station == station {
             return Some(i);
@@ -174,6 +175,7 @@ pub(crate) fn push_copies(
         if is_for(command, station) {
             waiting.push_reserved(Waiting {
                 station: i,
+                // As it came: the answer mirrors it, and its tag is wanted when it goes out.
                 received: Received::copied(octets),
                 octets: LineOctets::new(write_command(sizes, station.ca, command)),
             });

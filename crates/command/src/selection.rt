@@ -85,6 +85,7 @@ impl Selection {
                     Some(self.with_stage(Stage::Queued(ahead - 1)))
                 }
             }
+            // The next command goes out and this one was never accepted: it is lost.
             Stage::Sent => None,
             Stage::Accepted | Stage::Live(_) => Some(self),
         }
@@ -211,6 +212,7 @@ impl Selection {
         same_target(self.command.target(), command.target())
             && same_element(self.command.element.without_select(), command.element)
             && (self.command.cause >= 128) == (command.cause >= 128)
+            // Select and execute are of one form: with a tag both, or without.
             && self.command.received == command.received
             && self.is_live(select_ms, now)
     }

@@ -38,13 +38,16 @@ judged_ignore = record { kept = λ octets is_kept h. refl; answered = λ octets 
 pub keeping : {X : Type 0} (F : History → X) → Ignores F → (xs : List (List ℕ)) (s : State) (h : History)
     → F (told_kept xs s h) ≡ F h
 keeping {X} F i [] s h = refl
-keeping {X} F i (x ∷ xs) s h = go (has_answer_place s) (keeping F i xs (offered x s) (Offered x (has_answer_place s) ∷ h))
+keeping {X} F i (x ∷ xs) s h = go (has_answer_place s)
+    (keeping F i xs (offered x s) (Offered x (has_answer_place s) ∷ h))
   where
     one : F (Offered x (has_answer_place s) ∷ h) ≡ F h
     one = i.kept x (has_answer_place s) h
 
-    go : (b : Bool) → F (told_kept xs (offered x s) (Offered x (has_answer_place s) ∷ h)) ≡ F (Offered x (has_answer_place s) ∷ h) →
-        F (if b then told_kept xs (offered x s) (Offered x (has_answer_place s) ∷ h) else Offered x (has_answer_place s) ∷ h) ≡ F h
+    go : (b : Bool) → F (told_kept xs (offered x s) (Offered x (has_answer_place s) ∷ h))
+        ≡ F (Offered x (has_answer_place s) ∷ h) →
+        F (if b then told_kept xs (offered x s) (Offered x (has_answer_place s) ∷ h) else Offered x
+        (has_answer_place s) ∷ h) ≡ F h
     go true ih = ih ∙ one
     go false ih = one
 

@@ -68,7 +68,8 @@ module _ (p : Setup) (at : ℕ) (Q : Run → Type 0) (one : (call : Call) (r : R
   keep : (xs : List (List ℕ)) (s : tasks.State) (h : History) → Q (record { state = s; history = h })
       → Q (record { state = kept_until xs s; history = told_kept xs s h })
   keep [] s h c = c
-  keep (x ∷ xs) s h c = go (has_answer_place s) here (keep xs (tasks.offered x s) (Offered x (has_answer_place s) ∷ h) here)
+  keep (x ∷ xs) s h c =
+      go (has_answer_place s) here (keep xs (tasks.offered x s) (Offered x (has_answer_place s) ∷ h) here)
     where
       here : Q (record { state = tasks.offered x s; history = Offered x (has_answer_place s) ∷ h })
       here = one (Own x) (record { state = s; history = h }) still c
@@ -82,7 +83,8 @@ module _ (p : Setup) (at : ℕ) (Q : Run → Type 0) (one : (call : Call) (r : R
           Q (record {
             state = if b then kept_until xs (tasks.offered x s) else tasks.offered x s;
             history =
-                if b then told_kept xs (tasks.offered x s) (Offered x (has_answer_place s) ∷ h) else Offered x (has_answer_place s) ∷ h;
+                if b then told_kept xs (tasks.offered x s) (Offered x (has_answer_place s) ∷ h) else Offered x
+                (has_answer_place s) ∷ h;
           })
       go true here all = all
       go false here all = here

@@ -20,7 +20,6 @@ use Rattle.command.specs.Mirrors.{is_con, all_over, confirmed, one_confirmed, mi
 use Rattle.command.specs.Command.{command_at}
 use Rattle.command.specs.Calls as calls
 use Rattle.command.specs.Calls.{Call, Judge, PutOnLine, Accept, Busy, Lose, Mirror, Own, SendOwn, Cut, Due, Run, after_call}
-use Rattle.session.specs.declared.kinds.Close.{Close}
 use Rattle.command.specs.Laws.{AfterEachRun}
 use Rattle.command.specs.Selections.{IsInTime}
 use Rattle.gateway.specs.Log.{Log, LineOut, TcpOut, Closed, GapOut, Came, Went, latest}

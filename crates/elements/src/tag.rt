@@ -70,6 +70,8 @@ fn judge_fields(tag: Fields) -> Verdict
     requires { AreBits tag }
     ensures { result ≡ verdict_of_fields tag }
 {
+    // Range before calendar, since the calendar is asked only for what can be a date; and the
+    // mark of invalidity last, since a tag that is no date is wrong whatever it says of itself.
     if tag.millisecond > 59999
         || tag.minute > 59
         || tag.hour > 23
@@ -99,6 +101,7 @@ fn has_other_weekday(tag: Fields, date: Date) -> bool
     requires date { IsDateOf tag date }
     ensures { result ≡ is_weekday_wrong tag }
 {
+    // 0 says that the field isn't used (7.2.6.18).
     tag.weekday != 0 && tag.weekday as i8 != date.weekday().to_monday_one_offset()
 }
 
@@ -108,6 +111,7 @@ fn instant(tag: Fields, date: Date) -> u64
     requires date { IsDateOf tag date }
     ensures { result ≡ instant_of tag }
 {
+    // Years from 2000 on: never before 1970, so the day's number isn't negative.
     let days = date.to_plain().to_unix_epoch_day().unsigned_abs();
     u64::from(days) * 86_400_000
         + u64::from(tag.hour) * 3_600_000

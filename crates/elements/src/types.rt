@@ -207,6 +207,7 @@ fn seven_bits(bits: u8) -> i64
     requires { bits < 128 }
     ensures { result ≡ seven_bits_of bits }
 {
+    // Bit 6 is the sign: the octet's bit 7 says that the position is in transit.
     let value = i64::from(bits);
     if bits < 64 { value } else { value - 128 }
 }

@@ -13,7 +13,6 @@ use Rattle.session.specs.declared.kinds.Kind.{Kind}
 use Rattle.session.specs.declared.kinds.Kind.TheVariants.{Queue as FromQueue, Own}
 use Rattle.session.specs.Session as session
 use Rattle.session.specs.Session.{Session, may_send}
-use Rattle.events.specs.Queue as queue
 use Rattle.events.specs.Queue.{free_places}
 use Rattle.gateway.specs.Objects.{objects, has_objects}
 use Rattle.gateway.specs.Log.{Log, Went, TcpOut, latest}

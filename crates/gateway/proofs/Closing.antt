@@ -1,5 +1,5 @@
 -- A connection ends, and the step comes to rest.
-use Rattle.std.proofs.Common.{◌≡◌, ℕ, ◌+◌, ◌<◌, ◌&&◌, Bool, true, false, nat_lt, List, [], ◌∷◌, ◌++◌, length, drop, refl, ap, sym, ◌∙◌, subst, arith, Option, Some, None, inl, inr}
+use Rattle.std.proofs.Common.{◌≡◌, ℕ, ◌<◌, ◌&&◌, Bool, true, false, nat_lt, List, [], ◌∷◌, ◌++◌, length, drop, refl, ap, sym, ◌∙◌, subst, arith, Option, Some, None, inl, inr}
 use Rattle.std.specs.Prelude.{if◌then◌else◌, map, option_map}
 use Rattle.std.specs.Prelude.{◌⊎◌}
 use Rattle.std.proofs.lemmas.List.{append-nil}
@@ -18,7 +18,7 @@ use Rattle.events.specs.Queue as queue
 use Rattle.gateway.specs.Log.{Log, Went, Closed, latest}
 use Rattle.gateway.specs.Streams.{IsRefused}
 use Rattle.gateway.specs.Frames.{Connection, new_connection, acknowledged_count, fault_of, AreInOrder}
-use Rattle.gateway.specs.Connections.{Channel, no_channel, sending, ends, present, past, over, closed_by, IsBehind, BeginsWithFault, IsConnection, AreConnections}
+use Rattle.gateway.specs.Connections.{Channel, no_channel, ends, present, past, over, closed_by, IsBehind, BeginsWithFault, IsConnection, AreConnections}
 use Rattle.gateway.specs.Reports.{Setup, address_at, exchanges_of, exchanges_with, taken_objects, reports_in, parts_of_all}
 use Rattle.gateway.specs.Gaps.{gaps_told, gap_for}
 use Rattle.gateway.specs.Traffic.{replaces, IsAtRest}
@@ -43,7 +43,6 @@ use Rattle.command.specs.State.{octets_waiting, oldest}
 use Rattle.command.specs.declared.waiting.Waiting.{Waiting}
 use Rattle.gateway.specs.Course.{Course, here_of, came_frames, room_in, ended_course, works_at, closed_course, IsCause, Runs}
 use Rattle.gateway.specs.Phases.{Phase, Fresh, Taking, Judged, Idle, Crowded, Timed, Asked, IsLeftIn, IsPhase, works_in, IsAsked, IsOut}
-use Rattle.session.specs.History as talk
 use Rattle.session.specs.History.{frame_due, has_timed_out}
 use Rattle.gateway.specs.Agrees.{Presently, Carries, Talks, Agrees, IsSpent, IsQuiet, pieces_of}
 use Rattle.gateway.proofs.Working.{gap_in}

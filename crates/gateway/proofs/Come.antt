@@ -1,5 +1,5 @@
 -- An event comes: the part of the line. What follows on the connection stands in Connecting.
-use Rattle.std.proofs.Common.{◌≡◌, ℕ, ◌+◌, ◌==◌, Bool, true, false, List, [], ◌∷◌, ◌++◌, length, max, min, None, refl, sym, ap, subst, ◌∙◌, arith}
+use Rattle.std.proofs.Common.{◌≡◌, ℕ, ◌+◌, ◌==◌, Bool, true, false, List, [], ◌∷◌, ◌++◌, length, max, min, refl, sym, ap, subst, ◌∙◌, arith}
 use Rattle.std.specs.Prelude.{if◌then◌else◌}
 use Rattle.std.specs.List.{flat_map, list_all}
 use Rattle.std.proofs.lemmas.List.{append-nil}
@@ -15,8 +15,6 @@ use Rattle.link.specs.declared.outcome.Outcome.{Outcome}
 use Rattle.link.specs.declared.outcome.Outcome.TheVariants as outcome
 use Rattle.link.specs.Telling.{Tells, report_in, gap_in_outcome}
 use Rattle.session.specs.Session.{is_transferring as is_transferring_of}
-use Rattle.command.specs.Calls.{Busy}
-use Rattle.events.specs.Queue as queue
 use Rattle.gateway.specs.Objects.{objects, has_objects, monitor_objects, parts_of}
 use Rattle.gateway.specs.Log.{Log, Input, LineIn, Opened, TcpIn, CutOff, Ticked, WallIs, Came, latest, last_moment}
 use Rattle.gateway.specs.Gaps.{gaps_told}
@@ -27,7 +25,7 @@ use Rattle.gateway.specs.Serial as serial
 use Rattle.gateway.specs.Serial.{Serial, mirrored, heard, heard_outcome}
 use Rattle.gateway.specs.Centre.{Centre, pushed}
 use Rattle.gateway.specs.State.{State, with_serial, at_moment, line_timed}
-use Rattle.gateway.specs.Works.{Works, has_lacked_place, is_command_report, LearnsReport, LearnsOf, octets_works, begun_works}
+use Rattle.gateway.specs.Works.{Works, has_lacked_place, is_command_report, LearnsOf, octets_works, begun_works}
 use Rattle.gateway.specs.Course.{Course, came_frames, room_in}
 use Rattle.gateway.specs.Phases.{resting, IsPlaced}
 use Rattle.link.specs.LineLaws.{LineLaws}
@@ -37,7 +35,6 @@ use Rattle.gateway.specs.Agrees.{Agrees, GapsTold, OffersWait, ArePlain}
 use Rattle.gateway.proofs.Working.{done_placed}
 use Rattle.gateway.proofs.Reached.{IsReached, left_reached}
 use Rattle.gateway.proofs.Offering.{offers_stay}
-use Rattle.gateway.proofs.Closing.{ended}
 use Rattle.gateway.proofs.Stations.{LineGoesOn, taken_grows, parts_grow, after_octets, after_moment}
 use Rattle.gateway.proofs.Learning.{left_of, at_rest_works, is_left, none_left, all_told, beside, Learnt, learnt}
 

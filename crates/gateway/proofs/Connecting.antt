@@ -2,7 +2,6 @@
 use Rattle.std.proofs.Common.{◌≡◌, ℕ, ◌+◌, ◌<◌, Bool, true, false, List, [], ◌∷◌, ◌++◌, length, Option, None, refl, sym, ap, subst, ◌∙◌, append_assoc}
 use Rattle.std.specs.Prelude.{if◌then◌else◌}
 use Rattle.std.proofs.lemmas.List.{append-nil}
-use Rattle.asdu.specs.Translation.{parts}
 use Rattle.link.specs.Primary.{withdrawn}
 use Rattle.link.specs.Telling.{Tells}
 use Rattle.session.specs.declared.kinds.Close.TheVariants.{Replaced}
@@ -11,7 +10,7 @@ use Rattle.command.specs.State as tasks
 use Rattle.events.specs.Queue as queue
 use Rattle.gateway.specs.Log.{Log, Input, Opened, TcpIn, CutOff, Came, Went, Closed, latest}
 use Rattle.gateway.specs.Streams.{spelled}
-use Rattle.gateway.specs.Frames.{Sent, Connection, new_connection, transfers, AreInOrder}
+use Rattle.gateway.specs.Frames.{Sent, Connection, new_connection, AreInOrder}
 use Rattle.gateway.specs.Connections.{is_replaced, Channel, no_channel, new_channel, receiving, present, past, AreConnections}
 use Rattle.gateway.specs.Reports.{Setup, exchanges_of, taken_objects, reports_in, parts_of_all}
 use Rattle.gateway.specs.Traffic.{HasRested, IsFaithful}

@@ -1,5 +1,5 @@
 -- A whole frame is taken, or the octets left are the beginning of one.
-use Rattle.std.proofs.Common.{◌≡◌, ℕ, ◌+◌, Bool, true, false, List, [], ◌∷◌, ◌++◌, length, refl, ap, sym, ◌∙◌, subst, append_assoc, Option, Some, None}
+use Rattle.std.proofs.Common.{◌≡◌, ℕ, Bool, true, false, List, [], ◌∷◌, ◌++◌, length, refl, ap, sym, ◌∙◌, subst, append_assoc, Option, Some, None}
 use Rattle.std.proofs.lemmas.List.{append-nil}
 use Rattle.std.proofs.lemmas.Bool.{false≢true}
 use Rattle.apci.specs.declared.apdu.Apdu.{Apdu}
@@ -7,7 +7,6 @@ use Rattle.apci.specs.Spelling.{spelling, Fits}
 use Rattle.apci.specs.Reading.{IsMore}
 use Rattle.session.specs.Session as session
 use Rattle.session.specs.Session.{refuses}
-use Rattle.events.specs.Queue as queue
 use Rattle.gateway.specs.Log.{Log}
 use Rattle.gateway.specs.Streams.{spelled}
 use Rattle.gateway.specs.Frames.{fault_of}
@@ -19,7 +18,6 @@ use Rattle.gateway.specs.Walls.{wall_of, wall_on}
 use Rattle.gateway.specs.State.{State, wall_now, with_octets, framed}
 use Rattle.gateway.specs.Course.{Course, here_of, came_frames, with_frame}
 use Rattle.gateway.specs.Phases.{Phase, Taking, Judged, Idle, IsPast, IsLeftIn, after_frame}
-use Rattle.session.specs.History as talk
 use Rattle.gateway.specs.Agrees.{IsAt, Agrees, IsClear, IsUndue, pending}
 use Rattle.gateway.proofs.Working.{heard_placed}
 use Rattle.gateway.proofs.Offering.{offers_heard, heard_plain}

@@ -1,5 +1,5 @@
 -- What the works and the course learn of an exchange.
-use Rattle.std.proofs.Common.{◌≡◌, ℕ, ◌+◌, Bool, true, false, List, [], ◌∷◌, ◌++◌, Option, Some, None, refl, sym, ap, subst, ◌∙◌}
+use Rattle.std.proofs.Common.{◌≡◌, ℕ, Bool, true, false, List, [], ◌∷◌, ◌++◌, Option, Some, None, refl, sym, ap, subst, ◌∙◌}
 use Rattle.std.specs.Prelude.{if◌then◌else◌}
 use Rattle.std.proofs.lemmas.List.{append-nil}
 use Rattle.arrayvec.specs.ArrayVec.{ArrayVec}
@@ -16,7 +16,6 @@ use Rattle.command.specs.Mirrors as mirrors
 use Rattle.command.specs.Calls.{Run, Busy, Mirror}
 use Rattle.gateway.specs.Log.{Log, latest}
 use Rattle.gateway.specs.Gaps.{gaps_of, gaps_told, gap_for}
-use Rattle.gateway.specs.Frames.{transfers}
 use Rattle.gateway.specs.Reports.{Setup}
 use Rattle.gateway.specs.Serial as serial
 use Rattle.gateway.specs.Serial.{Serial, refusals, mirrored}

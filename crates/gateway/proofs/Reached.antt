@@ -45,7 +45,8 @@ module _ (p : Setup) where
       one (Own x) (record { state = s; history = h }) called in
       by_room (has_answer_place s) next (kept xs (tasks.offered x s) (Offered x (has_answer_place s) ∷ h) next)
     where
-      by_room : (b : Bool) → IsCalled p (record { state = tasks.offered x s; history = Offered x (has_answer_place s) ∷ h }) →
+      by_room : (b : Bool)
+          → IsCalled p (record { state = tasks.offered x s; history = Offered x (has_answer_place s) ∷ h }) →
           IsCalled p (record {
             state = kept_until xs (tasks.offered x s);
             history =
@@ -54,7 +55,8 @@ module _ (p : Setup) where
           IsCalled p (record {
             state = if b then kept_until xs (tasks.offered x s) else tasks.offered x s;
             history =
-                if b then told_kept xs (tasks.offered x s) (Offered x (has_answer_place s) ∷ h) else Offered x (has_answer_place s) ∷ h;
+                if b then told_kept xs (tasks.offered x s) (Offered x (has_answer_place s) ∷ h) else Offered x
+                (has_answer_place s) ∷ h;
           })
       by_room true next all = all
       by_room false next all = next

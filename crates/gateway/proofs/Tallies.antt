@@ -45,9 +45,11 @@ one_saturated n m e = ap one_more e ∙ omega arith
 
 lost_kept : (xs : List (List ℕ)) (s : tasks.State) (h : History) → given_up_in (told_kept xs s h) ≡ given_up_in h
 lost_kept [] s h = refl
-lost_kept (x ∷ xs) s h = by_room (has_answer_place s) (lost_kept xs (tasks.offered x s) (Offered x (has_answer_place s) ∷ h))
+lost_kept (x ∷ xs) s h =
+    by_room (has_answer_place s) (lost_kept xs (tasks.offered x s) (Offered x (has_answer_place s) ∷ h))
   where
-    by_room : (b : Bool) → given_up_in (told_kept xs (tasks.offered x s) (Offered x (has_answer_place s) ∷ h)) ≡ given_up_in h →
+    by_room : (b : Bool) → given_up_in (told_kept xs (tasks.offered x s) (Offered x (has_answer_place s) ∷ h))
+        ≡ given_up_in h →
         given_up_in (if b then told_kept xs (tasks.offered x s) (Offered x (has_answer_place s) ∷ h) else Offered x
         (has_answer_place s) ∷ h) ≡ given_up_in h
     by_room true e = e
@@ -58,15 +60,18 @@ handed : (x : List ℕ) (xs : List (List ℕ)) (s : tasks.State) (h : History) (
     → unpassed_in b (told_kept (x ∷ xs) s h) ≡ unpassed_in true h
 handed x [] s h b = by_room (has_answer_place s)
   where
-    by_room : (c : Bool) → unpassed_in b (if c then Offered x (has_answer_place s) ∷ h else Offered x (has_answer_place s) ∷ h)
+    by_room : (c : Bool) → unpassed_in b (if c then Offered x (has_answer_place s)
+        ∷ h else Offered x (has_answer_place s) ∷ h)
         ≡ unpassed_in true h
     by_room true = refl
     by_room false = refl
-handed x (y ∷ ys) s h b = by_room (has_answer_place s) (handed y ys (tasks.offered x s) (Offered x (has_answer_place s) ∷ h) b)
+handed x (y ∷ ys) s h b = by_room (has_answer_place s)
+    (handed y ys (tasks.offered x s) (Offered x (has_answer_place s) ∷ h) b)
   where
     by_room : (c : Bool) → unpassed_in b (told_kept (y ∷ ys) (tasks.offered x s) (Offered x (has_answer_place s) ∷ h))
         ≡ unpassed_in true h →
-        unpassed_in b (if c then told_kept (y ∷ ys) (tasks.offered x s) (Offered x (has_answer_place s) ∷ h) else Offered x
+        unpassed_in b (if c then told_kept (y ∷ ys) (tasks.offered x s) (Offered x (has_answer_place s)
+        ∷ h) else Offered x
         (has_answer_place s) ∷ h) ≡ unpassed_in true h
     by_room true e = e
     by_room false e = refl

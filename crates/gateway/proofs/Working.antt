@@ -27,7 +27,8 @@ kept_overfull (x ∷ xs) s h none = by_room (has_answer_place s) refl
     (kept_overfull xs (tasks.offered x s) (Offered x (has_answer_place s) ∷ h))
   where
     at_room : Bool → Type 0
-    at_room b = has_lacked_place (if b then told_kept xs (tasks.offered x s) (Offered x (has_answer_place s) ∷ h) else Offered x
+    at_room b = has_lacked_place (if b then told_kept xs (tasks.offered x s) (Offered x (has_answer_place s)
+        ∷ h) else Offered x
         (has_answer_place s) ∷ h) ≡ true
 
     by_room : (b : Bool) → has_answer_place s ≡ b → (all_kept xs (tasks.offered x s) ≡ false
@@ -43,7 +44,8 @@ pub kept_placed : (xs : List (List ℕ)) (s : tasks.State) (h : History) → all
 kept_placed [] s h all = refl
 kept_placed (x ∷ xs) s h all =
     let both = and_parts (has_answer_place s) (all_kept xs (tasks.offered x s)) all in
-    ap (λ b. has_lacked_place (if b then told_kept xs (tasks.offered x s) (Offered x (has_answer_place s) ∷ h) else Offered x
+    ap (λ b. has_lacked_place (if b then told_kept xs (tasks.offered x s) (Offered x (has_answer_place s)
+    ∷ h) else Offered x
     (has_answer_place s) ∷ h)) both.0
     ∙ kept_placed xs (tasks.offered x s) (Offered x (has_answer_place s) ∷ h) both.1
     ∙ ap (λ b. has_lacked_place (Offered x b ∷ h)) both.0

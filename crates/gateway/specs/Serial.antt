@@ -51,7 +51,8 @@ first_serial p = record {
 -- Answers are kept, one after another, up to the first that finds no place.
 abbrev pub kept_until : List (List ℕ) → tasks.State → tasks.State
 kept_until [] s = s
-kept_until (x ∷ xs) s = if has_answer_place s then kept_until xs (tasks.offered x s) else tasks.offered x s
+kept_until (x ∷ xs) s =
+    if has_answer_place s then kept_until xs (tasks.offered x s) else tasks.offered x s
 
 -- each finds a place
 abbrev pub all_kept : List (List ℕ) → tasks.State → Bool

@@ -91,6 +91,7 @@ impl Flag {
             ≡ flag_of self.now.key.now self.now.path.now (members_in table.entry) }
     {
         match given(table, self.key) {
+            // A key that isn't there is no fault; one of another type is.
             None => Ok(false),
             Some(value) => value.as_bool().ok_or(WrongKey { path: self.path }),
         }

@@ -117,6 +117,8 @@ fn has_port(text: &[u8]) -> bool
     ensures { result ≡ has_port text.now }
 {
     for at in 0..text.len() {
+        // Any colon may be the one: an IPv6 address has some of its own, and only the last has
+        // nothing but digits behind it.
         if text[at] == b':' && is_port(&text[at + 1..]) {
             return true;
         }

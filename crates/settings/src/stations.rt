@@ -66,11 +66,13 @@ pub(crate) fn read_stations(
         return Err(ConfigFault::Key("station"));
     };
     let count = tables.len();
+    // Looked at before memory is asked for: a file can name any number of them.
     if count == 0 || count > MOST_STATIONS {
         return Err(ConfigFault::Key("station"));
     }
     let mut stations = Vec::with_capacity(alloc, count)?;
     for table in tables {
+        // Each is compared with those before it, so the fault is at the second of two alike.
         let station = read_station(table, link, ca, stations.as_slice())?;
         stations.push(station)?;
     }

@@ -78,6 +78,7 @@ fn knows_size(key: &str) -> bool
 pub(crate) fn refuse_unknown(alloc: Global, root: &Table) -> Result<(), ConfigFault>
     ensures { IsRefusedFor (unknown_paths (table_view root.now)) result }
 {
+    // The least one, since a table keeps no order of the file that could be told by.
     match least(unknown_paths(alloc, root)?) {
         None => Ok(()),
         Some(path) => Err(ConfigFault::Unknown(path)),
@@ -119,6 +120,7 @@ fn push_unknown(
         ≡ map string_bytes paths.old.items
         ++ unknown_in section (member_keys (table_view table.now))) }
 {
+    // A misspelt key would else be a default that nobody chose.
     let before = section.prefix();
     for key in table.keys() {
         if !section.knows(key.as_str()) {

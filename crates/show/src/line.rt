@@ -38,6 +38,7 @@ fn push_front(
     match front {
         FrontRef::Whole(frame, len) => {
             let outcome = push_frame(alloc, lines, sizes, frame)?;
+            // A frame is never longer than what it was read from; said so that it needs no proof.
             let rest = count.saturating_sub(len);
             push_rest(lines, rest)?;
             Ok(outcome.with_rest(rest))
@@ -75,6 +76,7 @@ fn push_frame(
             let control = control_text(alloc, c)?;
             let octets = body.len();
             writeln!(lines, "data {control} address={a} octets={octets}")?;
+            // Its verdict is the frame's: what an ASDU lacks is told where it stands.
             return push_unit(alloc, lines, sizes.asdu, body);
         }
     }

@@ -14,6 +14,8 @@ use link::Station;
 fn later_of(before: Option<Frame>, frame: Option<Frame>) -> Option<Frame>
     ensures { result ≡ later before frame }
 {
+    // Two that answer at once can't be heard apart on a line. Settings give each its own
+    // address, so this happens to none of our requests.
     match frame {
         Some(frame) => Some(frame),
         None => before,
@@ -52,6 +54,7 @@ fn spoil(octets: &mut ArrayVec<u8, 261>, place: usize)
     requires { place < length octets.old.items }
     ensures { octets.new.items ≡ spoilt place octets.old.items }
 {
+    // All eight bits: whatever the octet was, it is another one now.
     octets[place] = 255 - octets[place];
 }
 

@@ -21,6 +21,7 @@ fn lines(alloc: Global, text: &[u8]) -> Result<Vec<&[u8]>, AllocError>
     ensures { IfOk result (λ v. map (λ line. line.now) v.items ≡ lines_of text.entry.now) }
 {
     let mut lines = parts(alloc, text, LINE_FEED)?;
+    // What follows the last line feed is empty in a text that ends as it should.
     let Some(last) = lines.pop() else {
         return Ok(lines);
     };

@@ -136,6 +136,7 @@ impl<'a> Sim<'a> {
             alloc,
             config,
             script,
+            // Counted once: the script is asked for it at each call else.
             turns: script.turns(),
             stations,
             waiting: None,
@@ -201,6 +202,7 @@ impl<'a> Sim<'a> {
                     let octets = Vec::from_slice(self.alloc, piece)?;
                     Ok(Entry::Line(self.after(1), octets))
                 }
+                // As long as the gateway would wait: what is silent is given up at this event.
                 None => Ok(Entry::Tick(self.after(answer_ms))),
             },
         }

@@ -65,6 +65,7 @@ fn write_octets<W: Write>(out: &mut W, octets: &[u8]) -> Result<(), SimFault>
     let mut done = 0;
     while done < octets.len() {
         match out.write(&octets[done..]) {
+            // A device that takes nothing would be written to for ever.
             Ok(0) => return Err(SimFault::Write),
             Ok(n) => done += n,
             Err(_) => return Err(SimFault::Write),

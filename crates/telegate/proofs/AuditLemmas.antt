@@ -11,7 +11,8 @@ use Rattle.telegate.specs.declared.fault.Fault.TheVariants.{Config, Trace, Scrip
 
 -- the answer to the command, where its files were read
 pub audited : (config text : List ℕ) (settings : Settings) (verdict : Verdict) (r : Result Answer Fault)
-    → IsReadOfText config (Ok settings) → IsAudited settings text (Ok verdict) → MatchResult r (IsToldOf verdict) IsMemory
+    → IsReadOfText config (Ok settings) → IsAudited settings text (Ok verdict)
+    → MatchResult r (IsToldOf verdict) IsMemory
     → IsAuditedBy config text r
 audited config text settings verdict (Ok answer) read found told =
     record { settings = settings; verdict = verdict; read_config = read; audited = found; told = told }
