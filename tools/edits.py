@@ -14,7 +14,8 @@ the wording of a proof. So each edit is tried in a copy of the repository by `rt
     PROVED   it isn't refused
 
 With `--alike` the edits in tools/alike/CRATE are tried in place of those of the gate, and by its name one of either. Those are of the
-same form, and the gate leaves them out for what they cost: most turn body and machine alike, and are to be refused by laws.
+same form, but that a line `and: ..` adds one to the text before it, and the gate leaves them out for what they cost: most turn body
+and machine alike, and are to be refused by laws.
 
 An edit may have a harmless twin, a file of the same name in tools/twins/CRATE: an edit of the same shape that changes no answer. The
 twin is tried too, and is to be proved. One that is refused by a proof alone needs it.
@@ -75,16 +76,20 @@ def copied(crate, room, named):
 
 
 def pairs_of(path):
-    """The file, the old and the new text of each pair of an edit."""
-    pairs, file, old = [], None, None
+    """The file, the old and the new text of each pair of an edit. A line `and: ..` adds one to the text before it."""
+    pairs = []
     with open(path) as text:
         for line in text.read().split("\n"):
-            if line.startswith("file: "):
-                file = line[len("file: ") :].strip()
-            elif line.startswith("old: "):
-                old = line[len("old: ") :]
-            elif line.startswith("new:"):
-                pairs.append((file, old, re.sub(r"\A ", "", line[len("new:") :])))
+            word, _, rest = line.partition(":")
+            rest = re.sub(r"\A ", "", rest)
+            if word == "file":
+                file = rest.strip()
+            elif word == "old":
+                pairs.append([file, rest, None])
+            elif word == "new":
+                pairs[-1][2] = rest
+            elif word == "and":
+                pairs[-1][1 if pairs[-1][2] is None else 2] += "\n" + rest
     return pairs
 
 
@@ -150,9 +155,12 @@ def laws_of(here):
 
 
 def laws_refused(said, laws):
-    """The laws that aren't proved, where nothing else isn't."""
-    unproved = re.findall(r"^fn (\S+): (?:not proved|no proof)", said, re.M)
-    return unproved if all(name.split("::")[-1] in laws for name in unproved) else []
+    """The laws that aren't proved, where nothing else isn't but what calls them."""
+    unproved = dict(re.findall(r"^fn (\S+): (not proved|no proof.*)", said, re.M))
+    refused = [name for name in unproved if name.split("::")[-1] in laws]
+    callers = [said for name, said in unproved.items() if name not in refused]
+    called = [re.findall(r"`(\S+)`", said) for said in callers]
+    return refused if all(names and set(names) <= set(unproved) for names in called) else []
 
 
 def judged(edit, twin, attempt, laws):
