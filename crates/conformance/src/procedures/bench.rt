@@ -107,8 +107,15 @@ impl Bench {
         }
     }
 
+    /// Octets of the line come.
     pub(super) fn octets(&mut self, octets: &[u8]) -> Told {
-        hear(&mut self.master, octets)
+        if let Some(outcome) = self.master.hear_whole(octets) {
+            return kept(&outcome);
+        }
+        match self.master.gather(octets) {
+            Some(frame) => kept(&self.master.hear(frame.lent())),
+            None => Told::None,
+        }
     }
 
     pub(super) fn due(&mut self, now: u64) -> Told {
