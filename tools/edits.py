@@ -2,6 +2,7 @@
 """Tells of each must-fail edit why the prover refuses it.
 
     tools/edits.py [--alike] [--log FOLDER] [--slot COMMAND] [CRATE | CRATE/EDIT ..]
+    tools/edits.py --texts [CRATE ..]
 
 `rt must-fail` says that an edit is refused. That shows something of a contract only where the contract is what refuses it, and not
 the wording of a proof. So each edit is tried in a copy of the repository by `rt check`, and what that says is told in a word:
@@ -23,6 +24,9 @@ The last line is `N passed, M failed`: an edit fails that isn't refused, that is
 proved, that is refused by a proof alone and has no twin, or that turns a definition and is refused by more than laws. `--slot` stands before each `rt check`; `--log` keeps what each said.
 Beside each edit stand the processor seconds that its check took, and for each crate first those of a check of what is unchanged: that part
 each edit pays for loading.
+
+With `--texts` nothing is tried: it is only told whether the old texts of all edits and twins, those in tools/alike too, each stand
+exactly once in their file. That takes a second, and is to be done after each merge.
 """
 import argparse
 import glob
@@ -106,24 +110,35 @@ def chosen(crate, wanted, is_alike):
     return sorted(found, key=os.path.basename)
 
 
+def turned(edit, here):
+    """The texts of the files that an edit turns, before it and with it."""
+    before, after = {}, {}
+    for file, old, new in pairs_of(edit):
+        path = os.path.join(here, file)
+        if path not in before:
+            with open(path) as it:
+                before[path] = after[path] = it.read()
+        if after[path].count(old) != 1:
+            raise ValueError(f"{edit}: its old text is in {file} {after[path].count(old)} times")
+        after[path] = after[path].replace(old, new)
+    return before, after
+
+
+def put(texts):
+    """Writes these texts to their files."""
+    for path, text in texts.items():
+        with open(path, "w") as it:
+            it.write(text)
+
+
 def tried(edit, here, check):
     """What the check says of the crate with this edit, and whether it proves it. The files are as before then."""
-    before = {}
+    before, after = turned(edit, here)
     try:
-        for file, old, new in pairs_of(edit):
-            path = os.path.join(here, file)
-            with open(path) as it:
-                text = it.read()
-            before.setdefault(path, text)
-            if text.count(old) != 1:
-                sys.exit(f"edits: {edit}: its old text is in {file} {text.count(old)} times")
-            with open(path, "w") as it:
-                it.write(text.replace(old, new))
+        put(after)
         return check()
     finally:
-        for path, text in before.items():
-            with open(path, "w") as it:
-                it.write(text)
+        put(before)
 
 
 def seconds():
@@ -176,52 +191,84 @@ def judged(edit, twin, attempt, laws):
     return word, "twin proved" if is_harmless else "TWIN REFUSED", is_harmless and word in ("values", "goal", "proof"), line
 
 
+def misplaced(crate):
+    """How many edits and twins a crate has, and what is said of those whose old texts don't stand exactly once."""
+    here = os.path.join(TOP, "crates", crate)
+    folders = [os.path.join(here, "must-fail"), os.path.join(TOP, "tools", "alike", crate), os.path.join(TOP, "tools", "twins", crate)]
+    edits = [path for folder in folders for path in sorted(glob.glob(os.path.join(folder, "*.edit")))]
+    faults = []
+    for edit in edits:
+        try:
+            turned(edit, here)
+        except (ValueError, OSError) as fault:
+            faults.append(str(fault))
+    return len(edits), faults
+
+
+def compared(wanted):
+    """Tells of each edit whose old texts don't stand exactly once, and answers how many do and don't."""
+    passed = failed = 0
+    for crate in dict.fromkeys(it.split("/")[0] for it in wanted):
+        count, faults = misplaced(crate)
+        passed, failed = passed + count - len(faults), failed + len(faults)
+        for fault in faults:
+            print(f"FAILED {fault}")
+    return passed, failed
+
+
+def of_crate(crate, edits, given, named):
+    """Tries the edits of a crate and tells of each. Answers how many are as they should be, and how many aren't."""
+    passed = failed = 0
+    command = [*given.slot.split(), "rt", "check", "--jobs", "1"]
+    with tempfile.TemporaryDirectory() as room:
+        here = copied(crate, room, named)
+
+        def check():
+            done = subprocess.run(
+                command, cwd=here, stdin=subprocess.DEVNULL, stdout=subprocess.PIPE, stderr=subprocess.STDOUT, text=True
+            )
+            return done.stdout, done.returncode == 0
+
+        def attempt(edit):
+            said, is_proved = tried(edit, here, check)
+            if given.log:
+                place = os.path.join(given.log, os.path.relpath(edit, TOP))
+                os.makedirs(os.path.dirname(place), exist_ok=True)
+                put({place: said})
+            return said, is_proved
+
+        said, is_proved = check()
+        if not is_proved:
+            sys.exit(f"edits: {crate} itself isn't proved:\n{said[-1000:]}")
+        before = seconds()
+        check()
+        print(f"{seconds() - before:4.0f} s {crate} unchanged", flush=True)
+        for edit in edits:
+            name = os.path.basename(edit)
+            before = seconds()
+            word, of_twin, is_good, line = judged(edit, os.path.join(TOP, "tools", "twins", crate, name), attempt, laws_of(here))
+            passed, failed = passed + is_good, failed + (not is_good)
+            mark = "" if is_good else "FAILED "
+            print(f"{seconds() - before:4.0f} s {mark}{word:7}{of_twin:13} {crate}/{name}: {line[:160]}", flush=True)
+    return passed, failed
+
+
 def main():
     words = argparse.ArgumentParser()
     words.add_argument("--alike", action="store_true")
+    words.add_argument("--texts", action="store_true")
     words.add_argument("--log")
     words.add_argument("--slot", default="")
     words.add_argument("wanted", nargs="*")
     given = words.parse_args()
     named = libraries()
-    command = [*given.slot.split(), "rt", "check", "--jobs", "1"]
-    passed = failed = 0
     wanted = given.wanted or list(named)
-    for crate in dict.fromkeys(it.split("/")[0] for it in wanted):
+    passed, failed = compared(wanted) if given.texts else (0, 0)
+    for crate in [] if given.texts else dict.fromkeys(it.split("/")[0] for it in wanted):
         edits = chosen(crate, wanted, given.alike)
-        if not edits:
-            continue
-        with tempfile.TemporaryDirectory() as room:
-            here = copied(crate, room, named)
-
-            def check():
-                done = subprocess.run(
-                    command, cwd=here, stdin=subprocess.DEVNULL, stdout=subprocess.PIPE, stderr=subprocess.STDOUT, text=True
-                )
-                return done.stdout, done.returncode == 0
-
-            def attempt(edit):
-                said, is_proved = tried(edit, here, check)
-                if given.log:
-                    place = os.path.join(given.log, os.path.relpath(edit, TOP))
-                    os.makedirs(os.path.dirname(place), exist_ok=True)
-                    with open(place, "w") as file:
-                        file.write(said)
-                return said, is_proved
-
-            said, is_proved = check()
-            if not is_proved:
-                sys.exit(f"edits: {crate} itself isn't proved:\n{said[-1000:]}")
-            before = seconds()
-            check()
-            print(f"{seconds() - before:4.0f} s {crate} unchanged", flush=True)
-            for edit in edits:
-                name = os.path.basename(edit)
-                before = seconds()
-                word, of_twin, is_good, line = judged(edit, os.path.join(TOP, "tools", "twins", crate, name), attempt, laws_of(here))
-                passed, failed = passed + is_good, failed + (not is_good)
-                mark = "" if is_good else "FAILED "
-                print(f"{seconds() - before:4.0f} s {mark}{word:7}{of_twin:13} {crate}/{name}: {line[:160]}", flush=True)
+        if edits:
+            good, bad = of_crate(crate, edits, given, named)
+            passed, failed = passed + good, failed + bad
     print(f"{passed} passed, {failed} failed")
     sys.exit(1 if failed else 0)
 

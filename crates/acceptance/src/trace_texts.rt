@@ -298,10 +298,7 @@ fn a_wrong_line_is_judged_by_its_number(rt: HostRuntime) -> Result<(), Fail> {
         (b"7 S 5\n".as_slice(), 1),
         (b"#\n7 S\n".as_slice(), 2),
     ] {
-        assert_eq!(rt;
-            judge(text).err(),
-            Some(TextFault::Line(number))
-        );
+        assert_eq!(rt; judge(text).err(), Some(TextFault::Line(number)));
     }
     assert_eq!(rt; judge(b"")?, 0);
     Ok(())

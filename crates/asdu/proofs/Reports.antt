@@ -103,7 +103,8 @@ all_pieces s v (suc k) is h left enough_here =
 
 all_objects : (s : Sizes) (v : AsduValue) (k : ℕ) (is : List Info) → FitsSizes s v → AreLeft v is
     → AreEnough (size_of v) k (length is)
-    → flat_map (λ p. objects_of tcp p) (pieces_in v k is) ≡ flat_map (λ js. map (object_in v) js) (chunks (size_of v) k is)
+    → flat_map (λ p. objects_of tcp p) (pieces_in v k is)
+    ≡ flat_map (λ js. map (object_in v) js) (chunks (size_of v) k is)
 all_objects s v zero is h left enough_here = refl
 all_objects s v (suc k) is h left enough_here =
     let m = size_of v in
@@ -201,7 +202,8 @@ pieces_few s v xs h short =
 -- nothing is left
 pub pieces-none : (v : AsduValue) → length v.infos ≡ 0 → report_pieces v ≡ []
 unfolding report_pieces
-pieces-none v none = ap (map (piece_with v)) (in_chunks-none (size_of v) v.infos (piece_size-some v.kind v.sequence) none)
+pieces-none v none =
+    ap (map (piece_with v)) (in_chunks-none (size_of v) v.infos (piece_size-some v.kind v.sequence) none)
 
 -- the next piece, and those of what is left then
 pub pieces-step : (v : AsduValue) (is : List Info) → 1 ≤ length is

@@ -117,7 +117,8 @@ resized-step t w k m (suc n) xs ys zs out one two goal_text some long fits text 
     let left : spelled_infos k false (each_located t w (suc n - 1) zs) ≡ rest =
     ap (λ j. spelled_infos k false (each_located t w j zs)) less
     ∙ ap (λ us. spelled_infos k false (each_located t w n us)) e3 in
-    let written : two ≡ (out ++ address) ++ octets = e4 ∙ ap (λ us. us ++ ys) e1 ∙ ap (λ us. (out ++ address) ++ us) e2 in
+    let written : two ≡ (out ++ address) ++ octets = e4 ∙ ap (λ us. us ++ ys) e1
+    ∙ ap (λ us. (out ++ address) ++ us) e2 in
     let same : two ++ spelled_infos k false (each_located t w (suc n - 1) zs) ≡ out
     ++ spelled_infos k false (each_located t w (suc n) xs) =
     ap (λ us. two ++ us) left ∙ ap (λ us. us ++ rest) written

@@ -9,10 +9,10 @@
 //! tags.
 //!
 //! What its public calls carry: `read` accepts exactly the octets that are an ASDU (`IsAsdu`), and
-//! else names the first fault. The pieces of a report are `report_pieces`: their objects, joined, are
-//! the objects of the source, in all their parts, and so are those that are passed on; there are at
-//! most three pieces, as many as `parts` says (`pieces_carry_the_report`). What `write` makes is the
-//! same ASDU in the other sizes.
+//! else names the first fault. The pieces of a report are `report_pieces`: their objects, joined,
+//! are the objects of the source, in all their parts, and so are those that are passed on; there
+//! are at most three pieces, as many as `parts` says (`pieces_carry_the_report`). What `write`
+//! makes is the same ASDU in the other sizes.
 #![tactic(auto)]
 
 mod examples;

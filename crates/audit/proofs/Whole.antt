@@ -193,7 +193,8 @@ extra_left (x ∷ xs) = ap (λ b. if b then [] else ((x ∷ xs) ++ 33 ∷ []) �
 kept_all : (lines : List (List ℕ)) → AllByRecursion IsUncut lines → kept_lines lines ≡ lines
 kept_all [] all = refl
 kept_all (line ∷ lines) all =
-    ap (λ b. if b then kept_lines lines else line ∷ kept_lines lines) all.0 ∙ ap (λ ls. line ∷ ls) (kept_all lines all.1)
+    ap (λ b. if b then kept_lines lines else line ∷ kept_lines lines) all.0
+    ∙ ap (λ ls. line ∷ ls) (kept_all lines all.1)
 
 uncut : (text : List ℕ) (lines : List (List ℕ)) (tail : List ℕ) → text ≡ flat_map ended lines ++ tail → HasNoMark text
     → AllByRecursion IsUncut lines
@@ -284,7 +285,8 @@ same_on : (n : ℕ) (lines more run : List (List ℕ)) → first_difference n li
     → ((m : ℕ) → first_difference m more (rest_behind lines run) ≡ None) → first_difference n (lines ++ more) run ≡ None
 same_on n [] more run none rest = rest n
 same_on n (line ∷ lines) more run none rest =
-    by (is_cut line) (is_first line run) (same_on (n + 1) lines more run) (same_on (n + 1) lines more (behind_first run))
+    by (is_cut line) (is_first line run) (same_on (n + 1) lines more run)
+    (same_on (n + 1) lines more (behind_first run))
     none rest
   where
     by : (cut first : Bool) → (first_difference (n + 1) lines run ≡ None

@@ -1,6 +1,6 @@
 //! The queue of ASDUs that wait for the control centre: the pieces of reports, from `push_report`
-//! or `push` until a connection acknowledged them (this gateway's own profile; IEC 60870-5-104, 5.1,
-//! for what acknowledging is).
+//! or `push` until a connection acknowledged them (this gateway's own profile; IEC 60870-5-104,
+//! 5.1, for what acknowledging is).
 //!
 //! [`Events`] is a list with two marks, its oldest piece and its first unsent one, in a ring of
 //! fixed places. Pieces go behind the newest, are lent to be sent from the mark on, and leave from

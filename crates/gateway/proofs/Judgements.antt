@@ -282,7 +282,8 @@ found_whole piece n f h = (
 pub nothing_left : (s : State) → s.centre.so_far ≡ Some [] → s.centre.heard ≡ None → s ≡ with_octets (Some []) s
 nothing_left s so none =
     ap (λ (o : Option (List ℕ)). let made : State = record s { centre = record s.centre { so_far = o } } in made) so
-    ∙ ap (λ (h : Option Apdu). let made : State = record s { centre = record s.centre { so_far = Some []; heard = h } } in
+    ∙ ap (λ (h : Option Apdu). let made : State = record s { centre = record s.centre { so_far = Some []; heard = h } }
+    in
     made) none
 
 -- the frame that was whole is taken

@@ -52,7 +52,8 @@ impl Gateway {
         requires ready { P.failed port.old < u64.MAX }
         requires fits { Fits (apdu_of apdu) }
         ensures told { P.log port.new ≡ (if result
-            then tell (P.log port.old) (Went self.now.moment (TcpOut (spelling (apdu_of apdu))) ∷ [])
+            then tell (P.log port.old)
+            (Went self.now.moment (TcpOut (spelling (apdu_of apdu))) ∷ [])
             else P.log port.old) }
         ensures puts { Puts P.log P.script P.failed port.old port.new (faults_unless result) }
     {
@@ -263,7 +264,8 @@ impl Gateway {
         requires whole { self.old.centre.so_far ≡ Some [] }
         ensures kept { (p : Setup) (frame : Apdu) (rest : List ℕ) →
             self.old.centre.heard ≡ Some frame →
-            Meets p (with_octets (Some []) self.old) (P.log port.old) (spelling frame ++ rest) rest →
+            Meets p (with_octets (Some []) self.old) (P.log port.old) (spelling frame ++ rest)
+            rest →
             Goes result p self.new (P.log port.new) rest }
         ensures open { IsOnward result (is_open self.new.centre.session ≡ true) }
         ensures puts { Puts P.log P.script P.failed port.old port.new (faults_in result) }

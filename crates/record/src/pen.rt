@@ -131,7 +131,8 @@ impl<W: Sheet + Drop> Pen<W> {
     /// Holds the line of an event. Where there is no memory for it the record is over.
     fn hold_event(&mut self, next: Next, buf: &[u8; 1024]) -> bool
         requires { FitsBuffer next }
-        ensures held { self.new ≡ held_or_over result (lines_of_log (told_by next buf.now)) self.old }
+        ensures held { self.new
+            ≡ held_or_over result (lines_of_log (told_by next buf.now)) self.old }
         ensures printable { result ≡ true → AllByRecursion IsPrintable (told_by next buf.now) }
     {
         match event_line(self.alloc, next, buf) {
@@ -145,7 +146,8 @@ impl<W: Sheet + Drop> Pen<W> {
 
     /// Holds the line of an action. Where there is no memory for it the record is over.
     fn hold_action(&mut self, now: u64, action: &Action<'_>) -> bool
-        ensures held { self.new ≡ held_or_over result (line_of now (output_of action.now)) self.old }
+        ensures held { self.new
+            ≡ held_or_over result (line_of now (output_of action.now)) self.old }
         ensures printable { result ≡ true → IsPrintable (Went now (output_of action.now)) }
     {
         match action_line(self.alloc, now, action) {

@@ -56,7 +56,8 @@ impl<P: Port + Drop, W: Sheet + Drop> Port for Recorder<P, W> {
     fn next(&mut self, buf: &mut [u8; 1024]) -> Next
         requires { P.failed self.old.port < u64.MAX }
         ensures told { told_first (log_of self.new.pen) (P.log self.new.port)
-            ≡ tell (told_first (log_of self.old.pen) (P.log self.old.port)) (told_by result buf.new) }
+            ≡ tell (told_first (log_of self.old.pen) (P.log self.old.port))
+            (told_by result buf.new) }
         ensures fits { FitsBuffer result }
         ensures done { result ≡ Done → P.ended self.new.port ≡ true }
         ensures script { P.script self.new.port ≡ P.script self.old.port }
@@ -73,12 +74,13 @@ impl<P: Port + Drop, W: Sheet + Drop> Port for Recorder<P, W> {
         requires { P.failed self.old.port < u64.MAX }
         ensures told { told_first (log_of self.new.pen) (P.log self.new.port)
             ≡ (if result then tell (told_first (log_of self.old.pen) (P.log self.old.port))
-                (Went now (output_of action.now) ∷ [])
+            (Went now (output_of action.now) ∷ [])
             else told_first (log_of self.old.pen) (P.log self.old.port)) }
         ensures script { P.script self.new.port ≡ P.script self.old.port }
         ensures cause { P.failed self.new.port
             ≡ P.failed self.old.port + (if result then 0 else 1) }
-        ensures puts { Puts result self.old.pen (Went now (output_of action.now) ∷ []) self.new.pen }
+        ensures puts { Puts result self.old.pen
+            (Went now (output_of action.now) ∷ []) self.new.pen }
     {
         let has_gone = self.port.put(now, action);
         if has_gone {

@@ -112,7 +112,8 @@ ends_nowhere text none = by_case (nat_lt n (length text)) refl none
 
     by_case : (b : Bool) → nat_lt n (length text) ≡ b → cond b (Some n) None ≡ None → IsField text
     by_case true e h = cc
-    by_case false e h = λ k d lt. fails_before_first (λ b. ends_field b) text k d (omega (arith, lt, beyond n (length text) e))
+    by_case false e h = λ k d lt. fails_before_first (λ b. ends_field b) text k d
+        (omega (arith, lt, beyond n (length text) e))
       where
         beyond : (a b : ℕ) → nat_lt a b ≡ false → b ≤ a
         beyond a b e = grind arith
@@ -126,7 +127,8 @@ pub no_moment : (moment : List ℕ) (fields : List (List ℕ)) → decimal_of mo
     → event_from (moment ∷ fields) ≡ None
 no_moment moment [] none = refl
 no_moment moment (kind ∷ []) none = rw none refl
-no_moment moment (kind ∷ text ∷ []) none = ap (λ now. valued_at now kind text) none ∙ unvalued (bytes_eq kind (codes "W"))
+no_moment moment (kind ∷ text ∷ []) none = ap (λ now. valued_at now kind text) none
+    ∙ unvalued (bytes_eq kind (codes "W"))
   where
     unvalued : (b : Bool) → (if b then wall_at None (decimal_of text) else octets_at None kind (octets_of text)) ≡ None
     unvalued true = refl

@@ -43,7 +43,8 @@ wrong_length text wrong = by (octets_of text) refl
     by None e = refl
     by (Some octets) e =
         let are = are_octets text octets e in
-        absurd (wrong (omega (arith, are.twice)) (omega (arith, are.twice, are.some)) (omega (arith, are.twice, are.most)))
+        absurd (wrong (omega (arith, are.twice)) (omega (arith, are.twice, are.some))
+        (omega (arith, are.twice, are.most)))
 
 -- of a right length it is, where each of them is a digit
 pub digits_right : (text : List ℕ) → length text % 2 ≡ 0 → 2 ≤ length text → length text ≤ 2048

@@ -1,5 +1,5 @@
--- How a text is read from its front (texts of this gateway's own profile): its first line, field by field, with octets
--- that are still in hexadecimal.
+-- How a text is read from its front (texts of this gateway's own profile): its first line, field by
+-- field, with octets that are still in hexadecimal.
 use Rattle.std.specs.Prelude.{◌≡◌, ℕ, ◌==◌, ◌||◌, Bool, true, false, List, [], ◌∷◌, drop, Option, Some, None, option_map}
 use Rattle.std.specs.Borrow.{Bor}
 use Rattle.std.specs.List.{slice_split}

@@ -169,7 +169,8 @@ impl CentreSide {
 
     /// The next S frame or TESTFR act that is due.
     fn pull(&mut self, moment: u64) -> Option<Short>
-        ensures due { (option_map apdu_of result, self.new.session) ≡ pulled moment self.old.session }
+        ensures due { (option_map apdu_of result, self.new.session)
+            ≡ pulled moment self.old.session }
         ensures rest { self.new ≡ record self.old { session = self.new.session } }
         ensures fits { IfSome result (λ frame. Fits (apdu_of frame)) }
     {
@@ -305,7 +306,8 @@ impl Gateway {
 
     /// The next confirmation that is due.
     pub(crate) fn confirm(&mut self) -> Option<Short>
-        ensures due { (option_map apdu_of result, self.new.centre.session) ≡ confirmed self.old.centre.session }
+        ensures due { (option_map apdu_of result, self.new.centre.session)
+            ≡ confirmed self.old.centre.session }
         ensures rest { self.new ≡ with_session self.new.centre.session self.old }
         ensures fits { IfSome result (λ frame. Fits (apdu_of frame)) }
     {

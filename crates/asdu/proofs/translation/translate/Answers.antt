@@ -25,7 +25,8 @@ written v ps rest b all is over =
 
 pub loop-left-init : goal.loop-left-init
 loop-left-init c =
-    ap (λ (ps : List (Stored ℕ)). map (λ p. p.items) ps ++ c.new-left.result) c.new-pieces.ensures ∙ c.new-left.ensures.pieces
+    ap (λ (ps : List (Stored ℕ)). map (λ p. p.items) ps ++ c.new-left.result) c.new-pieces.ensures
+    ∙ c.new-left.ensures.pieces
 
 pub push-requires : goal.push-requires
 push-requires c =
@@ -60,7 +61,8 @@ returns-clause-joined c =
     let asdu = c.args.asdu.now in
     let v = value_of asdu in
     let ps : List (Stored ℕ) = c.loop-left.pieces.items in
-    let e = written v ps c.loop-left.left c.is_over.result c.loop-left.invariant c.is_over.ensures c.loop-left-test.false in
+    let e = written v ps c.loop-left.left c.is_over.result c.loop-left.invariant c.is_over.ensures
+    c.loop-left-test.false in
     sym (flat_map-map (λ xs. objects_of tcp xs) (λ (p : Stored ℕ). p.items) ps)
     ∙ ap (λ (xs : List (List ℕ)). flat_map (λ x. objects_of tcp x) xs) e
     ∙ pieces_joined asdu.sizes v asdu.octets.now (IsAsdu-value_of asdu asdu.are_octets)
@@ -70,7 +72,8 @@ returns-clause-monitored c =
     let asdu = c.args.asdu.now in
     let v = value_of asdu in
     let ps : List (Stored ℕ) = c.loop-left.pieces.items in
-    let e = written v ps c.loop-left.left c.is_over.result c.loop-left.invariant c.is_over.ensures c.loop-left-test.false in
+    let e = written v ps c.loop-left.left c.is_over.result c.loop-left.invariant c.is_over.ensures
+    c.loop-left-test.false in
     sym (flat_map-map (λ xs. monitor_objects_of tcp xs) (λ (p : Stored ℕ). p.items) ps)
     ∙ ap (λ (xs : List (List ℕ)). flat_map (λ x. monitor_objects_of tcp x) xs) e
     ∙ pieces_monitored asdu.sizes v asdu.octets.now (IsAsdu-value_of asdu asdu.are_octets)
@@ -81,7 +84,8 @@ returns-clause-some_monitored c = λ passed.
     let v = value_of asdu in
     let ps : List (Stored ℕ) = c.loop-left.pieces.items in
     let P : List ℕ → Type 0 = λ x. 1 ≤ length (monitor_objects_of tcp x) in
-    let e = written v ps c.loop-left.left c.is_over.result c.loop-left.invariant c.is_over.ensures c.loop-left-test.false in
+    let e = written v ps c.loop-left.left c.is_over.result c.loop-left.invariant c.is_over.ensures
+    c.loop-left-test.false in
     All-of_map (λ (p : Stored ℕ). p.items) P ps (subst (λ (xs : List (List ℕ)). AllByRecursion P xs) (sym e)
     (pieces_some_monitored asdu.sizes v asdu.octets.now (IsAsdu-value_of asdu asdu.are_octets) passed))
 
@@ -91,7 +95,8 @@ returns-clause-pieces c =
     let v = value_of asdu in
     let ps : List (Stored ℕ) = c.loop-left.pieces.items in
     let P : List ℕ → Type 0 = λ x. IsPiece v x in
-    let e = written v ps c.loop-left.left c.is_over.result c.loop-left.invariant c.is_over.ensures c.loop-left-test.false in
+    let e = written v ps c.loop-left.left c.is_over.result c.loop-left.invariant c.is_over.ensures
+    c.loop-left-test.false in
     All-of_map (λ (p : Stored ℕ). p.items) P ps (subst (λ (xs : List (List ℕ)). AllByRecursion P xs) (sym e)
     (pieces_are asdu.sizes v asdu.octets.now (IsAsdu-value_of asdu asdu.are_octets)))
 
@@ -101,7 +106,8 @@ returns-clause-lengths c =
     let v = value_of asdu in
     let ps : List (Stored ℕ) = c.loop-left.pieces.items in
     let P : List ℕ → Type 0 = λ x. (9 ≤ length x) × (length x ≤ 249) in
-    let e = written v ps c.loop-left.left c.is_over.result c.loop-left.invariant c.is_over.ensures c.loop-left-test.false in
+    let e = written v ps c.loop-left.left c.is_over.result c.loop-left.invariant c.is_over.ensures
+    c.loop-left-test.false in
     All-of_map (λ (p : Stored ℕ). p.items) P ps (subst (λ (xs : List (List ℕ)). AllByRecursion P xs) (sym e)
     (pieces_lengths asdu.sizes v asdu.octets.now (IsAsdu-value_of asdu asdu.are_octets)))
 
@@ -111,7 +117,8 @@ returns-clause-full c =
     let v = value_of asdu in
     let ps : List (Stored ℕ) = c.loop-left.pieces.items in
     let P : List ℕ → Type 0 = λ x. IsLargest v x in
-    let e = written v ps c.loop-left.left c.is_over.result c.loop-left.invariant c.is_over.ensures c.loop-left-test.false in
+    let e = written v ps c.loop-left.left c.is_over.result c.loop-left.invariant c.is_over.ensures
+    c.loop-left-test.false in
     AllButLast-of_map (λ (p : Stored ℕ). p.items) P ps (subst (λ (xs : List (List ℕ)). AllButLast P xs) (sym e)
     (pieces_full asdu.sizes v asdu.octets.now (IsAsdu-value_of asdu asdu.are_octets)))
 
@@ -120,7 +127,8 @@ returns-clause-number c =
     let asdu = c.args.asdu.now in
     let v = value_of asdu in
     let ps : List (Stored ℕ) = c.loop-left.pieces.items in
-    let e = written v ps c.loop-left.left c.is_over.result c.loop-left.invariant c.is_over.ensures c.loop-left-test.false in
+    let e = written v ps c.loop-left.left c.is_over.result c.loop-left.invariant c.is_over.ensures
+    c.loop-left-test.false in
     sym (length-map ps (λ (p : Stored ℕ). p.items)) ∙ ap (λ (xs : List (List ℕ)). length xs) e
     ∙ pieces_number asdu.sizes v asdu.octets.now (IsAsdu-value_of asdu asdu.are_octets)
 
@@ -129,7 +137,8 @@ returns-clause-few c =
     let asdu = c.args.asdu.now in
     let v = value_of asdu in
     let ps : List (Stored ℕ) = c.loop-left.pieces.items in
-    let e = written v ps c.loop-left.left c.is_over.result c.loop-left.invariant c.is_over.ensures c.loop-left-test.false in
+    let e = written v ps c.loop-left.left c.is_over.result c.loop-left.invariant c.is_over.ensures
+    c.loop-left-test.false in
     let same = length-map ps (λ (p : Stored ℕ). p.items) in
     let all = ap (λ (xs : List (List ℕ)). length xs) e in
     let few = pieces_few asdu.sizes v asdu.octets.now (IsAsdu-value_of asdu asdu.are_octets) c.requires in

@@ -74,14 +74,16 @@ loop-left-preserved g c =
     let both : c.octets-address.result + c.content_octets.result ≡ w + content_len o.kind = omega arith in
     let octets : take (c.octets-address.result + c.content_octets.result - c.octets-address.result)
     (drop c.octets-address.result xs) ≡ take (content_len o.kind) (drop w xs) =
-    ap (λ n. take n (drop c.octets-address.result xs)) whole ∙ ap (λ n. take (content_len o.kind) (drop n xs)) address in
+    ap (λ n. take n (drop c.octets-address.result xs)) whole
+    ∙ ap (λ n. take (content_len o.kind) (drop n xs)) address in
     let n = c.octets-address.result + c.content_octets.result in
     let rest : take (length xs - n) (drop n xs) ≡ drop (w + content_len o.kind) xs =
     take_all (length xs - n) (drop n xs) (omega (arith, length-drop n xs)) ∙ ap (λ j. drop j xs) both in
     let number : c.append_address.new.out.items ≡ c.loop-left.out.items ++ little_bytes k (little_number w xs) =
     c.append_address.ensures ∙ ap (λ a. c.loop-left.out.items ++ little_bytes k a) c.read.ensures.value in
     let step = resized-step o.kind w k g.row.N c.loop-left.left xs _ _ c.loop-left.out.items
-    c.append_address.new.out.items c.append.new.out.items _ (omega arith) loop.long loop.fits loop.text number octets rest
+    c.append_address.new.out.items c.append.new.out.items _
+    (omega arith) loop.long loop.fits loop.text number octets rest
     c.append.ensures in
     record { text = step.0; fits = step.1; long = step.2 }
 
@@ -92,6 +94,7 @@ returns g c =
     let k = ioa_len c.args.size in
     let none : c.loop-left.left ≡ 0 = omega arith in
     sym (append-nil c.loop-left.out.items)
-    ∙ ap (λ n. c.loop-left.out.items ++ spelled_infos k false (each_located o.kind (ioa_len o.ioa) n c.loop-left.octets.now))
+    ∙ ap (λ n. c.loop-left.out.items ++ spelled_infos k false
+    (each_located o.kind (ioa_len o.ioa) n c.loop-left.octets.now))
     (sym none)
     ∙ loop.text

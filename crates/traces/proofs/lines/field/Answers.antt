@@ -6,7 +6,8 @@ use Rattle.traces.proofs.FirstLineLemmas.{field_then, field_last, field_whole, e
 use Rattle.traces.proofs.lines.field.Goals as goal
 
 pub returns-in_default : goal.returns-in_default
-returns-in_default c = field_whole c.args.text.now (ends_nowhere c.args.text.now (sym c.end_place.ensures.first ∙ c.in_default.is))
+returns-in_default c =
+    field_whole c.args.text.now (ends_nowhere c.args.text.now (sym c.end_place.ensures.first ∙ c.in_default.is))
 
 pub returns-then-text-i-eq32 : goal.returns-then-text-i-eq32
 returns-then-text-i-eq32 c =

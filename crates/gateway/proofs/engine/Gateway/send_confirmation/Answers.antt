@@ -19,9 +19,11 @@ returns-in-None-clause-next g c =
 
 pub returns-in-Some-clause-kept : goal.returns-in-Some-clause-kept
 returns-in-Some-clause-kept g c = λ p unjudged phase flushing h.
-    told_put c.hand_short.result p _ _ c.args.self.now c.confirm.new.self (apdu_of c.in-Some.apdu) _ unjudged phase c.hand_short.ensures.told
+    told_put c.hand_short.result p _ _ c.args.self.now c.confirm.new.self
+    (apdu_of c.in-Some.apdu) _ unjudged phase c.hand_short.ensures.told
     (ap (λ (x : State). x.moment) c.confirm.ensures.rest)
-    (sends_confirmation c.args.self.now c.confirm.new.self (apdu_of c.in-Some.apdu) c.in-Some.ensures.fits c.in-Some.ensures.due
+    (sends_confirmation c.args.self.now c.confirm.new.self
+    (apdu_of c.in-Some.apdu) c.in-Some.ensures.fits c.in-Some.ensures.due
     c.confirm.ensures.rest p unjudged phase flushing) h
 
 pub returns-in-Some-clause-open : goal.returns-in-Some-clause-open

@@ -17,7 +17,8 @@ loop-count-preserved g c =
       kept = λ p unjudged phase flushing ready h. told_sent p _ _ c.loop-count.self c.write_data.new.self sends.frame
           _ unjudged phase
           (c.if-not-hand.ensures.told
-          ∙ ap (λ octets. tell (g.P.Port.log c.loop-count.port) (Went c.write_data.new.self.moment (TcpOut octets) ∷ []))
+          ∙ ap (λ octets. tell (g.P.Port.log c.loop-count.port) (Went c.write_data.new.self.moment (TcpOut octets)
+          ∷ []))
           sends.spelled) made.1.moment
           (sends_data c.loop-count.self sends.frame c.write_data.new.self sends.holds
           (c.loop-count.invariant.confirmed ready) p unjudged phase flushing)

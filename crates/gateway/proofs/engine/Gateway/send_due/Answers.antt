@@ -18,9 +18,11 @@ returns-in-None-clause-next g c = pulled_next c.args.self.now c.pull.new.self _ 
 
 pub returns-in-Some-clause-kept : goal.returns-in-Some-clause-kept
 returns-in-Some-clause-kept g c = λ p unjudged phase flushing clear h.
-    told_put c.hand_short.result p _ _ c.args.self.now c.pull.new.self (apdu_of c.in-Some.apdu) _ unjudged phase c.hand_short.ensures.told
+    told_put c.hand_short.result p _ _ c.args.self.now c.pull.new.self
+    (apdu_of c.in-Some.apdu) _ unjudged phase c.hand_short.ensures.told
     (ap (λ (x : State). x.moment) c.pull.ensures.rest)
-    (sends_pulled c.args.self.now c.pull.new.self (apdu_of c.in-Some.apdu) clear c.in-Some.ensures.fits c.in-Some.ensures.due
+    (sends_pulled c.args.self.now c.pull.new.self (apdu_of c.in-Some.apdu) clear c.in-Some.ensures.fits
+    c.in-Some.ensures.due
     c.pull.ensures.rest p unjudged phase flushing) h
 
 pub returns-in-Some-clause-open : goal.returns-in-Some-clause-open

@@ -9,7 +9,8 @@ pub returns-else-not-hold_event-clause-log : goal.returns-else-not-hold_event-cl
 returns-else-not-hold_event-clause-log g c =
     let taken : c.hold_event.result ≡ true = search rules in
     let goes : c.args.self.now.is_over ≡ false = search rules in
-    let held : c.hold_event.new.self ≡ held_or_over true (lines_of_log (told_by c.args.next c.args.buf.now)) c.args.self.now
+    let held : c.hold_event.new.self ≡ held_or_over true
+    (lines_of_log (told_by c.args.next c.args.buf.now)) c.args.self.now
     = search rules in
     held_told c.printed_lines_read_back.ensures.log c.args.self.now c.hold_event.new.self
     (told_by c.args.next c.args.buf.now) (c.hold_event.ensures.printable taken)

@@ -36,7 +36,8 @@ returns-in-Never c =
       (
         found.2,
         ap (λ (o : Option (List ℕ)). let made : Centre =
-            record { session = s.session; so_far = o; heard = after.whole; queue = s.queue } in made) c.clear.ensures.so_far
+            record { session = s.session; so_far = o; heard = after.whole; queue = s.queue } in
+            made) c.clear.ensures.so_far
             ∙ ap (λ (h : Option Apdu). let made : Centre =
             record { session = s.session; so_far = Some []; heard = h; queue = s.queue } in made) c.clear.ensures.whole,
       ),
