@@ -6,6 +6,7 @@ ghost use Rattle.traces.specs.Fields.{parts_after};
 ghost use Rattle.traces.specs.FirstLines.{IsFirstField, ends_field};
 ghost use Rattle.traces.specs.Trace.{is_skipped};
 
+use memchr::{memchr, memchr2};
 use std::alloc::{AllocError, Global};
 
 /// The parts of a text between its separators.
@@ -21,7 +22,7 @@ fn place(text: &[u8], separator: u8) -> Option<usize>
     ensures first { result ≡ position (λ b. b == separator) text.now }
     ensures within { IfSome result (λ i. i < length text.now) }
 {
-    text.iter().position(|b| *b == separator)
+    memchr(separator, text)
 }
 
 /// The part of a text before its first separator, and what follows that, where there is one.
@@ -50,7 +51,7 @@ fn end_place(text: &[u8]) -> Option<usize>
     ensures first { result ≡ position (λ b. ends_field b) text.now }
     ensures within { IfSome result (λ i. i < length text.now) }
 {
-    text.iter().position(|b| *b == b' ' || *b == b'\n')
+    memchr2(b' ', b'\n', text)
 }
 
 /// The first field of a text, and what ends it.

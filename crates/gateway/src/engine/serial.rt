@@ -192,6 +192,9 @@ impl SerialSide {
 
     /// A station answered a command: where data transfer runs the answer is passed on as own
     /// answers. `false` says that one of these found no place.
+    ///
+    /// It stands apart, so that other reports make no place for its pieces.
+    #[inline(never)]
     fn mirror(&mut self, asdu: &Asdu<'_>, moment: u64, is_transferring: bool) -> bool
         requires short { length asdu.now.octets.now ≤ 253 }
         requires found { IsAsdu asdu.now.sizes (value_of asdu.now) asdu.now.octets.now }
@@ -211,6 +214,7 @@ impl SerialSide {
     }
 
     /// A station was busy: its command is answered, where the connection that sent it is open.
+    #[inline(never)]
     fn refuse(&mut self, station: usize) -> bool
         ensures state { self.new ≡ refused station self.old }
         ensures all { result ≡ refusal_fits station self.old }
