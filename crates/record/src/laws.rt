@@ -9,8 +9,8 @@ ghost use Rattle.traces.specs.Printed.{lines_of_log};
 
 /// The text of a record grows by the line of what passed, and by nothing else. Once the record is
 /// over it stays as it is, nothing more is given to the sheet, and what passes is missed; until
-/// then, when an event is passed on, the sheet has taken the text of all that passed before, and the
-/// event's line.
+/// then, when an event is passed on, the sheet has taken the text of all that passed before, and
+/// the event's line.
 pub fn a_record_is_the_text_of_what_passed()
     ensures notes { (old new : Recording) (news : Log) → Notes old news new →
         grows_by new.is_over old (lines_of_log news) new }

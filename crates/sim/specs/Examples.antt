@@ -51,8 +51,8 @@ two_stations = unreset 1 ∷ unreset 2 ∷ []
 abbrev pub with_two_stations : Plan → List Directive → Plan
 with_two_stations plan directives = record (with_script plan directives) { stations = two_stations }
 
--- the reset of the link of station 1, and of station 2 (FT1.2; function 0 of a primary station), and
--- the first with a wrong sum
+-- the reset of the link of station 1, and of station 2 (FT1.2; function 0 of a primary station),
+-- and the first with a wrong sum
 abbrev pub reset_of_1 : List ℕ
 reset_of_1 = 0x10 ∷ 0x40 ∷ 0x01 ∷ 0x41 ∷ 0x16 ∷ []
 
