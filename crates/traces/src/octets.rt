@@ -1,6 +1,6 @@
 //! Octets in hexadecimal.
-ghost use Rattle.std.specs.Prelude.{◌≡◌, ◌≤◌, IfOk, IfSome, IsSome, is_some, length, option_map, string_bytes, take};
-ghost use Rattle.hex.specs.Hex.{IsBytes, encode_upper, is_hex_digit};
+ghost use Rattle.std.specs.Prelude.{◌≡◌, ◌*◌, ◌<◌, ◌≤◌, true, Some, IfOk, IfSome, IsSome, is_some, length, option_map, string_bytes, take};
+ghost use Rattle.hex.specs.Hex.{IsBytes, encode_upper, hex_digit_value, is_hex_digit};
 ghost use Rattle.std.specs.List.{list_all};
 ghost use Rattle.traces.specs.Fields.{octets_of};
 
@@ -67,6 +67,29 @@ pub(crate) fn write_octets(text: &[u8], buf: &mut [u8; 1024]) -> usize
     ensures most { result ≤ 1024 }
 {
     let len = text.len() / 2;
-    let _ = hex::decode_to_slice(text, &mut buf[..len]);
+    decode_right(text, &mut buf[..len]);
     len
+}
+
+/// Decodes octets that are spelled right.
+fn decode_right(text: &[u8], out: &mut [u8])
+    requires right { IsSome (octets_of text.now) }
+    requires room { length text.now ≡ 2 * length out.old }
+    ensures { octets_of text.now ≡ Some out.new }
+{
+    'octets: for i in 0..out.len() {
+        let high = value_of(text[2 * i]);
+        let low = value_of(text[2 * i + 1]);
+        out[i] = high * 16 + low;
+    }
+}
+
+/// The value of a digit. By arithmetic, since so the compiler takes many digits at a time: `0` is
+/// 3 * 16, `A` is 4 * 16 + 1 and `a` 6 * 16 + 1, and letters stand for 10 and more.
+fn value_of(digit: u8) -> u8
+    requires { is_hex_digit digit ≡ true }
+    ensures value { hex_digit_value digit ≡ Some result }
+    ensures below { result < 16 }
+{
+    digit % 16 + 9 * (digit / 64)
 }
