@@ -1,11 +1,11 @@
 //! Text put where room was made before.
-ghost use Rattle.std.specs.Prelude.{◌≡◌, ◌+◌, ◌*◌, ◌≤◌, ◌++◌, ◌∷◌, [], length};
+ghost use Rattle.std.specs.Prelude.{◌≡◌, ◌+◌, ◌*◌, ◌<◌, ◌≤◌, ◌++◌, ◌∷◌, [], length, slice_index};
 ghost use Rattle.std.specs.Fmt.{decimal};
 ghost use Rattle.std.specs.Vec.{vec_len, vec_capacity};
-ghost use Rattle.hex.specs.Hex.{IsBytes, encode_upper};
+ghost use Rattle.hex.specs.Hex.{IsBytes, encode_upper, upper_digits};
 
-/// The digits of octets that are printed.
-const DIGITS: &[u8; 16] = b"0123456789ABCDEF";
+/// How many octets are spelled before their digits are appended.
+const BLOCK: usize = 32;
 
 /// Appends a number in decimal.
 #[tactic(auto, using(std::proofs::lemmas::Fmt::decimal_digit))]
@@ -27,12 +27,43 @@ pub(crate) fn push_digits(page: &mut Vec<u8>, octets: &[u8])
     requires { vec_len page.old + 2 * length octets.now ≤ vec_capacity page.old }
     ensures text { page.new.items ≡ page.old.items ++ encode_upper octets.now }
     ensures len { vec_len page.new ≡ vec_len page.old + 2 * length octets.now }
-    ensures capacity { vec_capacity page.new ≡ vec_capacity page.old }
+    ensures capacity { vec_capacity page.old ≤ vec_capacity page.new }
     ensures octets { IsBytes octets.now }
 {
-    for octet in octets {
-        page.push_reserved(DIGITS[(*octet / 16) as usize]);
-        page.push_reserved(DIGITS[(*octet % 16) as usize]);
+    let mut digits = [0u8; 2 * BLOCK];
+    let mut left = octets;
+    'pieces: while !left.is_empty() {
+        let many = left.len().min(BLOCK);
+        let spelled = &mut digits[..2 * many];
+        spell(&left[..many], spelled);
+        if page.extend_from_slice(&*spelled).is_err() {
+            unreachable!();
+        }
+        left = &left[many..];
+    }
+}
+
+/// Spells octets in hexadecimal, in upper case.
+fn spell(octets: &[u8], out: &mut [u8])
+    requires { length out.old ≡ 2 * length octets.now }
+    ensures { out.new ≡ encode_upper octets.now }
+{
+    'octets: for i in 0..octets.len() {
+        let octet = octets[i];
+        out[2 * i] = digit_of(octet / 16);
+        out[2 * i + 1] = digit_of(octet % 16);
+    }
+}
+
+/// The digit with this value. By arithmetic, since so the compiler spells many octets at a time.
+fn digit_of(value: u8) -> u8
+    requires { value < 16 }
+    ensures { result ≡ slice_index upper_digits value }
+{
+    if value < 10 {
+        b'0' + value
+    } else {
+        b'A' - 10 + value
     }
 }
 

@@ -1,27 +1,32 @@
-use Rattle.std.proofs.Common.{◌+◌, drop, rules, ◌∙◌, arith}
-use Rattle.std.proofs.lemmas.List.{drop_more}
-use Rattle.traces.proofs.PrintLemmas.{digits_next, digits_done}
+use Rattle.std.proofs.Common.{◌≡◌, ℕ, ◌+◌, ◌*◌, ◌≤◌, ◌++◌, List, length, take, sym, subst, rules, arith, length-drop}
+use Rattle.std.proofs.lemmas.List.{take_rest}
+use Rattle.std.specs.Vec.{vec_len}
+use Rattle.hex.specs.Hex.{encode_upper}
+use Rattle.traces.proofs.PrintLemmas.{block_next, blocks_done}
 use Rattle.traces.proofs.printing.push_digits.Goals as goal
 
-pub loop-octet-preserved : goal.loop-octet-preserved
-loop-octet-preserved c =
-    let octets = c.args.octets.now in
-    let i = c.loop-octet.octet-index in
-    let more = digits_next c.loop-octet.page.items (drop (i + 1) octets) (drop i octets) _
-    (drop_more octets i 0 c.loop-octet-test.true) in
+pub pieces-preserved : goal.pieces-preserved
+pieces-preserved c =
+    let left = c.pieces.left.now in
+    let many = c.min-many.result in
+    let le : many ≤ length left = search rules in
+    let printed : c.extend_from_slice.new.self.items ≡ c.pieces.page.items ++ c.spell.new.out = search rules in
+    let spelled : c.spell.new.out ≡ encode_upper (take many left) = search rules in
+    let longer : vec_len c.extend_from_slice.new.self ≡ vec_len c.pieces.page + 2 * many = search rules in
     record {
-      text = rw (c.push_reserved-in-loop-octet.ensures.items, c.push_reserved.ensures.items)
-          (more ∙ c.loop-octet.invariant.text);
-      len = omega (
-        arith,
-        c.push_reserved-in-loop-octet.ensures.len,
-        c.push_reserved.ensures.len,
-        c.loop-octet.invariant.len,
-      );
+      text =
+          subst (λ (rest : List ℕ). c.extend_from_slice.new.self.items ++ encode_upper rest
+          ≡ c.args.page.now.items ++ encode_upper c.args.octets.now) (sym (take_rest left many))
+          (rw printed (block_next c.pieces.page.items left c.spell.new.out many
+          (c.args.page.now.items ++ encode_upper c.args.octets.now) c.pieces.invariant.text spelled));
+      len =
+          subst (λ (rest : List ℕ). vec_len c.extend_from_slice.new.self + 2 * length rest
+          ≡ vec_len c.args.page.now + 2 * length c.args.octets.now) (sym (take_rest left many))
+          (omega (arith, longer, length-drop many left, le, c.pieces.invariant.len));
       capacity = search rules;
     }
 
 pub returns-clause-text : goal.returns-clause-text
 returns-clause-text c =
-    digits_done c.loop-octet.page.items _ c.args.octets.now c.loop-octet.octet-index c.loop-octet-test.false
-    c.loop-octet.invariant.text
+    let none : length c.pieces.left.now ≡ 0 = search rules in
+    blocks_done c.pieces.page.items c.pieces.left.now _ none c.pieces.invariant.text
