@@ -1,7 +1,9 @@
 -- A text searched for an octet, and cut at its first separator.
-use Rattle.std.proofs.Common.{◌≡◌, ℕ, ◌+◌, ◌<◌, ◌≤◌, ◌==◌, Bool, true, false, List, [], ◌∷◌, length, take, drop, cond, Option, Some, None, refl, sym, ap, ◌∙◌, subst, arith}
+use Rattle.std.proofs.Common.{◌≡◌, ℕ, ◌+◌, ◌<◌, ◌≤◌, ◌==◌, Bool, true, false, List, [], ◌∷◌, ◌++◌, length, take, drop, cond, Option, Some, None, option_map, refl, sym, ap, ◌∙◌, subst, arith}
 use Rattle.std.specs.Prelude.{position, nat_lt, IfSome}
-use Rattle.std.specs.List.{slice_split, position_or_len}
+use Rattle.std.specs.List.{slice_split, position_from, position_or_len}
+use Rattle.std.proofs.lemmas.Iterator.Adapters.{position_from-zero}
+use Rattle.std.proofs.lemmas.List.{length-take-le, take-append-drop}
 use Rattle.std.proofs.lemmas.Bool.{ltb-true, lt-ltb}
 use Rattle.std.proofs.lemmas.List.Sums.{fails_before_first, position_or_len_is}
 use Rattle.std.proofs.lemmas.List.Splits.{slice_split_first, slice_split_none}
@@ -68,3 +70,59 @@ pub found_within : (test : ℕ → Bool) (text : List ℕ) (r : Option ℕ) → 
     → IfSome r (λ i. i < length text)
 found_within test text None h = tt
 found_within test text (Some i) h = h.0.high
+
+-- A search in two parts
+
+kept : (test : ℕ → Bool) (i : ℕ) (front rest : List ℕ) (j : ℕ) → position_from test i front ≡ Some j
+    → position_from test i (front ++ rest) ≡ Some j
+kept test i [] rest j e = cc
+kept test i (x ∷ xs) rest j e = by (test x) e (kept test (i + 1) xs rest j)
+  where
+    by : (b : Bool) → cond b (Some i) (position_from test (i + 1) xs) ≡ Some j
+        → (position_from test (i + 1) xs ≡ Some j → position_from test (i + 1) (xs ++ rest) ≡ Some j)
+        → cond b (Some i) (position_from test (i + 1) (xs ++ rest)) ≡ Some j
+    by true e more = e
+    by false e more = more e
+
+passed : (test : ℕ → Bool) (i : ℕ) (front rest : List ℕ) → position_from test i front ≡ None
+    → position_from test i (front ++ rest) ≡ position_from test (i + length front) rest
+passed test i [] rest e = let same : i ≡ i + 0 = omega arith in ap (λ n. position_from test n rest) same
+passed test i (x ∷ xs) rest e = by (test x) e (passed test (i + 1) xs rest)
+  where
+    by : (b : Bool) → cond b (Some i) (position_from test (i + 1) xs) ≡ None
+        → (position_from test (i + 1) xs ≡ None
+        → position_from test (i + 1) (xs ++ rest) ≡ position_from test (i + 1 + length xs) rest)
+        → cond b (Some i) (position_from test (i + 1) (xs ++ rest)) ≡ position_from test (i + length (x ∷ xs)) rest
+    by true e more = cc
+    by false e more =
+        let same : i + 1 + length xs ≡ i + length (x ∷ xs) = omega arith in
+        more e ∙ ap (λ n. position_from test n rest) same
+
+moved : (test : ℕ → Bool) (i j : ℕ) (xs : List ℕ) → position_from test (i + j) xs
+    ≡ option_map (λ k. i + k) (position_from test j xs)
+moved test i j [] = refl
+moved test i j (x ∷ xs) = by (test x) (moved test i (j + 1) xs)
+  where
+    by : (b : Bool) → position_from test (i + (j + 1)) xs ≡ option_map (λ k. i + k) (position_from test (j + 1) xs)
+        → cond b (Some (i + j)) (position_from test (i + j + 1) xs)
+        ≡ option_map (λ k. i + k) (cond b (Some j) (position_from test (j + 1) xs))
+    by true rest = refl
+    by false rest =
+        let same : i + j + 1 ≡ i + (j + 1) = omega arith in ap (λ n. position_from test n xs) same ∙ rest
+
+pub found_near : (test : ℕ → Bool) (text : List ℕ) (n i : ℕ) → Some i ≡ position test (take n text)
+    → Some i ≡ position test text
+found_near test text n i found =
+    sym (position_from-zero test text ∙ ap (position_from test 0) (sym (take-append-drop n text))
+    ∙ kept test 0 (take n text) (drop n text) i (sym (found ∙ position_from-zero test (take n text))))
+
+pub found_far : (test : ℕ → Bool) (text : List ℕ) (n : ℕ) (found : Option ℕ) → n ≤ length text
+    → None ≡ position test (take n text) → found ≡ position test (drop n text)
+    → option_map (λ k. n + k) found ≡ position test text
+found_far test text n found le none is =
+    let same : 0 + length (take n text) ≡ n + 0 = omega (arith, length-take-le n text le) in
+    sym (position_from-zero test text ∙ ap (position_from test 0) (sym (take-append-drop n text))
+    ∙ passed test 0 (take n text) (drop n text) (sym (none ∙ position_from-zero test (take n text)))
+    ∙ ap (λ m. position_from test m (drop n text)) same
+    ∙ moved test n 0 (drop n text)
+    ∙ ap (option_map (λ k. n + k)) (sym (position_from-zero test (drop n text)) ∙ sym is))

@@ -46,8 +46,35 @@ pub(crate) enum FieldEnd<'a> {
     LineEnd(Option<&'a [u8]>),
 }
 
-/// The place of the first octet that ends a field.
+/// How many octets are looked at one by one: most fields are shorter.
+const NEAR: usize = 8;
+
+/// The place of the first octet that ends a field. The call of the search behind the first octets
+/// takes longer than a look at each of these.
 fn end_place(text: &[u8]) -> Option<usize>
+    ensures first { result ≡ position (λ b. ends_field b) text.now }
+    ensures within { IfSome result (λ i. i < length text.now) }
+{
+    let near = text.len().min(NEAR);
+    match near_end(&text[..near]) {
+        Some(i) => Some(i),
+        None => match far_end(&text[near..]) {
+            Some(i) => Some(near + i),
+            None => None,
+        },
+    }
+}
+
+/// The place of the first octet that ends a field, octet by octet.
+fn near_end(text: &[u8]) -> Option<usize>
+    ensures first { result ≡ position (λ b. ends_field b) text.now }
+    ensures within { IfSome result (λ i. i < length text.now) }
+{
+    text.iter().position(|b| *b == b' ' || *b == b'\n')
+}
+
+/// The same, many octets at a time.
+fn far_end(text: &[u8]) -> Option<usize>
     ensures first { result ≡ position (λ b. ends_field b) text.now }
     ensures within { IfSome result (λ i. i < length text.now) }
 {
