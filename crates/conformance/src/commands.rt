@@ -8,6 +8,7 @@ use asdu::{CaSize, CauseSize, IoaSize, Sizes, read};
 use command::{Act, Commands, NoMemory, StationInfo};
 use elements::Cp56;
 use std::alloc::Global;
+use std::test::Fail;
 
 /// The smallest sizes.
 pub const SMALL: Sizes = Sizes {
@@ -86,8 +87,43 @@ pub enum Step<'a> {
     Oldest(&'a [u8]),
     /// No own answer is kept.
     Empty,
+    /// The oldest own answer went out.
+    OwnSent,
     Cut,
     Due(u64),
+}
+
+/// What happens to two stations, in these sizes of the line: calls that lead up to it, and those
+/// that it is about.
+pub type Script<'a> = (&'a str, Sizes, &'a [Step<'a>], &'a [Step<'a>]);
+
+/// All of them.
+const SCRIPTS: [&[Script<'static>]; 5] = [
+    limits::SCRIPTS,
+    own::SCRIPTS,
+    rules::SCRIPTS,
+    selections::SCRIPTS,
+    tags::SCRIPTS,
+];
+
+#[test]
+fn calls_answer_in_their_order(rt: HostRuntime) -> Result<(), Fail> {
+    for scripts in SCRIPTS {
+        for (name, sizes, before, steps) in scripts {
+            let mut commands = two_stations(rt.alloc(), *sizes)?;
+            assert_eq!(rt;
+                count_of_answers(&mut commands, before),
+                before.len(),
+                "before {name}"
+            );
+            assert_eq!(rt;
+                count_of_answers(&mut commands, steps),
+                steps.len(),
+                "{name}"
+            );
+        }
+    }
+    Ok(())
 }
 
 /// Two stations: 1, which asks for selects, and 2, which doesn't.
@@ -153,6 +189,7 @@ fn is_right(commands: &mut Commands, step: &Step) -> bool {
         Step::Keeps(octets, kept) => return keeps(commands, octets, *kept),
         Step::Oldest(octets) => return commands.own_answer() == Some(*octets),
         Step::Empty => return commands.own_answer().is_none(),
+        Step::OwnSent => commands.own_sent(),
         Step::Cut => commands.cut(),
         Step::Due(now) => commands.due(*now),
     }

@@ -27,89 +27,88 @@ const FUNCTIONS: [(Uf, u8); 6] = [
     (Uf::TestCon, 0x83),
 ];
 
+/// The same I format once the counter has run over, and N(R) hasn't yet.
+const NEXT_NUMBER: [u8; 15] = [
+    0x68, 0x0D, 0x00, 0x00, 0xFE, 0xFF, 0x64, 0x01, 0x06, 0x00, 0x01, 0x00, 0x00, 0x00, 0x00,
+];
+
+/// Whether these are the octets of an S or U frame, all ways.
+fn is_short(short: Short, octets: [u8; 6]) -> bool {
+    let apdu = short.to_apdu();
+    encode(&apdu).as_slice() == octets.as_slice()
+        && short.to_octets() == octets
+        && front(&octets) == Front::Whole(apdu, 6)
+}
+
+/// Whether these are the octets of an I frame with these N(S) and N(R), all ways.
+fn is_information(octets: &[u8], ns: u16, nr: u16) -> bool
+    requires { (6 ≤ length octets.now) × (length octets.now ≤ 255) }
+{
+    let asdu = &octets[6..];
+    let apdu = ApduRef::I { ns, nr, asdu };
+    front_ref(octets) == FrontRef::Whole(apdu, octets.len())
+        && encode(&apdu.to_apdu()).as_slice() == octets
+}
+
 #[test]
 fn apdus_of_each_format(rt: HostRuntime) {
     for (function, control) in FUNCTIONS {
-        let octets = [0x68, 0x04, control, 0x00, 0x00, 0x00];
-        let apdu = Apdu::U(function);
-        assert!(rt;
-            encode(&apdu).as_slice() == octets.as_slice()
-                && Short::U(function).to_octets() == octets
-                && front(&octets) == Front::Whole(apdu, 6)
-        );
+        assert!(rt; is_short(Short::U(function), [0x68, 0x04, control, 0x00, 0x00, 0x00]));
     }
-    let report = ApduRef::I {
-        ns: 0,
-        nr: 0,
-        asdu: &REPORT[6..],
-    };
-    assert!(rt;
-        front_ref(&REPORT) == FrontRef::Whole(report, 21)
-            && encode(&report.to_apdu()).as_slice() == REPORT.as_slice()
-    );
+    assert!(rt; is_short(Short::S { nr: 1 }, ACKNOWLEDGE));
+    // What stands behind a frame is left.
     let more = [0x68, 0x04, 0x01, 0x00, 0x02, 0x00, 0xE5];
-    assert!(rt;
-        front_ref(&ACKNOWLEDGE[..3]) == FrontRef::More
-            && front_ref(&more) == FrontRef::Whole(ApduRef::S { nr: 1 }, 6)
-            && front(&more) == Front::Whole(Apdu::S { nr: 1 }, 6)
-            && encode(&Apdu::S { nr: 1 }).as_slice() == ACKNOWLEDGE.as_slice()
-            && Short::S { nr: 1 }.to_octets() == ACKNOWLEDGE
-    );
+    assert!(rt; front_ref(&ACKNOWLEDGE[..3]) == FrontRef::More);
+    assert!(rt; front_ref(&more) == FrontRef::Whole(ApduRef::S { nr: 1 }, 6));
+    assert!(rt; front(&more) == Front::Whole(Apdu::S { nr: 1 }, 6));
     // Counters run modulo 32768.
-    let asdu = &LAST_NUMBER[6..];
-    let last = ApduRef::I {
-        ns: 32767,
-        nr: 0,
-        asdu,
-    };
-    assert!(rt;
-        front_ref(&LAST_NUMBER) == FrontRef::Whole(last, 15)
-            && encode(&last.to_apdu()).as_slice() == LAST_NUMBER.as_slice()
-    );
-    let next = ApduRef::I {
-        ns: 0,
-        nr: 32767,
-        asdu,
-    };
-    assert!(rt; encode(&next.to_apdu())[2..6] == [0x00, 0x00, 0xFE, 0xFF]);
+    assert!(rt; is_information(&REPORT, 0, 0));
+    assert!(rt; is_information(&LAST_NUMBER, 32767, 0));
+    assert!(rt; is_information(&NEXT_NUMBER, 0, 32767));
     let mut octets = [0; 255];
-    assert!(rt;
-        write_information(&mut octets, 32767, 0, asdu) == 15 && octets[..15] == LAST_NUMBER[..]
-    );
+    assert!(rt; write_information(&mut octets, 32767, 0, &LAST_NUMBER[6..]) == 15);
+    assert!(rt; octets[..15] == LAST_NUMBER[..]);
+}
+
+/// Octets that begin no APDU, the place that decides it or is told, and why.
+const REFUSED: [(&[u8], usize, Why); 21] = [
+    (&[0x00], 0, Why::Start),
+    (&[0xE5, 0x03, 0x05], 0, Why::Start),
+    (&[0x68, 0x03], 1, Why::Length),
+    (&[0x68, 0xFE], 1, Why::Length),
+    (&[0x68, 0xFE, 0x03], 1, Why::Length),
+    (&[0x68, 0x04, 0x03], 2, Why::Control),
+    (&[0x68, 0x05, 0x03], 2, Why::Control),
+    (&[0x68, 0x0D, 0xFF], 2, Why::Control),
+    (&[0x68, 0x05, 0x07], 1, Why::NotFour),
+    (&[0x68, 0x06, 0x01], 1, Why::NotFour),
+    (&[0x68, 0xFD, 0x01], 1, Why::NotFour),
+    (&[0x68, 0x0C, 0x00], 1, Why::Short),
+    (&[0x68, 0x04, 0x00], 1, Why::Short),
+    (&[0x68, 0x04, 0x01, 0x01], 3, Why::Control),
+    (&[0x68, 0x04, 0x43, 0x01], 3, Why::Control),
+    (&[0x68, 0x04, 0x01, 0x00, 0x01], 4, Why::Control),
+    (&[0x68, 0x04, 0x43, 0x00, 0x02], 4, Why::Control),
+    (&[0x68, 0x0D, 0x00, 0x00, 0x01], 4, Why::Control),
+    (&[0x68, 0x04, 0x43, 0x00, 0x00, 0x01], 5, Why::Control),
+    (&[0x68, 0x04, 0x01, 0x01, 0x01, 0x00], 3, Why::Control),
+    (&[0x68, 0x04, 0x43, 0x01, 0x01, 0x01], 3, Why::Control),
+];
+
+/// Whether the octets are refused at this place for this, read or heard.
+fn is_refused(octets: &[u8], place: usize, why: Why) -> bool {
+    if front(octets) != Front::Never(place, why)
+        || front_ref(octets) != FrontRef::Never(place, why)
+    {
+        return false;
+    }
+    Assembler::new().feed(octets) == (octets.len(), Heard::Never(place, why))
 }
 
 #[test]
 fn refusals_in_their_order(rt: HostRuntime) {
-    let refused: [(&[u8], usize, Why); 21] = [
-        (&[0x00], 0, Why::Start),
-        (&[0xE5, 0x03, 0x05], 0, Why::Start),
-        (&[0x68, 0x03], 1, Why::Length),
-        (&[0x68, 0xFE], 1, Why::Length),
-        (&[0x68, 0xFE, 0x03], 1, Why::Length),
-        (&[0x68, 0x04, 0x03], 2, Why::Control),
-        (&[0x68, 0x05, 0x03], 2, Why::Control),
-        (&[0x68, 0x0D, 0xFF], 2, Why::Control),
-        (&[0x68, 0x05, 0x07], 1, Why::NotFour),
-        (&[0x68, 0x06, 0x01], 1, Why::NotFour),
-        (&[0x68, 0xFD, 0x01], 1, Why::NotFour),
-        (&[0x68, 0x0C, 0x00], 1, Why::Short),
-        (&[0x68, 0x04, 0x00], 1, Why::Short),
-        (&[0x68, 0x04, 0x01, 0x01], 3, Why::Control),
-        (&[0x68, 0x04, 0x43, 0x01], 3, Why::Control),
-        (&[0x68, 0x04, 0x01, 0x00, 0x01], 4, Why::Control),
-        (&[0x68, 0x04, 0x43, 0x00, 0x02], 4, Why::Control),
-        (&[0x68, 0x0D, 0x00, 0x00, 0x01], 4, Why::Control),
-        (&[0x68, 0x04, 0x43, 0x00, 0x00, 0x01], 5, Why::Control),
-        (&[0x68, 0x04, 0x01, 0x01, 0x01, 0x00], 3, Why::Control),
-        (&[0x68, 0x04, 0x43, 0x01, 0x01, 0x01], 3, Why::Control),
-    ];
-    for (octets, place, why) in refused {
-        let mut assembler = Assembler::new();
-        assert!(rt;
-            front(octets) == Front::Never(place, why)
-                && front_ref(octets) == FrontRef::Never(place, why)
-                && assembler.feed(octets) == (octets.len(), Heard::Never(place, why))
-        );
+    for (octets, place, why) in REFUSED {
+        assert!(rt; is_refused(octets, place, why));
     }
     // A length from 5 to 12 is judged with the octet after it.
     for len in 4u8..=253 {

@@ -153,31 +153,33 @@ fn reads_asdus(rt: HostRuntime) {
     );
 }
 
+/// Octets that are no ASDU in these sizes, and the number of the reason.
+const REFUSED: [(Sizes, &[u8], u8); 11] = [
+    // Too short for a header and an address, whatever the type; in other sizes too.
+    (SMALL, &[], 1),
+    (SMALL, &[0x02, 0x00, 0x03, 0x01], 1),
+    (Sizes::TCP, &[0x01, 0x01, 3, 0, 1, 0, 1, 0], 1),
+    // A type that isn't known, also with number 0.
+    (SMALL, &[0x02, 0x00, 0x03, 0x01, 0x64], 2),
+    // Number 0, with SQ 0 and 1, also where the length is wrong.
+    (SMALL, &[0x01, 0x00, 0x03, 0x01, 0x64], 3),
+    (SMALL, &[0x01, 0x80, 0x03, 0x01, 0x64, 0x01], 3),
+    // An octet too few or too many, also where the last address is past the size.
+    (SMALL, &[0x01, 0x01, 0x03, 0x01, 0x64], 4),
+    (SMALL, &[0x01, 0x01, 0x03, 0x01, 0x64, 0x01, 0x00], 4),
+    (SMALL, &[0x01, 0x82, 0x03, 0x01, 0xFF, 0x01], 4),
+    // The last address past the size with SQ 1.
+    (SMALL, &[0x01, 0x82, 0x03, 0x01, 0xFF, 0x01, 0x00], 5),
+    (
+        Sizes::TCP,
+        &[0x01, 0x82, 3, 0, 1, 0, 0xFF, 0xFF, 0xFF, 1, 1],
+        5,
+    ),
+];
+
 #[test]
 fn refuses_what_is_no_asdu(rt: HostRuntime) {
-    let rows: [(Sizes, &[u8], u8); 11] = [
-        // Too short for a header and an address, whatever the type; in other sizes too.
-        (SMALL, &[], 1),
-        (SMALL, &[0x02, 0x00, 0x03, 0x01], 1),
-        (Sizes::TCP, &[0x01, 0x01, 3, 0, 1, 0, 1, 0], 1),
-        // A type that isn't known, also with number 0.
-        (SMALL, &[0x02, 0x00, 0x03, 0x01, 0x64], 2),
-        // Number 0, with SQ 0 and 1, also where the length is wrong.
-        (SMALL, &[0x01, 0x00, 0x03, 0x01, 0x64], 3),
-        (SMALL, &[0x01, 0x80, 0x03, 0x01, 0x64, 0x01], 3),
-        // An octet too few or too many, also where the last address is past the size.
-        (SMALL, &[0x01, 0x01, 0x03, 0x01, 0x64], 4),
-        (SMALL, &[0x01, 0x01, 0x03, 0x01, 0x64, 0x01, 0x00], 4),
-        (SMALL, &[0x01, 0x82, 0x03, 0x01, 0xFF, 0x01], 4),
-        // The last address past the size with SQ 1.
-        (SMALL, &[0x01, 0x82, 0x03, 0x01, 0xFF, 0x01, 0x00], 5),
-        (
-            Sizes::TCP,
-            &[0x01, 0x82, 3, 0, 1, 0, 0xFF, 0xFF, 0xFF, 1, 1],
-            5,
-        ),
-    ];
-    for (sizes, octets, why) in rows {
+    for (sizes, octets, why) in REFUSED {
         assert!(rt; read(sizes, octets) == Err(Refused(why)), "{why}");
     }
     // The greatest address that isn't.

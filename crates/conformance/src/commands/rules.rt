@@ -1,30 +1,75 @@
 //! Which answer an ASDU gets. The answers are the ASDUs that came with their cause octet replaced.
 use super::{
-    EXECUTE, FOR_ALL, INTERROGATION, MIDDLE, REFUSED, SMALL, STOP, Step, count_of_answers,
-    count_of_refusals, forwards, two_stations,
+    EXECUTE, FOR_ALL, INTERROGATION, MIDDLE, REFUSED, SMALL, STOP, Script, Step, count_of_answers,
+    count_of_refusals, two_stations,
 };
 use std::test::Fail;
 
-#[test]
-fn types_that_are_unknown(rt: HostRuntime) -> Result<(), Fail> {
-    let mut commands = two_stations(rt.alloc(), MIDDLE)?;
-    const CLOCK: [u8; 16] = [
-        0x67, 0x01, 0x06, 0x00, 0x01, 0x00, 0x00, 0x00, 0x00, 0xD5, 0xDD, 0x22, 0x0C, 0x9D, 0x02,
-        0x18,
-    ];
-    const ANSWER: [u8; 16] = [
-        0x67, 0x01, 0x6C, 0x00, 0x01, 0x00, 0x00, 0x00, 0x00, 0xD5, 0xDD, 0x22, 0x0C, 0x9D, 0x02,
-        0x18,
-    ];
-    const POINT: [u8; 9] = [0x01, 0x01, 0x86, 0x03, 0x01, 0x00, 0x0A, 0x00, 0x00];
-    const POINT_REFUSED: [u8; 9] = [0x01, 0x01, 0xEC, 0x03, 0x01, 0x00, 0x0A, 0x00, 0x00];
-    let steps = [
-        Step::Answers(&CLOCK, 50, &ANSWER),
-        Step::Answers(&POINT, 50, &POINT_REFUSED),
-    ];
-    assert_eq!(rt; count_of_answers(&mut commands, &steps), 2);
-    Ok(())
-}
+/// A clock synchronisation, and the answer to it.
+const CLOCK: [u8; 16] = [
+    0x67, 0x01, 0x06, 0x00, 0x01, 0x00, 0x00, 0x00, 0x00, 0xD5, 0xDD, 0x22, 0x0C, 0x9D, 0x02, 0x18,
+];
+
+const CLOCK_REFUSED: [u8; 16] = [
+    0x67, 0x01, 0x6C, 0x00, 0x01, 0x00, 0x00, 0x00, 0x00, 0xD5, 0xDD, 0x22, 0x0C, 0x9D, 0x02, 0x18,
+];
+
+/// A single point without its element, and the answer to it.
+const POINT: [u8; 9] = [0x01, 0x01, 0x86, 0x03, 0x01, 0x00, 0x0A, 0x00, 0x00];
+
+const POINT_REFUSED: [u8; 9] = [0x01, 0x01, 0xEC, 0x03, 0x01, 0x00, 0x0A, 0x00, 0x00];
+
+pub const SCRIPTS: &[Script<'static>] = &[
+    (
+        "types that are unknown",
+        MIDDLE,
+        &[],
+        &[
+            Step::Answers(&CLOCK, 50, &CLOCK_REFUSED),
+            Step::Answers(&POINT, 50, &POINT_REFUSED),
+        ],
+    ),
+    (
+        "a set point goes to the line",
+        SMALL,
+        &[],
+        &[
+            Step::Forwards(
+                &[
+                    0x31, 0x01, 0x86, 0x07, 0x02, 0x00, 0x0A, 0x00, 0x00, 0x34, 0x12, 0x05,
+                ],
+                1,
+            ),
+            Step::Rests(0),
+            Step::Sends(1, &[0x31, 0x01, 0x86, 0x02, 0x0A, 0x34, 0x12, 0x05]),
+            Step::Accepts(1),
+            Step::Rests(1),
+        ],
+    ),
+    (
+        "an interrogation for all goes to each",
+        MIDDLE,
+        &[],
+        &[
+            Step::Forwards(&FOR_ALL, 43),
+            Step::Forwards(&INTERROGATION, 44),
+            Step::Sends(1, &[0x64, 0x01, 0x06, 0x02, 0x00, 0x00, 0x14]),
+            Step::Accepts(1),
+            Step::Rests(1),
+            Step::Sends(0, &[0x64, 0x01, 0x06, 0x01, 0x00, 0x00, 0x14]),
+            Step::Busy(
+                0,
+                &[0x64, 0x01, 0x47, 0x00, 0xFF, 0xFF, 0x00, 0x00, 0x00, 0x14],
+            ),
+            Step::Sends(0, &[0x64, 0x01, 0x06, 0x01, 0x00, 0x00, 0x14]),
+            Step::Busy(
+                0,
+                &[0x64, 0x01, 0x47, 0x00, 0x01, 0x00, 0x00, 0x00, 0x00, 0x14],
+            ),
+            Step::Rests(0),
+        ],
+    ),
+];
 
 /// ASDUs with a cause, a station or an object that is unknown, in the sizes `SMALL`, and the cause
 /// octets of their answers.
@@ -61,14 +106,11 @@ const UNKNOWN: [([u8; 10], u8); 6] = [
     ),
 ];
 
-#[test]
-fn causes_addresses_and_objects_that_are_unknown(rt: HostRuntime) -> Result<(), Fail> {
-    let mut commands = two_stations(rt.alloc(), SMALL)?;
-    assert_eq!(rt; count_of_refusals(&mut commands, &UNKNOWN), 6);
-    let last = [0x2D, 0x01, 0x06, 0x00, 0x02, 0x00, 0xFF, 0x00, 0x00, 0x01];
-    assert!(rt; forwards(&mut commands, &last, 1));
-    Ok(())
-}
+/// The last object of a line with object addresses of one octet.
+const BEHIND_UNKNOWN: [Step<'static>; 1] = [Step::Forwards(
+    &[0x2D, 0x01, 0x06, 0x00, 0x02, 0x00, 0xFF, 0x00, 0x00, 0x01],
+    1,
+)];
 
 /// ASDUs of a wrong form, or that may not operate, in the sizes `MIDDLE`, and the cause octets of
 /// their answers.
@@ -102,75 +144,36 @@ const WRONG: [([u8; 10], u8); 6] = [
     ),
 ];
 
+/// Other forms, in the sizes `MIDDLE`.
+const BEHIND_WRONG: [Step<'static>; 5] = [
+    // no element
+    Step::Answers(
+        &[0x2D, 0x01, 0x88, 0x00, 0x02, 0x00, 0x0A, 0x00, 0x00],
+        1,
+        &[0x2D, 0x01, 0xC9, 0x00, 0x02, 0x00, 0x0A, 0x00, 0x00],
+    ),
+    // a double command's state 2, and interrogation 36
+    Step::Forwards(
+        &[0x2E, 0x01, 0x06, 0x00, 0x02, 0x00, 0x0A, 0x00, 0x00, 0x02],
+        1,
+    ),
+    Step::Forwards(
+        &[0x64, 0x01, 0x06, 0x00, 0x01, 0x00, 0x00, 0x00, 0x00, 0x24],
+        1,
+    ),
+    // an execute without a select
+    Step::Answers(&EXECUTE, 1, &REFUSED),
+    // a deactivation needs none
+    Step::Forwards(&STOP, 1),
+];
+
 #[test]
-fn forms_that_are_refused(rt: HostRuntime) -> Result<(), Fail> {
+fn what_is_refused(rt: HostRuntime) -> Result<(), Fail> {
+    let mut commands = two_stations(rt.alloc(), SMALL)?;
+    assert_eq!(rt; count_of_refusals(&mut commands, &UNKNOWN), 6);
+    assert_eq!(rt; count_of_answers(&mut commands, &BEHIND_UNKNOWN), 1);
     let mut commands = two_stations(rt.alloc(), MIDDLE)?;
     assert_eq!(rt; count_of_refusals(&mut commands, &WRONG), 6);
-    let steps = [
-        // no element
-        Step::Answers(
-            &[0x2D, 0x01, 0x88, 0x00, 0x02, 0x00, 0x0A, 0x00, 0x00],
-            1,
-            &[0x2D, 0x01, 0xC9, 0x00, 0x02, 0x00, 0x0A, 0x00, 0x00],
-        ),
-        // a double command's state 2, and interrogation 36
-        Step::Forwards(
-            &[0x2E, 0x01, 0x06, 0x00, 0x02, 0x00, 0x0A, 0x00, 0x00, 0x02],
-            1,
-        ),
-        Step::Forwards(
-            &[0x64, 0x01, 0x06, 0x00, 0x01, 0x00, 0x00, 0x00, 0x00, 0x24],
-            1,
-        ),
-        // an execute without a select
-        Step::Answers(&EXECUTE, 1, &REFUSED),
-        // a deactivation needs none
-        Step::Forwards(&STOP, 1),
-    ];
-    assert_eq!(rt; count_of_answers(&mut commands, &steps), 5);
-    Ok(())
-}
-
-#[test]
-fn a_set_point_goes_to_the_line(rt: HostRuntime) -> Result<(), Fail> {
-    let mut commands = two_stations(rt.alloc(), SMALL)?;
-    let steps = [
-        Step::Forwards(
-            &[
-                0x31, 0x01, 0x86, 0x07, 0x02, 0x00, 0x0A, 0x00, 0x00, 0x34, 0x12, 0x05,
-            ],
-            1,
-        ),
-        Step::Rests(0),
-        Step::Sends(1, &[0x31, 0x01, 0x86, 0x02, 0x0A, 0x34, 0x12, 0x05]),
-        Step::Accepts(1),
-        Step::Rests(1),
-    ];
-    assert_eq!(rt; count_of_answers(&mut commands, &steps), 5);
-    Ok(())
-}
-
-#[test]
-fn an_interrogation_for_all_goes_to_each(rt: HostRuntime) -> Result<(), Fail> {
-    let mut commands = two_stations(rt.alloc(), MIDDLE)?;
-    let steps = [
-        Step::Forwards(&FOR_ALL, 43),
-        Step::Forwards(&INTERROGATION, 44),
-        Step::Sends(1, &[0x64, 0x01, 0x06, 0x02, 0x00, 0x00, 0x14]),
-        Step::Accepts(1),
-        Step::Rests(1),
-        Step::Sends(0, &[0x64, 0x01, 0x06, 0x01, 0x00, 0x00, 0x14]),
-        Step::Busy(
-            0,
-            &[0x64, 0x01, 0x47, 0x00, 0xFF, 0xFF, 0x00, 0x00, 0x00, 0x14],
-        ),
-        Step::Sends(0, &[0x64, 0x01, 0x06, 0x01, 0x00, 0x00, 0x14]),
-        Step::Busy(
-            0,
-            &[0x64, 0x01, 0x47, 0x00, 0x01, 0x00, 0x00, 0x00, 0x00, 0x14],
-        ),
-        Step::Rests(0),
-    ];
-    assert_eq!(rt; count_of_answers(&mut commands, &steps), 10);
+    assert_eq!(rt; count_of_answers(&mut commands, &BEHIND_WRONG), 5);
     Ok(())
 }

@@ -52,63 +52,65 @@ fn is_refused(size: LinkSize, octets: &[u8], place: usize, why: Why) -> bool {
             .is_some_and(|before| front(size, before) == Front::More)
 }
 
+/// Octets that begin no frame in these sizes, the place that decides it, and why.
+const REFUSED: [(LinkSize, &[u8], usize, Why); 16] = [
+    (LinkSize::One, &[0x00], 0, Why::Start),
+    (LinkSize::One, &[0x68, 0x01], 1, Why::LengthSmall),
+    (LinkSize::One, &[0x68, 0x02, 0x03], 2, Why::LengthsDiffer),
+    (
+        LinkSize::One,
+        &[0x68, 0x02, 0x02, 0x16],
+        3,
+        Why::SecondStart,
+    ),
+    (LinkSize::One, &[0x10, 0x49, 0x01, 0x4B], 3, Why::Sum),
+    (LinkSize::One, &[0x10, 0x49, 0x01, 0x4A, 0x17], 4, Why::End),
+    (
+        LinkSize::One,
+        &[0x68, 0x03, 0x03, 0x68, 0x08, 0x01, 0xFF, 0x09],
+        7,
+        Why::Sum,
+    ),
+    (
+        LinkSize::One,
+        &[0x68, 0x03, 0x03, 0x68, 0x08, 0x01, 0xFF, 0x08, 0x68],
+        8,
+        Why::End,
+    ),
+    // the lowest place counts
+    (
+        LinkSize::One,
+        &[0x68, 0x01, 0x02, 0x00],
+        1,
+        Why::LengthSmall,
+    ),
+    (LinkSize::Two, &[0x16], 0, Why::Start),
+    (LinkSize::Two, &[0x68, 0x02], 1, Why::LengthSmall),
+    (LinkSize::Two, &[0x68, 0x03, 0x02], 2, Why::LengthsDiffer),
+    (
+        LinkSize::Two,
+        &[0x68, 0x03, 0x03, 0x10],
+        3,
+        Why::SecondStart,
+    ),
+    (LinkSize::Two, &[0x10, 0x49, 0x02, 0x01, 0x4B], 4, Why::Sum),
+    (
+        LinkSize::Two,
+        &[0x10, 0x49, 0x02, 0x01, 0x4C, 0x00],
+        5,
+        Why::End,
+    ),
+    (
+        LinkSize::Two,
+        &[0x68, 0x03, 0x03, 0x68, 0x08, 0x02, 0x01, 0x0C],
+        7,
+        Why::Sum,
+    ),
+];
+
 #[test]
 fn refusals(rt: HostRuntime) {
-    let refused: [(LinkSize, &[u8], usize, Why); 16] = [
-        (LinkSize::One, &[0x00], 0, Why::Start),
-        (LinkSize::One, &[0x68, 0x01], 1, Why::LengthSmall),
-        (LinkSize::One, &[0x68, 0x02, 0x03], 2, Why::LengthsDiffer),
-        (
-            LinkSize::One,
-            &[0x68, 0x02, 0x02, 0x16],
-            3,
-            Why::SecondStart,
-        ),
-        (LinkSize::One, &[0x10, 0x49, 0x01, 0x4B], 3, Why::Sum),
-        (LinkSize::One, &[0x10, 0x49, 0x01, 0x4A, 0x17], 4, Why::End),
-        (
-            LinkSize::One,
-            &[0x68, 0x03, 0x03, 0x68, 0x08, 0x01, 0xFF, 0x09],
-            7,
-            Why::Sum,
-        ),
-        (
-            LinkSize::One,
-            &[0x68, 0x03, 0x03, 0x68, 0x08, 0x01, 0xFF, 0x08, 0x68],
-            8,
-            Why::End,
-        ),
-        // the lowest place counts
-        (
-            LinkSize::One,
-            &[0x68, 0x01, 0x02, 0x00],
-            1,
-            Why::LengthSmall,
-        ),
-        (LinkSize::Two, &[0x16], 0, Why::Start),
-        (LinkSize::Two, &[0x68, 0x02], 1, Why::LengthSmall),
-        (LinkSize::Two, &[0x68, 0x03, 0x02], 2, Why::LengthsDiffer),
-        (
-            LinkSize::Two,
-            &[0x68, 0x03, 0x03, 0x10],
-            3,
-            Why::SecondStart,
-        ),
-        (LinkSize::Two, &[0x10, 0x49, 0x02, 0x01, 0x4B], 4, Why::Sum),
-        (
-            LinkSize::Two,
-            &[0x10, 0x49, 0x02, 0x01, 0x4C, 0x00],
-            5,
-            Why::End,
-        ),
-        (
-            LinkSize::Two,
-            &[0x68, 0x03, 0x03, 0x68, 0x08, 0x02, 0x01, 0x0C],
-            7,
-            Why::Sum,
-        ),
-    ];
-    for (size, octets, place, why) in refused {
+    for (size, octets, place, why) in REFUSED {
         assert!(rt; is_refused(size, octets, place, why));
     }
     let mut wrong_sum = REPORT;
