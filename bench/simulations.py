@@ -1,5 +1,5 @@
 #!/usr/bin/env python3
-"""Runs `telegate sim` over scripts, good and wrong, and judges what is printed; and the faults of settings and traces.
+"""Runs `telegate sim` over scripts, good and wrong, and judges what is printed; and some faults of settings and traces.
 
     bench/simulations.py [--program FILE]
 
@@ -34,7 +34,21 @@ station 1 reports 1 given 1 accepted 0
 connection 1 objects 1
 """
 
-# The same with a report of class 1: the requests at 4 and at 204 ask for it.
+# A spoilt answer is as good as lost: its exchange has octets, but no frame, and what closes it is its time. The octets take a call of
+# their own, so that is looked at 1 ms later.
+SPOILT_ANSWER = """1 > S 1049014A16
+2 > T 68040B000000
+3 > S 1040014116
+4 > S 107B017C16
+205 > S 107B017C16
+206 > S 105B015C16
+206 > T 680E0000000001010300010064000001
+208 > S 107B017C16
+station 1 reports 1 given 1 accepted 0
+connection 1 objects 1
+"""
+
+# That with a report of class 1: the requests at 4 and at 204 ask for it.
 LOST_ANSWER_OF_CLASS_1 = """1 > S 1049014A16
 2 > T 68040B000000
 3 > S 1040014116
@@ -103,8 +117,53 @@ connection 1 objects 1
 sessions 1 3 gaps 2 lost 2
 """
 
+# A command with a time tag, judged at an age of 3.2 s and of 10 s. The tag is 1709210096789 ms; the command comes 5 ms after the wall
+# clock was told.
+TAGGED = "3A01060001000A000001D5DD220C9D0218"
+FRESH = """1 > S 1049014A16
+3 > T 68040B000000
+4 > S 1040014116
+5 > S 107B017C16
+7 > S 6809096853012D0106010A00019416
+8 > S 107B017C16
+9 > S 105B015C16
+station 1 reports 0 given 0 accepted 1
+connection 1 objects 0
+"""
+
+# The same at 10.001 s: one millisecond too old.
+OLD = """1 > S 1049014A16
+3 > T 68040B000000
+4 > S 1040014116
+5 > S 107B017C16
+6 > T 6815000002003A01470001000A000001D5DD220C9D0218
+8 > S 105B015C16
+9 > S 107B017C16
+station 1 reports 0 given 0 accepted 0
+connection 1 objects 0
+"""
+
+# The same without a wall clock, so one call earlier.
+UNKNOWN = """1 > S 1049014A16
+2 > T 68040B000000
+3 > S 1040014116
+4 > S 107B017C16
+5 > T 6815000002003A01470001000A000001D5DD220C9D0218
+7 > S 105B015C16
+8 > S 107B017C16
+station 1 reports 0 given 0 accepted 0
+connection 1 objects 0
+"""
+
 # The settings, the script, and what is printed.
 RUNS = [
+    (CONFIG, f"turns 9\nwall 1709210100000\nsend 6 {TAGGED}\n", FRESH),
+    (CONFIG, f"send 6 {TAGGED}\nturns 9\nwall 1709210106784", FRESH),
+    (CONFIG, f"wall 1709210106785\nturns 9\nsend 6 {TAGGED}\n", OLD),
+    (CONFIG, f"turns 8\nsend 5 {TAGGED}\n", UNKNOWN),
+    # No calls give the closing lines alone.
+    (CONFIG, "turns 0\nreport 1 2 01010301640001\n", "station 1 reports 1 given 0 accepted 0\n"),
+    (CONFIG, "turns 9\nreport 1 2 01010301640001\nspoil answer 3 20\n", SPOILT_ANSWER),
     (CONFIG, "turns 8\nreport 1 2 01010301640001\nlose answer 3\n", LOST_ANSWER),
     (CONFIG, "turns 8\nreport 1 1 01010301640001\nlose answer 3\n", LOST_ANSWER_OF_CLASS_1),
     (RESET, "turns 10\nreport 1 2 01010301640001\nreport 1 2 01010301650001\nlose answer 3\n", LOST_WITH_A_GAP),
@@ -145,7 +204,7 @@ WRONG = [
 ]
 
 # The settings, the words before octets, and how many octets fit them.
-LONGEST = [(CONFIG, "report 1 2", 253), (WIDE, "report 1 1", 252), (CONFIG, "send 1", 249)]
+LONGEST = [(CONFIG, "report 1 2", 253), (CONFIG, "report 1 1", 253), (WIDE, "report 1 1", 252), (CONFIG, "send 1", 249)]
 
 # Wrong settings, and the first wrong one.
 SETTINGS = [

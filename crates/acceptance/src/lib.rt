@@ -2,7 +2,7 @@
 //! can say.
 //!
 //! Runs with the logs that the standard's rules and this gateway's profile give, settings, traces
-//! and scripts, good and wrong, and a flood. They stand in a crate of their own, since a crate that
+//! and scripts, good and wrong. They stand in a crate of their own, since a crate that
 //! has tests is proved twice. This crate has nothing else, and nothing uses it.
 #![tactic(auto)]
 

@@ -1,4 +1,5 @@
-//! Traces, good and wrong.
+//! What traces say, and what is written. Which line of a wrong one is told is shown by
+//! bench/faults.py.
 use gateway::{Action, Entry, Next, Port, Told};
 use session::Close;
 use std::alloc::Global;
@@ -75,73 +76,6 @@ fn an_opening_is_read(rt: HostRuntime) -> Result<(), Fail> {
         )
     );
     assert!(rt; matches!(&entries[5], Entry::Tick(7)));
-    Ok(())
-}
-
-#[test]
-fn a_text_may_tell_nothing(rt: HostRuntime) -> Result<(), Fail> {
-    for text in ["", "\n", "#", "\n\n# 10 X\n"] {
-        assert!(rt;
-            read_trace(rt.alloc(), text.as_bytes())?.is_empty(),
-            "at {text}"
-        );
-    }
-    Ok(())
-}
-
-#[test]
-fn the_first_wrong_line_is_told(rt: HostRuntime) -> Result<(), Fail> {
-    for (text, n) in [
-        ("10 T\n20 X", 2),
-        ("#\n\n1 S\n2 X", 3),
-        ("1 T\n1 T\n\n1 t\n", 4),
-        ("10  T", 1),
-        ("1 S  68", 1),
-        (" 1 T", 1),
-        ("1 T ", 1),
-        ("1 S 68 ", 1),
-        ("1 O 68", 1),
-        ("1 T 68", 1),
-        ("1 C 68", 1),
-        ("1 S", 1),
-        ("1 S ", 1),
-        ("1 S 1", 1),
-        ("1 S 101", 1),
-        ("1 S 0G", 1),
-        ("1 S 68 68", 1),
-        ("1 s 68", 1),
-        ("1 U 68", 1),
-        ("1 W", 1),
-        ("1 W ", 1),
-        ("1 w 1", 1),
-        ("1 W x", 1),
-        ("1 W -1", 1),
-        ("1 W 6A", 1),
-        ("1 W 1 1", 1),
-        ("W 1", 1),
-        (" W 1", 1),
-        ("1 W 1000000000000000", 1),
-        ("1 W 0000000000000001", 1),
-        ("1 TT", 1),
-        ("1", 1),
-        ("T", 1),
-        (" ", 1),
-        (" #", 1),
-        ("1 T\r\n", 1),
-        ("\r\n", 1),
-        ("+1 T", 1),
-        ("-1 T", 1),
-        ("1a T", 1),
-        ("1000000000000000 T", 1),
-        ("0000000000000001 T", 1),
-        (" T", 1),
-    ] {
-        assert_eq!(rt;
-            read_trace(rt.alloc(), text.as_bytes()).err(),
-            Some(TextFault::Line(n)),
-            "{text}"
-        );
-    }
     Ok(())
 }
 
@@ -288,19 +222,6 @@ fn a_text_gives_its_events_and_a_page_gets_the_actions(rt: HostRuntime) -> Resul
         port.into_page().as_slice(),
         b"7 > S 10AB\n9 > T 68\n9 > X 7\n9 > G 2 3\n".as_slice()
     );
-    Ok(())
-}
-
-#[test]
-fn a_wrong_line_is_judged_by_its_number(rt: HostRuntime) -> Result<(), Fail> {
-    for (text, number) in [
-        (b"7 T\n\n8 Q\nx\n".as_slice(), 3),
-        (b"7 S 5\n".as_slice(), 1),
-        (b"#\n7 S\n".as_slice(), 2),
-    ] {
-        assert_eq!(rt; judge(text).err(), Some(TextFault::Line(number)));
-    }
-    assert_eq!(rt; judge(b"")?, 0);
     Ok(())
 }
 

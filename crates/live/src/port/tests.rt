@@ -4,207 +4,294 @@ use crate::guests::Guests;
 use crate::memory::{MemoryClock, MemoryDoor, MemoryWire};
 use gateway::{Action, Next, Port};
 use session::Close;
-use std::process::Abort;
-use std::test::Fail;
 
 type Ends = Live<MemoryWire, MemoryDoor, MemoryClock>;
 
+/// A wire: whether its reads find octets, which read finds that it is gone, and which write it
+/// doesn't take, each from 1, or 0 for none.
+type Ways = (bool, u32, u32);
+
+const QUIET: Ways = (false, 0, 0);
+
+const BUSY: Ways = (true, 0, 0);
+
+/// A call, and what it is to answer. Events are told by the letters of traces, and F for a failure.
+#[derive(Clone, Copy)]
+enum Step {
+    /// The next event, its moment, and how many octets it has.
+    Gives(char, u64, usize),
+    /// The same at any moment.
+    Finds(char, usize),
+    /// An APDU is put to the connection.
+    Sends,
+    /// A request is put on the line.
+    Asks,
+    Closes(Close),
+    /// Another visitor comes to the door.
+    Comes(Ways),
+    /// The visitor is still at the door.
+    Waits,
+    /// How often the line was read, and written to.
+    Line(u32, u32),
+    /// How often the connection was written to; none where there is no connection.
+    Connection(Option<u32>),
+    Failures(u64),
+}
+
+fn wire(ways: Ways) -> MemoryWire {
+    let (is_busy, failing_read, failing_write) = ways;
+    let mut wire = if is_busy {
+        MemoryWire::busy()
+    } else {
+        MemoryWire::quiet()
+    };
+    wire.failing_read = failing_read;
+    wire.failing_write = failing_write;
+    wire
+}
+
 /// Ends of which the wall clock has just been told.
-fn ends(line: MemoryWire, visitor: Option<MemoryWire>) -> Ends {
+fn ends(line: Ways, visitor: Option<Ways>) -> Ends {
+    let visitor = match visitor {
+        Some(ways) => Some(wire(ways)),
+        None => None,
+    };
     let door = MemoryDoor { visitor };
-    let mut port = Live::new(line, door, MemoryClock(0), Guests::Anyone, 1000);
+    let mut port = Live::new(wire(line), door, MemoryClock(0), Guests::Anyone, 1000);
     port.walled.tell(0);
     port
 }
 
-/// Ends whose connection is open, and whose next look is at the connection.
-fn connected(rt: &impl Abort, line: MemoryWire, visitor: MemoryWire) -> Ends {
-    let mut port = ends(line, Some(visitor));
-    assert!(rt; matches!(next(rt, &mut port), Next::Open(2)));
-    port
+/// The letter of an event, its moment, and how many octets it has.
+fn shown(next: Next) -> (char, u64, usize) {
+    match next {
+        Next::Line(now, len) => ('S', now, len),
+        Next::Open(now) => ('O', now, 0),
+        Next::Bytes(now, len) => ('R', now, len),
+        Next::Cut(now) => ('C', now, 0),
+        Next::Tick(now) => ('T', now, 0),
+        Next::Wall(now, _) => ('W', now, 0),
+        Next::Done => ('D', 0, 0),
+        Next::Fault => ('F', 0, 0),
+    }
 }
 
-/// The next event, of a port that hasn't failed too often.
-fn next(rt: &impl Abort, port: &mut Ends) -> Next {
-    assert!(rt; port.failures() < 9);
-    port.next(&mut [0; 1024])
+/// Makes the call, and says whether the answer was the one. A port that failed too often is wrong.
+fn is_right(port: &mut Ends, step: Step) -> bool {
+    if port.failures() >= 9 {
+        return false;
+    }
+    match step {
+        Step::Gives(letter, now, len) => shown(port.next(&mut [0; 1024])) == (letter, now, len),
+        Step::Finds(letter, len) => {
+            let (found, _, octets) = shown(port.next(&mut [0; 1024]));
+            (found, octets) == (letter, len)
+        }
+        Step::Sends => port.put(0, &Action::Tcp(&[0x68, 4, 1, 0, 0, 0])),
+        Step::Asks => port.put(0, &Action::Line(&[0x10])),
+        Step::Closes(cause) => port.put(2, &Action::Close(cause)),
+        Step::Comes(ways) => {
+            port.door.visitor = Some(wire(ways));
+            true
+        }
+        Step::Waits => port.door.visitor.is_some(),
+        Step::Line(reads, writes) => (port.line.reads, port.line.writes) == (reads, writes),
+        Step::Connection(writes) => match &port.connection {
+            Some(visitor) => Some(visitor.wire.writes) == writes,
+            None => writes.is_none(),
+        },
+        Step::Failures(count) => port.failures() == count,
+    }
 }
 
-/// Puts an APDU to the connection, which never fails.
-fn send(rt: &impl Abort, port: &mut Ends) {
-    assert!(rt; port.failures() < 9);
-    assert!(rt; port.put(0, &Action::Tcp(&[0x68, 4, 1, 0, 0, 0])));
+/// How many of the calls, in their order, answer what they are to.
+fn count_of_answers(port: &mut Ends, steps: &[Step]) -> usize {
+    let mut count: usize = 0;
+    for step in steps {
+        if !is_right(port, *step) {
+            return count;
+        }
+        count = count.wrapping_add(1);
+    }
+    count
 }
+
+/// What happens at a port over this line, where this visitor comes.
+const PORTS: [(&str, Ways, Option<Ways>, &[Step]); 9] = [
+    (
+        "the sources have their turns",
+        BUSY,
+        Some(BUSY),
+        &[
+            Step::Gives('O', 2, 0),
+            Step::Gives('R', 4, 1),
+            Step::Gives('S', 6, 1),
+            Step::Gives('R', 8, 1),
+            Step::Comes(BUSY),
+            Step::Gives('S', 10, 1),
+            Step::Gives('O', 12, 0),
+        ],
+    ),
+    (
+        "where nothing is found time passed",
+        QUIET,
+        None,
+        &[
+            Step::Gives('T', 2, 0),
+            Step::Gives('T', 4, 0),
+            Step::Line(2, 0),
+        ],
+    ),
+    (
+        "a connection that is gone is a cut once",
+        QUIET,
+        Some((false, 1, 0)),
+        &[
+            Step::Gives('O', 2, 0),
+            Step::Gives('C', 4, 0),
+            Step::Gives('T', 6, 0),
+            Step::Failures(0),
+        ],
+    ),
+    (
+        "a failed write to the connection is a cut before any look",
+        BUSY,
+        Some((true, 0, 1)),
+        &[
+            Step::Gives('O', 2, 0),
+            Step::Gives('R', 4, 1),
+            Step::Gives('S', 6, 1),
+            Step::Comes(QUIET),
+            Step::Sends,
+            // What is put until the cut is dropped.
+            Step::Sends,
+            Step::Connection(Some(1)),
+            Step::Gives('C', 8, 0),
+            Step::Line(1, 0),
+            Step::Waits,
+            // It was an event of the connection: the line is next.
+            Step::Gives('S', 10, 1),
+            Step::Gives('O', 12, 0),
+        ],
+    ),
+    (
+        "a close shuts the connection and forgets the cut",
+        QUIET,
+        Some((false, 0, 1)),
+        &[
+            Step::Gives('O', 2, 0),
+            Step::Sends,
+            Step::Closes(Close::Timeout),
+            Step::Connection(None),
+            Step::Gives('T', 4, 0),
+        ],
+    ),
+    (
+        "a new connection takes the place of the old",
+        QUIET,
+        Some(QUIET),
+        &[
+            Step::Gives('O', 2, 0),
+            Step::Sends,
+            Step::Comes(BUSY),
+            Step::Gives('O', 4, 0),
+            // The gateway closes the old one, and the new one stays.
+            Step::Closes(Close::Replaced),
+            Step::Connection(Some(0)),
+            Step::Gives('R', 6, 1),
+        ],
+    ),
+    (
+        "without a connection an APDU is dropped",
+        QUIET,
+        None,
+        &[Step::Sends, Step::Gives('T', 2, 0)],
+    ),
+    (
+        "a request that the line does not take is lost",
+        (false, 0, 1),
+        None,
+        &[
+            Step::Asks,
+            Step::Failures(0),
+            Step::Asks,
+            Step::Line(0, 2),
+            Step::Gives('T', 4, 0),
+        ],
+    ),
+    (
+        "the end of the line alone is a failure",
+        (false, 2, 0),
+        None,
+        &[
+            Step::Gives('T', 2, 0),
+            Step::Gives('F', 0, 0),
+            Step::Failures(1),
+        ],
+    ),
+];
 
 #[test]
-fn the_sources_have_their_turns(rt: HostRuntime) {
-    let mut port = connected(&rt, MemoryWire::busy(), MemoryWire::busy());
-    assert!(rt; matches!(next(&rt, &mut port), Next::Bytes(4, 1)));
-    assert!(rt; matches!(next(&rt, &mut port), Next::Line(6, 1)));
-    assert!(rt; matches!(next(&rt, &mut port), Next::Bytes(8, 1)));
-    port.door.visitor = Some(MemoryWire::busy());
-    assert!(rt; matches!(next(&rt, &mut port), Next::Line(10, 1)));
-    assert!(rt; matches!(next(&rt, &mut port), Next::Open(12)));
+fn calls_answer_in_their_order(rt: HostRuntime) {
+    for (name, line, visitor, steps) in PORTS {
+        let mut port = ends(line, visitor);
+        assert_eq!(rt; count_of_answers(&mut port, steps), steps.len(), "{name}");
+    }
 }
 
-#[test]
-fn where_nothing_is_found_time_passed(rt: HostRuntime) {
-    let mut port = ends(MemoryWire::quiet(), None);
-    assert!(rt; matches!(next(&rt, &mut port), Next::Tick(2)));
-    assert!(rt; matches!(next(&rt, &mut port), Next::Tick(4)));
-    assert_eq!(rt; port.line.reads, 2);
-}
-
-#[test]
-fn a_connection_that_is_gone_is_a_cut_once(rt: HostRuntime) {
-    let mut visitor = MemoryWire::quiet();
-    visitor.failing_read = 1;
-    let mut port = connected(&rt, MemoryWire::quiet(), visitor);
-    assert!(rt; matches!(next(&rt, &mut port), Next::Cut(4)));
-    assert!(rt; matches!(next(&rt, &mut port), Next::Tick(6)));
-    assert_eq!(rt; port.failures(), 0);
-}
-
-#[test]
-fn a_failed_write_to_the_connection_is_a_cut_before_any_look(rt: HostRuntime) -> Result<(), Fail> {
-    let mut visitor = MemoryWire::busy();
-    visitor.failing_write = 1;
-    let mut port = connected(&rt, MemoryWire::busy(), visitor);
-    assert!(rt; matches!(next(&rt, &mut port), Next::Bytes(4, 1)));
-    assert!(rt; matches!(next(&rt, &mut port), Next::Line(6, 1)));
-    port.door.visitor = Some(MemoryWire::quiet());
-    send(&rt, &mut port);
-    // What is put until the cut is dropped.
-    send(&rt, &mut port);
-    assert_eq!(rt;
-        port.connection.as_ref().ok_or("a connection")?.wire.writes,
-        1
-    );
-    assert!(rt; matches!(next(&rt, &mut port), Next::Cut(8)));
-    assert_eq!(rt; port.line.reads, 1);
-    assert!(rt; port.door.visitor.is_some());
-    // It was an event of the connection: the line is next.
-    assert!(rt; matches!(next(&rt, &mut port), Next::Line(10, 1)));
-    assert!(rt; matches!(next(&rt, &mut port), Next::Open(12)));
-    Ok(())
-}
-
-#[test]
-fn a_close_shuts_the_connection_and_forgets_the_cut(rt: HostRuntime) {
-    let mut visitor = MemoryWire::quiet();
-    visitor.failing_write = 1;
-    let mut port = connected(&rt, MemoryWire::quiet(), visitor);
-    send(&rt, &mut port);
-    assert!(rt; port.put(0, &Action::Close(Close::Timeout)));
-    assert!(rt; port.connection.is_none());
-    assert!(rt; matches!(next(&rt, &mut port), Next::Tick(4)));
-}
-
-#[test]
-fn a_new_connection_takes_the_place_of_the_old(rt: HostRuntime) -> Result<(), Fail> {
-    let mut port = connected(&rt, MemoryWire::quiet(), MemoryWire::quiet());
-    send(&rt, &mut port);
-    port.door.visitor = Some(MemoryWire::busy());
-    assert!(rt; matches!(next(&rt, &mut port), Next::Open(4)));
-    // The gateway closes the old one, and the new one stays.
-    assert!(rt; port.put(2, &Action::Close(Close::Replaced)));
-    assert_eq!(rt;
-        port.connection.as_ref().ok_or("a connection")?.wire.writes,
-        0
-    );
-    assert!(rt; matches!(next(&rt, &mut port), Next::Bytes(6, 1)));
-    Ok(())
-}
-
-#[test]
-fn without_a_connection_an_apdu_is_dropped(rt: HostRuntime) {
-    let mut port = ends(MemoryWire::quiet(), None);
-    send(&rt, &mut port);
-    assert!(rt; matches!(next(&rt, &mut port), Next::Tick(2)));
-}
-
-#[test]
-fn a_request_that_the_line_does_not_take_is_lost(rt: HostRuntime) {
-    let mut line = MemoryWire::quiet();
-    line.failing_write = 1;
-    let mut port = ends(line, None);
-    assert!(rt; port.put(0, &Action::Line(&[0x10])));
-    assert_eq!(rt; port.failures(), 0);
-    assert!(rt; port.put(0, &Action::Line(&[0x10])));
-    assert_eq!(rt; port.line.writes, 2);
-    assert!(rt; matches!(next(&rt, &mut port), Next::Tick(4)));
-}
-
-#[test]
-fn the_end_of_the_line_alone_is_a_failure(rt: HostRuntime) {
-    let mut line = MemoryWire::quiet();
-    line.failing_read = 2;
-    let mut port = ends(line, None);
-    assert!(rt; matches!(next(&rt, &mut port), Next::Tick(2)));
-    assert!(rt; matches!(next(&rt, &mut port), Next::Fault));
-    assert_eq!(rt; port.failures(), 1);
-}
-
-/// The nth read of the connection fails.
-fn cut_at_read(rt: &impl Abort, n: u32) {
-    let mut visitor = MemoryWire::busy();
-    visitor.failing_read = n;
-    let mut port = connected(rt, MemoryWire::quiet(), visitor);
+/// Whether these calls, one time less than n, and then those answer what they are to.
+fn fails_at(n: u32, line: Ways, visitor: Option<Ways>, each: &[Step], last: &[Step]) -> bool {
+    let mut port = ends(line, visitor);
+    if visitor.is_some() && !is_right(&mut port, Step::Gives('O', 2, 0)) {
+        return false;
+    }
     for _ in 1..n {
-        assert!(rt; matches!(next(rt, &mut port), Next::Bytes(_, 1)));
+        if count_of_answers(&mut port, each) < each.len() {
+            return false;
+        }
     }
-    assert!(rt; matches!(next(rt, &mut port), Next::Cut(_)));
-    assert!(rt; matches!(next(rt, &mut port), Next::Tick(_)));
-    assert_eq!(rt; port.failures(), 0);
+    count_of_answers(&mut port, last) == last.len()
 }
 
-/// The nth write to the connection fails.
-fn cut_at_write(rt: &impl Abort, n: u32) {
-    let mut visitor = MemoryWire::quiet();
-    visitor.failing_write = n;
-    let mut port = connected(rt, MemoryWire::busy(), visitor);
-    for _ in 1..n {
-        send(rt, &mut port);
-        assert!(rt; matches!(next(rt, &mut port), Next::Line(_, 1)));
-    }
-    send(rt, &mut port);
-    assert!(rt; matches!(next(rt, &mut port), Next::Cut(_)));
-    assert!(rt; matches!(next(rt, &mut port), Next::Line(_, 1)));
-    assert_eq!(rt; port.failures(), 0);
-}
+/// The calls around a read of the connection that fails, around a write to it, around a read of the
+/// line, and around a write to it.
+const READ: [Step; 1] = [Step::Finds('R', 1)];
 
-/// The nth read of the line fails.
-fn fault_at_read(rt: &impl Abort, n: u32) {
-    let mut line = MemoryWire::busy();
-    line.failing_read = n;
-    let mut port = ends(line, None);
-    for _ in 1..n {
-        assert!(rt; matches!(next(rt, &mut port), Next::Line(_, 1)));
-    }
-    assert!(rt; matches!(next(rt, &mut port), Next::Fault));
-    assert_eq!(rt; port.failures(), 1);
-}
+const CUT_AT_READ: [Step; 3] = [Step::Finds('C', 0), Step::Finds('T', 0), Step::Failures(0)];
 
-/// The nth write to the line fails.
-fn loss_at_write(rt: &impl Abort, n: u32) {
-    let mut line = MemoryWire::quiet();
-    line.failing_write = n;
-    let mut port = ends(line, None);
-    for _ in 0..n {
-        assert!(rt; port.failures() == 0);
-        assert!(rt; port.put(0, &Action::Line(&[0x10])));
-        assert!(rt; matches!(next(rt, &mut port), Next::Tick(_)));
-    }
-    assert_eq!(rt; port.line.writes, n);
-    assert_eq!(rt; port.failures(), 0);
-}
+const WRITE: [Step; 2] = [Step::Sends, Step::Finds('S', 1)];
+
+const CUT_AT_WRITE: [Step; 4] = [
+    Step::Sends,
+    Step::Finds('C', 0),
+    Step::Finds('S', 1),
+    Step::Failures(0),
+];
+
+const LINE_READ: [Step; 1] = [Step::Finds('S', 1)];
+
+const FAULT: [Step; 2] = [Step::Finds('F', 0), Step::Failures(1)];
+
+const LINE_WRITE: [Step; 3] = [Step::Failures(0), Step::Asks, Step::Finds('T', 0)];
 
 #[test]
 fn each_read_and_write_can_fail(rt: HostRuntime) {
     for n in 1..=200 {
-        cut_at_read(&rt, n);
-        cut_at_write(&rt, n);
-        fault_at_read(&rt, n);
-        loss_at_write(&rt, n);
+        let (read, write) = ((true, n, 0), (false, 0, n));
+        assert!(rt; fails_at(n, QUIET, Some(read), &READ, &CUT_AT_READ), "{n}");
+        assert!(rt;
+            fails_at(n, BUSY, Some(write), &WRITE, &CUT_AT_WRITE),
+            "{n}"
+        );
+        assert!(rt; fails_at(n, read, None, &LINE_READ, &FAULT), "{n}");
+        // One that isn't taken is no failure.
+        let lost = [
+            Step::Failures(0),
+            Step::Asks,
+            Step::Finds('T', 0),
+            Step::Line(n, n),
+            Step::Failures(0),
+        ];
+        assert!(rt; fails_at(n, write, None, &LINE_WRITE, &lost), "{n}");
     }
 }

@@ -1,23 +1,15 @@
-//! A gateway between a line and a control centre on the loopback, both served in this process.
+//! The ends on sockets of this host, their other ends served in this process. What a whole gateway
+//! does between them is shown by bench/passage.py, over the built program.
 use super::{CentreListener, LineDialler, LineSocket, SystemClock};
-use crate::Live;
-use crate::configured::config;
 use crate::guests::Guests;
 use crate::redial::Redialled;
 use crate::wires::{Door, Got, SentAway, Wire};
-use gateway::{End, Gateway, Port, drive_on};
 use std::io::{Read, Write};
 use std::net::{IpAddr, Ipv4Addr, Net, OpenStream, SocketAddr, TcpListener, TcpStream};
 use std::os::unix::net::UnixStream;
 use std::process::Abort;
 use std::test::Fail;
 use std::time::{Duration, Instant};
-
-/// Some turns of the gateway, one of which may tell it the wall clock.
-fn turn<P: Port>(rt: &impl Abort, gateway: &mut Gateway, port: &mut P) {
-    assert!(rt; port.failures() < 9);
-    assert_eq!(rt; drive_on(gateway, port, 7), End::Turns);
-}
 
 /// These octets come next at the other end of a stream.
 fn hears(rt: &impl Abort, stream: &mut TcpStream, octets: &[u8]) -> Result<(), Fail> {
@@ -35,98 +27,6 @@ fn started<R: Net<Stream = TcpStream>>(rt: &R, address: SocketAddr) -> Result<Tc
     centre.set_read_timeout(Some(Duration::from_millis(1000)))?;
     centre.write_all(&[0x68, 4, 7, 0, 0, 0])?;
     Ok(centre)
-}
-
-/// A control centre that starts data transfer and gets the report.
-fn receiving<R: Abort + Net<Stream = TcpStream>, P: Port>(
-    rt: &R,
-    address: SocketAddr,
-    gateway: &mut Gateway,
-    port: &mut P,
-) -> Result<TcpStream, Fail> {
-    let mut centre = started(rt, address)?;
-    turn(rt, gateway, port);
-    hears(rt, &mut centre, &[0x68, 4, 0x0B, 0, 0, 0])?;
-    hears(
-        rt,
-        &mut centre,
-        &[0x68, 0x0E, 0, 0, 0, 0, 1, 1, 3, 0, 1, 0, 0x64, 0, 0, 1],
-    )?;
-    Ok(centre)
-}
-
-/// The start of the link, up to the first poll.
-fn start_link<P: Port>(
-    rt: &impl Abort,
-    gateway: &mut Gateway,
-    port: &mut P,
-    station: &mut TcpStream,
-) -> Result<(), Fail> {
-    turn(rt, gateway, port);
-    hears(rt, station, &[0x10, 0x49, 0x01, 0x4A, 0x16])?;
-    station.write_all(&[0x10, 0x0B, 0x01, 0x0C, 0x16])?;
-    turn(rt, gateway, port);
-    hears(rt, station, &[0x10, 0x40, 0x01, 0x41, 0x16])?;
-    station.write_all(&[0xE5])?;
-    turn(rt, gateway, port);
-    hears(rt, station, &[0x10, 0x7B, 0x01, 0x7C, 0x16])
-}
-
-/// Another control centre takes the place of one, and gets nothing more than the answer to its
-/// start.
-fn replace<R: Abort + Net<Stream = TcpStream>, P: Port>(
-    rt: &R,
-    address: SocketAddr,
-    gateway: &mut Gateway,
-    port: &mut P,
-    centre: &mut TcpStream,
-) -> Result<(), Fail> {
-    let mut other = started(rt, address)?;
-    turn(rt, gateway, port);
-    hears(rt, &mut other, &[0x68, 4, 0x0B, 0, 0, 0])?;
-    other.set_read_timeout(Some(Duration::from_millis(50)))?;
-    assert!(rt; other.read(&mut [0; 1]).is_err());
-    assert!(rt;
-        matches!(centre.read(&mut [0; 1]), Ok(0) | Err(_)),
-        "the first is shut"
-    );
-    Ok(())
-}
-
-#[test]
-fn a_report_goes_through_and_is_acknowledged(rt: HostRuntime) -> Result<(), Fail> {
-    let server = TcpListener::bind(&rt, "127.0.0.1:0")?;
-    let place = format!(in rt.alloc(); "tcp:{}", server.local_addr()?)?;
-    let line = LineSocket::reach(&rt, place.as_str())?;
-    let (mut station, _) = server.accept()?;
-    station.set_read_timeout(Some(Duration::from_millis(1000)))?;
-    let door = CentreListener::listen(&rt, "127.0.0.1:0")?;
-    let address = door.address()?;
-    // The answer is awaited for longer than the test lasts.
-    let mut port = Live::new(line, door, SystemClock::start(&rt)?, Guests::Anyone, 60000);
-    let config = config(rt.alloc(), 60000)?;
-    let mut gateway = Gateway::new(rt.alloc(), &config).ok().ok_or("no memory")?;
-
-    start_link(&rt, &mut gateway, &mut port, &mut station)?;
-
-    // A report, which goes out as an I frame, and again on a second connection, where it is
-    // acknowledged.
-    let report = [0x68, 9, 9, 0x68, 8, 1, 1, 1, 3, 1, 0x64, 0, 1, 0x74, 0x16];
-    station.write_all(&report)?;
-    let centre = receiving(&rt, address, &mut gateway, &mut port)?;
-    drop(centre);
-    turn(&rt, &mut gateway, &mut port);
-    let mut centre = receiving(&rt, address, &mut gateway, &mut port)?;
-    centre.write_all(&[0x68, 4, 1, 0, 2, 0])?;
-    turn(&rt, &mut gateway, &mut port);
-
-    replace(&rt, address, &mut gateway, &mut port, &mut centre)?;
-
-    // The line's end is a device that failed.
-    drop(station);
-    assert!(rt; port.failures() < 9);
-    assert_eq!(rt; drive_on(&mut gateway, &mut port, 9), End::Device);
-    Ok(())
 }
 
 #[test]
