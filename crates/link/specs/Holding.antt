@@ -1,5 +1,5 @@
 -- What a `Master` holds, as the machine's state, and what fits the line.
-use Rattle.std.specs.Prelude.{ℕ, ◌<◌, ◌==◌, ◌||◌, Bool, true, false, not, List, [], ◌∷◌, All, length, ◌++◌, Option, Some, None, option_map, if◌then◌else◌}
+use Rattle.std.specs.Prelude.{ℕ, ◌<◌, ◌==◌, ◌||◌, Bool, true, false, not, List, [], ◌∷◌, All, length, take, ◌++◌, Option, Some, None, option_map, if◌then◌else◌}
 use Rattle.ft12.specs.declared.frame.LinkSize.{LinkSize}
 use Rattle.ft12.specs.declared.frame.Frame.{Frame}
 use Rattle.ft12.specs.declared.frame.Front.{Front}
@@ -70,6 +70,18 @@ completed_from front (Some o) octets = frame_after front o.heard octets
 
 abbrev pub completed : (front : List ℕ → Front) → Primary → List ℕ → Option Frame
 completed front p octets = completed_from front p.outstanding octets
+
+-- the first n of these octets came in the exchange, and more of them
+abbrev pub gathered_in : (n : ℕ) → List ℕ → Outstanding → Outstanding
+gathered_in n octets o = record {
+  request = o.request;
+  since = o.since;
+  heard = option_map (λ before. before ++ take n octets) o.heard;
+  has_octets = o.has_octets || not (length octets == 0);
+}
+
+abbrev pub gathered : (n : ℕ) → List ℕ → Primary → Primary
+gathered n octets p = record p { outstanding = option_map (gathered_in n octets) p.outstanding }
 
 abbrev pub FitsLink : LinkSize → Link → Type 0
 FitsLink size (Held fcb service missed) = FitsService size service

@@ -1,5 +1,5 @@
 //! The primary station of unbalanced transmission (IEC 60870-5-2).
-ghost use Rattle.std.specs.Prelude.{◌≡◌, ◌<◌, ◌≤◌, ◌+◌, List, [], All, length, map, None, Some, IfSome, IfNone, IfOk, option_map, if◌then◌else◌};
+ghost use Rattle.std.specs.Prelude.{◌≡◌, ◌<◌, ◌≤◌, ◌+◌, List, [], All, length, map, take, drop, slice_index, ◌++◌, true, false, None, Some, IfSome, IfNone, IfOk, option_map, if◌then◌else◌};
 ghost use Rattle.link.specs.Counts.{saturated};
 ghost use Rattle.link.specs.Turns.{Over};
 ghost use Rattle.ft12.specs.Borrowed.{owned, FitsMemory};
@@ -7,7 +7,7 @@ ghost use Rattle.ft12.specs.Fronts.{front_of};
 ghost use Rattle.link.specs.Requests.{IsUserData, FitsAddress, FitsAsked};
 ghost use Rattle.link.specs.Primary.{start, choice, station_asked, after_choice, asked, sending, request_of, acd_of, dfc_of, phase_after, station_answered, heard_from, heard_outcome, received, received_outcome, station_unanswered, unanswered, miss_outcome, timed_out, due_outcome, is_sending_command, may_offer, offered_to, without_offer, withdrawn};
 ghost use Rattle.link.specs.declared.outcome.Outcome.TheVariants as outcome;
-ghost use Rattle.link.specs.Holding.{outstanding_of, IsFittingChoice, frame_after, so_far_after, is_at_front, noted, completed};
+ghost use Rattle.link.specs.Holding.{outstanding_of, IsFittingChoice, frame_after, so_far_after, is_at_front, noted, completed, gathered};
 
 use crate::answer::Answer;
 use crate::asdu::CommandOctets;
@@ -177,6 +177,37 @@ fn frame_in(assembler: &mut Assembler, piece: &[u8]) -> Option<Frame>
     }
 }
 
+/// The single character (IEC 60870-5-1, 6.2.4.2): the one frame that is whole by its first octet.
+const SINGLE: u8 = 0xE5;
+
+/// Whether the single character is the first octet.
+fn is_single(octets: &[u8]) -> bool
+    ensures other { result ≡ false → slice_index octets.now 0 ≡ 0xE5 → ⊥ }
+    ensures some { result ≡ true → 0 < length octets.now }
+{
+    match octets.first() {
+        Some(octet) => *octet == SINGLE,
+        None => false,
+    }
+}
+
+/// How many octets of a piece come before the one at which the end of a frame is due: these are
+/// taken.
+fn inner_in(assembler: &mut Assembler, piece: &[u8]) -> usize
+    requires { assembler.old.so_far ≡ Some [] → slice_index piece.now 0 ≡ 0xE5 → ⊥ }
+    ensures within { result ≤ length piece.now }
+    ensures all { result ≡ length piece.now →
+        (frame_after (front_of assembler.old.size) assembler.old.so_far piece.now ≡ None)
+        × (assembler.new.so_far
+        ≡ so_far_after (front_of assembler.old.size) assembler.old.so_far piece.now) }
+    ensures rest { result < length piece.now → assembler.new.so_far
+        ≡ option_map (λ before. before ++ take result piece.now) assembler.old.so_far }
+    ensures size { assembler.new.size ≡ assembler.old.size }
+{
+    front_is_computed();
+    assembler.feed_inner(piece)
+}
+
 impl Master {
     /// A primary station of the stations with these link addresses, in the order of their turns.
     /// Their links are down. It asks for at least one, and for addresses that fit their size. Only
@@ -332,6 +363,34 @@ impl Master {
     {
         if let Some(awaited) = &mut self.outstanding {
             awaited.note(octets);
+        }
+    }
+
+    /// Gathers octets of the line up to the one that may be the last of the answer, and says how
+    /// many: all where none may. The others are to be gathered as well ([`Master::gather`]), and
+    /// then what is heard is what all of them say. It makes no place for a frame, so it is the
+    /// first call for octets that aren't a whole answer.
+    pub fn gather_inner(&mut self, octets: &[u8]) -> usize
+        ensures within { result ≤ length octets.now }
+        ensures all { result ≡ length octets.now → (self.new
+            ≡ received (front_of self.old.settings.size) self.old octets.now)
+            × (received_outcome (front_of self.old.settings.size) self.old octets.now
+            ≡ outcome.None) }
+        ensures state { result < length octets.now →
+            self.new ≡ gathered result octets.now self.old }
+        ensures rest { result < length octets.now →
+            (received (front_of self.old.settings.size) self.new (drop result octets.now)
+            ≡ received (front_of self.old.settings.size) self.old octets.now)
+            × (received_outcome (front_of self.old.settings.size) self.new (drop result octets.now)
+            ≡ received_outcome (front_of self.old.settings.size) self.old octets.now) }
+    {
+        self.note(octets);
+        if self.assembler.is_empty() && is_single(octets) {
+            return 0;
+        }
+        match &self.outstanding {
+            Some(awaited) if !awaited.deaf => inner_in(&mut self.assembler, octets),
+            _ => octets.len(),
         }
     }
 
