@@ -1,9 +1,10 @@
-use Rattle.std.proofs.Common.{◌≡◌, ◌∷◌, ◌++◌, ◌∙◌, ap, arith, subst, refl, List, ℕ, [], take, length}
+use Rattle.std.proofs.Common.{◌≡◌, ◌∷◌, ◌++◌, ◌∙◌, ap, arith, subst, refl, sym, List, ℕ, [], take, length}
 use Rattle.ft12.specs.declared.frame.Front.TheVariants.{Never}
 use Rattle.ft12.specs.Reading.{IsFront, IsProperBeginning}
+use Rattle.ft12.specs.Assembly.{IsEndDue}
 use Rattle.ft12.specs.Stage.{so_far}
 use Rattle.ft12.proofs.Stream.{heard_never}
-use Rattle.ft12.proofs.Stages.{stage_more, counted_refusal}
+use Rattle.ft12.proofs.Stages.{stage_more, end_due, counted_refusal}
 use Rattle.ft12.proofs.assembling.Assembler.feed_inner.Goals as goal
 
 -- the end octet is due: the octets before it are kept
@@ -16,6 +17,8 @@ returns-then-is_end-clause-listening c =
           c.loop-i.self-inside.kept.items c.loop-i.invariant.is_stage),
       c.loop-i.invariant.joined,
       c.loop-i.invariant.looked,
+      λ lt. subst (λ s. IsEndDue s now) c.loop-i.invariant.size (end_due size c.loop-i.stage
+          c.loop-i.self-inside.kept.items c.loop-i.invariant.is_stage (sym (sym c.if-is_end.true ∙ c.is_end.ensures))),
     )
 
 -- the octet looked at last begins no frame
@@ -52,4 +55,5 @@ returns-clause-listening c =
           c.loop-i.self-inside.kept.items c.loop-i.invariant.is_stage),
       c.loop-i.invariant.joined ∙ ap (λ (n : ℕ). before ++ take n c.args.piece.now) all,
       omega arith,
+      λ lt. absurd (omega arith),
     )
