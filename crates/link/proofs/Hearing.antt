@@ -86,7 +86,8 @@ rest_of front p n octets lt = from p.outstanding
     told a b o (Some frame) = refl
 
     after : (o : Outstanding) (h i : Option (List ℕ)) →
-        (received_after front (at (Some (gathered_in n octets o))) (made o h (some o || not (length (drop n octets) == 0)))
+        (received_after front (at (Some (gathered_in n octets o)))
+        (made o h (some o || not (length (drop n octets) == 0)))
         (option_map (λ before. before ++ take n octets) i) (drop n octets)
         ≡ received_after front (at (Some o)) (with_octets octets o) i octets)
         × (outcome_after front (at (Some (gathered_in n octets o))) (gathered_in n octets o)
