@@ -1,5 +1,5 @@
 //! The command that runs the gateway over a trace.
-ghost use Rattle.std.specs.Prelude.{◌≡◌, ◌++◌, MatchResult};
+ghost use Rattle.std.specs.Prelude.{◌≡◌, ◌++◌, false, MatchResult};
 ghost use Rattle.traces.specs.Progress.{AreEvents};
 ghost use Rattle.traces.specs.Trace.{lines_of};
 ghost use Rattle.telegate.specs.Answers.{IsReplayed, IsRunOf, IsMemory};
@@ -9,25 +9,30 @@ use crate::answer::Answer;
 use crate::check::read_config;
 use crate::closing::{Closing, push_closing};
 use crate::fault::{DONE, Fault};
+use crate::watched::drive_watched;
 use delivery::nothing_is_lost;
-use gateway::{Config, End, Gateway, drive_on, steps_keep_their_order};
+use gateway::{Config, End, Gateway, steps_keep_their_order};
 use std::alloc::Global;
+use std::io::Write;
 use traces::{TextFault, TextPort, judge};
 
 /// Runs the gateway over the events of a trace, and answers a line for each action, and then the
 /// lines of `closing`. The settings are judged before the trace, and the whole trace before the
-/// run.
-pub(crate) fn replay(
+/// run. Where it is watched, a long run tells on standard error how far it has come.
+pub(crate) fn replay<E: Write>(
     alloc: Global,
     config: &[u8],
     trace: &[u8],
     closing: Closing,
+    is_watched: bool,
+    err: &mut E,
 ) -> Result<Answer, Fault>
-    ensures { IsReplayed config.now trace.now closing result }
+    ensures answer { IsReplayed config.now trace.now closing result }
+    ensures unwatched { is_watched ≡ false → err.new ≡ err.old }
 {
     let config = read_config(alloc, config)?;
     match judge(trace) {
-        Ok(events) => run(alloc, &config, trace, events, closing),
+        Ok(events) => run(alloc, &config, trace, events, closing, is_watched, err),
         Err(TextFault::Line(n)) => Err(Fault::Trace(n)),
         Err(TextFault::NoMemory) => Err(Fault::NoMemory),
     }
@@ -35,15 +40,18 @@ pub(crate) fn replay(
 
 /// Runs the gateway over a trace that tells so many events. The lines of its actions go to a page,
 /// which is printed at once.
-fn run(
+fn run<E: Write>(
     alloc: Global,
     config: &Config,
     trace: &[u8],
     events: u64,
     closing: Closing,
+    is_watched: bool,
+    err: &mut E,
 ) -> Result<Answer, Fault>
     requires { AreEvents (lines_of trace.now) events }
-    ensures { IsRunOf config.now trace.now closing result }
+    ensures answer { IsRunOf config.now trace.now closing result }
+    ensures unwatched { is_watched ≡ false → err.new ≡ err.old }
 {
     nothing_is_lost();
     steps_keep_their_order();
@@ -53,7 +61,7 @@ fn run(
     };
     let mut gateway = Gateway::new(alloc, config)?;
     let mut port = TextPort::new(alloc, trace);
-    let end = drive_on(&mut gateway, &mut port, turns);
+    let end = drive_watched(&mut gateway, &mut port, turns, is_watched, err);
     let text = port.into_page();
     match end {
         End::Finished => close(alloc, text, &gateway, closing),
