@@ -143,7 +143,10 @@ impl<'a> Port for TextPort<'a> {
 
     ghost ended = { is_through };
 
-    ghost script = { λ p. script_in p.text };
+    /// The text.
+    ghost Fixed = { List ℕ };
+
+    ghost script = { λ p. p.text };
 
     fn next(&mut self, buf: &mut [u8; 1024]) -> Next {
         if self.failures > 0 || self.marks.try_reserve(1).is_err() {
