@@ -8,8 +8,9 @@ ghost use Rattle.traces.specs.Fields.{parts_after};
 ghost use Rattle.traces.specs.Progress.{IsFirst, script_in, log_in, coming_in, is_through, tells_event};
 ghost use Rattle.traces.specs.Trace.{first_wrong, lines_of};
 
-use crate::actions::print_action;
+use crate::actions::print_action_at;
 use crate::event::{FirstLine, announce, first_line, is_right};
+use crate::moments::Moment;
 use gateway::{Action, Next, Port};
 use std::alloc::Global;
 use std::marker::Model;
@@ -29,6 +30,8 @@ pub struct TextPort<'a> {
     /// Whether an entry of the log is an event, the oldest first.
     marks: Vec<bool>,
     page: Vec<u8>,
+    /// That of the latest action.
+    moment: Moment,
     failures: u64,
 }
 
@@ -107,6 +110,7 @@ impl<'a> TextPort<'a> {
             is_started: false,
             marks: Vec::new(alloc),
             page: Vec::new(alloc),
+            moment: Moment::new(0),
             failures: 0,
         }
     }
@@ -128,6 +132,7 @@ impl<'a> TextPort<'a> {
             is_started: _,
             marks: _,
             page,
+            moment: _,
             failures: _,
         } = self;
         page
@@ -177,7 +182,8 @@ impl<'a> Port for TextPort<'a> {
             self.failures += 1;
             return false;
         }
-        if print_action(self.alloc, &mut self.page, now, action).is_err() {
+        self.moment.renew(now);
+        if print_action_at(self.alloc, &mut self.page, &self.moment, action).is_err() {
             self.failures += 1;
             return false;
         }
