@@ -28,12 +28,24 @@ COMMANDS = [
     ("show101 1112 E5", "single\n"),
     ("sim config.toml none.script", "station 1 reports 0 given 0 accepted 0\n"),
     (
+        "sim config.toml one.script",
+        "1 > S 1049014A16\n2 > T 68040B000000\n3 > S 1040014116\n4 > S 107B017C16\n5 > S 105B015C16\n"
+        "5 > T 680E0000000001010300010064000001\n7 > S 107B017C16\n8 > S 105B015C16\n"
+        "station 1 reports 1 given 1 accepted 0\nconnection 1 objects 1\n",
+    ),
+    (
         "replay config.toml one.trace --left --counts",
         "0 > S 1049014A16\n10 > S 1040014116\n20 > S 107B017C16\n40 > T 68040B000000\n50 > S 105B015C16\n"
         "50 > T 680E0000000001010300010064000001\nleft 01010300010064000001\ncounts skipped 0 mirrors 0 lost 0 spoilt 0\n",
     ),
 ]
-FILES = {"config.toml": CONFIG, "one.trace": TRACE, "none.script": "turns 0\n", "empty": ""}
+FILES = {
+    "config.toml": CONFIG,
+    "one.trace": TRACE,
+    "none.script": "turns 0\n",
+    "one.script": "turns 8\nreport 1 2 01010301640001\n",
+    "empty": "",
+}
 
 # Standard output takes one octet a write, TAKES of them, then its reader is gone; with SIGNALS a signal comes before each write.
 LIBRARY = r"""

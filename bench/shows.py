@@ -24,6 +24,7 @@ WRONG = [
         for sizes in ("", "111", "11122", "0112", "3112", "1012", "1312", "1102", "1132", "1110", "1114", "111a")
     ),
     ("1114", "", "bad sizes\n"),
+    ("2124", "E5", "bad sizes\n"),
     ("1112", "", "bad octets\n"),
     ("1112", "E", "bad octets\n"),
     ("1112", "E5E", "bad octets\n"),
@@ -42,7 +43,8 @@ def rows():
     yield from found
     for sizes, octets, fault in WRONG:
         yield ["show101", sizes, octets], "", fault, 1
-    yield ["show104", "68 04"], "", "bad octets\n", 1
+    for octets in ("68 04", "", "6", "6G", "68 "):
+        yield ["show104", octets], "", "bad octets\n", 1
     yield ["show101", "1112", "E5" * 1024], "single\nrest 1023\n", "", 1
 
 

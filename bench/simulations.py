@@ -20,6 +20,8 @@ CONFIG = "[line]\nlink = 1\ncause = 1\nca = 1\nioa = 2\nqueue = 100\n[[station]]
 RESET = CONFIG.replace("[[station]]", 'retries = 0\nsilence = "reset"\n[[station]]')
 # Link addresses of two octets.
 WIDE = CONFIG.replace("link = 1", "link = 2").replace("queue = 100\n", "")
+# Two stations.
+TWO = CONFIG + "[[station]]\naddress = 2\nca = 2\n"
 
 # A report of class 2, whose first answer is lost: the poll goes out again.
 LOST_ANSWER = """1 > S 1049014A16
@@ -31,6 +33,70 @@ LOST_ANSWER = """1 > S 1049014A16
 205 > T 680E0000000001010300010064000001
 207 > S 107B017C16
 station 1 reports 1 given 1 accepted 0
+connection 1 objects 1
+"""
+
+# The first request is lost: the status of the link is asked for again once its time is over.
+LOST_REQUEST = """1 > S 1049014A16
+2 > T 68040B000000
+202 > S 1049014A16
+203 > S 1040014116
+204 > S 107B017C16
+station 1 reports 0 given 0 accepted 0
+connection 1 objects 0
+"""
+
+# Each kind of line, the edges of its numbers and octets of either case. Requests count from 1, so that none is lost as number 0; call 1
+# tells the wall clock, so that nothing is sent at it; the third answer, the second station's, is lost; call 7 is the cut, and the report
+# that the first station gave waits at the end.
+EACH_LINE = """# a comment
+
+turns 000000008
+ack 32767
+wall 999999999999999
+report 2 1 0aFF
+lose request 0
+lose answer 3
+spoil answer 3 999999999
+cut 7
+send 1 640106000100000014
+report 1 2 00"""
+OF_EACH_LINE = """1 > S 1049014A16
+3 > T 68040B000000
+4 > S 1040014116
+5 > S 1049024B16
+205 > S 107B017C16
+station 1 reports 1 given 1 accepted 0
+station 2 reports 1 given 0 accepted 0
+connection 1 objects 0
+connection 2 objects 0
+"""
+
+# No acknowledgement takes a call, as one would after the report at 5 where `ack` is left away.
+UNACKNOWLEDGED = """1 > S 1049014A16
+2 > T 68040B000000
+3 > S 1040014116
+4 > S 107B017C16
+5 > S 105B015C16
+5 > T 680E00000000010103000100FF0A0001
+6 > S 107B017C16
+7 > S 105B015C16
+station 1 reports 1 given 1 accepted 0
+connection 1 objects 1
+"""
+
+# A report of class 1 of the second station: its answer to the reset tells of it.
+OF_THE_SECOND = """1 > S 1049014A16
+2 > T 68040B000000
+3 > S 1040014116
+4 > S 1049024B16
+5 > S 1040024216
+6 > S 107B017C16
+7 > S 107A027C16
+8 > S 105B015C16
+8 > T 680E00000000010103000200FF0A0001
+station 1 reports 0 given 0 accepted 0
+station 2 reports 1 given 1 accepted 0
 connection 1 objects 1
 """
 
@@ -163,7 +229,14 @@ RUNS = [
     (CONFIG, f"turns 8\nsend 5 {TAGGED}\n", UNKNOWN),
     # No calls give the closing lines alone.
     (CONFIG, "turns 0\nreport 1 2 01010301640001\n", "station 1 reports 1 given 0 accepted 0\n"),
+    (TWO, EACH_LINE, OF_EACH_LINE),
+    (CONFIG, "turns 7\nack 32767\nreport 1 2 01010301fF0a01\n", UNACKNOWLEDGED),
+    (TWO, "turns 8\nack 32767\nreport 2 1 01010302fF0a01\n", OF_THE_SECOND),
+    (CONFIG, f"wall 999999999999999\nturns 9\nsend 6 {TAGGED}\n", OLD),
+    (CONFIG, "turns 5\nlose request 1\n", LOST_REQUEST),
     (CONFIG, "turns 9\nreport 1 2 01010301640001\nspoil answer 3 20\n", SPOILT_ANSWER),
+    # Of the 15 octets of that answer this is the tenth.
+    (CONFIG, "turns 9\nreport 1 2 01010301640001\nspoil answer 3 999999999\n", SPOILT_ANSWER),
     (CONFIG, "turns 8\nreport 1 2 01010301640001\nlose answer 3\n", LOST_ANSWER),
     (CONFIG, "turns 8\nreport 1 1 01010301640001\nlose answer 3\n", LOST_ANSWER_OF_CLASS_1),
     (RESET, "turns 10\nreport 1 2 01010301640001\nreport 1 2 01010301650001\nlose answer 3\n", LOST_WITH_A_GAP),

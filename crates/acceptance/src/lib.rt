@@ -1,20 +1,15 @@
-//! Tests of the gateway and of what reads and prints texts, over their public calls: what no clause
-//! can say.
+//! Tests of the gateway, of settings and of traces, over their public calls: what no clause can
+//! say.
 //!
-//! Runs with the logs that the standard's rules and this gateway's profile give, settings, traces
-//! and scripts, good and wrong. They stand in a crate of their own, since a crate that
-//! has tests is proved twice. This crate has nothing else, and nothing uses it.
+//! Where a run ends, the values that settings give, the events that traces give and the lines that
+//! are written. They stand in a crate of their own, since a crate that has tests is proved twice.
+//! This crate has nothing else, and nothing uses it. Scripts, and what is shown of octets, are
+//! tested over the built program: bench/simulations.py, bench/shows.py.
 #![tactic(auto)]
 
 #[cfg(test)]
-mod live_settings;
-#[cfg(test)]
 mod runs;
 #[cfg(test)]
-mod scripts;
-#[cfg(test)]
 mod setting_texts;
-#[cfg(test)]
-mod shown_texts;
 #[cfg(test)]
 mod trace_texts;
