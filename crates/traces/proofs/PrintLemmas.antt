@@ -1,7 +1,10 @@
 -- What is printed, octet by octet.
-use Rattle.std.proofs.Common.{◌≡◌, ℕ, zero, ◌+◌, ◌-◌, ◌/◌, ◌%◌, ◌<◌, ◌≤◌, suc, refl, take, List, [], ◌∷◌, ◌++◌, length, drop, slice_index, sym, ◌∙◌, arith, ap, append_assoc}
-use Rattle.std.proofs.lemmas.List.{append-nil, take-append-drop}
+use Rattle.std.proofs.Common.{◌≡◌, ℕ, zero, suc, ◌+◌, ◌*◌, ◌/◌, ◌%◌, ◌<◌, List, [], ◌∷◌, ◌++◌, length, take, drop, slice_index, refl, sym, ap, ◌∙◌, arith, append_assoc, zero-add}
+use Rattle.std.specs.List.{range_with_len}
+use Rattle.std.proofs.lemmas.List.{take-append-drop}
+use Rattle.std.proofs.lemmas.List.FromFn.{get_or-range_with_len, length-range_with_len}
 use Rattle.hex.specs.Hex.{encode_upper, encode_with, upper_digits}
+use Rattle.traces.specs.declared.printing.TheConstants.{PAIRS}
 
 -- digits of octets in two parts
 pub digits_both : (xs ys : List ℕ) → encode_upper (xs ++ ys) ≡ encode_upper xs ++ encode_upper ys
@@ -19,37 +22,31 @@ block_next page left octets n whole is spelled =
     ∙ ap (λ l. page ++ l) (ap (λ l. l ++ encode_upper (drop n left)) spelled
     ∙ sym (digits_both (take n left) (drop n left)) ∙ ap encode_upper (take-append-drop n left)) ∙ is
 
--- where no octet is left
-pub blocks_done : (page left whole : List ℕ) → length left ≡ 0 → page ++ encode_upper left ≡ whole → page ≡ whole
+-- The table of pairs
+
+-- it is each octet in hexadecimal
+table_is : PAIRS ≡ encode_upper (range_with_len 0 256)
 unfolding encode_with
-blocks_done page [] whole none is = sym (append-nil page) ∙ is
-blocks_done page (b ∷ left) whole none is = absurd (omega (arith, none))
+table_is = refl
 
--- the digit of a value
-pub low_digit : (v : ℕ) → v < 10 → 48 + v ≡ slice_index upper_digits v
-low_digit zero lt = refl
-low_digit (suc zero) lt = refl
-low_digit (suc (suc zero)) lt = refl
-low_digit (suc (suc (suc zero))) lt = refl
-low_digit (suc (suc (suc (suc zero)))) lt = refl
-low_digit (suc (suc (suc (suc (suc zero))))) lt = refl
-low_digit (suc (suc (suc (suc (suc (suc zero)))))) lt = refl
-low_digit (suc (suc (suc (suc (suc (suc (suc zero))))))) lt = refl
-low_digit (suc (suc (suc (suc (suc (suc (suc (suc zero)))))))) lt = refl
-low_digit (suc (suc (suc (suc (suc (suc (suc (suc (suc zero))))))))) lt = refl
-low_digit (suc (suc (suc (suc (suc (suc (suc (suc (suc (suc v)))))))))) lt = absurd (omega (arith, lt))
+-- the digits of the octet at a place
+pair_in : (octets : List ℕ) (i : ℕ) → i < length octets →
+    (slice_index (encode_upper octets) (2 * i) ≡ slice_index upper_digits (slice_index octets i / 16))
+    × (slice_index (encode_upper octets) (2 * i + 1) ≡ slice_index upper_digits (slice_index octets i % 16))
+unfolding encode_with
+pair_in [] i lt = absurd (omega (arith, lt))
+pair_in (b ∷ octets) zero lt = (refl, refl)
+pair_in (b ∷ octets) (suc i) lt =
+    let rest = pair_in octets i (omega (arith, lt)) in
+    let high : 2 * suc i ≡ suc (suc (2 * i)) = omega arith in
+    let low : 2 * suc i + 1 ≡ suc (suc (2 * i + 1)) = omega arith in (rw high rest.0, rw low rest.1)
 
-pub high_digit : (v : ℕ) → 10 ≤ v → v < 16 → 55 + v ≡ slice_index upper_digits v
-high_digit v le lt =
-    let d : ℕ = v - 10 in
-    let same : v ≡ 10 + d = omega (arith, le) in
-    ap (λ n. 55 + n) same ∙ by d (omega (arith, same, lt)) ∙ ap (slice_index upper_digits) (sym same)
-  where
-    by : (d : ℕ) → d < 6 → 55 + (10 + d) ≡ slice_index upper_digits (10 + d)
-    by zero lt = refl
-    by (suc zero) lt = refl
-    by (suc (suc zero)) lt = refl
-    by (suc (suc (suc zero))) lt = refl
-    by (suc (suc (suc (suc zero)))) lt = refl
-    by (suc (suc (suc (suc (suc zero))))) lt = refl
-    by (suc (suc (suc (suc (suc (suc d)))))) lt = absurd (omega (arith, lt))
+pub pair_at : (b : ℕ) → b < 256 →
+    (slice_index PAIRS (2 * b) ≡ slice_index upper_digits (b / 16))
+    × (slice_index PAIRS (2 * b + 1) ≡ slice_index upper_digits (b % 16))
+pair_at b lt =
+    let pair = pair_in (range_with_len 0 256) b (omega (arith, lt, length-range_with_len 0 256)) in
+    let same : slice_index (range_with_len 0 256) b ≡ b = get_or-range_with_len 0 256 b 0 lt ∙ zero-add b in (
+      ap (λ t. slice_index t (2 * b)) table_is ∙ pair.0 ∙ ap (λ n. slice_index upper_digits (n / 16)) same,
+      ap (λ t. slice_index t (2 * b + 1)) table_is ∙ pair.1 ∙ ap (λ n. slice_index upper_digits (n % 16)) same,
+    )

@@ -9,6 +9,7 @@ invariant-pieces l = record {
   text : l.page.items ++ encode_upper l.left ≡ l.fn.page.items ++ encode_upper l.octets;
   len : vec_len l.page + 2 * length l.left ≡ vec_len l.fn.page + 2 * length l.octets;
   capacity : vec_capacity l.fn.page ≤ vec_capacity l.page;
+  row : length l.digits ≡ 32;
 }
 
 abbrev pub decreases-pieces : goal.decreases-pieces
