@@ -8,6 +8,7 @@ use asdu::{CaSize, CauseSize, IoaSize, Sizes, read};
 use command::{Act, Commands, NoMemory, StationInfo};
 use elements::Cp56;
 use std::alloc::Global;
+use std::test::Fail;
 
 /// The smallest sizes.
 pub const SMALL: Sizes = Sizes {
@@ -61,6 +62,8 @@ pub enum Step<'a> {
     Forwards(&'a [u8], u64),
     /// An ASDU comes at this moment and gets this answer.
     Answers(&'a [u8], u64, &'a [u8]),
+    /// An ASDU comes at moment 1 and gets itself back, with this octet for its cause.
+    Refuses(&'a [u8; 10], u8),
     /// An ASDU comes at this moment of the wall and is forwarded.
     ForwardsAt(&'a [u8], u64),
     /// An ASDU comes at this moment of the wall and gets this answer.
@@ -90,8 +93,41 @@ pub enum Step<'a> {
     Due(u64),
 }
 
+/// What happens to two stations, in these sizes of the line: calls that lead up to it, and those
+/// that it is about.
+pub type Script<'a> = (&'a str, Sizes, &'a [Step<'a>], &'a [Step<'a>]);
+
+/// All of them.
+const SCRIPTS: [&[Script<'static>]; 5] = [
+    limits::SCRIPTS,
+    own::SCRIPTS,
+    rules::SCRIPTS,
+    selections::SCRIPTS,
+    tags::SCRIPTS,
+];
+
+#[test]
+fn calls_answer_in_their_order(rt: HostRuntime) -> Result<(), Fail> {
+    for scripts in SCRIPTS {
+        for (name, sizes, before, steps) in scripts {
+            let mut commands = two_stations(rt.alloc(), *sizes)?;
+            assert_eq!(rt;
+                count_of_answers(&mut commands, before),
+                before.len(),
+                "before {name}"
+            );
+            assert_eq!(rt;
+                count_of_answers(&mut commands, steps),
+                steps.len(),
+                "{name}"
+            );
+        }
+    }
+    Ok(())
+}
+
 /// Two stations: 1, which asks for selects, and 2, which doesn't.
-pub fn two_stations(alloc: Global, sizes: Sizes) -> Result<Commands, NoMemory> {
+fn two_stations(alloc: Global, sizes: Sizes) -> Result<Commands, NoMemory> {
     let stations = [
         StationInfo {
             ca: 1,
@@ -117,20 +153,6 @@ pub fn count_of_answers(commands: &mut Commands, steps: &[Step]) -> usize {
     count
 }
 
-/// Of how many of these ASDUs, in their order, the answer is the ASDU with this cause octet.
-pub fn count_of_refusals(commands: &mut Commands, table: &[([u8; 10], u8)]) -> usize {
-    let mut count: usize = 0;
-    for (octets, cause) in table {
-        let mut wanted = *octets;
-        wanted[2] = *cause;
-        if !is_answered(commands, octets, (1, None), &wanted) {
-            return count;
-        }
-        count = count.wrapping_add(1);
-    }
-    count
-}
-
 /// Makes the call, and says whether the answer was the one.
 fn is_right(commands: &mut Commands, step: &Step) -> bool {
     match step {
@@ -138,6 +160,7 @@ fn is_right(commands: &mut Commands, step: &Step) -> bool {
         Step::Answers(octets, now, answer) => {
             return is_answered(commands, octets, (*now, None), answer);
         }
+        Step::Refuses(octets, cause) => return is_refused(commands, octets, *cause),
         Step::ForwardsAt(octets, wall) => return forwards_at(commands, octets, (1, Some(*wall))),
         Step::AnswersAt(octets, wall, answer) => {
             return is_answered(commands, octets, (1, Some(*wall)), answer);
@@ -159,7 +182,7 @@ fn is_right(commands: &mut Commands, step: &Step) -> bool {
     true
 }
 
-pub fn forwards(commands: &mut Commands, octets: &[u8], now: u64) -> bool {
+fn forwards(commands: &mut Commands, octets: &[u8], now: u64) -> bool {
     forwards_at(commands, octets, (now, None))
 }
 
@@ -184,6 +207,13 @@ fn is_answered(
         Act::Forward => false,
         Act::Own(answer) => answer.as_slice() == wanted,
     }
+}
+
+/// Whether the answer is the ASDU with this octet for its cause.
+fn is_refused(commands: &mut Commands, octets: &[u8; 10], cause: u8) -> bool {
+    let mut wanted = *octets;
+    wanted[2] = cause;
+    is_answered(commands, octets, (1, None), &wanted)
 }
 
 fn sends(commands: &mut Commands, station: usize, octets: &[u8]) -> bool {

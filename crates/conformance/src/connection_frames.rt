@@ -27,89 +27,85 @@ const FUNCTIONS: [(Uf, u8); 6] = [
     (Uf::TestCon, 0x83),
 ];
 
-#[test]
-fn apdus_of_each_format(rt: HostRuntime) {
-    for (function, control) in FUNCTIONS {
-        let octets = [0x68, 0x04, control, 0x00, 0x00, 0x00];
-        let apdu = Apdu::U(function);
-        assert!(rt;
-            encode(&apdu).as_slice() == octets.as_slice()
-                && Short::U(function).to_octets() == octets
-                && front(&octets) == Front::Whole(apdu, 6)
-        );
+/// The same I format once the counter has run over, and N(R) hasn't yet.
+const NEXT_NUMBER: [u8; 15] = [
+    0x68, 0x0D, 0x00, 0x00, 0xFE, 0xFF, 0x64, 0x01, 0x06, 0x00, 0x01, 0x00, 0x00, 0x00, 0x00,
+];
+
+/// Whether these are the octets of a U frame, all ways.
+fn is_function(function: Uf, octets: [u8; 6]) -> bool {
+    let apdu = Apdu::U(function);
+    encode(&apdu).as_slice() == octets.as_slice()
+        && Short::U(function).to_octets() == octets
+        && front(&octets) == Front::Whole(apdu, 6)
+}
+
+/// Whether these are the octets of an I frame with these N(S) and N(R), all ways.
+fn is_information(octets: &[u8], ns: u16, nr: u16) -> bool
+    requires { (6 ≤ length octets.now) × (length octets.now ≤ 255) }
+{
+    let asdu = &octets[6..];
+    let apdu = ApduRef::I { ns, nr, asdu };
+    front_ref(octets) == FrontRef::Whole(apdu, octets.len())
+        && encode(&apdu.to_apdu()).as_slice() == octets
+}
+
+/// Octets that begin no APDU, the place that decides it or is told, and why.
+const REFUSED: [(&[u8], usize, Why); 21] = [
+    (&[0x00], 0, Why::Start),
+    (&[0xE5, 0x03, 0x05], 0, Why::Start),
+    (&[0x68, 0x03], 1, Why::Length),
+    (&[0x68, 0xFE], 1, Why::Length),
+    (&[0x68, 0xFE, 0x03], 1, Why::Length),
+    (&[0x68, 0x04, 0x03], 2, Why::Control),
+    (&[0x68, 0x05, 0x03], 2, Why::Control),
+    (&[0x68, 0x0D, 0xFF], 2, Why::Control),
+    (&[0x68, 0x05, 0x07], 1, Why::NotFour),
+    (&[0x68, 0x06, 0x01], 1, Why::NotFour),
+    (&[0x68, 0xFD, 0x01], 1, Why::NotFour),
+    (&[0x68, 0x0C, 0x00], 1, Why::Short),
+    (&[0x68, 0x04, 0x00], 1, Why::Short),
+    (&[0x68, 0x04, 0x01, 0x01], 3, Why::Control),
+    (&[0x68, 0x04, 0x43, 0x01], 3, Why::Control),
+    (&[0x68, 0x04, 0x01, 0x00, 0x01], 4, Why::Control),
+    (&[0x68, 0x04, 0x43, 0x00, 0x02], 4, Why::Control),
+    (&[0x68, 0x0D, 0x00, 0x00, 0x01], 4, Why::Control),
+    (&[0x68, 0x04, 0x43, 0x00, 0x00, 0x01], 5, Why::Control),
+    (&[0x68, 0x04, 0x01, 0x01, 0x01, 0x00], 3, Why::Control),
+    (&[0x68, 0x04, 0x43, 0x01, 0x01, 0x01], 3, Why::Control),
+];
+
+/// Whether the octets are refused at this place for this, read or heard.
+fn is_refused(octets: &[u8], place: usize, why: Why) -> bool {
+    if front(octets) != Front::Never(place, why)
+        || front_ref(octets) != FrontRef::Never(place, why)
+    {
+        return false;
     }
-    let report = ApduRef::I {
-        ns: 0,
-        nr: 0,
-        asdu: &REPORT[6..],
-    };
-    assert!(rt;
-        front_ref(&REPORT) == FrontRef::Whole(report, 21)
-            && encode(&report.to_apdu()).as_slice() == REPORT.as_slice()
-    );
-    let more = [0x68, 0x04, 0x01, 0x00, 0x02, 0x00, 0xE5];
-    assert!(rt;
-        front_ref(&ACKNOWLEDGE[..3]) == FrontRef::More
-            && front_ref(&more) == FrontRef::Whole(ApduRef::S { nr: 1 }, 6)
-            && front(&more) == Front::Whole(Apdu::S { nr: 1 }, 6)
-            && encode(&Apdu::S { nr: 1 }).as_slice() == ACKNOWLEDGE.as_slice()
-            && Short::S { nr: 1 }.to_octets() == ACKNOWLEDGE
-    );
-    // Counters run modulo 32768.
-    let asdu = &LAST_NUMBER[6..];
-    let last = ApduRef::I {
-        ns: 32767,
-        nr: 0,
-        asdu,
-    };
-    assert!(rt;
-        front_ref(&LAST_NUMBER) == FrontRef::Whole(last, 15)
-            && encode(&last.to_apdu()).as_slice() == LAST_NUMBER.as_slice()
-    );
-    let next = ApduRef::I {
-        ns: 0,
-        nr: 32767,
-        asdu,
-    };
-    assert!(rt; encode(&next.to_apdu())[2..6] == [0x00, 0x00, 0xFE, 0xFF]);
-    let mut octets = [0; 255];
-    assert!(rt;
-        write_information(&mut octets, 32767, 0, asdu) == 15 && octets[..15] == LAST_NUMBER[..]
-    );
+    Assembler::new().feed(octets) == (octets.len(), Heard::Never(place, why))
 }
 
 #[test]
-fn refusals_in_their_order(rt: HostRuntime) {
-    let refused: [(&[u8], usize, Why); 21] = [
-        (&[0x00], 0, Why::Start),
-        (&[0xE5, 0x03, 0x05], 0, Why::Start),
-        (&[0x68, 0x03], 1, Why::Length),
-        (&[0x68, 0xFE], 1, Why::Length),
-        (&[0x68, 0xFE, 0x03], 1, Why::Length),
-        (&[0x68, 0x04, 0x03], 2, Why::Control),
-        (&[0x68, 0x05, 0x03], 2, Why::Control),
-        (&[0x68, 0x0D, 0xFF], 2, Why::Control),
-        (&[0x68, 0x05, 0x07], 1, Why::NotFour),
-        (&[0x68, 0x06, 0x01], 1, Why::NotFour),
-        (&[0x68, 0xFD, 0x01], 1, Why::NotFour),
-        (&[0x68, 0x0C, 0x00], 1, Why::Short),
-        (&[0x68, 0x04, 0x00], 1, Why::Short),
-        (&[0x68, 0x04, 0x01, 0x01], 3, Why::Control),
-        (&[0x68, 0x04, 0x43, 0x01], 3, Why::Control),
-        (&[0x68, 0x04, 0x01, 0x00, 0x01], 4, Why::Control),
-        (&[0x68, 0x04, 0x43, 0x00, 0x02], 4, Why::Control),
-        (&[0x68, 0x0D, 0x00, 0x00, 0x01], 4, Why::Control),
-        (&[0x68, 0x04, 0x43, 0x00, 0x00, 0x01], 5, Why::Control),
-        (&[0x68, 0x04, 0x01, 0x01, 0x01, 0x00], 3, Why::Control),
-        (&[0x68, 0x04, 0x43, 0x01, 0x01, 0x01], 3, Why::Control),
-    ];
-    for (octets, place, why) in refused {
-        let mut assembler = Assembler::new();
-        assert!(rt;
-            front(octets) == Front::Never(place, why)
-                && front_ref(octets) == FrontRef::Never(place, why)
-                && assembler.feed(octets) == (octets.len(), Heard::Never(place, why))
-        );
+fn apdus_of_each_format_and_refusals(rt: HostRuntime) {
+    for (function, control) in FUNCTIONS {
+        assert!(rt; is_function(function, [0x68, 0x04, control, 0x00, 0x00, 0x00]));
+    }
+    assert!(rt; encode(&Apdu::S { nr: 1 }).as_slice() == ACKNOWLEDGE.as_slice());
+    assert!(rt; Short::S { nr: 1 }.to_octets() == ACKNOWLEDGE);
+    // What stands behind a frame is left.
+    let more = [0x68, 0x04, 0x01, 0x00, 0x02, 0x00, 0xE5];
+    assert!(rt; front_ref(&ACKNOWLEDGE[..3]) == FrontRef::More);
+    assert!(rt; front_ref(&more) == FrontRef::Whole(ApduRef::S { nr: 1 }, 6));
+    assert!(rt; front(&more) == Front::Whole(Apdu::S { nr: 1 }, 6));
+    // Counters run modulo 32768.
+    assert!(rt; is_information(&REPORT, 0, 0));
+    assert!(rt; is_information(&LAST_NUMBER, 32767, 0));
+    assert!(rt; is_information(&NEXT_NUMBER, 0, 32767));
+    let mut octets = [0; 255];
+    assert!(rt; write_information(&mut octets, 32767, 0, &LAST_NUMBER[6..]) == 15);
+    assert!(rt; octets[..15] == LAST_NUMBER[..]);
+    for (octets, place, why) in REFUSED {
+        assert!(rt; is_refused(octets, place, why));
     }
     // A length from 5 to 12 is judged with the octet after it.
     for len in 4u8..=253 {
@@ -119,7 +115,7 @@ fn refusals_in_their_order(rt: HostRuntime) {
 }
 
 /// What a piece gives: how many octets are taken, what is heard, and the APDU that is whole.
-#[derive(Debug, PartialEq, Eq, Drop)]
+#[derive(PartialEq, Drop)]
 struct Fed {
     taken: usize,
     heard: Heard,
@@ -272,24 +268,6 @@ fn is_heard_alike(octets: &[u8], cut: usize) -> bool
     alike && at_first.taken == cut && assembler.looked() <= octets.len() as u64
 }
 
-#[test]
-fn every_cut_is_heard_alike(rt: HostRuntime) {
-    for octets in APDUS {
-        for cut in 0..octets.len() {
-            assert!(rt; is_heard_alike(octets, cut));
-        }
-    }
-    for (_, control) in FUNCTIONS {
-        for cut in 0..6 {
-            assert!(rt; is_heard_alike(&[0x68, 0x04, control, 0x00, 0x00, 0x00], cut));
-        }
-    }
-    let octets = long_report();
-    for cut in 0..octets.len() {
-        assert!(rt; is_heard_alike(&octets, cut));
-    }
-}
-
 /// Whether each octet, one after another, is heard as `front` finds those that came.
 fn is_heard_octet_by_octet(octets: &[u8]) -> bool {
     let mut assembler = Assembler::new();
@@ -307,7 +285,21 @@ fn is_heard_octet_by_octet(octets: &[u8]) -> bool {
 }
 
 #[test]
-fn one_pass_hears_what_reading_again_hears(rt: HostRuntime) {
+fn every_cut_is_heard_alike(rt: HostRuntime) {
+    for octets in APDUS {
+        for cut in 0..octets.len() {
+            assert!(rt; is_heard_alike(octets, cut));
+        }
+    }
+    for (_, control) in FUNCTIONS {
+        for cut in 0..6 {
+            assert!(rt; is_heard_alike(&[0x68, 0x04, control, 0x00, 0x00, 0x00], cut));
+        }
+    }
+    let octets = long_report();
+    for cut in 0..octets.len() {
+        assert!(rt; is_heard_alike(&octets, cut));
+    }
     for place in 0..REPORT.len() {
         for octet in 0u8..=255 {
             let mut octets = REPORT;

@@ -1,4 +1,6 @@
 //! Values from the standard's tables, and tags of known days.
+ghost use Rattle.std.specs.Prelude.{◌≡◌, length};
+
 use elements::{
     Bcr, Bsi, Coi, Cp56, Dco, Diq, Element, Nva, Qoi, Rco, Sco, SeNva, SeSva, Siq, Sva, TypeId,
     Verdict, Vti, judge, kind,
@@ -37,8 +39,72 @@ const TABLE: [(u8, TypeId, usize, bool, bool); 28] = [
     (62, TypeId::CSeTb1, 3, true, false),
 ];
 
+/// Elements of each type, and the values that they show.
+const SHOWN: [(TypeId, &[u8], i64); 29] = [
+    // Quality and reserved bits show nothing.
+    (TypeId::MSpNa1, &[0xF1], 1),
+    (TypeId::MSpTb1, &[0xFE], 0),
+    (TypeId::MDpNa1, &[0xF2], 2),
+    (TypeId::MDpTb1, &[0x03], 3),
+    (TypeId::MStNa1, &[0x3F, 0xFF], 63),
+    (TypeId::MStTb1, &[0xC0, 0x00], -64),
+    (TypeId::MStNa1, &[0xFF, 0x00], -1),
+    (TypeId::MBoNa1, &[0x78, 0x56, 0x34, 0xF2, 0xFF], 0xF234_5678),
+    (
+        TypeId::MBoTb1,
+        &[0xFF, 0xFF, 0xFF, 0xFF, 0x00],
+        4_294_967_295,
+    ),
+    (TypeId::MMeNa1, &[0x00, 0x80, 0x00], -32_768),
+    (TypeId::MMeTd1, &[0xFF, 0x7F, 0x80], 32_767),
+    (TypeId::MMeNb1, &[0xFF, 0xFF, 0x80], -1),
+    (TypeId::MMeTe1, &[0x02, 0x01, 0x00], 258),
+    // The bits of the short floats 1 and -2.
+    (TypeId::MMeNc1, &[0x00, 0x00, 0x80, 0x3F, 0x00], 0x3F80_0000),
+    (TypeId::MMeTf1, &[0x00, 0x00, 0x00, 0xC0, 0x00], 0xC000_0000),
+    (
+        TypeId::MItNa1,
+        &[0x00, 0x00, 0x00, 0x80, 0x1F],
+        -2_147_483_648,
+    ),
+    (TypeId::MItTb1, &[0xFE, 0xFF, 0xFF, 0xFF, 0x00], -2),
+    (TypeId::MEiNa1, &[0x82], 2),
+    (TypeId::CScNa1, &[0x81], 1),
+    (TypeId::CDcNa1, &[0x82], 2),
+    (TypeId::CRcNa1, &[0x7D], 1),
+    (TypeId::CSeNa1, &[0x00, 0xC0, 0x80], -16_384),
+    (TypeId::CSeNb1, &[0x9C, 0xFF, 0x00], -100),
+    (TypeId::CIcNa1, &[0x14], 20),
+    (TypeId::CScTa1, &[0x81], 1),
+    (TypeId::CDcTa1, &[0x82], 2),
+    (TypeId::CRcTa1, &[0x7D], 1),
+    (TypeId::CSeTa1, &[0x00, 0xC0, 0x80], -16_384),
+    (TypeId::CSeTb1, &[0x9C, 0xFF, 0x00], -100),
+];
+
+/// Thursday 2024-02-29 12:34:56.789.
+const THURSDAY: [u8; 7] = [0xD5, 0xDD, 0x22, 0x0C, 0x9D, 0x02, 0x18];
+
+/// An octet of that tag in the place of its own, and the verdict on it then.
+const CHANGES: [(usize, u8, Verdict); 14] = [
+    (6, 0x18, Verdict::Good(1_709_210_096_789)),
+    (6, 0x17, Verdict::NoSuchDay),
+    (4, 0xBD, Verdict::WrongWeekday),
+    (4, 0x1D, Verdict::Good(1_709_210_096_789)),
+    (2, 0xA2, Verdict::MarkedInvalid),
+    (3, 0x8C, Verdict::Good(1_709_210_096_789)),
+    (1, 0xE9, Verdict::Good(1_709_210_099_861)),
+    (1, 0xEA, Verdict::OutOfRange),
+    (2, 0x3C, Verdict::OutOfRange),
+    (3, 0x18, Verdict::OutOfRange),
+    (4, 0x80, Verdict::OutOfRange),
+    (5, 0x00, Verdict::OutOfRange),
+    (5, 0x0D, Verdict::OutOfRange),
+    (6, 0x64, Verdict::OutOfRange),
+];
+
 #[test]
-fn knows_the_types(rt: HostRuntime) {
+fn types_values_and_tags(rt: HostRuntime) {
     for octet in 0..=255u8 {
         let row = TABLE.iter().find(|row| row.0 == octet);
         assert!(rt; kind(octet) == row.map(|row| row.1));
@@ -46,206 +112,11 @@ fn knows_the_types(rt: HostRuntime) {
     for (_, kind, size, tagged, monitor) in TABLE {
         assert!(rt; (kind.size(), kind.tagged(), kind.monitor()) == (size, tagged, monitor));
     }
-}
-
-#[test]
-fn shows_values(rt: HostRuntime) {
-    let rows: [(TypeId, &[u8], i64); 29] = [
-        // Quality and reserved bits show nothing.
-        (TypeId::MSpNa1, &[0xF1], 1),
-        (TypeId::MSpTb1, &[0xFE], 0),
-        (TypeId::MDpNa1, &[0xF2], 2),
-        (TypeId::MDpTb1, &[0x03], 3),
-        (TypeId::MStNa1, &[0x3F, 0xFF], 63),
-        (TypeId::MStTb1, &[0xC0, 0x00], -64),
-        (TypeId::MStNa1, &[0xFF, 0x00], -1),
-        (TypeId::MBoNa1, &[0x78, 0x56, 0x34, 0xF2, 0xFF], 0xF234_5678),
-        (
-            TypeId::MBoTb1,
-            &[0xFF, 0xFF, 0xFF, 0xFF, 0x00],
-            4_294_967_295,
-        ),
-        (TypeId::MMeNa1, &[0x00, 0x80, 0x00], -32_768),
-        (TypeId::MMeTd1, &[0xFF, 0x7F, 0x80], 32_767),
-        (TypeId::MMeNb1, &[0xFF, 0xFF, 0x80], -1),
-        (TypeId::MMeTe1, &[0x02, 0x01, 0x00], 258),
-        // The bits of the short floats 1 and -2.
-        (TypeId::MMeNc1, &[0x00, 0x00, 0x80, 0x3F, 0x00], 0x3F80_0000),
-        (TypeId::MMeTf1, &[0x00, 0x00, 0x00, 0xC0, 0x00], 0xC000_0000),
-        (
-            TypeId::MItNa1,
-            &[0x00, 0x00, 0x00, 0x80, 0x1F],
-            -2_147_483_648,
-        ),
-        (TypeId::MItTb1, &[0xFE, 0xFF, 0xFF, 0xFF, 0x00], -2),
-        (TypeId::MEiNa1, &[0x82], 2),
-        (TypeId::CScNa1, &[0x81], 1),
-        (TypeId::CDcNa1, &[0x82], 2),
-        (TypeId::CRcNa1, &[0x7D], 1),
-        (TypeId::CSeNa1, &[0x00, 0xC0, 0x80], -16_384),
-        (TypeId::CSeNb1, &[0x9C, 0xFF, 0x00], -100),
-        (TypeId::CIcNa1, &[0x14], 20),
-        (TypeId::CScTa1, &[0x81], 1),
-        (TypeId::CDcTa1, &[0x82], 2),
-        (TypeId::CRcTa1, &[0x7D], 1),
-        (TypeId::CSeTa1, &[0x00, 0xC0, 0x80], -16_384),
-        (TypeId::CSeTb1, &[0x9C, 0xFF, 0x00], -100),
-    ];
-    for (kind, octets, value) in rows {
-        assert!(rt; octets.len() == kind.size());
-        if octets.len() == kind.size() {
-            assert!(rt; kind.value(octets) == value);
-        }
+    for (kind, octets, value) in SHOWN {
+        assert!(rt; octets.len() == kind.size() && kind.value(octets) == value);
     }
-}
-
-// All bits are carried: reserved ones, quality, and the sign.
-#[test]
-fn carries_elements(rt: HostRuntime) {
-    let mut out = [0xAA; 1];
-    Siq(0xFE).put(&mut out);
-    assert!(rt; out == [0xFE] && Siq::get(&out) == Siq(0xFE));
-    let mut out = [0xAA; 1];
-    Diq(0x8F).put(&mut out);
-    assert!(rt; out == [0x8F] && Diq::get(&out) == Diq(0x8F));
-    let mut out = [0xAA; 2];
-    Vti {
-        vti: 0xC0,
-        quality: 0xFF,
-    }
-    .put(&mut out);
-    assert!(rt;
-        out == [0xC0, 0xFF]
-            && Vti::get(&out)
-                == Vti {
-                    vti: 0xC0,
-                    quality: 0xFF
-                }
-    );
-    let mut out = [0xAA; 5];
-    Bsi {
-        bits: 0xF234_5678,
-        quality: 0x81,
-    }
-    .put(&mut out);
-    assert!(rt;
-        out == [0x78, 0x56, 0x34, 0xF2, 0x81]
-            && Bsi::get(&out)
-                == Bsi {
-                    bits: 0xF234_5678,
-                    quality: 0x81
-                }
-    );
-    let mut out = [0xAA; 3];
-    Nva {
-        value: -32_768,
-        quality: 0x0E,
-    }
-    .put(&mut out);
-    assert!(rt;
-        out == [0x00, 0x80, 0x0E]
-            && Nva::get(&out)
-                == Nva {
-                    value: -32_768,
-                    quality: 0x0E
-                }
-    );
-    let mut out = [0xAA; 3];
-    Sva {
-        value: -2,
-        quality: 0x80,
-    }
-    .put(&mut out);
-    assert!(rt;
-        out == [0xFE, 0xFF, 0x80]
-            && Sva::get(&out)
-                == Sva {
-                    value: -2,
-                    quality: 0x80
-                }
-    );
-    let mut out = [0xAA; 5];
-    Bcr {
-        reading: -2_147_483_648,
-        sequence: 0xFF,
-    }
-    .put(&mut out);
-    assert!(rt;
-        out == [0x00, 0x00, 0x00, 0x80, 0xFF]
-            && Bcr::get(&out)
-                == Bcr {
-                    reading: -2_147_483_648,
-                    sequence: 0xFF
-                }
-    );
-    let mut out = [0xAA; 1];
-    Coi(0x82).put(&mut out);
-    assert!(rt; out == [0x82] && Coi::get(&out) == Coi(0x82));
-    let mut out = [0xAA; 1];
-    Sco(0xFF).put(&mut out);
-    assert!(rt; out == [0xFF] && Sco::get(&out) == Sco(0xFF));
-    let mut out = [0xAA; 1];
-    Dco(0x83).put(&mut out);
-    assert!(rt; out == [0x83] && Dco::get(&out) == Dco(0x83));
-    let mut out = [0xAA; 1];
-    Rco(0x7D).put(&mut out);
-    assert!(rt; out == [0x7D] && Rco::get(&out) == Rco(0x7D));
-    let mut out = [0xAA; 3];
-    SeNva {
-        value: -16_384,
-        qualifier: 0x81,
-    }
-    .put(&mut out);
-    assert!(rt;
-        out == [0x00, 0xC0, 0x81]
-            && SeNva::get(&out)
-                == SeNva {
-                    value: -16_384,
-                    qualifier: 0x81
-                }
-    );
-    let mut out = [0xAA; 3];
-    SeSva {
-        value: 258,
-        qualifier: 0x7F,
-    }
-    .put(&mut out);
-    assert!(rt;
-        out == [0x02, 0x01, 0x7F]
-            && SeSva::get(&out)
-                == SeSva {
-                    value: 258,
-                    qualifier: 0x7F
-                }
-    );
-    let mut out = [0xAA; 1];
-    Qoi(0x14).put(&mut out);
-    assert!(rt; out == [0x14] && Qoi::get(&out) == Qoi(0x14));
-}
-
-#[test]
-fn judges_tags(rt: HostRuntime) {
-    // Thursday 2024-02-29 12:34:56.789.
-    let thursday = [0xD5, 0xDD, 0x22, 0x0C, 0x9D, 0x02, 0x18];
-    let good = Verdict::Good(1_709_210_096_789);
-    let changes = [
-        (6, 0x18, good),
-        (6, 0x17, Verdict::NoSuchDay),
-        (4, 0xBD, Verdict::WrongWeekday),
-        (4, 0x1D, good),
-        (2, 0xA2, Verdict::MarkedInvalid),
-        (3, 0x8C, good),
-        (1, 0xE9, Verdict::Good(1_709_210_099_861)),
-        (1, 0xEA, Verdict::OutOfRange),
-        (2, 0x3C, Verdict::OutOfRange),
-        (3, 0x18, Verdict::OutOfRange),
-        (4, 0x80, Verdict::OutOfRange),
-        (5, 0x00, Verdict::OutOfRange),
-        (5, 0x0D, Verdict::OutOfRange),
-        (6, 0x64, Verdict::OutOfRange),
-    ];
-    for (place, octet, wanted) in changes {
-        let mut tag = thursday;
+    for (place, octet, wanted) in CHANGES {
+        let mut tag = THURSDAY;
         if let Some(changed) = tag.get_mut(place) {
             *changed = octet;
         }
@@ -256,4 +127,92 @@ fn judges_tags(rt: HostRuntime) {
         judge(&Cp56([0, 0, 0x80, 0, 0x7D, 2, 23])) == Verdict::NoSuchDay
             && judge(&Cp56([0, 0, 0x80, 0, 0xBD, 2, 24])) == Verdict::WrongWeekday
     );
+}
+
+/// Whether an element is written as these octets, over others, and read from them.
+fn is_carried<E: Element + PartialEq + Drop>(element: &E, octets: &[u8]) -> bool
+    requires { length octets.now ≡ E.SIZE }
+{
+    let mut out = [0xAA; 8];
+    if octets.len() > out.len() {
+        return false;
+    }
+    let out = &mut out[..octets.len()];
+    element.put(out);
+    *out == *octets && E::get(octets) == *element
+}
+
+// All bits are carried: reserved ones, quality, and the sign.
+#[test]
+fn carries_elements(rt: HostRuntime) {
+    assert!(rt; is_carried(&Siq(0xFE), &[0xFE]));
+    assert!(rt; is_carried(&Diq(0x8F), &[0x8F]));
+    assert!(rt;
+        is_carried(
+            &Vti {
+                vti: 0xC0,
+                quality: 0xFF
+            },
+            &[0xC0, 0xFF]
+        )
+    );
+    assert!(rt;
+        is_carried(
+            &Bsi {
+                bits: 0xF234_5678,
+                quality: 0x81
+            },
+            &[0x78, 0x56, 0x34, 0xF2, 0x81]
+        )
+    );
+    assert!(rt;
+        is_carried(
+            &Nva {
+                value: -32_768,
+                quality: 0x0E
+            },
+            &[0x00, 0x80, 0x0E]
+        )
+    );
+    assert!(rt;
+        is_carried(
+            &Sva {
+                value: -2,
+                quality: 0x80
+            },
+            &[0xFE, 0xFF, 0x80]
+        )
+    );
+    assert!(rt;
+        is_carried(
+            &Bcr {
+                reading: -2_147_483_648,
+                sequence: 0xFF
+            },
+            &[0x00, 0x00, 0x00, 0x80, 0xFF]
+        )
+    );
+    assert!(rt; is_carried(&Coi(0x82), &[0x82]));
+    assert!(rt; is_carried(&Sco(0xFF), &[0xFF]));
+    assert!(rt; is_carried(&Dco(0x83), &[0x83]));
+    assert!(rt; is_carried(&Rco(0x7D), &[0x7D]));
+    assert!(rt;
+        is_carried(
+            &SeNva {
+                value: -16_384,
+                qualifier: 0x81
+            },
+            &[0x00, 0xC0, 0x81]
+        )
+    );
+    assert!(rt;
+        is_carried(
+            &SeSva {
+                value: 258,
+                qualifier: 0x7F
+            },
+            &[0x02, 0x01, 0x7F]
+        )
+    );
+    assert!(rt; is_carried(&Qoi(0x14), &[0x14]));
 }

@@ -84,100 +84,120 @@ fn has_head(asdu: &Asdu, number: usize, head: &Head) -> bool {
         && asdu.head() == *head
 }
 
-#[test]
-fn reads_asdus(rt: HostRuntime) {
-    let (Ok(points), Ok(values)) = (read(SMALL, &POINTS), read(Sizes::TCP, &VALUES)) else {
-        assert!(rt; false);
-        return;
-    };
-    let wanted = Head {
-        kind: 1,
-        vsq: 2,
-        cause: 0x83,
-        originator: 0,
-        ca: 1,
-        ioa: 100,
-    };
-    assert!(rt;
-        has_objects(&points, &[(100, &[0x01]), (101, &[0xF0])])
-            && (points.sizes, points.kind) == (SMALL, TypeId::MSpNa1)
-            && points.octets == POINTS.as_slice()
-            && !points.is_sequence()
-            && points.is_passed_on()
-            && has_head(&points, 2, &wanted)
-    );
-    let wanted = Head {
-        kind: 9,
-        vsq: 0x82,
-        cause: 3,
-        originator: 7,
-        ca: 1,
-        ioa: 10,
-    };
-    assert!(rt;
-        has_objects(
-            &values,
-            &[(10, &[0x00, 0x80, 0x00]), (11, &[0xFF, 0xFF, 0x80])]
-        ) && shows(&values, &[-32_768, -1])
-            && values.is_sequence()
-            && has_head(&values, 2, &wanted)
-    );
-    // Heads are not judged.
-    let octets = [0xFF, 0x00, 0xC6, 0x34, 0x12, 0xCD, 0xAB];
-    let wanted = Head {
-        kind: 0xFF,
-        vsq: 0,
-        cause: 0xC6,
-        originator: 0,
-        ca: 0x1234,
-        ioa: 0xABCD,
-    };
-    assert!(rt;
-        head(MIDDLE, &octets) == Some(wanted)
-            && head(MIDDLE, &octets[..6]).is_none()
-            && head(Sizes::TCP, &octets).is_none()
-    );
-    let octets = [1, 2, 3, 4, 5, 6, 7, 8, 9];
-    let wanted = Head {
-        kind: 1,
-        vsq: 2,
-        cause: 3,
-        originator: 4,
-        ca: 0x0605,
-        ioa: 0x09_0807,
-    };
-    assert!(rt;
-        head(Sizes::TCP, &octets) == Some(wanted)
-            && head(Sizes::TCP, &octets[..8]).is_none()
-            && head(SMALL, &octets[..4]).is_none()
-    );
-}
+/// Octets that begin with a header and an address in these sizes, or are too short for them. Heads
+/// are not judged.
+const HEADS: [(Sizes, &[u8], Option<Head>); 6] = [
+    (
+        MIDDLE,
+        &[0xFF, 0x00, 0xC6, 0x34, 0x12, 0xCD, 0xAB],
+        Some(Head {
+            kind: 0xFF,
+            vsq: 0,
+            cause: 0xC6,
+            originator: 0,
+            ca: 0x1234,
+            ioa: 0xABCD,
+        }),
+    ),
+    (MIDDLE, &[0xFF, 0x00, 0xC6, 0x34, 0x12, 0xCD], None),
+    (
+        Sizes::TCP,
+        &[0xFF, 0x00, 0xC6, 0x34, 0x12, 0xCD, 0xAB],
+        None,
+    ),
+    (
+        Sizes::TCP,
+        &[1, 2, 3, 4, 5, 6, 7, 8, 9],
+        Some(Head {
+            kind: 1,
+            vsq: 2,
+            cause: 3,
+            originator: 4,
+            ca: 0x0605,
+            ioa: 0x09_0807,
+        }),
+    ),
+    (Sizes::TCP, &[1, 2, 3, 4, 5, 6, 7, 8], None),
+    (SMALL, &[1, 2, 3, 4], None),
+];
+
+/// ASDUs in these sizes: the type, whether SQ is 1, the header, the objects, and the values that
+/// they show.
+const READ: [(Sizes, &[u8], TypeId, bool, Head, &[(u32, &[u8])], &[i64]); 2] = [
+    (
+        SMALL,
+        &POINTS,
+        TypeId::MSpNa1,
+        false,
+        Head {
+            kind: 1,
+            vsq: 2,
+            cause: 0x83,
+            originator: 0,
+            ca: 1,
+            ioa: 100,
+        },
+        &[(100, &[0x01]), (101, &[0xF0])],
+        &[1, 0],
+    ),
+    (
+        Sizes::TCP,
+        &VALUES,
+        TypeId::MMeNa1,
+        true,
+        Head {
+            kind: 9,
+            vsq: 0x82,
+            cause: 3,
+            originator: 7,
+            ca: 1,
+            ioa: 10,
+        },
+        &[(10, &[0x00, 0x80, 0x00]), (11, &[0xFF, 0xFF, 0x80])],
+        &[-32_768, -1],
+    ),
+];
+
+/// Octets that are no ASDU in these sizes, and the number of the reason.
+const REFUSED: [(Sizes, &[u8], u8); 11] = [
+    // Too short for a header and an address, whatever the type; in other sizes too.
+    (SMALL, &[], 1),
+    (SMALL, &[0x02, 0x00, 0x03, 0x01], 1),
+    (Sizes::TCP, &[0x01, 0x01, 3, 0, 1, 0, 1, 0], 1),
+    // A type that isn't known, also with number 0.
+    (SMALL, &[0x02, 0x00, 0x03, 0x01, 0x64], 2),
+    // Number 0, with SQ 0 and 1, also where the length is wrong.
+    (SMALL, &[0x01, 0x00, 0x03, 0x01, 0x64], 3),
+    (SMALL, &[0x01, 0x80, 0x03, 0x01, 0x64, 0x01], 3),
+    // An octet too few or too many, also where the last address is past the size.
+    (SMALL, &[0x01, 0x01, 0x03, 0x01, 0x64], 4),
+    (SMALL, &[0x01, 0x01, 0x03, 0x01, 0x64, 0x01, 0x00], 4),
+    (SMALL, &[0x01, 0x82, 0x03, 0x01, 0xFF, 0x01], 4),
+    // The last address past the size with SQ 1.
+    (SMALL, &[0x01, 0x82, 0x03, 0x01, 0xFF, 0x01, 0x00], 5),
+    (
+        Sizes::TCP,
+        &[0x01, 0x82, 3, 0, 1, 0, 0xFF, 0xFF, 0xFF, 1, 1],
+        5,
+    ),
+];
 
 #[test]
-fn refuses_what_is_no_asdu(rt: HostRuntime) {
-    let rows: [(Sizes, &[u8], u8); 11] = [
-        // Too short for a header and an address, whatever the type; in other sizes too.
-        (SMALL, &[], 1),
-        (SMALL, &[0x02, 0x00, 0x03, 0x01], 1),
-        (Sizes::TCP, &[0x01, 0x01, 3, 0, 1, 0, 1, 0], 1),
-        // A type that isn't known, also with number 0.
-        (SMALL, &[0x02, 0x00, 0x03, 0x01, 0x64], 2),
-        // Number 0, with SQ 0 and 1, also where the length is wrong.
-        (SMALL, &[0x01, 0x00, 0x03, 0x01, 0x64], 3),
-        (SMALL, &[0x01, 0x80, 0x03, 0x01, 0x64, 0x01], 3),
-        // An octet too few or too many, also where the last address is past the size.
-        (SMALL, &[0x01, 0x01, 0x03, 0x01, 0x64], 4),
-        (SMALL, &[0x01, 0x01, 0x03, 0x01, 0x64, 0x01, 0x00], 4),
-        (SMALL, &[0x01, 0x82, 0x03, 0x01, 0xFF, 0x01], 4),
-        // The last address past the size with SQ 1.
-        (SMALL, &[0x01, 0x82, 0x03, 0x01, 0xFF, 0x01, 0x00], 5),
-        (
-            Sizes::TCP,
-            &[0x01, 0x82, 3, 0, 1, 0, 0xFF, 0xFF, 0xFF, 1, 1],
-            5,
-        ),
-    ];
-    for (sizes, octets, why) in rows {
+fn reads_asdus(rt: HostRuntime) {
+    for (sizes, octets, kind, is_sequence, wanted, objects, values) in READ {
+        let Ok(asdu) = read(sizes, octets) else {
+            assert!(rt; false);
+            return;
+        };
+        assert!(rt; (asdu.sizes, asdu.kind) == (sizes, kind) && asdu.octets == octets);
+        assert!(rt; asdu.is_sequence() == is_sequence && asdu.is_passed_on());
+        assert!(rt; has_head(&asdu, 2, &wanted));
+        assert!(rt; has_objects(&asdu, objects) && shows(&asdu, values));
+    }
+    for (sizes, octets, wanted) in HEADS {
+        assert!(rt; head(sizes, octets) == wanted);
+    }
+    for (sizes, octets, why) in REFUSED {
         assert!(rt; read(sizes, octets) == Err(Refused(why)), "{why}");
     }
     // The greatest address that isn't.
@@ -286,6 +306,17 @@ fn points(head: &[u8], first: u8, number: u8, high: &[u8]) -> Octets {
     out
 }
 
+/// Types and causes, and whether such an ASDU is a report that is passed on.
+const CAUSES: [(u8, u8, bool); 7] = [
+    (1, 0x03, true),
+    (1, 0x2C, true),
+    (1, 0x6C, false),
+    (1, 0xEC, false),
+    (1, 0x6D, true),
+    (45, 0x07, false),
+    (100, 0x6C, false),
+];
+
 #[test]
 fn cuts_reports(rt: HostRuntime) {
     let pieces = [
@@ -306,15 +337,7 @@ fn cuts_reports(rt: HostRuntime) {
     let long = points(&[1, 124, 3, 1], 1, 124, &[]);
     assert!(rt; is_cut_into(&long, &[&pieces[0], &pieces[1], &pieces[2]]));
     // Every cause is translated, and a wrong tag is carried as it came: there is no 2023-02-29.
-    for (kind, cause, wanted) in [
-        (1, 0x03, true),
-        (1, 0x2C, true),
-        (1, 0x6C, false),
-        (1, 0xEC, false),
-        (1, 0x6D, true),
-        (45, 0x07, false),
-        (100, 0x6C, false),
-    ] {
+    for (kind, cause, wanted) in CAUSES {
         let octets = [kind, 0x01, cause, 1, 0, 1];
         let passed = read(SMALL, &octets).is_ok_and(|asdu| {
             asdu.is_passed_on() == wanted && asdu.cause() == cause
@@ -371,17 +394,19 @@ fn is_tagged_pair(plain: &[u8], tagged: &[u8]) -> bool {
     untag(&with).as_slice() == plain && retag(&without, &Cp56(THURSDAY)).as_slice() == tagged
 }
 
+/// Types of commands without a tag, and an element of each.
+const COMMANDS: [(u8, &[u8]); 5] = [
+    (45, &[0x81]),
+    (46, &[0x02]),
+    (47, &[0x01]),
+    (48, &[0x00, 0xC0, 0x80]),
+    (49, &[0x64, 0x00, 0x05]),
+];
+
 /// Commands with a tag: in the sizes of a connection, as they go down without it, and back.
 #[test]
 fn takes_tags_off_and_puts_them_on(rt: HostRuntime) {
-    let commands: [(u8, &[u8]); 5] = [
-        (45, &[0x81]),
-        (46, &[0x02]),
-        (47, &[0x01]),
-        (48, &[0x00, 0xC0, 0x80]),
-        (49, &[0x64, 0x00, 0x05]),
-    ];
-    for (octet, element) in commands {
+    for (octet, element) in COMMANDS {
         let mut plain = joined(&[&[octet, 1, 6, 0, 1, 0, 0x0A, 0, 0]]);
         let mut tagged = joined(&[&[octet + 13, 1, 6, 0, 1, 0, 0x0A, 0, 0]]);
         let _ = extend(&mut plain, element)

@@ -1,17 +1,23 @@
 -- The first line of a text, cut field by field.
-use Rattle.std.proofs.Common.{◌≡◌, ◌≢◌, ℕ, ◌+◌, ◌<◌, ◌≤◌, ◌==◌, Bool, true, false, List, [], ◌∷◌, ◌++◌, length, take, drop, cond, Some, None, if◌then◌else◌, refl, ap, sym, ◌∙◌, subst, append_assoc, arith}
-use Rattle.std.specs.Prelude.{position, nat_lt, slice_index, codes, count_by}
+use Rattle.std.proofs.Common.{◌≡◌, ◌≢◌, ℕ, ◌+◌, ◌<◌, ◌≤◌, ◌==◌, Bool, true, false, List, [], ◌∷◌, ◌++◌, length, take, drop, get_or, cond, Option, Some, None, ◌⊎◌, inl, inr, if◌then◌else◌, refl, ap, sym, ◌∙◌, subst, append_assoc, length-append, arith}
+use Rattle.std.specs.Prelude.{position, nat_lt, slice_index, codes}
 use Rattle.std.specs.List.{All, slice_split, position_or_len}
-use Rattle.std.proofs.lemmas.Bool.{ltb-true}
+use Rattle.std.proofs.Math.Seq.{get_or-append_seam, take-append_seam}
+use Rattle.std.proofs.lemmas.Bool.{cases_lt, eqb-true, false≢true, ltb-true}
+use Rattle.std.proofs.lemmas.List.{drop_more, get_or-take, get_or_append_left, get_or_default, length-take-le, take-append-drop}
+use Rattle.hex.specs.Hex.{is_hex_digit}
+use Rattle.std.specs.Char.{is_ascii_digit}
 use Rattle.std.proofs.lemmas.Grind.{common_steps}
 use Rattle.std.proofs.lemmas.List.Elements.{All-append, All-cons, All-head, All-tail, All-nil}
 use Rattle.std.proofs.lemmas.List.Sums.{fails_before_first, passes_at_first, split_at_first}
-use Rattle.std.proofs.lemmas.List.Splits.{slice_split_at, slice_split_none, slice_split-cons_no, length-slice_split}
+use Rattle.std.proofs.lemmas.List.Splits.{slice_split_at, slice_split_first, slice_split_none, slice_split-cons_no, length-slice_split}
 use Rattle.std.specs.Str.{bytes_eq}
 use Rattle.traces.specs.Event.{event_from, event_in, valued_at, wall_at, octets_at}
-use Rattle.traces.specs.Fields.{decimal_of, octets_of}
-use Rattle.traces.specs.FirstLines.{first_of, first_line, first_fields, later_lines, ends_field}
+use Rattle.traces.specs.Fields.{decimal_of, octets_of, parts_after}
+use Rattle.traces.specs.FirstLines.{IsFrontNumber, event_behind, first_of, first_line, first_fields, later_lines, ends_field}
 use Rattle.traces.specs.Trace.{lines_of}
+use Rattle.traces.proofs.NumberLemmas.{decimal_digits, no_number}
+use Rattle.traces.proofs.OctetLemmas.{other_octet}
 
 -- a text has a first line
 some_parts : (parts : List (List ℕ)) → 0 < length parts → parts ≡ first_of parts ∷ drop 1 parts
@@ -135,15 +141,192 @@ no_moment moment (kind ∷ text ∷ []) none = ap (λ now. valued_at now kind te
     unvalued false = refl
 no_moment moment (kind ∷ text ∷ more ∷ fields) none = refl
 
--- a fourth field is one too many
-pub too_many : (text moment kind value : List ℕ) (behind further last : List ℕ)
-    → first_fields text ≡ moment ∷ first_fields behind → first_fields behind ≡ kind ∷ first_fields further
-    → first_fields further ≡ value ∷ first_fields last → event_in (first_line text) ≡ None
-too_many text moment kind value behind further last first second third =
-    ap event_from (first ∙ ap (λ fs. moment ∷ fs) second ∙ ap (λ fs. moment ∷ kind ∷ fs) third)
-    ∙ fourth (first_fields last) (length-slice_split (λ b. b == 32) (first_line last))
+-- with a moment it is that of the fields behind it
+moment_then : (moment : List ℕ) (fields : List (List ℕ)) (now : ℕ) → decimal_of moment ≡ Some now
+    → event_from (moment ∷ fields) ≡ event_behind now fields
+moment_then moment [] now is = refl
+moment_then moment (kind ∷ []) now is = rw is refl
+moment_then moment (kind ∷ text ∷ []) now is = ap (λ o. valued_at o kind text) is
+moment_then moment (kind ∷ text ∷ more ∷ fields) now is = refl
+
+-- there is none where no number stands before the line's first space
+no_event : (text : List ℕ)
+    → ((field rest : List ℕ) → text ≡ field ++ 32 ∷ rest → decimal_of field ≡ None)
+    → event_in (first_line text) ≡ None
+no_event text none = by (position (λ b. ends_field b) text) refl
   where
-    fourth : (fields : List (List ℕ)) → length fields ≡ count_by (λ b. b == 32) (first_line last) + 1
-        → event_from (moment ∷ kind ∷ value ∷ fields) ≡ None
-    fourth [] e = absurd (omega (arith, e))
-    fourth (field ∷ fields) e = refl
+    at_end : (i : ℕ) → EndsAt text i → (b : ℕ) → slice_index text i ≡ b → (is : Bool) → (b == 32) ≡ is
+        → event_in (first_line text) ≡ None
+    at_end i at b e true is =
+        let whole = at.whole ∙ ap (λ d. take i text ++ d ∷ drop (i + 1) text) (e ∙ eqb-true b 32 is) in
+        ap event_from (field_then text (take i text) (drop (i + 1) text) at.field whole).0
+        ∙ no_moment (take i text) (first_fields (drop (i + 1) text)) (none (take i text) (drop (i + 1) text) whole)
+    at_end i at b e false is =
+        let feed = line_feed (slice_index text i) at.here
+        (λ same. false≢true (sym is ∙ ap (λ d. d == 32) (sym e ∙ same))) in
+        let whole = at.whole ∙ ap (λ d. take i text ++ d ∷ drop (i + 1) text) feed in
+        ap event_from (field_last text (take i text) (drop (i + 1) text) at.field whole).0
+
+    by : (o : Option ℕ) → position (λ b. ends_field b) text ≡ o → event_in (first_line text) ≡ None
+    by None e = ap event_from (field_whole text (ends_nowhere text e)).0
+    by (Some i) e = at_end i (ends_at text i e) (slice_index text i) refl (slice_index text i == 32) refl
+
+-- where a space stands in a text that has one behind a field
+record SpaceAt (text : List ℕ) (j : ℕ) : Type 0 where
+  within : j < length text
+  here : slice_index text j ≡ 32
+
+space_at : (text field rest : List ℕ) → text ≡ field ++ 32 ∷ rest → SpaceAt text (length field)
+space_at text field rest whole = record {
+  within =
+      let len : length text ≡ length field + length (32 ∷ rest) =
+      ap length whole ∙ length-append field (32 ∷ rest) in
+      omega (arith, len);
+  here = ap (λ t. slice_index t (length field)) whole ∙ get_or-append_seam field 32 rest 0;
+}
+
+-- no number stands in front
+pub no_number_here : (text : List ℕ) → IsFrontNumber text None → event_in (first_line text) ≡ None
+no_number_here text none = no_event text (λ field rest whole.
+    let at = space_at text field rest whole in
+    let front : take (length field) text ≡ field =
+    ap (take (length field)) whole ∙ take-append_seam field (32 ∷ rest) in
+    sym (ap decimal_of front)
+    ∙ none (length field) (record { within = omega (arith, at.within); over = λ lt. ap is_ascii_digit at.here }))
+
+-- or no space stands behind it
+pub no_space_here : (text : List ℕ) (now i : ℕ) → IsFrontNumber text (Some (now, i))
+    → (i < length text → slice_index text i ≢ 32) → event_in (first_line text) ≡ None
+no_space_here text now i is other = no_event text (λ field rest whole.
+    by field rest whole (space_at text field rest whole) (cases_lt (length field) i) (cases_lt i (length field)))
+  where
+    by : (field rest : List ℕ) → text ≡ field ++ 32 ∷ rest → SpaceAt text (length field)
+        → (length field < i) ⊎ (i ≤ length field) → (i < length field) ⊎ (length field ≤ i) → decimal_of field ≡ None
+    by field rest whole at (inl before) behind =
+        let len : length (take i text) ≡ i = length-take-le i text is.0.within in
+        let digit = decimal_digits (take i text) now (length field) is.1 (omega (arith, len, before)) in
+        let same : slice_index (take i text) (length field) ≡ slice_index text (length field) =
+        get_or-take i text (length field) 0 before in
+        let odd : true ≡ false = sym digit ∙ ap is_ascii_digit (same ∙ at.here) in
+        absurd (cc)
+    by field rest whole at (inr least) (inl behind) =
+        let same : slice_index text i ≡ slice_index field i =
+        ap (λ t. slice_index t i) whole ∙ get_or_append_left field (32 ∷ rest) 0 i behind in
+        no_number field i behind (sym (ap is_ascii_digit same) ∙ is.0.over (omega (arith, behind, at.within)))
+    by field rest whole at (inr least) (inr most) =
+        let same : length field ≡ i = omega (arith, least, most) in
+        absurd (other (rw same at at.within) (rw same at at.here))
+
+-- a number and a space are a moment
+pub moment_here : (text : List ℕ) (now i : ℕ) → IsFrontNumber text (Some (now, i)) → i < length text
+    → slice_index text i ≡ 32
+    → (event_in (first_line text) ≡ event_behind now (first_fields (drop (i + 1) text)))
+    × (later_lines text ≡ later_lines (drop (i + 1) text))
+moment_here text now i is lt here =
+    let front : List ℕ = take i text in
+    let rest : List ℕ = drop (i + 1) text in
+    let whole : text ≡ front ++ 32 ∷ rest =
+    sym (take-append-drop i text) ∙ ap (λ t. front ++ t) (drop_more text i 0 lt ∙ ap (λ b. b ∷ rest) here) in
+    let cut = field_then text front rest digits whole in (
+      ap event_from cut.0 ∙ moment_then front (first_fields rest) now is.1,
+      cut.1,
+    )
+  where
+    apart : (b : ℕ) → is_ascii_digit b ≡ true → ends_field b ≡ false
+    apart b digit = grind arith
+
+    digits : IsField (take i text)
+    digits k d lt =
+        let here = decimal_digits (take i text) now k is.1 lt in
+        let same : get_or (take i text) k d ≡ slice_index (take i text) k = get_or_default (take i text) k d 0 lt in
+        apart (get_or (take i text) k d) (ap is_ascii_digit same ∙ here)
+
+-- Behind a letter.
+
+-- a value reaches to the end of the line: with a space in it there is no event
+pub value_whole : (now : ℕ) (kind value : List ℕ)
+    → event_behind now (kind ∷ slice_split (λ b. b == 32) value) ≡ valued_at (Some now) kind value
+value_whole now kind value = by (nat_lt n (length value)) refl
+  where
+    n : ℕ
+    n = position_or_len (λ b. b == 32) value
+
+    beyond : (a b : ℕ) → nat_lt a b ≡ false → b ≤ a
+    beyond a b e = grind arith
+
+    several : (part : List ℕ) (parts : List (List ℕ)) → 0 < length parts → event_behind now (kind ∷ part ∷ parts) ≡ None
+    several part [] some = absurd (omega arith)
+    several part (p ∷ parts) some = refl
+
+    unvalued : (w : Bool) (number : Option ℕ) (octets : Option (List ℕ)) → None ≡ number → None ≡ octets
+        → None ≡ (if w then wall_at (Some now) number else octets_at (Some now) kind octets)
+    unvalued true number octets e f = ap (wall_at (Some now)) e
+    unvalued false number octets e f = ap (octets_at (Some now) kind) f
+
+    by : (b : Bool) → nat_lt n (length value) ≡ b
+        → event_behind now (kind ∷ slice_split (λ b. b == 32) value) ≡ valued_at (Some now) kind value
+    by true e =
+        let lt : n < length value = ltb-true n (length value) e in
+        let at : (slice_index value n == 32) ≡ true = passes_at_first (λ b. b == 32) value 0 lt in
+        let space : slice_index value n ≡ 32 = eqb-true _ 32 at in
+        let first = slice_split_first (λ b. b == 32) value 0 lt in
+        let rest : List ℕ = drop (n + 1) value in
+        let more : 0 < length (slice_split (λ b. b == 32) rest) =
+        omega (arith, length-slice_split (λ (b : ℕ). b == 32) rest) in
+        ap (λ parts. event_behind now (kind ∷ parts)) first ∙ several (take n value) _ more
+        ∙ unvalued (bytes_eq kind (codes "W")) (decimal_of value) (octets_of value)
+        (sym (no_number value n lt (ap is_ascii_digit space))) (sym (other_octet value n lt (ap is_hex_digit space)))
+    by false e =
+        let all = slice_split_none (λ b. b == 32) value
+        (λ k d lt. fails_before_first (λ b. b == 32) value k d (omega (arith, lt, beyond n (length value) e))) in
+        ap (λ parts. event_behind now (kind ∷ parts)) all
+
+-- a letter, a space and a value
+pub value_here : (now : ℕ) (text value : List ℕ) (rest : Option (List ℕ)) → 2 ≤ length text
+    → slice_index text 1 ≡ 32 → slice_split (λ b. b == 10) (drop 2 text) ≡ value ∷ parts_after 10 rest
+    → ends_field (slice_index text 0) ≡ false
+    → (event_behind now (first_fields text) ≡ valued_at (Some now) (slice_index text 0 ∷ []) value)
+    × (later_lines text ≡ parts_after 10 rest)
+value_here now [] value rest le space lines other = absurd (omega (arith, le))
+value_here now (kind ∷ []) value rest le space lines other = absurd (omega (arith, le))
+value_here now (kind ∷ b ∷ more) value rest le space lines other =
+    let letter : IsField (kind ∷ []) =
+    All-cons (λ d. ends_field d ≡ false) kind [] other (All-nil (λ d. ends_field d ≡ false)) in
+    let cut = field_then (kind ∷ b ∷ more) (kind ∷ []) more letter (ap (λ d. kind ∷ d ∷ more) space) in
+    let fields = cut.0 ∙ ap (λ ls. (kind ∷ []) ∷ slice_split (λ d. d == 32) (first_of ls)) lines in
+    (ap (event_behind now) fields ∙ value_whole now (kind ∷ []) value, cut.1 ∙ ap (drop 1) lines)
+
+-- behind a moment and two separators there is no event
+pub no_letter : (now : ℕ) (text : List ℕ) → 0 < length text → ends_field (slice_index text 0) ≡ true
+    → event_behind now (first_fields text) ≡ None
+no_letter now [] some ends = absurd (omega (arith, some))
+no_letter now (kind ∷ more) some ends = by (kind == 32) refl
+  where
+    valued : (text : List ℕ) (octets : Option (List ℕ)) → octets_at (Some now) [] octets ≡ None
+    valued text None = refl
+    valued text (Some octets) = refl
+
+    nothing : (fields : List (List ℕ)) → event_behind now ([] ∷ fields) ≡ None
+    nothing [] = refl
+    nothing (text ∷ []) = valued text (octets_of text)
+    nothing (text ∷ more ∷ fields) = refl
+
+    by : (b : Bool) → (kind == 32) ≡ b → event_behind now (first_fields (kind ∷ more)) ≡ None
+    by true is =
+        let none : IsField [] = All-nil (λ d. ends_field d ≡ false) in
+        let cut = field_then (kind ∷ more) [] more none (ap (λ d. d ∷ more) (eqb-true kind 32 is)) in
+        ap (event_behind now) cut.0 ∙ nothing (first_fields more)
+    by false is =
+        let none : IsField [] = All-nil (λ d. ends_field d ≡ false) in
+        let feed = line_feed kind ends (λ same. false≢true (sym is ∙ ap (λ d. d == 32) same)) in
+        let cut = field_last (kind ∷ more) [] more none (ap (λ d. d ∷ more) feed) in ap (event_behind now) cut.0
+
+-- nor where what stands behind the letter isn't one
+pub no_value_here : (now : ℕ) (text value : List ℕ) (rest : Option (List ℕ)) → 2 ≤ length text
+    → slice_index text 1 ≡ 32 → slice_split (λ b. b == 10) (drop 2 text) ≡ value ∷ parts_after 10 rest
+    → valued_at (Some now) (slice_index text 0 ∷ []) value ≡ None → event_behind now (first_fields text) ≡ None
+no_value_here now text value rest le space lines none = by (ends_field (slice_index text 0)) refl
+  where
+    by : (b : Bool) → ends_field (slice_index text 0) ≡ b → event_behind now (first_fields text) ≡ None
+    by true is = no_letter now text (omega (arith, le)) is
+    by false is = (value_here now text value rest le space lines is).0 ∙ none

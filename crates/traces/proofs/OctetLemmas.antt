@@ -1,5 +1,5 @@
 -- Octets in hexadecimal: when they are right, and how many they are.
-use Rattle.std.proofs.Common.{◌≡◌, ℕ, ◌+◌, ◌-◌, ◌<◌, ◌*◌, ◌/◌, ◌%◌, ◌≤◌, nat_le, ◌&&◌, Bool, true, false, List, length, Option, Some, None, Result, Ok, Err, is_some, if◌then◌else◌, refl, sym, ap, ◌∙◌, arith}
+use Rattle.std.proofs.Common.{◌≡◌, ℕ, ◌+◌, ◌-◌, ◌<◌, ◌*◌, ◌/◌, ◌%◌, ◌≤◌, nat_le, ◌&&◌, Bool, true, false, List, length, slice_index, Option, Some, None, Result, Ok, Err, is_some, if◌then◌else◌, refl, sym, ap, ◌∙◌, arith}
 use Rattle.std.specs.Prelude.{IsSome}
 use Rattle.std.specs.List.{AllPass, list_all}
 use Rattle.std.proofs.lemmas.List.Sums.{AllPass-from_list_all, list_all-from_AllPass}
@@ -80,6 +80,19 @@ octets_most text is =
     let found = some_value (octets_of text) is in
     let are = are_octets text found.0 found.1 in
     omega (arith, are.twice, are.most)
+
+-- a text with another octet isn't octets
+pub other_octet : (text : List ℕ) (k : ℕ) → k < length text → is_hex_digit (slice_index text k) ≡ false
+    → octets_of text ≡ None
+other_octet text k lt other = by (octets_of text) refl
+  where
+    by : (o : Option (List ℕ)) → octets_of text ≡ o → o ≡ None
+    by None e = refl
+    by (Some octets) e =
+        let are = are_octets text octets e in
+        let pass = (decode_of-ok text octets are.decoded).1 k 0 lt in
+        let odd : true ≡ false = sym pass ∙ other in
+        absurd (cc)
 
 -- Decoding
 

@@ -1,8 +1,6 @@
 -- What is printed, octet by octet.
-use Rattle.std.proofs.Common.{◌≡◌, ℕ, zero, ◌+◌, ◌/◌, ◌%◌, ◌^◌, ◌<◌, ◌≤◌, suc, refl, take, ◌-◌, List, [], ◌∷◌, ◌++◌, length, drop, slice_index, sym, ◌∙◌, arith, ap, append_assoc, length-append}
+use Rattle.std.proofs.Common.{◌≡◌, ℕ, zero, ◌+◌, ◌-◌, ◌/◌, ◌%◌, ◌<◌, ◌≤◌, suc, refl, take, List, [], ◌∷◌, ◌++◌, length, drop, slice_index, sym, ◌∙◌, arith, ap, append_assoc}
 use Rattle.std.proofs.lemmas.List.{append-nil, take-append-drop}
-use Rattle.std.proofs.lemmas.Fmt.{decimal_step, length-decimal-le}
-use Rattle.std.specs.Fmt.{decimal}
 use Rattle.hex.specs.Hex.{encode_upper, encode_with, upper_digits}
 
 -- digits of octets in two parts
@@ -55,19 +53,3 @@ high_digit v le lt =
     by (suc (suc (suc (suc zero)))) lt = refl
     by (suc (suc (suc (suc (suc zero))))) lt = refl
     by (suc (suc (suc (suc (suc (suc d)))))) lt = absurd (omega (arith, lt))
-
--- a number of two digits or more
-pub record HasLast (n : ℕ) : Type 0 where
-  pub text : decimal n ≡ decimal (n / 10) ++ (48 + n % 10) ∷ []
-  pub len : length (decimal n) ≡ length (decimal (n / 10)) + 1
-
-pub last_digit : (n : ℕ) → 10 ≤ n → n < 2 ^ 64 → HasLast n
-last_digit n le small =
-    let is : decimal n ≡ decimal (n / 10) ++ (48 + n % 10) ∷ [] = decimal_step n le small in record {
-      text = is;
-      len = ap length is ∙ length-append (decimal (n / 10)) ((48 + n % 10) ∷ []);
-    }
-
--- a number of 64 bits has 20 digits at most
-pub most_digits : (n : ℕ) → n < 2 ^ 64 → length (decimal n) ≤ 20
-most_digits n small = length-decimal-le 20 n (omega arith) (omega arith) small

@@ -1,15 +1,11 @@
--- The limit of a moment, and lines one by one.
-use Rattle.std.proofs.Common.{◌≡◌, ℕ, ◌+◌, ◌^◌, ◌<◌, ◌≤◌, List, [], ◌∷◌, ◌++◌, map, true, false, lit<, Some, None, arith, append_assoc}
-use Rattle.std.proofs.Math.Nat.{pow-le-pow_right}
+-- Lines one by one.
+use Rattle.std.proofs.Common.{◌≡◌, ℕ, ◌+◌, List, [], ◌∷◌, ◌++◌, map, true, false, Some, None, append_assoc}
 use Rattle.std.proofs.lemmas.List.{append-nil, map-append}
 use Rattle.std.specs.List.{filter_map, AllByRecursion}
 use Rattle.gateway.specs.declared.entries.Entry.{Entry}
 use Rattle.gateway.specs.Entries.{FitsPort}
 use Rattle.traces.specs.Event.{Event, event_of, event_in}
 use Rattle.traces.specs.Trace.{is_skipped, told, first_wrong}
-
-pub below_limit : (n i : ℕ) → n < 10 ^ i → i ≤ 14 → n < 10 ^ 14
-below_limit n i lt le = let up : 10 ^ i ≤ 10 ^ 14 = pow-le-pow_right (lit< tt) le in omega arith
 
 -- what is read so far, before what these lines tell
 abbrev pub with_told : List Entry → List (List ℕ) → List Event

@@ -1,17 +1,16 @@
 -- How a text is read from its front (texts of this gateway's own profile): its first line, field by
 -- field, with octets that are still in hexadecimal.
-use Rattle.std.specs.Prelude.{◌≡◌, ℕ, ◌==◌, ◌||◌, Bool, true, false, List, [], ◌∷◌, drop, Option, Some, None, option_map}
+use Rattle.std.specs.Prelude.{◌≡◌, ◌<◌, ◌≤◌, ℕ, ◌==◌, ◌||◌, Bool, true, false, List, [], ◌∷◌, length, take, drop, slice_index, Option, Some, None, option_map}
 use Rattle.std.specs.Borrow.{Bor}
+use Rattle.std.specs.Char.{is_ascii_digit}
 use Rattle.std.specs.List.{slice_split}
 use Rattle.std.specs.Option.{option_copied}
-use Rattle.traces.specs.declared.lines.FieldEnd.{FieldEnd}
-use Rattle.traces.specs.declared.lines.FieldEnd.TheVariants as ends
 use Rattle.traces.specs.declared.event.Spelled.{Spelled}
 use Rattle.traces.specs.declared.event.Spelled.TheVariants as spellings
 use Rattle.traces.specs.declared.event.FirstLine.{FirstLine}
 use Rattle.traces.specs.declared.event.FirstLine.TheVariants as firsts
-use Rattle.traces.specs.Fields.{octets_of, parts_after}
-use Rattle.traces.specs.Event.{Event, line, opening, received, cut, tick, wall, event_in}
+use Rattle.traces.specs.Fields.{decimal_of, octets_of, parts_after}
+use Rattle.traces.specs.Event.{Event, line, opening, received, cut, tick, wall, bare_event, valued_at, event_in}
 use Rattle.traces.specs.Trace.{lines_of, is_skipped}
 
 abbrev pub first_of : List (List ℕ) → List ℕ
@@ -32,14 +31,30 @@ later_lines text = drop 1 (lines_of text)
 abbrev pub ends_field : ℕ → Bool
 ends_field octet = (octet == 32) || (octet == 10)
 
--- the first field of a text, and what ends it
-abbrev pub IsFirstField : (text field : List ℕ) → FieldEnd → Type 0
-IsFirstField text field (ends.Space behind) =
-    (first_fields text ≡ field ∷ first_fields behind.now)
-    × (later_lines text ≡ later_lines behind.now)
-IsFirstField text field (ends.LineEnd rest) =
-    (first_fields text ≡ field ∷ [])
-    × (later_lines text ≡ parts_after 10 (option_copied rest))
+-- a number may end here: no digit follows
+pub record NumberMayEnd (text : List ℕ) (i : ℕ) : Type 0 where
+  pub within : i ≤ length text
+  pub over : i < length text → is_ascii_digit (slice_index text i) ≡ false
+
+-- the number of 1 to 15 digits at the front of a text, and where it ends; or it has none, wherever
+-- one might end
+abbrev pub IsFrontNumber : List ℕ → Option (ℕ × ℕ) → Type 0
+IsFrontNumber text None = (i : ℕ) → NumberMayEnd text i → decimal_of (take i text) ≡ None
+IsFrontNumber text (Some found) =
+    NumberMayEnd text found.1 × (decimal_of (take found.1 text) ≡ Some found.0)
+
+-- the event of the fields behind a moment, if they are one
+abbrev pub event_behind : ℕ → List (List ℕ) → Option Event
+event_behind now (kind ∷ []) = bare_event kind now
+event_behind now (kind ∷ text ∷ []) = valued_at (Some now) kind text
+event_behind now _ = None
+
+-- the moment of the first line of a text, and what stands behind its space; or that line is no event
+abbrev pub IsMomentAt : List ℕ → Option (ℕ × Bor (List ℕ)) → Type 0
+IsMomentAt text None = event_in (first_line text) ≡ None
+IsMomentAt text (Some found) =
+    (event_in (first_line text) ≡ event_behind found.0 (first_fields found.1.now))
+    × (later_lines text ≡ later_lines found.1.now)
 
 -- the event that is spelled so, if its octets are in hexadecimal
 abbrev pub spelled_event : Spelled → Option Event
@@ -59,6 +74,13 @@ abbrev pub IsEventAt : List ℕ → Option (Spelled × Option (Bor (List ℕ))) 
 IsEventAt text None = event_in (first_line text) ≡ None
 IsEventAt text (Some found) =
     (event_in (first_line text) ≡ spelled_event found.0)
+    × (later_lines text ≡ parts_after 10 (option_copied found.1))
+
+-- the event of the first line of a text behind its moment, if it is one, and the lines behind it
+abbrev pub IsEventBehind : ℕ → List ℕ → Option (Spelled × Option (Bor (List ℕ))) → Type 0
+IsEventBehind now text None = event_behind now (first_fields text) ≡ None
+IsEventBehind now text (Some found) =
+    (event_behind now (first_fields text) ≡ spelled_event found.0)
     × (later_lines text ≡ parts_after 10 (option_copied found.1))
 
 -- what the first line of a text is, and the lines behind it

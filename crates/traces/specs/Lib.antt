@@ -2,6 +2,7 @@ pub mod Fields
 pub mod Event
 pub mod Trace
 pub mod Actions
+pub mod Moments
 pub mod Traced
 pub mod Printed
 pub mod Progress

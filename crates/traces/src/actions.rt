@@ -7,8 +7,9 @@ ghost use Rattle.hex.specs.Hex.{IsBytes};
 ghost use Rattle.traces.specs.Actions.{line_of, octets_line, close_line, gap_line, stored_line};
 ghost use Rattle.traces.specs.Printed.{IsPrintable, IsPrintableTold};
 
+use crate::moments::Moment;
 use crate::octets::hex_digits;
-use crate::printing::{push_digits, push_letter, push_number};
+use crate::printing::{push_digits, push_letter, push_octets};
 use gateway::{Action, Told, cause_number};
 use session::Close;
 use std::alloc::{AllocError, Global};
@@ -36,9 +37,14 @@ fn room_for(octets: usize) -> Option<usize>
 }
 
 /// Prints the line of an action with octets.
-fn print_octets(page: &mut Vec<u8>, now: u64, letter: u8, octets: &[u8]) -> Result<(), AllocError>
+fn print_octets(
+    page: &mut Vec<u8>,
+    moment: &Moment,
+    letter: u8,
+    octets: &[u8],
+) -> Result<(), AllocError>
     ensures line { OnOk result (page.new.items ≡ page.old.items
-        ++ octets_line now letter octets.now) }
+        ++ octets_line moment.now letter octets.now) }
     ensures none { OnErr result (page.new.items ≡ page.old.items) }
     ensures octets { OnOk result (IsBytes octets.now) }
 {
@@ -46,7 +52,7 @@ fn print_octets(page: &mut Vec<u8>, now: u64, letter: u8, octets: &[u8]) -> Resu
         return Err(AllocError);
     };
     page.try_reserve(room)?;
-    push_number(page, now);
+    push_octets(page, moment.digits());
     push_letter(page, letter);
     push_digits(page, octets);
     page.push_reserved(b'\n');
@@ -95,9 +101,25 @@ pub fn print_action(
     ensures none { OnErr result (page.new.items ≡ page.old.items) }
     ensures printable { OnOk result (IsPrintable (Went now (output_of action.now))) }
 {
+    print_action_at(alloc, page, &Moment::new(now), action)
+}
+
+/// The same with a moment that is spelled already.
+pub fn print_action_at(
+    alloc: Global,
+    page: &mut Vec<u8>,
+    moment: &Moment,
+    action: &Action<'_>,
+) -> Result<(), AllocError>
+    ensures line { OnOk result (page.new.items ≡ page.old.items
+        ++ line_of moment.now (output_of action.now)) }
+    ensures none { OnErr result (page.new.items ≡ page.old.items) }
+    ensures printable { OnOk result (IsPrintable (Went moment.now (output_of action.now))) }
+{
+    let now = moment.number();
     match action {
-        Action::Line(octets) => print_octets(page, now, b'S', *octets),
-        Action::Tcp(octets) => print_octets(page, now, b'T', *octets),
+        Action::Line(octets) => print_octets(page, moment, b'S', *octets),
+        Action::Tcp(octets) => print_octets(page, moment, b'T', *octets),
         Action::Close(cause) => print_close(alloc, page, now, *cause),
         Action::Gap { station, session } => print_gap(alloc, page, now, *station, *session),
     }

@@ -1,14 +1,14 @@
 //! The first line of a text.
-ghost use Rattle.std.specs.Prelude.{◌≡◌, ◌∷◌, [], true, Some, IfOk, IfSome, IsSome, is_some, option_map};
+ghost use Rattle.std.specs.Prelude.{◌≡◌, ◌∷◌, [], true, false, Some, IfOk, IfSome, IsSome, OnSome, is_some, option_map};
 ghost use Rattle.gateway.specs.Entries.{FitsPort};
 ghost use Rattle.gateway.specs.Ports.{FitsBuffer, told_by};
-ghost use Rattle.traces.specs.Event.{event_of, bare_event, event_from, valued_at};
-ghost use Rattle.traces.specs.FirstLines.{IsFirstLine, IsEventAt, first_line, first_fields, later_lines, spelled_by, spelled_event};
+ghost use Rattle.traces.specs.Event.{event_of, bare_event, valued_at};
+ghost use Rattle.traces.specs.FirstLines.{IsFirstLine, IsEventAt, IsEventBehind, IsMomentAt, ends_field, first_line, spelled_by, spelled_event};
 ghost use Rattle.traces.specs.Progress.{came, tells_event};
 ghost use Rattle.traces.specs.Trace.{is_skipped};
 
-use crate::decimal::decimal;
-use crate::lines::{FieldEnd, cut, field};
+use crate::decimal::{decimal, front_number};
+use crate::lines::cut;
 use crate::octets::{are_octets, read_octets, write_octets};
 use crate::reading::LINE_FEED;
 use gateway::{Entry, Next};
@@ -59,48 +59,65 @@ fn begins_skipped(text: &[u8]) -> bool
     }
 }
 
-/// The event that the first line of a text spells, and the lines behind it.
-#[tactic(auto, using(crate::proofs::FirstLineLemmas::too_many))]
+/// The event that the first line of a text spells, and the lines behind it. No field's end is
+/// looked for before it is read.
 fn event_at(text: &[u8]) -> Option<(Spelled<'_>, Option<&[u8]>)>
     ensures { IsEventAt text.entry.now result }
 {
-    let (moment, FieldEnd::Space(text)) = field(text) else {
-        return None;
-    };
-    let now = decimal(moment)?;
-    let (kind, end) = field(text);
-    match end {
-        FieldEnd::LineEnd(rest) => Some((bare(now, kind)?, rest)),
-        FieldEnd::Space(text) => {
-            let (value, end) = field(text);
-            match end {
-                FieldEnd::LineEnd(rest) => Some((valued(now, kind, value)?, rest)),
-                FieldEnd::Space(_) => None,
-            }
+    let (now, behind) = moment(text)?;
+    event_behind(now, behind)
+}
+
+/// The moment of the first line of a text, and what stands behind its space.
+fn moment(text: &[u8]) -> Option<(u64, &[u8])>
+    ensures { IsMomentAt text.entry.now result }
+{
+    let (now, end) = front_number(text)?;
+    if end < text.len() && text[end] == b' ' {
+        Some((now, &text[end + 1..]))
+    } else {
+        None
+    }
+}
+
+/// The event whose letter stands at the front of a text, and the lines behind it. Its value is the
+/// rest of the line: a space in it is no digit.
+fn event_behind(now: u64, text: &[u8]) -> Option<(Spelled<'_>, Option<&[u8]>)>
+    ensures { IsEventBehind now text.entry.now result }
+{
+    match text {
+        [kind] => Some((bare(now, *kind)?, None)),
+        [kind, b'\n', rest @ ..] => Some((bare(now, *kind)?, Some(rest))),
+        [kind, b' ', text @ ..] => {
+            let (value, rest) = cut(text, LINE_FEED);
+            Some((valued(now, *kind, value)?, rest))
         }
+        _ => None,
     }
 }
 
 /// An event without octets.
-fn bare<'a>(now: u64, kind: &[u8]) -> Option<Spelled<'a>>
-    ensures { spelled_by result ≡ bare_event kind.now now }
+fn bare<'a>(now: u64, kind: u8) -> Option<Spelled<'a>>
+    ensures event { spelled_by result ≡ bare_event (kind ∷ []) now }
+    ensures letter { OnSome result (ends_field kind ≡ false) }
 {
     match kind {
-        b"T" => Some(Spelled::Tick(now)),
-        b"O" => Some(Spelled::Open(now)),
-        b"C" => Some(Spelled::Cut(now)),
+        b'T' => Some(Spelled::Tick(now)),
+        b'O' => Some(Spelled::Open(now)),
+        b'C' => Some(Spelled::Cut(now)),
         _ => None,
     }
 }
 
 /// An event with octets or a number.
-fn valued<'a>(now: u64, kind: &[u8], value: &'a [u8]) -> Option<Spelled<'a>>
-    ensures { spelled_by result ≡ valued_at (Some now) kind.now value.now }
+fn valued<'a>(now: u64, kind: u8, value: &'a [u8]) -> Option<Spelled<'a>>
+    ensures event { spelled_by result ≡ valued_at (Some now) (kind ∷ []) value.now }
+    ensures letter { OnSome result (ends_field kind ≡ false) }
 {
     match kind {
-        b"S" => Some(Spelled::Line(now, value)),
-        b"R" => Some(Spelled::Bytes(now, value)),
-        b"W" => Some(Spelled::Wall(now, decimal(value)?)),
+        b'S' => Some(Spelled::Line(now, value)),
+        b'R' => Some(Spelled::Bytes(now, value)),
+        b'W' => Some(Spelled::Wall(now, decimal(value)?)),
         _ => None,
     }
 }

@@ -4,8 +4,10 @@
 //! `read_trace` reads a whole trace into the gateway's `Entry`s, or names its first wrong line
 //! (`TextFault`); `read_octets` reads octets in hexadecimal alone, and `hex_digits` writes them.
 //! `Trace` is the gateway's port over entries: it gives a tick at moment 0 and then these, stores
-//! the log of the run, and writes the line of each action (`append_line`) to a writer. What the
-//! gateway does with the events, and with moments that go back, is its own matter. Proved: the
+//! the log of the run, and writes the line of each action (`append_line`) to a writer. `TextPort` is
+//! the port over the text itself: it stores no log, and prints the actions on a page, their
+//! `Moment` spelled once for all actions of a step (`print_action_at`). What the gateway does with
+//! the events, and with moments that go back, is its own matter. Proved: the
 //! entries are the events that the lines tell, in their order, and no line is wrong; a line that is
 //! refused is the first that is neither empty, nor a comment, nor an event; an entry's octets fit
 //! what a port gives at once; `read_octets` answers the octets that the digits spell, and nothing
@@ -24,6 +26,7 @@ mod health;
 mod judging;
 mod laws;
 mod lines;
+mod moments;
 mod octets;
 mod port;
 mod printing;
@@ -32,12 +35,13 @@ mod readings;
 mod recorded;
 mod text_port;
 
-pub use actions::{append_line, print_action};
+pub use actions::{append_line, print_action, print_action_at};
 pub use decimal::decimal as read_decimal;
 pub use examples::printed_lines_by_example;
 pub use judging::judge;
 pub use laws::printed_lines_read_back;
-pub use lines::{is_skipped, parts};
+pub use lines::{is_skipped, line_count, parts};
+pub use moments::Moment;
 pub use octets::{hex_digits, read_octets};
 pub use port::{Beginning, Trace};
 pub use reading::{TextFault, read_trace};

@@ -1,25 +1,21 @@
 //! Text put where room was made before.
 ghost use Rattle.std.specs.Prelude.{◌≡◌, ◌+◌, ◌*◌, ◌<◌, ◌≤◌, ◌++◌, ◌∷◌, [], length, slice_index};
-ghost use Rattle.std.specs.Fmt.{decimal};
 ghost use Rattle.std.specs.Vec.{vec_len, vec_capacity};
 ghost use Rattle.hex.specs.Hex.{IsBytes, encode_upper, upper_digits};
 
 /// How many octets are spelled before their digits are appended.
 const BLOCK: usize = 32;
 
-/// Appends a number in decimal.
-#[tactic(auto, using(std::proofs::lemmas::Fmt::decimal_digit))]
-pub(crate) fn push_number(page: &mut Vec<u8>, number: u64)
-    requires { vec_len page.old + length (decimal number) ≤ vec_capacity page.old }
-    ensures text { page.new.items ≡ page.old.items ++ decimal number }
-    ensures len { vec_len page.new ≡ vec_len page.old + length (decimal number) }
-    ensures capacity { vec_capacity page.new ≡ vec_capacity page.old }
+/// Appends octets.
+pub(crate) fn push_octets(page: &mut Vec<u8>, octets: &[u8])
+    requires { vec_len page.old + length octets.now ≤ vec_capacity page.old }
+    ensures text { page.new.items ≡ page.old.items ++ octets.now }
+    ensures len { vec_len page.new ≡ vec_len page.old + length octets.now }
+    ensures capacity { vec_capacity page.old ≤ vec_capacity page.new }
 {
-    if number < 10 {
-        return page.push_reserved(b'0' + number as u8);
+    if page.extend_from_slice(octets).is_err() {
+        unreachable!();
     }
-    push_number(page, number / 10);
-    page.push_reserved(b'0' + (number % 10) as u8);
 }
 
 /// Appends octets in hexadecimal, in upper case.
@@ -36,9 +32,7 @@ pub(crate) fn push_digits(page: &mut Vec<u8>, octets: &[u8])
         let many = left.len().min(BLOCK);
         let spelled = &mut digits[..2 * many];
         spell(&left[..many], spelled);
-        if page.extend_from_slice(&*spelled).is_err() {
-            unreachable!();
-        }
+        push_octets(page, &*spelled);
         left = &left[many..];
     }
 }

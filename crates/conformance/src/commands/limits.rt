@@ -1,110 +1,187 @@
 //! 64 waiting commands, 16 selections, 16 own answers.
 use super::{
-    EXECUTE, FOR_ALL, INTERROGATION, MAX_AGE_MS, MIDDLE, SELECT, SELECT_MS, SMALL, Step,
-    count_of_answers, two_stations,
+    EXECUTE, FOR_ALL, INTERROGATION, MAX_AGE_MS, MIDDLE, SELECT, SELECT_MS, SMALL, Script, Step,
+    count_of_answers,
 };
 use command::{Commands, StationInfo};
 use std::test::Fail;
 
-/// The negative answer to the interrogation of station 1.
+/// The negative answer to the interrogation of station 1, and to that of all of them.
 const NO: [u8; 10] = [0x64, 0x01, 0x47, 0x00, 0x01, 0x00, 0x00, 0x00, 0x00, 0x14];
 
-#[test]
-fn sixty_four_commands_wait(rt: HostRuntime) -> Result<(), Fail> {
-    let mut commands = two_stations(rt.alloc(), MIDDLE)?;
-    assert_eq!(rt;
-        count_of_answers(&mut commands, &[Step::Forwards(&INTERROGATION, 3); 64]),
-        64
-    );
-    let steps = [
-        Step::Answers(&INTERROGATION, 67, &NO),
-        // one goes out, so one place is free, and two aren't
-        Step::Sends(0, &[0x64, 0x01, 0x06, 0x01, 0x00, 0x00, 0x14]),
-        Step::Answers(
-            &FOR_ALL,
-            68,
-            &[0x64, 0x01, 0x47, 0x00, 0xFF, 0xFF, 0x00, 0x00, 0x00, 0x14],
-        ),
-        Step::Forwards(&INTERROGATION, 69),
-        Step::Answers(&INTERROGATION, 70, &NO),
-        Step::Cut,
-        Step::Rests(0),
-        Step::Forwards(&FOR_ALL, 71),
-    ];
-    assert_eq!(rt; count_of_answers(&mut commands, &steps), 8);
-    Ok(())
-}
+const NO_FOR_ALL: [u8; 10] = [0x64, 0x01, 0x47, 0x00, 0xFF, 0xFF, 0x00, 0x00, 0x00, 0x14];
 
-#[test]
-fn sixty_four_commands_for_two_stations(rt: HostRuntime) -> Result<(), Fail> {
-    let mut commands = two_stations(rt.alloc(), SMALL)?;
-    assert_eq!(rt;
-        count_of_answers(&mut commands, &[Step::Forwards(&FOR_ALL, 3); 32]),
-        32
-    );
-    let steps = [
-        Step::Answers(&INTERROGATION, 67, &NO),
-        Step::Sends(1, &[0x64, 0x01, 0x06, 0x02, 0x00, 0x14]),
-    ];
-    assert_eq!(rt; count_of_answers(&mut commands, &steps), 2);
-    Ok(())
-}
+pub const SCRIPTS: &[Script<'static>] = &[
+    (
+        "64 commands wait",
+        MIDDLE,
+        &[Step::Forwards(&INTERROGATION, 3); 64],
+        &[
+            Step::Answers(&INTERROGATION, 67, &NO),
+            // one goes out, so one place is free, and two aren't
+            Step::Sends(0, &[0x64, 0x01, 0x06, 0x01, 0x00, 0x00, 0x14]),
+            Step::Answers(&FOR_ALL, 68, &NO_FOR_ALL),
+            Step::Forwards(&INTERROGATION, 69),
+            Step::Answers(&INTERROGATION, 70, &NO),
+            Step::Cut,
+            Step::Rests(0),
+            Step::Forwards(&FOR_ALL, 71),
+        ],
+    ),
+    (
+        "64 commands wait for two stations",
+        SMALL,
+        &[Step::Forwards(&FOR_ALL, 3); 32],
+        &[
+            Step::Answers(&INTERROGATION, 67, &NO),
+            Step::Sends(1, &[0x64, 0x01, 0x06, 0x02, 0x00, 0x14]),
+        ],
+    ),
+    (
+        "two own answers are kept",
+        MIDDLE,
+        &[],
+        &[
+            Step::Empty,
+            Step::Keeps(&SELECT, true),
+            Step::Keeps(&EXECUTE, true),
+            Step::Oldest(&SELECT),
+        ],
+    ),
+    (
+        "16 own answers are kept",
+        MIDDLE,
+        &SIXTEEN_ANSWERS,
+        &[
+            Step::Keeps(&FOR_ALL, false),
+            Step::Oldest(&SELECT),
+            Step::Cut,
+            Step::Empty,
+        ],
+    ),
+    (
+        "16 selections are kept",
+        MIDDLE,
+        &SIXTEEN_SELECTS,
+        &[
+            Step::Answers(&SELECT_17, 6, &REFUSED_17),
+            // one in the place of its own
+            Step::Forwards(&SELECT_16, 7),
+            // a station that asks for none keeps none
+            Step::Forwards(
+                &[0x2D, 0x01, 0x06, 0x00, 0x02, 0x00, 0x11, 0x00, 0x00, 0x81],
+                8,
+            ),
+            // those of 5 are over
+            Step::Due(5 + SELECT_MS),
+            Step::Forwards(&SELECT_17, 5 + SELECT_MS),
+        ],
+    ),
+];
 
-/// The select of object n, and the negative answer to it.
-fn select_of(n: u8) -> [u8; 10] {
-    [0x2D, 0x01, 0x06, 0x00, 0x01, 0x00, n, 0x00, 0x00, 0x81]
-}
+/// A select, an execute, and 14 interrogations, as own answers.
+const SIXTEEN_ANSWERS: [Step<'static>; 16] = [
+    Step::Keeps(&SELECT, true),
+    Step::Keeps(&EXECUTE, true),
+    Step::Keeps(&INTERROGATION, true),
+    Step::Keeps(&INTERROGATION, true),
+    Step::Keeps(&INTERROGATION, true),
+    Step::Keeps(&INTERROGATION, true),
+    Step::Keeps(&INTERROGATION, true),
+    Step::Keeps(&INTERROGATION, true),
+    Step::Keeps(&INTERROGATION, true),
+    Step::Keeps(&INTERROGATION, true),
+    Step::Keeps(&INTERROGATION, true),
+    Step::Keeps(&INTERROGATION, true),
+    Step::Keeps(&INTERROGATION, true),
+    Step::Keeps(&INTERROGATION, true),
+    Step::Keeps(&INTERROGATION, true),
+    Step::Keeps(&INTERROGATION, true),
+];
 
-#[test]
-fn sixteen_selections_are_kept(rt: HostRuntime) -> Result<(), Fail> {
-    let mut commands = two_stations(rt.alloc(), MIDDLE)?;
-    for n in 1..17_u8 {
-        assert_eq!(rt;
-            count_of_answers(&mut commands, &[Step::Forwards(&select_of(n), 5)]),
-            1
-        );
-    }
-    let refused = [0x2D, 0x01, 0x47, 0x00, 0x01, 0x00, 0x11, 0x00, 0x00, 0x81];
-    let steps = [
-        Step::Answers(&select_of(17), 6, &refused),
-        // one in the place of its own
-        Step::Forwards(&select_of(16), 7),
-        // a station that asks for none keeps none
-        Step::Forwards(
-            &[0x2D, 0x01, 0x06, 0x00, 0x02, 0x00, 0x11, 0x00, 0x00, 0x81],
-            8,
-        ),
-        // those of 5 are over
-        Step::Due(5 + SELECT_MS),
-        Step::Forwards(&select_of(17), 5 + SELECT_MS),
-    ];
-    assert_eq!(rt; count_of_answers(&mut commands, &steps), 5);
-    Ok(())
-}
+/// The select of objects 16 and 17, and the negative answer to that.
+const SELECT_16: [u8; 10] = [0x2D, 0x01, 0x06, 0x00, 0x01, 0x00, 0x10, 0x00, 0x00, 0x81];
 
-#[test]
-fn sixteen_own_answers_are_kept(rt: HostRuntime) -> Result<(), Fail> {
-    let mut commands = two_stations(rt.alloc(), MIDDLE)?;
-    let steps = [
-        Step::Empty,
-        Step::Keeps(&SELECT, true),
-        Step::Keeps(&EXECUTE, true),
-        Step::Oldest(&SELECT),
-    ];
-    assert_eq!(rt; count_of_answers(&mut commands, &steps), 4);
-    assert_eq!(rt;
-        count_of_answers(&mut commands, &[Step::Keeps(&INTERROGATION, true); 14]),
-        14
-    );
-    let steps = [
-        Step::Keeps(&FOR_ALL, false),
-        Step::Oldest(&SELECT),
-        Step::Cut,
-        Step::Empty,
-    ];
-    assert_eq!(rt; count_of_answers(&mut commands, &steps), 4);
-    Ok(())
-}
+const SELECT_17: [u8; 10] = [0x2D, 0x01, 0x06, 0x00, 0x01, 0x00, 0x11, 0x00, 0x00, 0x81];
+
+const REFUSED_17: [u8; 10] = [0x2D, 0x01, 0x47, 0x00, 0x01, 0x00, 0x11, 0x00, 0x00, 0x81];
+
+/// Selects of objects 1 to 16, at 5.
+const SIXTEEN_SELECTS: [Step<'static>; 16] = [
+    Step::Forwards(
+        &[0x2D, 0x01, 0x06, 0x00, 0x01, 0x00, 0x01, 0x00, 0x00, 0x81],
+        5,
+    ),
+    Step::Forwards(
+        &[0x2D, 0x01, 0x06, 0x00, 0x01, 0x00, 0x02, 0x00, 0x00, 0x81],
+        5,
+    ),
+    Step::Forwards(
+        &[0x2D, 0x01, 0x06, 0x00, 0x01, 0x00, 0x03, 0x00, 0x00, 0x81],
+        5,
+    ),
+    Step::Forwards(
+        &[0x2D, 0x01, 0x06, 0x00, 0x01, 0x00, 0x04, 0x00, 0x00, 0x81],
+        5,
+    ),
+    Step::Forwards(
+        &[0x2D, 0x01, 0x06, 0x00, 0x01, 0x00, 0x05, 0x00, 0x00, 0x81],
+        5,
+    ),
+    Step::Forwards(
+        &[0x2D, 0x01, 0x06, 0x00, 0x01, 0x00, 0x06, 0x00, 0x00, 0x81],
+        5,
+    ),
+    Step::Forwards(
+        &[0x2D, 0x01, 0x06, 0x00, 0x01, 0x00, 0x07, 0x00, 0x00, 0x81],
+        5,
+    ),
+    Step::Forwards(
+        &[0x2D, 0x01, 0x06, 0x00, 0x01, 0x00, 0x08, 0x00, 0x00, 0x81],
+        5,
+    ),
+    Step::Forwards(
+        &[0x2D, 0x01, 0x06, 0x00, 0x01, 0x00, 0x09, 0x00, 0x00, 0x81],
+        5,
+    ),
+    Step::Forwards(
+        &[0x2D, 0x01, 0x06, 0x00, 0x01, 0x00, 0x0A, 0x00, 0x00, 0x81],
+        5,
+    ),
+    Step::Forwards(
+        &[0x2D, 0x01, 0x06, 0x00, 0x01, 0x00, 0x0B, 0x00, 0x00, 0x81],
+        5,
+    ),
+    Step::Forwards(
+        &[0x2D, 0x01, 0x06, 0x00, 0x01, 0x00, 0x0C, 0x00, 0x00, 0x81],
+        5,
+    ),
+    Step::Forwards(
+        &[0x2D, 0x01, 0x06, 0x00, 0x01, 0x00, 0x0D, 0x00, 0x00, 0x81],
+        5,
+    ),
+    Step::Forwards(
+        &[0x2D, 0x01, 0x06, 0x00, 0x01, 0x00, 0x0E, 0x00, 0x00, 0x81],
+        5,
+    ),
+    Step::Forwards(
+        &[0x2D, 0x01, 0x06, 0x00, 0x01, 0x00, 0x0F, 0x00, 0x00, 0x81],
+        5,
+    ),
+    Step::Forwards(
+        &[0x2D, 0x01, 0x06, 0x00, 0x01, 0x00, 0x10, 0x00, 0x00, 0x81],
+        5,
+    ),
+];
+
+/// What happens to stations 100 to 131.
+const THIRTY_TWO: [Step<'static>; 5] = [
+    Step::Forwards(&FOR_ALL, 1),
+    Step::Forwards(&FOR_ALL, 2),
+    Step::Answers(&FOR_ALL, 3, &NO_FOR_ALL),
+    Step::Sends(31, &[0x64, 0x01, 0x06, 0x83, 0x00, 0x14]),
+    Step::Rests(32),
+];
 
 #[test]
 fn thirty_two_stations(rt: HostRuntime) -> Result<(), Fail> {
@@ -118,17 +195,6 @@ fn thirty_two_stations(rt: HostRuntime) -> Result<(), Fail> {
         ca = ca.wrapping_add(1_u16);
     }
     let mut commands = Commands::new(rt.alloc(), &stations, SMALL, SELECT_MS, MAX_AGE_MS)?;
-    let steps = [
-        Step::Forwards(&FOR_ALL, 1),
-        Step::Forwards(&FOR_ALL, 2),
-        Step::Answers(
-            &FOR_ALL,
-            3,
-            &[0x64, 0x01, 0x47, 0x00, 0xFF, 0xFF, 0x00, 0x00, 0x00, 0x14],
-        ),
-        Step::Sends(31, &[0x64, 0x01, 0x06, 0x83, 0x00, 0x14]),
-        Step::Rests(32),
-    ];
-    assert_eq!(rt; count_of_answers(&mut commands, &steps), 5);
+    assert_eq!(rt; count_of_answers(&mut commands, &THIRTY_TWO), 5);
     Ok(())
 }

@@ -1,6 +1,5 @@
 //! Commands with a time tag: their age, what goes to the line, and the tags of mirrors.
-use super::{MIDDLE, Step, count_of_answers, two_stations};
-use std::test::Fail;
+use super::{MIDDLE, Script, Step};
 
 /// 2024-02-29 12:34:56.789 UTC, a Thursday: `INSTANT` ms since 1970-01-01.
 const TAG: [u8; 7] = [0xD5, 0xDD, 0x22, 0x0C, 0x9D, 0x02, 0x18];
@@ -29,10 +28,11 @@ const TERM: [u8; 7] = [0x2D, 0x01, 0x0A, 0x02, 0x0A, 0x00, 0x01];
 /// The same command without a tag.
 const PLAIN: [u8; 10] = [0x2D, 0x01, 0x06, 0x00, 0x02, 0x00, 0x0A, 0x00, 0x00, 0x01];
 
-#[test]
-fn commands_with_a_tag_go_out_without_it(rt: HostRuntime) -> Result<(), Fail> {
-    let mut commands = two_stations(rt.alloc(), MIDDLE)?;
-    let steps = [
+pub const SCRIPTS: &[Script<'static>] = &[(
+    "commands with a tag go out without it",
+    MIDDLE,
+    &[],
+    &[
         Step::Answers(&ON, 1, &REFUSED),
         Step::AnswersAt(&ON, INSTANT + 10_001, &REFUSED),
         Step::AnswersAt(&ON, INSTANT - 10_001, &REFUSED),
@@ -51,7 +51,5 @@ fn commands_with_a_tag_go_out_without_it(rt: HostRuntime) -> Result<(), Fail> {
         Step::Sends(1, &LINE_ON),
         Step::Cut,
         Step::Mirrors(&CON, 1),
-    ];
-    assert_eq!(rt; count_of_answers(&mut commands, &steps), 18);
-    Ok(())
-}
+    ],
+)];

@@ -19,8 +19,73 @@ fn is_written_back(size: LinkSize, octets: &[u8], data: Option<usize>) -> bool {
         && front(size, octets) == Front::Whole(frame, len)
 }
 
+/// Whether the octets are refused at this place for this, and those before it are not.
+fn is_refused(size: LinkSize, octets: &[u8], place: usize, why: Why) -> bool {
+    front(size, octets) == Front::Never(place, why)
+        && front_ref(size, octets) == FrontRef::Never(place, why)
+        && octets
+            .get(..place)
+            .is_some_and(|before| front(size, before) == Front::More)
+}
+
+/// Octets that begin no frame in these sizes, the place that decides it, and why.
+const REFUSED: [(LinkSize, &[u8], usize, Why); 16] = [
+    (LinkSize::One, &[0x00], 0, Why::Start),
+    (LinkSize::One, &[0x68, 0x01], 1, Why::LengthSmall),
+    (LinkSize::One, &[0x68, 0x02, 0x03], 2, Why::LengthsDiffer),
+    (
+        LinkSize::One,
+        &[0x68, 0x02, 0x02, 0x16],
+        3,
+        Why::SecondStart,
+    ),
+    (LinkSize::One, &[0x10, 0x49, 0x01, 0x4B], 3, Why::Sum),
+    (LinkSize::One, &[0x10, 0x49, 0x01, 0x4A, 0x17], 4, Why::End),
+    (
+        LinkSize::One,
+        &[0x68, 0x03, 0x03, 0x68, 0x08, 0x01, 0xFF, 0x09],
+        7,
+        Why::Sum,
+    ),
+    (
+        LinkSize::One,
+        &[0x68, 0x03, 0x03, 0x68, 0x08, 0x01, 0xFF, 0x08, 0x68],
+        8,
+        Why::End,
+    ),
+    // the lowest place counts
+    (
+        LinkSize::One,
+        &[0x68, 0x01, 0x02, 0x00],
+        1,
+        Why::LengthSmall,
+    ),
+    (LinkSize::Two, &[0x16], 0, Why::Start),
+    (LinkSize::Two, &[0x68, 0x02], 1, Why::LengthSmall),
+    (LinkSize::Two, &[0x68, 0x03, 0x02], 2, Why::LengthsDiffer),
+    (
+        LinkSize::Two,
+        &[0x68, 0x03, 0x03, 0x10],
+        3,
+        Why::SecondStart,
+    ),
+    (LinkSize::Two, &[0x10, 0x49, 0x02, 0x01, 0x4B], 4, Why::Sum),
+    (
+        LinkSize::Two,
+        &[0x10, 0x49, 0x02, 0x01, 0x4C, 0x00],
+        5,
+        Why::End,
+    ),
+    (
+        LinkSize::Two,
+        &[0x68, 0x03, 0x03, 0x68, 0x08, 0x02, 0x01, 0x0C],
+        7,
+        Why::Sum,
+    ),
+];
+
 #[test]
-fn frames_of_a_line(rt: HostRuntime) {
+fn frames_of_a_line_and_refusals(rt: HostRuntime) {
     for octets in FRAMES {
         let data = match octets {
             [0x68, len, ..] => Some(usize::from(len.saturating_sub(2))),
@@ -41,74 +106,7 @@ fn frames_of_a_line(rt: HostRuntime) {
             && is_written_back(LinkSize::Two, &STATUS_OF_258, None)
             && front(LinkSize::One, &[0x10, 0x7B, 0x01, 0x7C, 0x16, 0xE5]) == poll
     );
-}
-
-/// Whether the octets are refused at this place for this, and those before it are not.
-fn is_refused(size: LinkSize, octets: &[u8], place: usize, why: Why) -> bool {
-    front(size, octets) == Front::Never(place, why)
-        && front_ref(size, octets) == FrontRef::Never(place, why)
-        && octets
-            .get(..place)
-            .is_some_and(|before| front(size, before) == Front::More)
-}
-
-#[test]
-fn refusals(rt: HostRuntime) {
-    let refused: [(LinkSize, &[u8], usize, Why); 16] = [
-        (LinkSize::One, &[0x00], 0, Why::Start),
-        (LinkSize::One, &[0x68, 0x01], 1, Why::LengthSmall),
-        (LinkSize::One, &[0x68, 0x02, 0x03], 2, Why::LengthsDiffer),
-        (
-            LinkSize::One,
-            &[0x68, 0x02, 0x02, 0x16],
-            3,
-            Why::SecondStart,
-        ),
-        (LinkSize::One, &[0x10, 0x49, 0x01, 0x4B], 3, Why::Sum),
-        (LinkSize::One, &[0x10, 0x49, 0x01, 0x4A, 0x17], 4, Why::End),
-        (
-            LinkSize::One,
-            &[0x68, 0x03, 0x03, 0x68, 0x08, 0x01, 0xFF, 0x09],
-            7,
-            Why::Sum,
-        ),
-        (
-            LinkSize::One,
-            &[0x68, 0x03, 0x03, 0x68, 0x08, 0x01, 0xFF, 0x08, 0x68],
-            8,
-            Why::End,
-        ),
-        // the lowest place counts
-        (
-            LinkSize::One,
-            &[0x68, 0x01, 0x02, 0x00],
-            1,
-            Why::LengthSmall,
-        ),
-        (LinkSize::Two, &[0x16], 0, Why::Start),
-        (LinkSize::Two, &[0x68, 0x02], 1, Why::LengthSmall),
-        (LinkSize::Two, &[0x68, 0x03, 0x02], 2, Why::LengthsDiffer),
-        (
-            LinkSize::Two,
-            &[0x68, 0x03, 0x03, 0x10],
-            3,
-            Why::SecondStart,
-        ),
-        (LinkSize::Two, &[0x10, 0x49, 0x02, 0x01, 0x4B], 4, Why::Sum),
-        (
-            LinkSize::Two,
-            &[0x10, 0x49, 0x02, 0x01, 0x4C, 0x00],
-            5,
-            Why::End,
-        ),
-        (
-            LinkSize::Two,
-            &[0x68, 0x03, 0x03, 0x68, 0x08, 0x02, 0x01, 0x0C],
-            7,
-            Why::Sum,
-        ),
-    ];
-    for (size, octets, place, why) in refused {
+    for (size, octets, place, why) in REFUSED {
         assert!(rt; is_refused(size, octets, place, why));
     }
     let mut wrong_sum = REPORT;

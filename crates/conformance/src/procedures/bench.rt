@@ -3,16 +3,16 @@ ghost use Rattle.std.specs.Prelude.{◌≡◌, ◌<◌, ◌≤◌, All, length, 
 ghost use Rattle.ft12.specs.declared.frame.LinkSize.TheVariants.{One};
 ghost use Rattle.link.specs.Requests.{IsUserData, FitsAddress};
 
-use arrayvec::ArrayVec;
 use ft12::LinkSize;
-use link::{LinkSettings, Master, NoMemory, Outcome, Request};
+use link::{LinkSettings, Master, NoMemory, Outcome, RequestKind};
 use std::alloc::Global;
 use std::marker::Model;
 
 /// `answer_ms` 200, one-octet addresses.
-pub(super) fn settings(retries: u8, hold: bool, burst: u8) -> LinkSettings
+pub(super) fn settings(ways: Ways) -> LinkSettings
     ensures { result.size ≡ One }
 {
+    let (retries, hold, burst) = ways;
     LinkSettings {
         size: LinkSize::One,
         answer_ms: 200,
@@ -22,42 +22,61 @@ pub(super) fn settings(retries: u8, hold: bool, burst: u8) -> LinkSettings
     }
 }
 
-/// What came of an exchange, with the octets of a report.
-#[derive(Drop)]
-pub(super) enum Told {
+/// What is to come of an exchange, with the octets of a report.
+#[derive(Clone, Copy, PartialEq, Eq)]
+pub(super) enum Told<'a> {
     None,
     Started(usize),
     StartedGap(usize, u64),
-    Report(usize, ArrayVec<u8, 253>),
+    Report(usize, &'a [u8]),
     Empty(usize),
     Accepted(usize),
     Busy(usize),
     Down(usize),
 }
 
-fn kept(outcome: &Outcome<'_>) -> Told {
-    match outcome {
-        Outcome::None => Told::None,
-        Outcome::Started(station) => Told::Started(*station),
-        Outcome::StartedGap(station, session) => Told::StartedGap(*station, *session),
-        Outcome::Report(station, report) => {
-            Told::Report(*station, ArrayVec::try_from(report.octets()).unwrap())
-        }
-        Outcome::Empty(station) => Told::Empty(*station),
-        Outcome::Accepted(station) => Told::Accepted(*station),
-        Outcome::Busy(station) => Told::Busy(*station),
-        Outcome::Down(station) => Told::Down(*station),
-    }
+/// A call, and what it is to answer.
+#[derive(Clone, Copy)]
+pub(super) enum Step<'a> {
+    /// The first station is asked for its status at moment 0, and reset at 10.
+    Opens,
+    /// The first station is asked for its status and reset again, at this moment. This is told.
+    Restarts(u64, Told<'a>),
+    /// The next request, at this moment, has these octets.
+    Sends(u64, &'a [u8]),
+    /// The next request, at this moment and with this leave to poll, has these octets, is of this
+    /// kind, and is a repeat or none.
+    Asks(u64, bool, &'a [u8], RequestKind, bool),
+    /// No request goes out at this moment, with this leave to poll.
+    Rests(u64, bool),
+    /// Octets of the line come, of which this is told.
+    Hears(&'a [u8], Told<'a>),
+    /// The time is looked at, of which this is told.
+    Due(u64, Told<'a>),
+    /// So many exchanges were spoilt by now.
+    Spoilt(u64),
+    /// A command is offered to the first station; whether it is taken.
+    Offers(&'a [u8], bool),
+    Withdraws,
 }
 
-/// Octets of the line come.
-pub(super) fn hear(master: &mut Master, octets: &[u8]) -> Told {
-    if let Some(outcome) = master.hear_whole(octets) {
-        return kept(&outcome);
-    }
-    match master.gather(octets) {
-        Some(frame) => kept(&master.hear(frame.lent())),
-        None => Told::None,
+/// `retries`, `hold` and `burst` of a line.
+pub(super) type Ways = (u8, bool, u8);
+
+/// What happens on a line: its ways, whether it has two stations, and the calls of the primary.
+pub(super) type Script<'a> = (&'a str, Ways, bool, &'a [Step<'a>]);
+
+/// Whether this is what came of an exchange.
+fn is_told(outcome: &Outcome<'_>, wanted: Told<'_>) -> bool {
+    match outcome {
+        Outcome::None => wanted == Told::None,
+        Outcome::Started(station) => wanted == Told::Started(*station),
+        Outcome::StartedGap(station, session) => wanted == Told::StartedGap(*station, *session),
+        Outcome::Report(station, report) => wanted == Told::Report(*station, report.octets()),
+        Outcome::Empty(station) => wanted == Told::Empty(*station),
+        Outcome::Accepted(station) => wanted == Told::Accepted(*station),
+        Outcome::Busy(station) => wanted == Told::Busy(*station),
+        Outcome::Down(station) => wanted == Told::Down(*station),
     }
 }
 
@@ -82,81 +101,80 @@ impl Model for Bench {
 }
 
 impl Bench {
-    pub(super) fn new(
-        alloc: Global,
-        settings: LinkSettings,
-        addresses: &[u16],
-    ) -> Result<Bench, NoMemory>
-        requires some { 0 < length addresses.now }
-        requires size { settings.size ≡ One }
-        requires fit { All (FitsAddress settings.size) addresses.now }
-    {
-        let master = Master::new(alloc, settings, addresses)?;
+    /// A line with station 1, or with 1 and 2.
+    pub(super) fn new(alloc: Global, ways: Ways, is_pair: bool) -> Result<Bench, NoMemory> {
+        let addresses: &[u16] = if is_pair { &[1, 2] } else { &[1] };
+        let master = Master::new(alloc, settings(ways), addresses)?;
         Ok(Bench { master })
     }
 
-    pub(super) fn next(&mut self, now: u64, may_poll: bool) -> Option<Request> {
-        self.master.next(now, may_poll)
+    /// How many of the calls, in their order, answer what they are to.
+    pub(super) fn count_of_answers(&mut self, steps: &[Step]) -> usize {
+        let mut count: usize = 0;
+        for step in steps {
+            if !self.is_right(step) {
+                return count;
+            }
+            count = count.wrapping_add(1);
+        }
+        count
+    }
+
+    /// Makes the call, and says whether the answer was the one.
+    fn is_right(&mut self, step: &Step) -> bool {
+        match step {
+            Step::Opens => self.starts((0, 10), Told::Started(0)),
+            Step::Restarts(now, told) => self.starts((*now, *now), *told),
+            Step::Sends(now, octets) => self.sends(*now, octets),
+            Step::Asks(now, may_poll, octets, kind, again) => {
+                let asked = self.master.next(*now, *may_poll);
+                asked.is_some_and(|request| {
+                    request.octets.as_slice() == *octets
+                        && request.kind == *kind
+                        && request.again == *again
+                })
+            }
+            Step::Rests(now, may_poll) => self.master.next(*now, *may_poll).is_none(),
+            Step::Hears(octets, told) => self.hears(octets, *told),
+            Step::Due(now, told) => is_told(&self.master.due(*now), *told),
+            Step::Spoilt(count) => self.master.spoilt() == *count,
+            Step::Offers(asdu, is_taken) => self.takes(asdu) == *is_taken,
+            Step::Withdraws => {
+                self.master.withdraw();
+                true
+            }
+        }
     }
 
     /// Whether the next request has these octets.
-    pub(super) fn sends(&mut self, now: u64, octets: &[u8]) -> bool {
+    fn sends(&mut self, now: u64, octets: &[u8]) -> bool {
         match self.master.next(now, true) {
             Some(request) => request.octets.as_slice() == octets,
             None => false,
         }
     }
 
-    /// Octets of the line come.
-    pub(super) fn octets(&mut self, octets: &[u8]) -> Told {
+    /// Whether this is told of octets that come.
+    fn hears(&mut self, octets: &[u8], told: Told<'_>) -> bool {
         if let Some(outcome) = self.master.hear_whole(octets) {
-            return kept(&outcome);
+            return is_told(&outcome, told);
         }
         match self.master.gather(octets) {
-            Some(frame) => kept(&self.master.hear(frame.lent())),
-            None => Told::None,
+            Some(frame) => is_told(&self.master.hear(frame.lent()), told),
+            None => told == Told::None,
         }
     }
 
-    pub(super) fn due(&mut self, now: u64) -> Told {
-        kept(&self.master.due(now))
+    /// Whether the first station takes a command that is offered to it.
+    fn takes(&mut self, asdu: &[u8]) -> bool {
+        !asdu.is_empty() && asdu.len() <= 12 && self.master.offer(0, asdu)
     }
 
-    pub(super) fn spoilt(&self) -> u64 {
-        self.master.spoilt()
-    }
-
-    /// Offers a command to the first station.
-    pub(super) fn offer(&mut self, asdu: &[u8]) -> bool
-        requires fits { IsUserData One asdu.now }
-        requires short { length asdu.now ≤ 12 }
-    {
-        self.master.offer(0, asdu)
-    }
-
-    pub(super) fn withdraw(&mut self) {
-        self.master.withdraw();
-    }
-
-    /// The first station is asked for its status, and reset.
-    pub(super) fn open(&mut self) -> bool {
-        let status = self.sends(0, &[0x10, 0x49, 0x01, 0x4A, 0x16]);
-        let ready = matches!(self.octets(&[0x10, 0x0B, 0x01, 0x0C, 0x16]), Told::None);
-        let reset = self.sends(10, &[0x10, 0x40, 0x01, 0x41, 0x16]);
-        status && ready && reset && matches!(self.octets(&[0xE5]), Told::Started(0))
-    }
-
-    /// The first station is asked for its status and reset again: whether that ends this session
-    /// with a gap, or tells none.
-    pub(super) fn restarts(&mut self, now: u64, gap: Option<u64>) -> bool {
-        let status = self.sends(now, &[0x10, 0x49, 0x01, 0x4A, 0x16]);
-        let ready = matches!(self.octets(&[0x10, 0x0B, 0x01, 0x0C, 0x16]), Told::None);
-        let reset = self.sends(now, &[0x10, 0x40, 0x01, 0x41, 0x16]);
-        let told = match (self.octets(&[0xE5]), gap) {
-            (Told::Started(0), None) => true,
-            (Told::StartedGap(0, session), Some(ended)) => session == ended,
-            _ => false,
-        };
-        status && ready && reset && told
+    /// The first station is asked for its status and reset, at these moments: whether this is told.
+    fn starts(&mut self, (first, then): (u64, u64), told: Told<'_>) -> bool {
+        self.sends(first, &[0x10, 0x49, 0x01, 0x4A, 0x16])
+            && self.hears(&[0x10, 0x0B, 0x01, 0x0C, 0x16], Told::None)
+            && self.sends(then, &[0x10, 0x40, 0x01, 0x41, 0x16])
+            && self.hears(&[0xE5], told)
     }
 }

@@ -1,14 +1,33 @@
 //! A primary and a secondary station over a line that loses one request or answer.
 
-use super::bench::{Told, hear, settings};
+use super::bench::settings;
 use ft12::{LinkSize, encode};
-use link::{Master, NoMemory, Station};
+use link::{Master, NoMemory, Outcome, Station};
 
 /// What is lost of the exchange with this number.
 #[derive(Clone, Copy)]
 struct Loss {
     exchange: usize,
     request: bool,
+}
+
+/// The first octet of the report that an answer brought, if it brought one.
+fn reported(outcome: &Outcome<'_>) -> Option<u8> {
+    match outcome {
+        Outcome::Report(_, report) => report.octets().first().copied(),
+        _ => None,
+    }
+}
+
+/// Octets of the line come: the first octet of the report that they bring.
+fn hear(master: &mut Master, octets: &[u8]) -> Option<u8> {
+    if let Some(outcome) = master.hear_whole(octets) {
+        return reported(&outcome);
+    }
+    match master.gather(octets) {
+        Some(frame) => reported(&master.hear(frame.lent())),
+        None => None,
+    }
 }
 
 /// The first octets of the reports that the master took, as one number in base 16.
@@ -29,10 +48,8 @@ fn taken(master: &mut Master, station: &mut Station, loss: Loss) -> u64 {
         match answer {
             Some(frame) if !lost => {
                 let octets = encode(size, &frame);
-                if let Told::Report(_, asdu) = hear(master, octets.as_slice()) {
-                    if let Some(octet) = asdu.first() {
-                        taken = taken.wrapping_mul(16).wrapping_add(u64::from(*octet));
-                    }
+                if let Some(octet) = hear(master, octets.as_slice()) {
+                    taken = taken.wrapping_mul(16).wrapping_add(u64::from(octet));
                 }
             }
             _ => {
@@ -54,7 +71,7 @@ fn each_report_comes_once(rt: HostRuntime) -> Result<(), NoMemory> {
             station.report2(&[3])?;
             station.report2(&[4])?;
             station.report2(&[5])?;
-            let mut master = Master::new(rt.alloc(), settings(0, true, 8), &[1])?;
+            let mut master = Master::new(rt.alloc(), settings((0, true, 8)), &[1])?;
             let loss = Loss { exchange, request };
             assert!(rt;
                 taken(&mut master, &mut station, loss) == 0x12345,

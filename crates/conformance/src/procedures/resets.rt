@@ -1,91 +1,112 @@
 //! Resets of a station that was up: a gap is told where the session's latest service was a poll
 //! that wasn't answered by 8, 9 or E5.
 
-use super::bench::{Bench, Told, settings};
-use link::NoMemory;
+use super::bench::{Script, Step, Told};
 
-/// Without repeats, and down after silence.
-#[test]
-fn an_unanswered_poll_leaves_a_gap(rt: HostRuntime) -> Result<(), NoMemory> {
-    let mut line = Bench::new(rt.alloc(), settings(0, false, 8), &[1])?;
-    // The first start is none.
-    assert!(rt; line.open());
-    // Silence.
-    assert!(rt; line.sends(20, &[0x10, 0x7B, 0x01, 0x7C, 0x16]));
-    assert!(rt; matches!(line.due(220), Told::Down(0)));
-    assert!(rt; line.restarts(220, Some(1)));
-    // Answered by E5, and then by 14.
-    assert!(rt; line.sends(230, &[0x10, 0x7B, 0x01, 0x7C, 0x16]));
-    assert!(rt; matches!(line.octets(&[0xE5]), Told::Empty(0)));
-    assert!(rt; line.sends(240, &[0x10, 0x5B, 0x01, 0x5C, 0x16]));
-    assert!(rt; matches!(line.octets(&[0x10, 0x0E, 0x01, 0x0F, 0x16]), Told::Down(0)));
-    assert!(rt; line.restarts(250, Some(2)));
-    // Answered by 9, and then by a frame of another station.
-    assert!(rt; line.sends(260, &[0x10, 0x7B, 0x01, 0x7C, 0x16]));
-    assert!(rt; matches!(line.octets(&[0x10, 0x09, 0x01, 0x0A, 0x16]), Told::Empty(0)));
-    assert!(rt; line.sends(270, &[0x10, 0x5B, 0x01, 0x5C, 0x16]));
-    assert!(rt; matches!(line.octets(&[0x10, 0x09, 0x02, 0x0B, 0x16]), Told::None));
-    assert!(rt; matches!(line.due(470), Told::Down(0)));
-    // The status is answered by 14, and the reset not at all: the session has not ended yet.
-    assert!(rt; line.sends(470, &[0x10, 0x49, 0x01, 0x4A, 0x16]));
-    assert!(rt; matches!(line.octets(&[0x10, 0x0E, 0x01, 0x0F, 0x16]), Told::Down(0)));
-    assert!(rt; line.sends(480, &[0x10, 0x49, 0x01, 0x4A, 0x16]));
-    assert!(rt; matches!(line.octets(&[0x10, 0x0B, 0x01, 0x0C, 0x16]), Told::None));
-    assert!(rt; line.sends(490, &[0x10, 0x40, 0x01, 0x41, 0x16]));
-    assert!(rt; matches!(line.due(690), Told::None));
-    assert!(rt; line.restarts(690, Some(3)));
-    Ok(())
-}
+const POLL: [u8; 5] = [0x10, 0x7B, 0x01, 0x7C, 0x16];
 
-#[test]
-fn what_else_ends_a_session_leaves_none(rt: HostRuntime) -> Result<(), NoMemory> {
-    let mut line = Bench::new(rt.alloc(), settings(0, false, 8), &[1])?;
-    assert!(rt; line.open());
-    // A poll is answered by data, and then a command by silence.
-    assert!(rt; line.sends(20, &[0x10, 0x7B, 0x01, 0x7C, 0x16]));
-    assert!(rt;
-        matches!(
-            line.octets(&[0x68, 0x03, 0x03, 0x68, 0x08, 0x01, 0x07, 0x10, 0x16]),
-            Told::Report(0, _)
-        )
-    );
-    assert!(rt; line.offer(&[7]));
-    assert!(rt; line.sends(30, &[0x68, 0x03, 0x03, 0x68, 0x53, 0x01, 0x07, 0x5B, 0x16]));
-    assert!(rt; matches!(line.due(230), Told::Down(0)));
-    assert!(rt; line.restarts(230, None));
-    // A command, by 15, and nothing else between two resets.
-    assert!(rt; line.offer(&[7]));
-    assert!(rt; line.sends(240, &[0x68, 0x03, 0x03, 0x68, 0x73, 0x01, 0x07, 0x7B, 0x16]));
-    assert!(rt; matches!(line.octets(&[0x10, 0x0F, 0x01, 0x10, 0x16]), Told::Down(0)));
-    assert!(rt; line.restarts(250, None));
-    // The sessions without a gap are counted, too.
-    assert!(rt; line.sends(260, &[0x10, 0x7B, 0x01, 0x7C, 0x16]));
-    assert!(rt; matches!(line.octets(&[0x10, 0x0F, 0x01, 0x10, 0x16]), Told::Down(0)));
-    assert!(rt; line.restarts(270, Some(3)));
-    Ok(())
-}
+const NEXT_POLL: [u8; 5] = [0x10, 0x5B, 0x01, 0x5C, 0x16];
 
-/// With two repeats, and down after silence.
-#[test]
-fn a_repeat_that_is_answered_leaves_no_gap(rt: HostRuntime) -> Result<(), NoMemory> {
-    let mut line = Bench::new(rt.alloc(), settings(2, false, 8), &[1])?;
-    assert!(rt; line.open());
-    assert!(rt; line.sends(0, &[0x10, 0x7B, 0x01, 0x7C, 0x16]));
-    assert!(rt; matches!(line.due(200), Told::None));
-    assert!(rt; line.sends(200, &[0x10, 0x7B, 0x01, 0x7C, 0x16]));
-    assert!(rt; matches!(line.octets(&[0xE5]), Told::Empty(0)));
-    // The poll was answered, the command wasn't.
-    assert!(rt; line.offer(&[7]));
-    assert!(rt; line.sends(300, &[0x68, 0x03, 0x03, 0x68, 0x53, 0x01, 0x07, 0x5B, 0x16]));
-    assert!(rt; matches!(line.octets(&[0x10, 0x0E, 0x01, 0x0F, 0x16]), Told::Down(0)));
-    assert!(rt; line.restarts(310, None));
-    // Three times silence.
-    assert!(rt; line.sends(400, &[0x10, 0x7B, 0x01, 0x7C, 0x16]));
-    assert!(rt; matches!(line.due(600), Told::None));
-    assert!(rt; line.sends(600, &[0x10, 0x7B, 0x01, 0x7C, 0x16]));
-    assert!(rt; matches!(line.due(800), Told::None));
-    assert!(rt; line.sends(800, &[0x10, 0x7B, 0x01, 0x7C, 0x16]));
-    assert!(rt; matches!(line.due(1000), Told::Down(0)));
-    assert!(rt; line.restarts(1000, Some(2)));
-    Ok(())
-}
+const STATUS: [u8; 5] = [0x10, 0x49, 0x01, 0x4A, 0x16];
+
+/// The service isn't functioning, and isn't implemented.
+const BY_14: [u8; 5] = [0x10, 0x0E, 0x01, 0x0F, 0x16];
+
+const BY_15: [u8; 5] = [0x10, 0x0F, 0x01, 0x10, 0x16];
+
+/// There are no data.
+const BY_9: [u8; 5] = [0x10, 0x09, 0x01, 0x0A, 0x16];
+
+/// The command 7 on the line, under either frame count bit.
+const COMMAND: [u8; 9] = [0x68, 0x03, 0x03, 0x68, 0x53, 0x01, 0x07, 0x5B, 0x16];
+
+const NEXT_COMMAND: [u8; 9] = [0x68, 0x03, 0x03, 0x68, 0x73, 0x01, 0x07, 0x7B, 0x16];
+
+pub(super) const SCRIPTS: &[Script<'static>] = &[
+    (
+        "an unanswered poll leaves a gap",
+        (0, false, 8),
+        false,
+        &[
+            // The first start is none.
+            Step::Opens,
+            // Silence.
+            Step::Sends(20, &POLL),
+            Step::Due(220, Told::Down(0)),
+            Step::Restarts(220, Told::StartedGap(0, 1)),
+            // Answered by E5, and then by 14.
+            Step::Sends(230, &POLL),
+            Step::Hears(&[0xE5], Told::Empty(0)),
+            Step::Sends(240, &NEXT_POLL),
+            Step::Hears(&BY_14, Told::Down(0)),
+            Step::Restarts(250, Told::StartedGap(0, 2)),
+            // Answered by 9, and then by a frame of another station.
+            Step::Sends(260, &POLL),
+            Step::Hears(&BY_9, Told::Empty(0)),
+            Step::Sends(270, &NEXT_POLL),
+            Step::Hears(&[0x10, 0x09, 0x02, 0x0B, 0x16], Told::None),
+            Step::Due(470, Told::Down(0)),
+            // The status is answered by 14, and the reset not at all: the session has not ended
+            // yet.
+            Step::Sends(470, &STATUS),
+            Step::Hears(&BY_14, Told::Down(0)),
+            Step::Sends(480, &STATUS),
+            Step::Hears(&[0x10, 0x0B, 0x01, 0x0C, 0x16], Told::None),
+            Step::Sends(490, &[0x10, 0x40, 0x01, 0x41, 0x16]),
+            Step::Due(690, Told::None),
+            Step::Restarts(690, Told::StartedGap(0, 3)),
+        ],
+    ),
+    (
+        "what else ends a session leaves none",
+        (0, false, 8),
+        false,
+        &[
+            Step::Opens,
+            // A poll is answered by data, and then a command by silence.
+            Step::Sends(20, &POLL),
+            Step::Hears(
+                &[0x68, 0x03, 0x03, 0x68, 0x08, 0x01, 0x07, 0x10, 0x16],
+                Told::Report(0, &[0x07]),
+            ),
+            Step::Offers(&[7], true),
+            Step::Sends(30, &COMMAND),
+            Step::Due(230, Told::Down(0)),
+            Step::Restarts(230, Told::Started(0)),
+            // A command, by 15, and nothing else between two resets.
+            Step::Offers(&[7], true),
+            Step::Sends(240, &NEXT_COMMAND),
+            Step::Hears(&BY_15, Told::Down(0)),
+            Step::Restarts(250, Told::Started(0)),
+            // The sessions without a gap are counted, too.
+            Step::Sends(260, &POLL),
+            Step::Hears(&BY_15, Told::Down(0)),
+            Step::Restarts(270, Told::StartedGap(0, 3)),
+        ],
+    ),
+    (
+        "a repeat that is answered leaves no gap",
+        (2, false, 8),
+        false,
+        &[
+            Step::Opens,
+            Step::Sends(0, &POLL),
+            Step::Due(200, Told::None),
+            Step::Sends(200, &POLL),
+            Step::Hears(&[0xE5], Told::Empty(0)),
+            // The poll was answered, the command wasn't.
+            Step::Offers(&[7], true),
+            Step::Sends(300, &COMMAND),
+            Step::Hears(&BY_14, Told::Down(0)),
+            Step::Restarts(310, Told::Started(0)),
+            // Three times silence.
+            Step::Sends(400, &POLL),
+            Step::Due(600, Told::None),
+            Step::Sends(600, &POLL),
+            Step::Due(800, Told::None),
+            Step::Sends(800, &POLL),
+            Step::Due(1000, Told::Down(0)),
+            Step::Restarts(1000, Told::StartedGap(0, 2)),
+        ],
+    ),
+];

@@ -1,65 +1,73 @@
 //! Which exchanges count as spoilt.
 
-use super::bench::{Bench, Told, settings};
-use super::lines::{CLASS2, NEXT_CLASS2, REPORT};
-use link::NoMemory;
+use super::bench::{Script, Step, Told};
+use super::lines::{CLASS2, NEXT_CLASS2, POINT, REPORT, SPOILT};
 
-#[test]
-fn a_wrong_sum_is_spoilt_once_the_time_is_over(rt: HostRuntime) -> Result<(), NoMemory> {
-    let mut line = Bench::new(rt.alloc(), settings(3, true, 8), &[1])?;
-    assert!(rt; line.open() && line.sends(20, &CLASS2));
-    let mut wrong = REPORT;
-    wrong[13] = 0x75;
-    assert!(rt; matches!(line.octets(&wrong), Told::None));
-    assert!(rt; matches!(line.due(219), Told::None));
-    assert!(rt; line.spoilt() == 0);
-    assert!(rt; matches!(line.due(220), Told::None));
-    assert!(rt; line.spoilt() == 1);
-    assert!(rt; matches!(line.due(1000), Told::None));
-    assert!(rt; line.spoilt() == 1);
-    assert!(rt; line.sends(1000, &CLASS2));
-    assert!(rt; matches!(line.octets(&wrong[..1]), Told::None));
-    assert!(rt; matches!(line.due(1200), Told::None));
-    assert!(rt; line.spoilt() == 2);
-    Ok(())
-}
-
-#[test]
-fn silence_spoils_nothing(rt: HostRuntime) -> Result<(), NoMemory> {
-    let mut line = Bench::new(rt.alloc(), settings(3, true, 8), &[1])?;
-    assert!(rt; line.open() && line.sends(20, &CLASS2));
-    assert!(rt; matches!(line.octets(&[]), Told::None));
-    assert!(rt; matches!(line.due(220), Told::None));
-    assert!(rt; matches!(line.octets(&[0x00]), Told::None));
-    assert!(rt; line.sends(220, &CLASS2));
-    assert!(rt; matches!(line.due(420), Told::None));
-    assert!(rt; line.spoilt() == 0);
-    Ok(())
-}
-
-#[test]
-fn an_answered_exchange_is_not_spoilt(rt: HostRuntime) -> Result<(), NoMemory> {
-    let mut line = Bench::new(rt.alloc(), settings(3, true, 8), &[1])?;
-    assert!(rt; line.open() && line.sends(20, &CLASS2));
-    assert!(rt; matches!(line.octets(&REPORT), Told::Report(0, _)));
-    assert!(rt; matches!(line.due(220), Told::None));
-    assert!(rt; line.spoilt() == 0);
-    assert!(rt; line.sends(220, &NEXT_CLASS2));
-    assert!(rt; matches!(line.octets(&REPORT), Told::Report(0, _)));
-    assert!(rt; matches!(line.octets(&[0x00]), Told::None));
-    assert!(rt; matches!(line.due(420), Told::None));
-    assert!(rt; line.spoilt() == 0);
-    Ok(())
-}
-
-#[test]
-fn a_frame_that_does_not_fit_spoils_its_exchange(rt: HostRuntime) -> Result<(), NoMemory> {
-    let mut line = Bench::new(rt.alloc(), settings(3, true, 8), &[1])?;
-    assert!(rt; line.open() && line.sends(20, &CLASS2));
-    // A status of the link answers no poll.
-    assert!(rt; matches!(line.octets(&[0x10, 0x0B, 0x01, 0x0C, 0x16]), Told::None));
-    assert!(rt; matches!(line.octets(&REPORT), Told::None));
-    assert!(rt; matches!(line.due(220), Told::None));
-    assert!(rt; line.spoilt() == 1);
-    Ok(())
-}
+pub(super) const SCRIPTS: &[Script<'static>] = &[
+    (
+        "a wrong sum is spoilt once the time is over",
+        (3, true, 8),
+        false,
+        &[
+            Step::Opens,
+            Step::Sends(20, &CLASS2),
+            Step::Hears(&SPOILT, Told::None),
+            Step::Due(219, Told::None),
+            Step::Spoilt(0),
+            Step::Due(220, Told::None),
+            Step::Spoilt(1),
+            Step::Due(1000, Told::None),
+            Step::Spoilt(1),
+            Step::Sends(1000, &CLASS2),
+            Step::Hears(&[0x68], Told::None),
+            Step::Due(1200, Told::None),
+            Step::Spoilt(2),
+        ],
+    ),
+    (
+        "silence spoils nothing",
+        (3, true, 8),
+        false,
+        &[
+            Step::Opens,
+            Step::Sends(20, &CLASS2),
+            Step::Hears(&[], Told::None),
+            Step::Due(220, Told::None),
+            Step::Hears(&[0x00], Told::None),
+            Step::Sends(220, &CLASS2),
+            Step::Due(420, Told::None),
+            Step::Spoilt(0),
+        ],
+    ),
+    (
+        "an answered exchange is not spoilt",
+        (3, true, 8),
+        false,
+        &[
+            Step::Opens,
+            Step::Sends(20, &CLASS2),
+            Step::Hears(&REPORT, POINT),
+            Step::Due(220, Told::None),
+            Step::Spoilt(0),
+            Step::Sends(220, &NEXT_CLASS2),
+            Step::Hears(&REPORT, POINT),
+            Step::Hears(&[0x00], Told::None),
+            Step::Due(420, Told::None),
+            Step::Spoilt(0),
+        ],
+    ),
+    (
+        "a frame that does not fit spoils its exchange",
+        (3, true, 8),
+        false,
+        &[
+            Step::Opens,
+            Step::Sends(20, &CLASS2),
+            // A status of the link answers no poll.
+            Step::Hears(&[0x10, 0x0B, 0x01, 0x0C, 0x16], Told::None),
+            Step::Hears(&REPORT, Told::None),
+            Step::Due(220, Told::None),
+            Step::Spoilt(1),
+        ],
+    ),
+];

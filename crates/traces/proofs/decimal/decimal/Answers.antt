@@ -1,15 +1,7 @@
-use Rattle.std.proofs.Common.{◌<◌, ◌^◌, arith}
-use Rattle.traces.proofs.TraceLemmas.{below_limit}
+use Rattle.traces.proofs.NumberLemmas.{number_in_front}
 use Rattle.traces.proofs.decimal.decimal.Goals as goal
 
-pub overflow_mul-value : goal.overflow_mul-value
-overflow_mul-value c =
-    let small : c.loop-digit.value < 10 ^ 14 = below_limit _ c.loop-digit.digit-index c.loop-digit.invariant.small
-    (omega arith) in
-    omega arith
-
-pub overflow_add-value : goal.overflow_add-value
-overflow_add-value c =
-    let small : c.loop-digit.value < 10 ^ 14 = below_limit _ c.loop-digit.digit-index c.loop-digit.invariant.small
-    (omega arith) in
-    omega arith
+pub returns-else-end-digits : goal.returns-else-end-digits
+returns-else-end-digits c =
+    number_in_front c.args.digits.now c.in_ok-value.value c.in_ok-value.end c.in_ok-value.ensures
+    c.if-end-digits.false

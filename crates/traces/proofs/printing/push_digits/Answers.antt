@@ -10,17 +10,17 @@ pieces-preserved c =
     let left = c.pieces.left.now in
     let many = c.min-many.result in
     let le : many ≤ length left = search rules in
-    let printed : c.extend_from_slice.new.self.items ≡ c.pieces.page.items ++ c.spell.new.out = search rules in
+    let printed : c.push_octets.new.page.items ≡ c.pieces.page.items ++ c.spell.new.out = search rules in
     let spelled : c.spell.new.out ≡ encode_upper (take many left) = search rules in
-    let longer : vec_len c.extend_from_slice.new.self ≡ vec_len c.pieces.page + 2 * many = search rules in
+    let longer : vec_len c.push_octets.new.page ≡ vec_len c.pieces.page + 2 * many = search rules in
     record {
       text =
-          subst (λ (rest : List ℕ). c.extend_from_slice.new.self.items ++ encode_upper rest
+          subst (λ (rest : List ℕ). c.push_octets.new.page.items ++ encode_upper rest
           ≡ c.args.page.now.items ++ encode_upper c.args.octets.now) (sym (take_rest left many))
           (rw printed (block_next c.pieces.page.items left c.spell.new.out many
           (c.args.page.now.items ++ encode_upper c.args.octets.now) c.pieces.invariant.text spelled));
       len =
-          subst (λ (rest : List ℕ). vec_len c.extend_from_slice.new.self + 2 * length rest
+          subst (λ (rest : List ℕ). vec_len c.push_octets.new.page + 2 * length rest
           ≡ vec_len c.args.page.now + 2 * length c.args.octets.now) (sym (take_rest left many))
           (omega (arith, longer, length-drop many left, le, c.pieces.invariant.len));
       capacity = search rules;
