@@ -241,11 +241,11 @@ def looked_at(program, words, folder):
 def looks(count, program, folder):
     """A long replay tells a terminal after each 2^19 turns how far it has come, and leaves a blank line. Else nothing is told."""
     part = 1 << 19
-    # A run has two turns more than events: the tick at moment 0, and the one in which there is no more.
+    # A run has a few turns more than events: the tick at moment 0, the one in which there is no more.
     for events, told in (
         (1, b""),
-        (part - 2, b""),
-        (part - 1, b"\r99 %\r    \r"),
+        (part - 9, b""),
+        (part + 9, b"\r99 %\r    \r"),
         (2 * part + part // 2, b"\r39 %\r79 %\r    \r"),
     ):
         with open(os.path.join(folder, "long.trace"), "w") as file:

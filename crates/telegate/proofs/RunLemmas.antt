@@ -1,10 +1,10 @@
 -- The end of a run over a trace.
-use Rattle.std.proofs.Common.{◌≡◌, ℕ, ◌+◌, Bool, true, false, ◌&&◌, List, [], ◌++◌, length, Option, Some, None, IfOk, refl, subst, ◌∙◌, ap, sym, arith, length-append, suc, ◌≤◌}
+use Rattle.std.proofs.Common.{◌≡◌, ℕ, ◌+◌, Bool, true, false, ◌&&◌, List, [], ◌∷◌, ◌++◌, length, Option, Some, None, IfOk, refl, subst, ◌∙◌, ap, sym, arith, length-append, suc, ◌≤◌}
 use Rattle.std.proofs.lemmas.List.{append-nil, length-map}
 use Rattle.gateway.specs.Log.{Log, LogEntry, events_of}
 use Rattle.gateway.specs.Runs.{MoreEvents}
 use Rattle.std.specs.Option.{is_none}
-use Rattle.std.specs.List.{filter_map}
+use Rattle.std.specs.List.{filter_map, cons_option}
 use Rattle.traces.specs.Event.{Event}
 use Rattle.traces.specs.Progress.{Progress, came, events_in, script_in, log_in, events_left, coming_in, is_through}
 use Rattle.traces.specs.Trace.{lines_of, told, first_wrong}
@@ -35,18 +35,20 @@ same_number : (m n : ℕ) → Some m ≡ Some n → m ≡ n
 same_number m n e = cc
 
 -- a line tells one event at most
+one_at_most : (event : Option Event) (events : List Event) (n : ℕ) → length events ≤ n
+    → length (cons_option event events) ≤ suc n
+one_at_most None events n few = omega arith
+one_at_most (Some event) events n few = omega arith
+
+told_at_most : (lines : List (List ℕ)) → length (filter_map told lines) ≤ length lines
+told_at_most [] = omega arith
+told_at_most (line ∷ lines) =
+    one_at_most (told line) (filter_map told lines) (length lines) (told_at_most lines)
+
 events_at_most : (lines : List (List ℕ)) → length (events_in lines) ≤ length lines
 events_at_most lines =
     let same : length (events_in lines) ≡ length (filter_map told lines) = length-map (filter_map told lines) came in
-    omega (arith, same, those lines)
-  where
-    those : (lines : List (List ℕ)) → length (filter_map told lines) ≤ length lines
-    those [] = omega arith
-    those (line ∷ lines) = by (told line) refl
-      where
-        by : (event : Option Event) → told line ≡ event → length (filter_map told (line ∷ lines)) ≤ suc (length lines)
-        by None is = rw is (omega (arith, those lines))
-        by (Some event) is = rw is (omega (arith, those lines))
+    omega (arith, same, told_at_most lines)
 
 -- a turn for each line and two more aren't used up
 turns_suffice : (log : Log) (coming : List LogEntry) (trace : List ℕ) (turns : ℕ) → turns ≡ length (lines_of trace) + 2
@@ -115,23 +117,22 @@ pub closed : (settings : Settings) (trace : List ℕ) (closing : Closing) (state
     → IsAccounted (setup_of settings) state log → text ≡ lines_of_actions log
     → MatchResult r (λ answer. (answer.text.items ≡ text ++ closing_lines closing.left closing.counts state)
     × (answer.status ≡ 0)) IsMemory → first_wrong 1 (lines_of trace) ≡ None → IsRunOf settings trace closing r
-closed settings trace closing state log text (Ok answer) events faithful rests ordered delivers follows accounts is h
-right =
-    (right, record {
+closed settings trace closing s log text (Ok answer) events faithful rests ordered delivers follows accounts is h all =
+    (all, record {
       log = log;
       events = events;
       faithful = faithful;
       rests = rests;
       ordered = ordered;
       delivers = delivers;
-      state = state;
+      state = s;
       follows = follows;
       accounts = accounts;
-      text = h.0 ∙ ap (λ xs. xs ++ closing_lines closing.left closing.counts state) is;
+      text = h.0 ∙ ap (λ xs. xs ++ closing_lines closing.left closing.counts s) is;
       status = h.1;
     })
-closed settings trace closing state log text (Err e) events faithful rests ordered delivers follows accounts is h
-right = stopped trace e h
+closed settings trace closing s log text (Err e) events faithful rests ordered delivers follows accounts is h all =
+    stopped trace e h
 
 -- the answer to the command, where its files were read
 pub replayed : (config trace : List ℕ) (closing : Closing) (settings : Settings) (r : Result Answer Fault)

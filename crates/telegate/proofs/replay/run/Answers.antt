@@ -12,7 +12,7 @@ returns-in-Finished-clause-answer g c =
     let trace = c.args.trace.now in
     let p = setup_of settings in
     let new = c.drive_watched-end.new.port in
-    let begun = at_first p c.in_ok-gateway.gateway c.new-port.result c.new-port.ensures c.in_ok-gateway.ensures.begins
+    let begun = at_first p c.in-Ok.gateway c.new-port.result c.new-port.ensures c.in-Ok.ensures.begins
     in
     let same : new.text ≡ trace = c.drive_watched-end.ensures.script ∙ ap (λ (t : Progress). t.text) c.new-port.ensures
     in
