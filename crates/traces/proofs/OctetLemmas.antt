@@ -1,8 +1,12 @@
 -- Octets in hexadecimal: when they are right, and how many they are.
-use Rattle.std.proofs.Common.{◌≡◌, ℕ, ◌+◌, ◌-◌, ◌<◌, ◌*◌, ◌/◌, ◌%◌, ◌≤◌, nat_le, ◌&&◌, Bool, true, false, List, length, slice_index, Option, Some, None, Result, Ok, Err, is_some, if◌then◌else◌, refl, sym, ap, ◌∙◌, arith}
-use Rattle.std.specs.Prelude.{IsSome}
+use Rattle.std.proofs.Common.{◌≡◌, ℕ, ◌+◌, ◌<◌, ◌*◌, ◌/◌, ◌%◌, ◌≤◌, nat_le, ◌&&◌, Bool, true, false, List, length, slice_index, Option, Some, None, Result, Ok, Err, is_some, if◌then◌else◌, refl, sym, ap, ◌∙◌, arith, take, drop, ◌^◌}
+use Rattle.std.specs.Prelude.{IsSome, bit_or, nat_lt}
 use Rattle.std.specs.List.{AllPass, list_all}
+use Rattle.std.proofs.lemmas.Bool.{ltb-true}
+use Rattle.std.proofs.lemmas.List.{take-append-drop}
+use Rattle.std.proofs.lemmas.List.Folds.{list_all-append, list_all_more}
 use Rattle.std.proofs.lemmas.List.Sums.{AllPass-from_list_all, list_all-from_AllPass}
+use Rattle.std.proofs.lemmas.Nat.{le_or_l, le_or_r, or_lt}
 use Rattle.hex.specs.Hex.{decode_of, decode_pairs, hex_digit_value, is_hex_digit, pair_value}
 use Rattle.hex.specs.declared.error.FromHexError.{FromHexError}
 use Rattle.hex.proofs.HexLemmas.{decode_of-even, decode_of-ok, decode_of-digits}
@@ -126,37 +130,76 @@ pub pair_is : (a b i high low : ℕ) → hex_digit_value a ≡ Some high → hex
     → pair_value a b i ≡ Ok (high * 16 + low)
 pair_is a b i high low first second = rw (first, second) refl
 
--- a digit's value by arithmetic
+-- Values of octets: those of digits are below 16, and others aren't.
 
-bounds : (a b c : ℕ) → (nat_le a c && nat_le c b) ≡ true → (a ≤ c) × (c ≤ b)
-bounds a b c is = (grind arith, grind arith)
+abbrev pub HasValue : ℕ → ℕ → Type 0
+HasValue octet value = hex_digit_value octet ≡ (if nat_lt value 16 then Some value else None)
 
-pub record HasValue (c : ℕ) : Type 0 where
-  pub value : hex_digit_value c ≡ Some (c % 16 + 9 * (c / 64))
-  pub below : c % 16 + 9 * (c / 64) < 16
-
-pub digit_value_is : (c : ℕ) → is_hex_digit c ≡ true → HasValue c
-digit_value_is c is =
-    go (nat_le 65 c && nat_le c 70) (nat_le 97 c && nat_le c 102) (nat_le 48 c && nat_le c 57) refl refl refl
+digit_value : (octet value : ℕ) → HasValue octet value → is_hex_digit octet ≡ true
+    → (hex_digit_value octet ≡ Some value) × (value < 16)
+digit_value octet value has is = by (nat_lt value 16) refl has
   where
-    go : (x y z : Bool) → (nat_le 65 c && nat_le c 70) ≡ x → (nat_le 97 c && nat_le c 102) ≡ y
-        → (nat_le 48 c && nat_le c 57) ≡ z → HasValue c
-    go true y z e f g =
-        let low : 65 ≤ c = (bounds 65 70 c e).0 in
-        let high : c ≤ 70 = (bounds 65 70 c e).1 in
-        let same : c - 55 ≡ c % 16 + 9 * (c / 64) = omega arith in
-        record { value = rw e (ap Some same); below = omega arith }
-    go false true z e f g =
-        let low : 97 ≤ c = (bounds 97 102 c f).0 in
-        let high : c ≤ 102 = (bounds 97 102 c f).1 in
-        let same : c - 87 ≡ c % 16 + 9 * (c / 64) = omega arith in
-        record { value = rw (e, f) (ap Some same); below = omega arith }
-    go false false true e f g =
-        let low : 48 ≤ c = (bounds 48 57 c g).0 in
-        let high : c ≤ 57 = (bounds 48 57 c g).1 in
-        let same : c - 48 ≡ c % 16 + 9 * (c / 64) = omega arith in
-        record { value = rw (e, f, g) (ap Some same); below = omega arith }
-    go false false false e f g =
-        let never : is_hex_digit c ≡ false = rw (e, f, g) refl in
+    by : (b : Bool) → nat_lt value 16 ≡ b → hex_digit_value octet ≡ (if b then Some value else None)
+        → (hex_digit_value octet ≡ Some value) × (value < 16)
+    by true e has = (has, ltb-true value 16 e)
+    by false e has = let never : is_hex_digit octet ≡ false = ap is_some has in
         let odd : true ≡ false = sym is ∙ never in
         absurd (cc)
+
+-- the two digits of an octet
+pub record IsPair (text : List ℕ) (i high low : ℕ) : Type 0 where
+  pub first : hex_digit_value (slice_index text (2 * i)) ≡ Some high
+  pub second : hex_digit_value (slice_index text (2 * i + 1)) ≡ Some low
+  pub high_below : high < 16
+  pub low_below : low < 16
+
+pub pair_at : (text : List ℕ) (i high low : ℕ) → IsSome (octets_of text) → 2 * i + 1 < length text
+    → HasValue (slice_index text (2 * i)) high → HasValue (slice_index text (2 * i + 1)) low → IsPair text i high low
+pair_at text i high low is lt first second =
+    let all = octets_digits text is in
+    let one = digit_value (slice_index text (2 * i)) high first (all (2 * i) 0 (omega (arith, lt))) in
+    let two = digit_value (slice_index text (2 * i + 1)) low second (all (2 * i + 1) 0 lt) in
+    record { first = one.0; second = two.0; high_below = one.1; low_below = two.1 }
+
+value_is_digit : (octet value : ℕ) → HasValue octet value → nat_lt value 16 ≡ is_hex_digit octet
+value_is_digit octet value has = by (nat_lt value 16) has
+  where
+    by : (b : Bool) → hex_digit_value octet ≡ (if b then Some value else None) → b ≡ is_hex_digit octet
+    by true has = sym (ap is_some has)
+    by false has = sym (ap is_some has)
+
+-- the bits of several octets' values are below 16 where each is
+bits_below : (bits value : ℕ) → nat_lt (bit_or bits value) 16 ≡ (nat_lt bits 16 && nat_lt value 16)
+bits_below bits value = by (nat_lt bits 16) (nat_lt value 16) (nat_lt (bit_or bits value) 16) refl refl refl
+  where
+    by : (x y z : Bool) → nat_lt bits 16 ≡ x → nat_lt value 16 ≡ y → nat_lt (bit_or bits value) 16 ≡ z → z ≡ (x && y)
+    by true true true e f g = refl
+    by true true false e f g =
+        let low : bit_or bits value < 2 ^ 4 = or_lt 4 bits value (ltb-true bits 16 e) (ltb-true value 16 f) in
+        absurd (grind arith)
+    by true false false e f g = refl
+    by true false true e f g =
+        let low = ltb-true (bit_or bits value) 16 g in
+        let below : value < 16 = omega (arith, low, le_or_r bits value) in
+        absurd (grind arith)
+    by false y false e f g = refl
+    by false y true e f g =
+        let low = ltb-true (bit_or bits value) 16 g in
+        let below : bits < 16 = omega (arith, low, le_or_l bits value) in
+        absurd (grind arith)
+
+-- one octet more
+pub bits_more : (text : List ℕ) (i bits value : ℕ) → i < length text → HasValue (slice_index text i) value
+    → nat_lt bits 16 ≡ list_all is_hex_digit (take i text)
+    → nat_lt (bit_or bits value) 16 ≡ list_all is_hex_digit (take (i + 1) text)
+bits_more text i bits value lt has so_far =
+    bits_below bits value
+    ∙ ap (λ b. b && nat_lt value 16) so_far
+    ∙ ap (λ b. list_all is_hex_digit (take i text) && b) (value_is_digit (slice_index text i) value has)
+    ∙ sym (list_all_more is_hex_digit text i 0 lt)
+
+-- a text has digits alone where its front and the rest have
+pub digits_cut : (text : List ℕ) (n : ℕ)
+    → (list_all is_hex_digit (take n text) && list_all is_hex_digit (drop n text)) ≡ list_all is_hex_digit text
+digits_cut text n =
+    sym (list_all-append is_hex_digit (take n text) (drop n text)) ∙ ap (list_all is_hex_digit) (take-append-drop n text)

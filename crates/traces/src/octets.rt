@@ -1,5 +1,5 @@
 //! Octets in hexadecimal.
-ghost use Rattle.std.specs.Prelude.{◌≡◌, ◌*◌, ◌<◌, ◌≤◌, true, Some, IfOk, IfSome, IsSome, is_some, length, option_map, string_bytes, take};
+ghost use Rattle.std.specs.Prelude.{◌≡◌, ◌*◌, ◌≤◌, nat_lt, Some, None, IfOk, IfSome, IsSome, if◌then◌else◌, is_some, length, option_map, string_bytes, take};
 ghost use Rattle.hex.specs.Hex.{IsBytes, encode_upper, hex_digit_value, is_hex_digit};
 ghost use Rattle.std.specs.List.{list_all};
 ghost use Rattle.traces.specs.Fields.{octets_of};
@@ -9,6 +9,30 @@ use std::alloc::{AllocError, Global};
 
 /// The most octets of one event.
 const MOST_OCTETS: usize = 1024;
+
+/// Digits that are judged at once.
+const BLOCK: usize = 64;
+
+/// The value of each octet as a digit in hexadecimal, and 255 where it is none.
+#[rattlefmt::skip]
+static VALUES: [u8; 256] = [
+    255, 255, 255, 255, 255, 255, 255, 255, 255, 255, 255, 255, 255, 255, 255, 255,
+    255, 255, 255, 255, 255, 255, 255, 255, 255, 255, 255, 255, 255, 255, 255, 255,
+    255, 255, 255, 255, 255, 255, 255, 255, 255, 255, 255, 255, 255, 255, 255, 255,
+      0,   1,   2,   3,   4,   5,   6,   7,   8,   9, 255, 255, 255, 255, 255, 255, // `0` to `9`
+    255,  10,  11,  12,  13,  14,  15, 255, 255, 255, 255, 255, 255, 255, 255, 255, // `A` to `F`
+    255, 255, 255, 255, 255, 255, 255, 255, 255, 255, 255, 255, 255, 255, 255, 255,
+    255,  10,  11,  12,  13,  14,  15, 255, 255, 255, 255, 255, 255, 255, 255, 255, // `a` to `f`
+    255, 255, 255, 255, 255, 255, 255, 255, 255, 255, 255, 255, 255, 255, 255, 255,
+    255, 255, 255, 255, 255, 255, 255, 255, 255, 255, 255, 255, 255, 255, 255, 255,
+    255, 255, 255, 255, 255, 255, 255, 255, 255, 255, 255, 255, 255, 255, 255, 255,
+    255, 255, 255, 255, 255, 255, 255, 255, 255, 255, 255, 255, 255, 255, 255, 255,
+    255, 255, 255, 255, 255, 255, 255, 255, 255, 255, 255, 255, 255, 255, 255, 255,
+    255, 255, 255, 255, 255, 255, 255, 255, 255, 255, 255, 255, 255, 255, 255, 255,
+    255, 255, 255, 255, 255, 255, 255, 255, 255, 255, 255, 255, 255, 255, 255, 255,
+    255, 255, 255, 255, 255, 255, 255, 255, 255, 255, 255, 255, 255, 255, 255, 255,
+    255, 255, 255, 255, 255, 255, 255, 255, 255, 255, 255, 255, 255, 255, 255, 255,
+];
 
 /// 1 to 1,024 octets in hexadecimal, each as two digits of either case. `None` where the text is
 /// anything else; an `Err` is want of memory.
@@ -42,9 +66,17 @@ pub(crate) fn are_octets(text: &[u8]) -> bool
     are_digits(text)
 }
 
-/// Whether a text has digits alone. It looks at all of them, which takes less time than an end at
-/// the first other octet.
+/// Whether a text has digits alone.
 fn are_digits(text: &[u8]) -> bool
+    ensures { result ≡ list_all is_hex_digit text.now }
+{
+    let many = text.len() - text.len() % BLOCK;
+    are_many_digits(&text[..many]) && are_few_digits(&text[many..])
+}
+
+/// The same by arithmetic, since so the compiler takes many digits at a time. It looks at all of
+/// them, which takes less time than an end at the first other octet.
+fn are_many_digits(text: &[u8]) -> bool
     ensures { result ≡ list_all is_hex_digit text.now }
 {
     let mut all = true;
@@ -52,6 +84,17 @@ fn are_digits(text: &[u8]) -> bool
         all &= is_digit(*octet);
     }
     all
+}
+
+/// The same by the table, one digit at a time: no other octet has a value of four bits.
+fn are_few_digits(text: &[u8]) -> bool
+    ensures { result ≡ list_all is_hex_digit text.now }
+{
+    let mut bits = 0;
+    for octet in text {
+        bits |= value_of(*octet);
+    }
+    bits < 16
 }
 
 fn is_digit(octet: u8) -> bool
@@ -84,12 +127,9 @@ fn decode_right(text: &[u8], out: &mut [u8])
     }
 }
 
-/// The value of a digit. By arithmetic, since so the compiler takes many digits at a time: `0` is
-/// 3 * 16, `A` is 4 * 16 + 1 and `a` 6 * 16 + 1, and letters stand for 10 and more.
-fn value_of(digit: u8) -> u8
-    requires { is_hex_digit digit ≡ true }
-    ensures value { hex_digit_value digit ≡ Some result }
-    ensures below { result < 16 }
+/// The value of a digit, which is below 16. Another octet has a greater one.
+fn value_of(octet: u8) -> u8
+    ensures { hex_digit_value octet ≡ (if nat_lt result 16 then Some result else None) }
 {
-    digit % 16 + 9 * (digit / 64)
+    VALUES[octet as usize]
 }
