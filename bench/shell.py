@@ -4,15 +4,18 @@
     bench/shell.py [--program FILE]
 
 Every exit status, with what stands on standard output and on standard error; words that are no
-text; files that can't be read; outputs that fail; a live run that asks its line for its status,
-and ends with 3 where the line ends, or with --redial reaches it again; the script ./telegate, also through a link and where nothing
-is built; and the man page and the completions of packaging/, which name what `--help` names.
+text; files that can't be read; outputs that fail; how far a long replay has come, which a terminal
+is told and nothing else; a live run that asks its line for its status, and ends with 3 where the
+line ends, or with --redial reaches it again; the script ./telegate, also through a link and where
+nothing is built; and the man page and the completions of packaging/, which name what `--help`
+names.
 Sockets are on the loopback, their ports are the system's choice, and each process has 20 seconds.
 A line is printed for what failed; the last line is `N passed, M failed`, and the exit status is 1
 where M isn't 0. The program is the one that ./build makes.
 """
 import argparse
 import os
+import pty
 import re
 import shutil
 import socket
@@ -217,6 +220,47 @@ def failing_outputs(count, program, folder):
         count.judge(f"{words} with no standard error", done.returncode == status, done)
 
 
+def looked_at(program, words, folder):
+    """What a terminal for standard error was told, and the rest."""
+    ours, theirs = pty.openpty()
+    try:
+        done = ran([program, *words.split()], folder, stderr=theirs)
+    finally:
+        os.close(theirs)
+    told = b""
+    try:
+        while octets := os.read(ours, 4096):
+            told += octets
+    except OSError:
+        # The end of a terminal that nobody holds open any more.
+        pass
+    os.close(ours)
+    return told, done
+
+
+def looks(count, program, folder):
+    """A long replay tells a terminal after each 2^19 turns how far it has come, and leaves a blank line. Else nothing is told."""
+    part = 1 << 19
+    # A run has two turns more than events: the tick at moment 0, and the one in which there is no more.
+    for events, told in (
+        (1, b""),
+        (part - 2, b""),
+        (part - 1, b"\r99 %\r    \r"),
+        (2 * part + part // 2, b"\r39 %\r79 %\r    \r"),
+    ):
+        with open(os.path.join(folder, "long.trace"), "w") as file:
+            file.write("0 T\n" * events)
+        seen, done = looked_at(program, "replay good.toml long.trace", folder)
+        is_right = (done.returncode, text(done.stdout)) == (0, "0 > S 1049014A16\n") and seen == told
+        count.judge(f"{events} events looked at", is_right, (seen, done))
+        done = ran([program, *"replay good.toml long.trace".split()], folder)
+        is_right = (done.returncode, text(done.stdout), done.stderr) == (0, "0 > S 1049014A16\n", b"")
+        count.judge(f"{events} events, nobody looks", is_right, done)
+    for words, told, status in (("replay good.toml none.script", b"trace: line 1\r\n", 1), ("check good.toml", b"", 0)):
+        seen, done = looked_at(program, words, folder)
+        count.judge(f"{words} looked at", (seen, done.returncode) == (told, status), (seen, done))
+
+
 def free_place():
     """A port that was free a moment ago: settings name no port 0."""
     with socket.create_server(("127.0.0.1", 0)) as door:
@@ -400,7 +444,7 @@ def main():
         for name, held in FILES.items():
             with open(os.path.join(folder, name), "w") as file:
                 file.write(held)
-        for judge in (words_and_files, failing_outputs, live_runs, redialled_runs, versions, helps, scripts):
+        for judge in (words_and_files, failing_outputs, looks, live_runs, redialled_runs, versions, helps, scripts):
             try:
                 judge(count, program, folder)
             except (OSError, subprocess.SubprocessError) as fault:

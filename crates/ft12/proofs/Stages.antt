@@ -1,9 +1,11 @@
 -- What each octet gives, and what a piece gives with it.
-use Rattle.std.proofs.Common.{◌≡◌, ℕ, ◌+◌, ◌-◌, ◌^◌, min, ◌%◌, ◌<◌, ◌≤◌, List, [], ◌∷◌, ◌++◌, length, get_or, take, drop, sum, All, sym, ap, subst, ◌∙◌, append_assoc, arith, inl, inr}
+use Rattle.std.proofs.Common.{◌≡◌, ℕ, ◌+◌, ◌-◌, ◌^◌, min, ◌%◌, ◌<◌, ◌≤◌, List, [], ◌∷◌, ◌++◌, length, get_or, take, drop, sum, All, true, sym, ap, subst, ◌∙◌, append_assoc, arith, inl, inr}
 use Rattle.std.proofs.lemmas.Bool.{cases_lt}
-use Rattle.std.proofs.lemmas.List.{take_at, get_or_at, get_or_push, length-append, length_push, length-take-le, take-append-le, take-append-drop}
+use Rattle.std.proofs.lemmas.List.{take_at, take_all, nil_from_length, get_or_at, get_or_push, length-append, length_push, length-take-le, take-append-le, take-append-drop}
 use Rattle.std.proofs.lemmas.List.Elements.{All-append, All-cons, All-nil, All-push}
 use Rattle.ft12.specs.declared.frame.LinkSize.{LinkSize}
+use Rattle.ft12.specs.declared.frame.Frame.{Frame}
+use Rattle.ft12.specs.declared.frame.Frame.TheVariants as frame
 use Rattle.ft12.specs.declared.frame.Why.{Why}
 use Rattle.ft12.specs.declared.frame.Why.TheVariants as why
 use Rattle.ft12.specs.declared.frame.Front.TheVariants as front
@@ -15,12 +17,13 @@ use Rattle.ft12.specs.declared.stage.Fields.TheVariants as fields
 use Rattle.ft12.specs.declared.stage.Summed.{Summed}
 use Rattle.ft12.specs.declared.stage.Stage.{Stage}
 use Rattle.ft12.specs.declared.stage.Stage.TheVariants as stage
-use Rattle.ft12.specs.Spelling.{header, user, IsOctet}
+use Rattle.ft12.specs.Spelling.{header, user, checked, IsOctet, FitsAddress, IsLineFrame}
 use Rattle.ft12.specs.Reading.{IsProperBeginning, IsBeginning, IsFront}
 use Rattle.ft12.specs.Tail.{IsTail}
-use Rattle.ft12.specs.Stage.{fields_octets, IsFields, head, IsLen, IsSummed, summed_octets, IsStage, so_far}
+use Rattle.ft12.specs.Stage.{fields_octets, IsFields, head, IsLen, IsSummed, summed_octets, IsStage, so_far, is_end}
+use Rattle.ft12.specs.Assembly.{IsEndDue}
 use Rattle.ft12.proofs.Beginnings.{proper_nil, beginning_from_proper, beginning_front}
-use Rattle.ft12.proofs.Frames.{user_fits}
+use Rattle.ft12.proofs.Frames.{length-user, user_fits}
 use Rattle.ft12.proofs.Returns.{header_1, header_2, header_3, fixed_more, fixed_sum, fixed_end, variable_more, variable_sum, variable_end}
 
 -- ---- octets, sum and end after what stands before the control octet
@@ -133,6 +136,51 @@ end_wrong size s kept o d octet apart =
       sum_at_end size s kept o d,
       λ e. apart (sym at.end_at ∙ e),
     ))
+
+-- with the end octet they are a whole frame
+whole_by : (size : LinkSize) (kind : Kind) (len c a total : ℕ) (kept : List ℕ) → IsLen size kind len
+    → FitsAddress size c a → All IsOctet kept → length (user size c a kept) ≡ len → total ≡ sum (user size c a kept) % 256
+    → (frame : Frame) × IsLineFrame size frame (((head kind len ++ user size c a kept) ++ total ∷ []) ++ 0x16 ∷ [])
+whole_by size Fixed len c a total kept long fits octets all sum_is =
+    let none : kept ≡ [] = nil_from_length kept (omega (arith, length-user size c a kept, all, long)) in (
+      frame.Fixed c a,
+      record {
+        fits = fits;
+        spelled =
+            joined (0x10 ∷ []) (user size c a kept) total 0x16
+            ∙ ap (λ (t : ℕ). 0x10 ∷ user size c a kept ++ t ∷ 0x16 ∷ []) sum_is
+            ∙ ap (λ (k : List ℕ). 0x10 ∷ checked (user size c a k)) none;
+      },
+    )
+whole_by size Variable len c a total kept long fits octets all sum_is = (
+  frame.Data c a (record { items = kept }),
+  record {
+    fits = (fits, octets, omega (arith, all, long.1));
+    spelled =
+        joined (header len) (user size c a kept) total 0x16
+        ∙ ap (λ (t : ℕ). header len ++ (user size c a kept ++ t ∷ 0x16 ∷ [])) sum_is
+        ∙ ap (λ (n : ℕ). header n ++ checked (user size c a kept)) (sym all);
+  },
+)
+
+pub end_due : (size : LinkSize) (s : Stage) (kept : List ℕ) → IsStage size s kept → is_end s ≡ true
+    → IsEndDue size (so_far size s kept)
+end_due size (stage.End s) kept h e =
+    let x : List ℕ = summed_octets size s kept ++ s.sum ∷ [] in
+    let whole = whole_by size s.kind s.len s.c s.a s.sum kept h.len_fits h.fits h.octets h.all h.sum_is in
+    let long : length (x ++ 0x16 ∷ []) ≡ length x + 1 = length_push x 0x16 in (
+      whole.0,
+      (
+        subst (IsLineFrame size whole.0) (sym (take_all (length x + 1) (x ++ 0x16 ∷ []) (omega (arith, long)))) whole.1,
+        omega (arith, long),
+      ),
+    )
+end_due size stage.Start kept h e = let bad : ⊥ = cc in absurd bad
+end_due size stage.Length kept h e = let bad : ⊥ = cc in absurd bad
+end_due size (stage.LengthAgain len) kept h e = let bad : ⊥ = cc in absurd bad
+end_due size (stage.SecondStart len) kept h e = let bad : ⊥ = cc in absurd bad
+end_due size (stage.User s) kept h e = let bad : ⊥ = cc in absurd bad
+end_due size (stage.Sum s) kept h e = let bad : ⊥ = cc in absurd bad
 
 -- ---- what is kept is the beginning of a frame
 

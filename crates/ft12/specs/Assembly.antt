@@ -1,10 +1,11 @@
 -- Frames out of pieces of a stream of octets.
-use Rattle.std.specs.Prelude.{◌≡◌, ℕ, ◌+◌, ◌-◌, List, [], ◌++◌, length, Option, Some, None}
+use Rattle.std.specs.Prelude.{◌≡◌, ℕ, ◌+◌, ◌-◌, ◌^◌, ◌<◌, min, List, [], ◌∷◌, take, ◌++◌, length, Option, Some, None}
 use Rattle.ft12.specs.declared.frame.LinkSize.{LinkSize}
 use Rattle.ft12.specs.declared.frame.Frame.{Frame}
 use Rattle.ft12.specs.declared.frame.Front.TheVariants as front
 use Rattle.ft12.specs.declared.assembling.Heard.{Heard}
 use Rattle.ft12.specs.declared.assembling.Heard.TheVariants as heard
+use Rattle.ft12.specs.declared.frame.Why.{Why}
 use Rattle.ft12.specs.Reading.{IsFront}
 use Rattle.ft12.specs.Spelling.{spelling}
 
@@ -35,6 +36,24 @@ looked_at (Some so_far) n (heard.Never place why) = place + 1 - length so_far
 looked_at (Some so_far) n (heard.Frame frame) = n
 looked_at (Some so_far) n heard.More = n
 looked_at (Some so_far) n heard.Deaf = n
+
+-- with the end octet these are a whole frame
+abbrev pub IsEndDue : LinkSize → List ℕ → Type 0
+IsEndDue size octets =
+    (frame : Frame) × IsFront size (octets ++ 0x16 ∷ []) (front.Whole frame (length octets + 1))
+
+-- What n octets of a piece are, after the octets so far, where no frame ends in them: with these
+-- the proper beginning of a frame, of which the end octet is due where octets of the piece are left.
+-- Or the piece goes on to begin none, and then it is taken as a whole, and none is looked at after
+-- the one that shows it. So many were looked at before and after.
+abbrev pub HearsInner : LinkSize → (so_far piece : List ℕ) → (n before looked : ℕ) →
+    Option (List ℕ) → Type 0
+HearsInner size so_far piece n before looked (Some after) =
+    IsFront size after front.More × (after ≡ so_far ++ take n piece)
+    × (looked ≡ min (before + n) (2 ^ 64 - 1)) × (n < length piece → IsEndDue size after)
+HearsInner size so_far piece n before looked None =
+    (place : ℕ) × (why : Why) × IsFront size (so_far ++ piece) (front.Never place why)
+    × (n ≡ length piece) × (looked ≡ min (before + (place + 1 - length so_far)) (2 ^ 64 - 1))
 
 -- The whole frame is heard, its octets are taken, and the octets behind it begin the next one.
 pub record IsHeardWhole (size : LinkSize) (frame : Frame) (n : ℕ) (h : Heard)

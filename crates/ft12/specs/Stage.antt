@@ -1,5 +1,5 @@
 -- What the assembler has kept of the beginning of a frame, as the octets that it stands for.
-use Rattle.std.specs.Prelude.{◌≡◌, ℕ, ◌+◌, ◌%◌, ◌<◌, ◌≤◌, List, [], ◌∷◌, ◌++◌, length, sum, All}
+use Rattle.std.specs.Prelude.{◌≡◌, ℕ, ◌+◌, ◌%◌, ◌<◌, ◌≤◌, List, [], ◌∷◌, ◌++◌, length, sum, All, Bool, true, false}
 use Rattle.ft12.specs.declared.frame.LinkSize.{LinkSize}
 use Rattle.ft12.specs.declared.frame.LinkSize.TheVariants.{Two}
 use Rattle.ft12.specs.declared.frame.Frame.{Frame}
@@ -103,3 +103,18 @@ Steps size octets kept (step.Whole f) =
     IsFront size octets (front.Whole (frame_with f kept) (length octets)) × HasData f kept
 Steps size octets kept (step.More s) = IsStage size s kept × (so_far size s kept ≡ octets)
 Steps size octets kept (step.Never place why) = IsFront size octets (front.Never place why)
+
+-- the end octet is due
+abbrev pub is_end : Stage → Bool
+is_end (stage.End s) = true
+is_end stage = false
+
+-- No frame can end at this octet: the end octet isn't due, and it isn't the single character.
+abbrev pub IsInner : Stage → (octet : ℕ) → Type 0
+IsInner stage.Start octet = octet ≡ 0xE5 → ⊥
+IsInner (stage.End s) octet = ⊥
+IsInner stage octet = Unit {0}
+
+abbrev pub EndsNoFrame : Step → Type 0
+EndsNoFrame (step.Whole f) = ⊥
+EndsNoFrame step = Unit {0}

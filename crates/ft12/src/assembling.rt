@@ -1,8 +1,8 @@
 //! Frames out of pieces of a stream.
 
-ghost use Rattle.std.specs.Prelude.{◌≡◌, ◌+◌, ◌-◌, ◌^◌, ◌≤◌, ◌<◌, ◌↔◌, [], length, min, Some, None, IfSome, IfNone, IsTrue};
+ghost use Rattle.std.specs.Prelude.{◌≡◌, ◌+◌, ◌-◌, ◌^◌, ◌≤◌, ◌<◌, ◌↔◌, [], length, min, slice_index, Some, None, IfSome, IfNone, IsTrue};
 ghost use Rattle.ft12.specs.declared.assembling.Heard.TheVariants.{Deaf};
-ghost use Rattle.ft12.specs.Assembly.{Hears, looked_at};
+ghost use Rattle.ft12.specs.Assembly.{Hears, HearsInner, looked_at};
 
 use crate::frame::{Frame, LinkSize, Why};
 use crate::stage::{Data, Stage, Step};
@@ -130,6 +130,44 @@ impl Assembler {
         }
         self.stage = Some(stage);
         (piece.len(), Heard::More)
+    }
+
+    /// Takes octets of a piece up to the one at which the end of a frame is due, and says how many:
+    /// all where it isn't due within the piece. The others are left to be fed. No frame ends in
+    /// those that it takes, so that it makes no place for one; and where they begin none, all are
+    /// taken and none is looked at, until `clear`.
+    ///
+    /// Asks that the single character isn't next: `feed` hears that.
+    pub fn feed_inner(&mut self, piece: &[u8]) -> usize
+        requires { self.old.so_far ≡ Some [] → slice_index piece.now 0 ≡ 0xE5 → ⊥ }
+        ensures listening { IfSome self.old.so_far (λ so_far. HearsInner self.old.size so_far
+            piece.now result self.old.looked self.new.looked self.new.so_far) }
+        ensures deaf { IfNone self.old.so_far
+            ((result ≡ length piece.now) × (self.new.so_far ≡ None)
+            × (self.new.looked ≡ self.old.looked)) }
+        ensures size { self.new.size ≡ self.old.size }
+        ensures within { result ≤ length piece.now }
+    {
+        let Some(mut stage) = self.stage else {
+            return piece.len();
+        };
+        for (i, octet) in piece.iter().enumerate() {
+            if stage.is_end() {
+                self.stage = Some(stage);
+                return i;
+            }
+            let octet = look(&mut self.looked, octet);
+            match stage.with_octet(self.size, &mut self.kept, octet) {
+                Step::More(next) => stage = next,
+                Step::Never(_, _) => {
+                    self.stage = None;
+                    return piece.len();
+                }
+                Step::Whole(_) => unreachable!(),
+            }
+        }
+        self.stage = Some(stage);
+        piece.len()
     }
 
     /// Begins afresh: what came since the last frame is forgotten.

@@ -3,7 +3,7 @@
 ghost use Rattle.std.specs.Prelude.{◌≡◌, ℕ, List, ◌+◌, ◌≤◌, ◌<◌, [], ◌∷◌, ◌++◌, length};
 ghost use Rattle.ft12.specs.declared.frame.LinkSize.{LinkSize};
 ghost use Rattle.ft12.specs.Spelling.{address_len};
-ghost use Rattle.ft12.specs.Stage.{fields_octets, IsFields, head, IsStage, so_far, Steps};
+ghost use Rattle.ft12.specs.Stage.{fields_octets, IsFields, head, IsStage, so_far, Steps, is_end, IsInner, EndsNoFrame};
 
 use crate::frame::{Frame, LinkSize, Why};
 use crate::writing::{END, SINGLE, START_DATA, START_FIXED};
@@ -204,8 +204,9 @@ impl Summed {
 
     /// What the octet after those summed gives.
     fn at_sum(self, octet: u8) -> Step
-        ensures { (size : LinkSize) (kept : List ℕ) → IsSummed size self kept →
+        ensures steps { (size : LinkSize) (kept : List ℕ) → IsSummed size self kept →
             Steps size (summed_octets size self kept ++ octet ∷ []) kept result }
+        ensures inner { EndsNoFrame result }
     {
         if octet == self.sum {
             Step::More(Stage::End(self))
@@ -232,10 +233,19 @@ impl Summed {
 }
 
 impl Stage {
+    /// Whether the end octet is due.
+    pub(crate) fn is_end(self) -> bool
+        ensures { result ≡ is_end self }
+    {
+        matches!(self, Stage::End(_))
+    }
+
     /// What one more octet gives.
     pub(crate) fn with_octet(self, size: LinkSize, kept: &mut Data, octet: u8) -> Step
         requires { IsStage size self kept.old.items }
-        ensures { Steps size (so_far size self kept.old.items ++ octet ∷ []) kept.new.items result }
+        ensures steps { Steps size (so_far size self kept.old.items ++ octet ∷ [])
+            kept.new.items result }
+        ensures inner { IsInner self octet → EndsNoFrame result }
     {
         match self {
             Stage::Start => at_start(size, octet),
@@ -250,7 +260,8 @@ impl Stage {
 }
 
 fn at_start(size: LinkSize, octet: u8) -> Step
-    ensures { Steps size (octet ∷ []) [] result }
+    ensures steps { Steps size (octet ∷ []) [] result }
+    ensures inner { (octet ≡ 0xE5 → ⊥) → EndsNoFrame result }
 {
     match octet {
         SINGLE => Step::Whole(BareFrame::Single),
@@ -266,7 +277,8 @@ fn at_start(size: LinkSize, octet: u8) -> Step
 }
 
 fn at_length(size: LinkSize, octet: u8) -> Step
-    ensures { Steps size (0x68 ∷ octet ∷ []) [] result }
+    ensures steps { Steps size (0x68 ∷ octet ∷ []) [] result }
+    ensures inner { EndsNoFrame result }
 {
     if usize::from(octet) < 1 + size.octets() {
         Step::Never(1, Why::LengthSmall)
@@ -276,8 +288,9 @@ fn at_length(size: LinkSize, octet: u8) -> Step
 }
 
 fn at_length_again(len: u8, octet: u8) -> Step
-    ensures { (size : LinkSize) → 1 + address_len size ≤ len →
+    ensures steps { (size : LinkSize) → 1 + address_len size ≤ len →
         Steps size (0x68 ∷ len ∷ octet ∷ []) [] result }
+    ensures inner { EndsNoFrame result }
 {
     if octet == len {
         Step::More(Stage::SecondStart { len })
@@ -287,8 +300,9 @@ fn at_length_again(len: u8, octet: u8) -> Step
 }
 
 fn at_second_start(len: u8, octet: u8) -> Step
-    ensures { (size : LinkSize) → 1 + address_len size ≤ len →
+    ensures steps { (size : LinkSize) → 1 + address_len size ≤ len →
         Steps size (0x68 ∷ len ∷ len ∷ octet ∷ []) [] result }
+    ensures inner { EndsNoFrame result }
 {
     if octet == START_DATA {
         Step::More(Stage::User(Summing {

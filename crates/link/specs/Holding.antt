@@ -1,5 +1,5 @@
 -- What a `Master` holds, as the machine's state, and what fits the line.
-use Rattle.std.specs.Prelude.{ℕ, ◌<◌, ◌==◌, ◌||◌, Bool, true, false, not, List, [], ◌∷◌, All, length, ◌++◌, Option, Some, None, option_map, if◌then◌else◌}
+use Rattle.std.specs.Prelude.{ℕ, ◌≡◌, ◌<◌, ◌==◌, ◌||◌, Bool, true, false, not, List, [], ◌∷◌, All, length, take, ◌++◌, Option, Some, None, option_map, if◌then◌else◌}
 use Rattle.ft12.specs.declared.frame.LinkSize.{LinkSize}
 use Rattle.ft12.specs.declared.frame.Frame.{Frame}
 use Rattle.ft12.specs.declared.frame.Front.{Front}
@@ -45,6 +45,11 @@ abbrev pub so_far_after : (front : List ℕ → Front) → (so_far : Option (Lis
 so_far_after front None piece = None
 so_far_after front (Some before) piece = open_octets (before ++ piece) (front (before ++ piece))
 
+-- one more octet may complete a frame
+abbrev pub MayEnd : (front : List ℕ → Front) → (so_far : Option (List ℕ)) → Type 0
+MayEnd front so_far =
+    (last : ℕ) × (frame : Frame) × (frame_after front so_far (last ∷ []) ≡ Some frame)
+
 -- no octet has come
 abbrev pub is_fresh : (so_far : Option (List ℕ)) → Bool
 is_fresh None = false
@@ -70,6 +75,22 @@ completed_from front (Some o) octets = frame_after front o.heard octets
 
 abbrev pub completed : (front : List ℕ → Front) → Primary → List ℕ → Option Frame
 completed front p octets = completed_from front p.outstanding octets
+
+-- one more octet may be the last of the answer
+abbrev pub MayComplete : (front : List ℕ → Front) → Primary → Type 0
+MayComplete front p = (last : ℕ) × (frame : Frame) × (completed front p (last ∷ []) ≡ Some frame)
+
+-- the first n of these octets came in the exchange, and more of them
+abbrev pub gathered_in : (n : ℕ) → List ℕ → Outstanding → Outstanding
+gathered_in n octets o = record {
+  request = o.request;
+  since = o.since;
+  heard = option_map (λ before. before ++ take n octets) o.heard;
+  has_octets = o.has_octets || not (length octets == 0);
+}
+
+abbrev pub gathered : (n : ℕ) → List ℕ → Primary → Primary
+gathered n octets p = record p { outstanding = option_map (gathered_in n octets) p.outstanding }
 
 abbrev pub FitsLink : LinkSize → Link → Type 0
 FitsLink size (Held fcb service missed) = FitsService size service

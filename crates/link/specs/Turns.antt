@@ -52,12 +52,16 @@ abbrev pub polls_from : (burst : ℕ) → (may_poll : Bool) → (fcb : Bool) →
     Option Wanted
 polls_from burst may_poll fcb s phase = if may_poll then wanted_poll burst fcb s.acd phase else None
 
+-- an offered command, and then polls
+abbrev pub wanted_command : (fcb : Bool) → (asdu : List ℕ) → Option Wanted
+wanted_command fcb asdu = wants (Counted fcb (Command asdu)) Polling
+
 -- the offered command, where the station takes one, or else polls
 abbrev pub commands_from : (burst : ℕ) → (may_poll : Bool) → (fcb : Bool) → StationState →
     Option (List ℕ) → Option Wanted
 commands_from burst may_poll fcb s (Some asdu) =
     if s.dfc then polls_from burst may_poll fcb s Polling
-    else wants (Counted fcb (Command asdu)) Polling
+    else wanted_command fcb asdu
 commands_from burst may_poll fcb s None = polls_from burst may_poll fcb s Polling
 
 -- what an up station's turn goes on with

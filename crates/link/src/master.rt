@@ -1,5 +1,5 @@
 //! The primary station of unbalanced transmission (IEC 60870-5-2).
-ghost use Rattle.std.specs.Prelude.{◌≡◌, ◌<◌, ◌≤◌, ◌+◌, List, [], All, length, map, None, Some, IfSome, IfNone, IfOk, option_map, if◌then◌else◌};
+ghost use Rattle.std.specs.Prelude.{◌≡◌, ◌<◌, ◌≤◌, ◌+◌, List, [], All, length, map, take, drop, slice_index, ◌++◌, true, false, None, Some, IfSome, IfNone, IfOk, option_map, if◌then◌else◌};
 ghost use Rattle.link.specs.Counts.{saturated};
 ghost use Rattle.link.specs.Turns.{Over};
 ghost use Rattle.ft12.specs.Borrowed.{owned, FitsMemory};
@@ -7,7 +7,7 @@ ghost use Rattle.ft12.specs.Fronts.{front_of};
 ghost use Rattle.link.specs.Requests.{IsUserData, FitsAddress, FitsAsked};
 ghost use Rattle.link.specs.Primary.{start, choice, station_asked, after_choice, asked, sending, request_of, acd_of, dfc_of, phase_after, station_answered, heard_from, heard_outcome, received, received_outcome, station_unanswered, unanswered, miss_outcome, timed_out, due_outcome, is_sending_command, may_offer, offered_to, without_offer, withdrawn};
 ghost use Rattle.link.specs.declared.outcome.Outcome.TheVariants as outcome;
-ghost use Rattle.link.specs.Holding.{outstanding_of, IsFittingChoice, frame_after, so_far_after, is_at_front, noted, completed};
+ghost use Rattle.link.specs.Holding.{outstanding_of, IsFittingChoice, frame_after, so_far_after, is_at_front, noted, completed, gathered, MayEnd, MayComplete};
 
 use crate::answer::Answer;
 use crate::asdu::CommandOctets;
@@ -73,6 +73,7 @@ impl Model for Master {
 
 impl StationState {
     /// A command that is put on the line isn't offered any more.
+    #[inline]
     fn ask(&mut self, request: &Asked)
         ensures { self.new ≡ station_asked self.old request.now }
     {
@@ -100,6 +101,7 @@ impl StationState {
 }
 
 #[tactic(auto, unfolding(crate::specs::Primary::acd_of))]
+#[inline]
 fn acd_in(frame: FrameRef<'_>) -> bool
     ensures { result ≡ acd_of (owned frame.entry) }
 {
@@ -110,6 +112,7 @@ fn acd_in(frame: FrameRef<'_>) -> bool
 }
 
 #[tactic(auto, unfolding(crate::specs::Primary::dfc_of))]
+#[inline]
 fn dfc_in(frame: FrameRef<'_>) -> bool
     ensures { result ≡ dfc_of (owned frame.entry) }
 {
@@ -119,6 +122,7 @@ fn dfc_in(frame: FrameRef<'_>) -> bool
     }
 }
 
+#[inline]
 fn phase_of(answer: &Answer<'_>, phase: Phase) -> Phase
     ensures { result ≡ phase_after answer.now phase }
 {
@@ -128,12 +132,14 @@ fn phase_of(answer: &Answer<'_>, phase: Phase) -> Phase
     }
 }
 
+#[inline]
 fn phase_missed(again: bool, phase: Phase) -> Phase
     ensures { result ≡ if again then phase else Over }
 {
     if again { phase } else { Phase::Over }
 }
 
+#[inline]
 fn sends_command(outstanding: &Option<Awaited>) -> bool
     ensures { result ≡ is_sending_command
         (option_map (λ a. outstanding_of a None) outstanding.now) }
@@ -144,6 +150,7 @@ fn sends_command(outstanding: &Option<Awaited>) -> bool
     }
 }
 
+#[inline]
 fn spoilt_after(spoilt: u64, awaited: &Awaited) -> u64
     ensures { result ≡ if awaited.now.has_octets then saturated (spoilt + 1) else spoilt }
 {
@@ -175,6 +182,42 @@ fn frame_in(assembler: &mut Assembler, piece: &[u8]) -> Option<Frame>
         Heard::Frame(frame) => Some(frame),
         Heard::More | Heard::Never(_, _) | Heard::Deaf => None,
     }
+}
+
+/// The single character (IEC 60870-5-1, 6.2.4.2): the one frame that is whole by its first octet.
+const SINGLE: u8 = 0xE5;
+
+/// Whether the single character is the first octet.
+#[inline]
+fn is_single(octets: &[u8]) -> bool
+    ensures other { result ≡ false → slice_index octets.now 0 ≡ 0xE5 → ⊥ }
+    ensures some { result ≡ true → 0 < length octets.now }
+{
+    match octets.first() {
+        Some(octet) => *octet == SINGLE,
+        None => false,
+    }
+}
+
+/// How many octets of a piece come before one that may end a frame: these are taken.
+#[inline]
+fn inner_in(assembler: &mut Assembler, piece: &[u8]) -> usize
+    ensures within { result ≤ length piece.now }
+    ensures all { result ≡ length piece.now →
+        (frame_after (front_of assembler.old.size) assembler.old.so_far piece.now ≡ None)
+        × (assembler.new.so_far
+        ≡ so_far_after (front_of assembler.old.size) assembler.old.so_far piece.now) }
+    ensures rest { result < length piece.now → assembler.new.so_far
+        ≡ option_map (λ before. before ++ take result piece.now) assembler.old.so_far }
+    ensures due { result < length piece.now →
+        MayEnd (front_of assembler.old.size) assembler.new.so_far }
+    ensures size { assembler.new.size ≡ assembler.old.size }
+{
+    front_is_computed();
+    if assembler.is_empty() && is_single(piece) {
+        return 0;
+    }
+    assembler.feed_inner(piece)
 }
 
 impl Master {
@@ -230,6 +273,7 @@ impl Master {
         self.spoilt
     }
 
+    #[inline]
     fn choose(&self, may_poll: bool) -> Option<Chosen>
         ensures chosen { result ≡ choice self.now may_poll }
         ensures fits { IsFittingChoice self.now result }
@@ -255,6 +299,17 @@ impl Master {
         if self.outstanding.is_some() {
             return None;
         }
+        self.begin_next(now, may_poll)
+    }
+
+    /// As `next`, while no request is outstanding. It stands apart, so that a call while one is
+    /// makes no place for another.
+    #[inline(never)]
+    fn begin_next(&mut self, now: u64, may_poll: bool) -> Option<Request>
+        requires { self.old.outstanding ≡ None }
+        ensures state { self.new ≡ asked self.old now may_poll }
+        ensures request { result ≡ option_map (request_of self.old) (sending self.old may_poll) }
+    {
         match self.choose(may_poll) {
             Some(chosen) => Some(self.begin(now, chosen)),
             None => {
@@ -265,6 +320,7 @@ impl Master {
         }
     }
 
+    #[inline]
     fn begin(&mut self, now: u64, chosen: Chosen) -> Request
         requires { IsFittingChoice self.old (Some chosen) }
         ensures state { self.new ≡ after_choice self.old now (Some chosen) }
@@ -296,6 +352,7 @@ impl Master {
     }
 
     /// Whether a request is outstanding, and no octet of its answer has come.
+    #[inline]
     fn is_at_front(&self) -> bool
         ensures { result ≡ is_at_front self.now }
     {
@@ -327,11 +384,39 @@ impl Master {
     }
 
     /// Octets come in the exchange.
+    #[inline]
     fn note(&mut self, octets: &[u8])
         ensures { self.new ≡ noted octets.now self.old }
     {
         if let Some(awaited) = &mut self.outstanding {
             awaited.note(octets);
+        }
+    }
+
+    /// Gathers octets of the line up to one that may be the last of the answer, and says how many:
+    /// all where none may. The others are to be gathered as well ([`Master::gather`]), and then what
+    /// is heard is what all of them say. It makes no place for a frame, so it is the first call for
+    /// octets that aren't a whole answer.
+    pub fn gather_inner(&mut self, octets: &[u8]) -> usize
+        ensures within { result ≤ length octets.now }
+        ensures all { result ≡ length octets.now → (self.new
+            ≡ received (front_of self.old.settings.size) self.old octets.now)
+            × (received_outcome (front_of self.old.settings.size) self.old octets.now
+            ≡ outcome.None) }
+        ensures state { result < length octets.now →
+            self.new ≡ gathered result octets.now self.old }
+        ensures rest { result < length octets.now →
+            (received (front_of self.old.settings.size) self.new (drop result octets.now)
+            ≡ received (front_of self.old.settings.size) self.old octets.now)
+            × (received_outcome (front_of self.old.settings.size) self.new (drop result octets.now)
+            ≡ received_outcome (front_of self.old.settings.size) self.old octets.now) }
+        ensures due { result < length octets.now →
+            MayComplete (front_of self.old.settings.size) self.new }
+    {
+        self.note(octets);
+        match &self.outstanding {
+            Some(awaited) if !awaited.deaf => inner_in(&mut self.assembler, octets),
+            _ => octets.len(),
         }
     }
 
@@ -444,6 +529,7 @@ impl Master {
     }
 
     /// Whether the station has no command that isn't done.
+    #[inline]
     fn is_free(&self, station: usize) -> bool
         requires { station < length self.now.stations }
         ensures { result ≡ may_offer self.now station }

@@ -1,6 +1,7 @@
 //! Turns: what is sent next, and to which station.
 ghost use Rattle.std.specs.Prelude.{◌≡◌, ◌<◌, List, length, IfSome};
-ghost use Rattle.link.specs.Turns.{is_poll, wanted_poll, polls_from, commands_from, next_of, wanted, station_at, place_after, first_after};
+ghost use Rattle.link.specs.Answers.{Counted};
+ghost use Rattle.link.specs.Turns.{wants, is_poll, wanted_poll, wanted_command, polls_from, commands_from, next_of, wanted, station_at, place_after, first_after};
 
 use crate::asdu::CommandOctets;
 use crate::procedure::Link;
@@ -52,6 +53,7 @@ pub struct Chosen {
 }
 
 /// Whether the service is a poll.
+#[inline]
 pub(crate) fn poll_service(service: &Service) -> bool
     ensures { result ≡ is_poll service.now }
 {
@@ -61,6 +63,7 @@ pub(crate) fn poll_service(service: &Service) -> bool
     }
 }
 
+#[inline]
 fn poll_wanted(burst: u8, fcb: bool, acd: bool, phase: Phase) -> Option<Wanted>
     ensures { result ≡ wanted_poll burst fcb acd phase }
 {
@@ -81,7 +84,30 @@ fn poll_wanted(burst: u8, fcb: bool, acd: bool, phase: Phase) -> Option<Wanted>
     }
 }
 
+/// An offered command. It stands apart, so that a station without one makes no place for it.
+#[inline(never)]
+fn command_wanted(command: &CommandOctets, fcb: bool) -> Option<Wanted>
+    ensures { result ≡ wanted_command fcb command.now }
+{
+    Some(Wanted {
+        request: Asked::Counted(fcb, Service::Command(command.copied())),
+        following: Phase::Polling,
+    })
+}
+
+/// An unanswered service once more. It stands apart, since it has place for a command as well.
+#[inline(never)]
+fn held_wanted(service: &Service, fcb: bool, following: Phase) -> Option<Wanted>
+    ensures { result ≡ wants (Counted fcb service.now) following }
+{
+    Some(Wanted {
+        request: Asked::Counted(fcb, service.copied()),
+        following,
+    })
+}
+
 impl StationState {
+    #[inline]
     fn polls_wanted(&self, burst: u8, may_poll: bool, fcb: bool, phase: Phase) -> Option<Wanted>
         ensures { result ≡ polls_from burst may_poll fcb self.now phase }
     {
@@ -92,18 +118,17 @@ impl StationState {
         }
     }
 
+    #[inline]
     fn commands_wanted(&self, burst: u8, may_poll: bool, fcb: bool) -> Option<Wanted>
         ensures { result ≡ commands_from burst may_poll fcb self.now self.now.offered }
     {
         match &self.offered {
-            Some(command) if !self.dfc => Some(Wanted {
-                request: Asked::Counted(fcb, Service::Command(command.copied())),
-                following: Phase::Polling,
-            }),
+            Some(command) if !self.dfc => command_wanted(command, fcb),
             _ => self.polls_wanted(burst, may_poll, fcb, Phase::Polling),
         }
     }
 
+    #[inline]
     fn next_wanted(&self, burst: u8, may_poll: bool, fcb: bool, phase: Phase) -> Option<Wanted>
         ensures { result ≡ next_of burst may_poll fcb self.now phase }
     {
@@ -117,6 +142,7 @@ impl StationState {
     }
 
     /// What the station's turn has next.
+    #[inline]
     pub(crate) fn wants(
         &self,
         burst: u8,
@@ -137,23 +163,16 @@ impl StationState {
             }),
             (Link::Next(fcb), phase) => self.next_wanted(burst, may_poll, *fcb, phase),
             (Link::Held(fcb, service, _), Phase::Starting) if may_poll || !poll_service(service) =>
-                {
-                    Some(Wanted {
-                        request: Asked::Counted(*fcb, service.copied()),
-                        following: Phase::Commanding,
-                    })
-                }
+                { held_wanted(service, *fcb, Phase::Commanding) }
             (Link::Held(_, _, _), Phase::Starting) => None,
-            (Link::Held(fcb, service, _), phase) if again => Some(Wanted {
-                request: Asked::Counted(*fcb, service.copied()),
-                following: phase,
-            }),
+            (Link::Held(fcb, service, _), phase) if again => held_wanted(service, *fcb, phase),
             _ => None,
         }
     }
 }
 
 /// The station with this index.
+#[inline]
 pub(crate) fn nth_station(stations: &[StationState], place: usize) -> &StationState
     requires { place < length stations.now }
     ensures { result.now ≡ station_at stations.now place }
@@ -161,6 +180,7 @@ pub(crate) fn nth_station(stations: &[StationState], place: usize) -> &StationSt
     &stations[place]
 }
 
+#[inline]
 fn next_place(count: usize, place: usize) -> usize
     requires { place < count }
     ensures next { result ≡ place_after count place }

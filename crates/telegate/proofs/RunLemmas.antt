@@ -1,11 +1,13 @@
 -- The end of a run over a trace.
-use Rattle.std.proofs.Common.{◌≡◌, ℕ, ◌+◌, Bool, true, false, ◌&&◌, List, [], ◌++◌, length, Option, Some, None, IfOk, refl, subst, ◌∙◌, ap, sym, arith, length-append}
-use Rattle.std.proofs.lemmas.List.{append-nil}
+use Rattle.std.proofs.Common.{◌≡◌, ℕ, ◌+◌, Bool, true, false, ◌&&◌, List, [], ◌++◌, length, Option, Some, None, IfOk, refl, subst, ◌∙◌, ap, sym, arith, length-append, suc, ◌≤◌}
+use Rattle.std.proofs.lemmas.List.{append-nil, length-map}
 use Rattle.gateway.specs.Log.{Log, LogEntry, events_of}
 use Rattle.gateway.specs.Runs.{MoreEvents}
 use Rattle.std.specs.Option.{is_none}
-use Rattle.traces.specs.Progress.{Progress, events_in, script_in, log_in, events_left, coming_in, is_through}
-use Rattle.traces.specs.Trace.{lines_of, first_wrong}
+use Rattle.std.specs.List.{filter_map}
+use Rattle.traces.specs.Event.{Event}
+use Rattle.traces.specs.Progress.{Progress, came, events_in, script_in, log_in, events_left, coming_in, is_through}
+use Rattle.traces.specs.Trace.{lines_of, told, first_wrong}
 use Rattle.std.specs.Prelude.{Result, Ok, Err, MatchResult}
 use Rattle.traces.specs.Actions.{lines_of_actions}
 use Rattle.gateway.specs.Accounts.{IsAccounted}
@@ -23,7 +25,7 @@ use Rattle.gateway.specs.declared.runs.End.TheVariants.{Turns}
 use Rattle.settings.specs.Settings.{IsReadOfText}
 use Rattle.sim.specs.Scripts.{IsScriptOf}
 use Rattle.sim.specs.declared.directive.Directive.{Directive}
-use Rattle.telegate.specs.Answers.{IsMemory, IsGood, IsChecked, IsRunOf, IsReplayed, IsSimulationOf, IsSimulatedBy}
+use Rattle.telegate.specs.Answers.{IsMemory, IsStopped, IsGood, IsChecked, IsRunOf, IsReplayed, IsSimulationOf, IsSimulatedBy}
 use Rattle.telegate.specs.declared.answer.Answer.{Answer}
 use Rattle.telegate.specs.declared.closing.Closing.{Closing}
 use Rattle.telegate.specs.declared.fault.Fault.{Fault}
@@ -32,25 +34,37 @@ use Rattle.telegate.specs.declared.fault.Fault.TheVariants.{Config, Trace, Scrip
 same_number : (m n : ℕ) → Some m ≡ Some n → m ≡ n
 same_number m n e = cc
 
--- a turn for each event and two more aren't used up
-turns_suffice : (log : Log) (coming : List LogEntry) (trace : List ℕ) (events turns : ℕ) → turns ≡ events + 2
-    → events ≡ length (events_in (lines_of trace)) → events_of log ++ coming ≡ script_in trace
-    → MoreEvents turns (Some []) (Some log) → ⊥
-turns_suffice log coming trace events turns enough count whole more =
+-- a line tells one event at most
+events_at_most : (lines : List (List ℕ)) → length (events_in lines) ≤ length lines
+events_at_most lines =
+    let same : length (events_in lines) ≡ length (filter_map told lines) = length-map (filter_map told lines) came in
+    omega (arith, same, those lines)
+  where
+    those : (lines : List (List ℕ)) → length (filter_map told lines) ≤ length lines
+    those [] = omega arith
+    those (line ∷ lines) = by (told line) refl
+      where
+        by : (event : Option Event) → told line ≡ event → length (filter_map told (line ∷ lines)) ≤ suc (length lines)
+        by None is = rw is (omega (arith, those lines))
+        by (Some event) is = rw is (omega (arith, those lines))
+
+-- a turn for each line and two more aren't used up
+turns_suffice : (log : Log) (coming : List LogEntry) (trace : List ℕ) (turns : ℕ) → turns ≡ length (lines_of trace) + 2
+    → events_of log ++ coming ≡ script_in trace → MoreEvents turns (Some []) (Some log) → ⊥
+turns_suffice log coming trace turns enough whole more =
     let came : length (events_of log) ≡ 0 + turns = same_number (length (events_of log)) (0 + turns) more in
     let split : length (events_of log ++ coming) ≡ length (events_of log) + length coming =
     length-append (events_of log) coming in
     let all : length (events_of log ++ coming) ≡ length (script_in trace) = ap length whole in
-    omega (arith, came, split, all, count, enough)
+    omega (arith, came, split, all, events_at_most (lines_of trace), enough)
 
 -- so a run over a trace, from its beginning on, doesn't end by its turns
-pub turns_are_left : (trace : List ℕ) (events turns : ℕ) (old new : Progress)
+pub turns_are_left : (trace : List ℕ) (turns : ℕ) (old new : Progress)
     → old ≡ record { text = trace; left = Some trace; started = false; marks = []; page = []; failed = 0 }
-    → turns ≡ events + 2 → events ≡ length (events_in (lines_of trace)) →
-    events_of (log_in new) ++ coming_in new ≡ script_in new.text → script_in new.text ≡ script_in old.text
-    → MoreEvents turns (Some (log_in old)) (Some (log_in new)) → ⊥
-turns_are_left trace events turns old new is enough count whole same more =
-    turns_suffice (log_in new) (coming_in new) trace events turns enough count (whole ∙ same
+    → turns ≡ length (lines_of trace) + 2 → events_of (log_in new) ++ coming_in new ≡ script_in new.text
+    → new.text ≡ old.text → MoreEvents turns (Some (log_in old)) (Some (log_in new)) → ⊥
+turns_are_left trace turns old new is enough whole same more =
+    turns_suffice (log_in new) (coming_in new) trace turns enough (whole ∙ ap script_in same
     ∙ ap (λ (t : Progress). script_in t.text) is) (subst
     (λ (t : Progress). MoreEvents turns (Some (log_in t)) (Some (log_in new))) is more)
 
@@ -80,6 +94,19 @@ all_came t trace over whole = sym (append-nil (events_of (log_in t)))
     by true (Some text) over = cc
     by false left over = cc
 
+-- want of memory is a reason to stop
+stopped : (trace : List ℕ) (e : Fault) → IsMemory e → IsStopped trace e
+stopped trace NoMemory h = tt
+stopped trace (Config why) h = absurd h
+stopped trace (Trace n) h = absurd h
+stopped trace (Script n) h = absurd h
+stopped trace (Record n) h = absurd h
+stopped trace (Differs n) h = absurd h
+stopped trace Sizes h = absurd h
+stopped trace Octets h = absurd h
+stopped trace Address h = absurd h
+stopped trace Device h = absurd h
+
 -- the answer of a run that has come to its end
 pub closed : (settings : Settings) (trace : List ℕ) (closing : Closing) (state : State) (log : Log) (text : List ℕ)
     (r : Result Answer Fault) → events_of log ≡ script_in trace → IsFaithful (setup_of settings) log
@@ -87,9 +114,10 @@ pub closed : (settings : Settings) (trace : List ℕ) (closing : Closing) (state
     Delivers (setup_of settings) log → Follows (setup_of settings) state (Some log)
     → IsAccounted (setup_of settings) state log → text ≡ lines_of_actions log
     → MatchResult r (λ answer. (answer.text.items ≡ text ++ closing_lines closing.left closing.counts state)
-    × (answer.status ≡ 0)) IsMemory → IsRunOf settings trace closing r
-closed settings trace closing state log text (Ok answer) events faithful rests ordered delivers follows accounts is h =
-    record {
+    × (answer.status ≡ 0)) IsMemory → first_wrong 1 (lines_of trace) ≡ None → IsRunOf settings trace closing r
+closed settings trace closing state log text (Ok answer) events faithful rests ordered delivers follows accounts is h
+right =
+    (right, record {
       log = log;
       events = events;
       faithful = faithful;
@@ -101,25 +129,25 @@ closed settings trace closing state log text (Ok answer) events faithful rests o
       accounts = accounts;
       text = h.0 ∙ ap (λ xs. xs ++ closing_lines closing.left closing.counts state) is;
       status = h.1;
-    }
-closed settings trace closing state log text (Err e) events faithful rests ordered delivers follows accounts is h = h
+    })
+closed settings trace closing state log text (Err e) events faithful rests ordered delivers follows accounts is h
+right = stopped trace e h
 
 -- the answer to the command, where its files were read
 pub replayed : (config trace : List ℕ) (closing : Closing) (settings : Settings) (r : Result Answer Fault)
-    → IsReadOfText config (Ok settings) → first_wrong 1 (lines_of trace) ≡ None → IsRunOf settings trace closing r
-    → IsReplayed config trace closing r
-replayed config trace closing settings (Ok answer) read told run =
-    record { settings = settings; read_config = read; read_trace = told; run = run }
-replayed config trace closing settings (Err NoMemory) read told run = tt
-replayed config trace closing settings (Err (Config why)) read told run = absurd run
-replayed config trace closing settings (Err (Trace n)) read told run = absurd run
-replayed config trace closing settings (Err (Script n)) read told run = absurd run
-replayed config trace closing settings (Err (Record n)) read told run = absurd run
-replayed config trace closing settings (Err (Differs n)) read told run = absurd run
-replayed config trace closing settings (Err Sizes) read told run = absurd run
-replayed config trace closing settings (Err Octets) read told run = absurd run
-replayed config trace closing settings (Err Address) read told run = absurd run
-replayed config trace closing settings (Err Device) read told run = absurd run
+    → IsReadOfText config (Ok settings) → IsRunOf settings trace closing r → IsReplayed config trace closing r
+replayed config trace closing settings (Ok answer) read run =
+    record { settings = settings; read_config = read; read_trace = run.0; run = run.1 }
+replayed config trace closing settings (Err NoMemory) read run = tt
+replayed config trace closing settings (Err (Config why)) read run = absurd run
+replayed config trace closing settings (Err (Trace n)) read run = ((settings, read), run)
+replayed config trace closing settings (Err (Script n)) read run = absurd run
+replayed config trace closing settings (Err (Record n)) read run = absurd run
+replayed config trace closing settings (Err (Differs n)) read run = absurd run
+replayed config trace closing settings (Err Sizes) read run = absurd run
+replayed config trace closing settings (Err Octets) read run = absurd run
+replayed config trace closing settings (Err Address) read run = absurd run
+replayed config trace closing settings (Err Device) read run = absurd run
 
 -- the answer to the command over a simulated line, where its files were read
 pub simulated : (config text : List ℕ) (settings : Settings) (script : List Directive) (r : Result Answer Fault)

@@ -1,6 +1,7 @@
 pub mod Closing
 pub mod Faults
 pub mod Answers
+pub mod Watched
 pub mod Running
 pub mod CommandLine
 pub mod Shell

@@ -1,5 +1,5 @@
 //! What a command prints.
-ghost use Rattle.std.specs.Prelude.{◌≡◌};
+ghost use Rattle.std.specs.Prelude.{◌≡◌, false};
 ghost use Rattle.telegate.specs.Answers.{IsAnsweredBy};
 
 use crate::auditing::audit;
@@ -11,6 +11,7 @@ use crate::replay::replay;
 use crate::showing::{show101, show104};
 use crate::simulating::simulate;
 use std::alloc::Global;
+use std::io::Write;
 
 /// What a command prints on standard output, and its exit status.
 #[derive(Debug, PartialEq, Eq, Drop)]
@@ -19,9 +20,16 @@ pub(crate) struct Answer {
     pub(crate) status: u8,
 }
 
-/// The answer to a command, or why it stops.
-pub(crate) fn answer_to(alloc: Global, job: &Job<'_>) -> Result<Answer, Fault>
-    ensures { IsAnsweredBy job.now result }
+/// The answer to a command, or why it stops. Where it is watched, a long one tells on standard error
+/// how far it has come.
+pub(crate) fn answer_to<E: Write>(
+    alloc: Global,
+    job: &Job<'_>,
+    is_watched: bool,
+    err: &mut E,
+) -> Result<Answer, Fault>
+    ensures answer { IsAnsweredBy job.now result }
+    ensures unwatched { is_watched ≡ false → err.new ≡ err.old }
 {
     match job {
         Job::Show101(sizes, hex) => show101(alloc, *sizes, *hex),
@@ -37,7 +45,7 @@ pub(crate) fn answer_to(alloc: Global, job: &Job<'_>) -> Result<Answer, Fault>
                 left: *left,
                 counts: *counts,
             };
-            replay(alloc, *config, *trace, closing)
+            replay(alloc, *config, *trace, closing, is_watched, err)
         }
         Job::Sim(config, script) => simulate(alloc, *config, *script),
         Job::Audit(config, record) => audit(alloc, *config, *record),

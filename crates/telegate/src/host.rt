@@ -51,6 +51,9 @@ pub(crate) trait Host {
         ensures octets { IfOk result (λ octets. has self.now name.now octets.items) }
         ensures none { IfErr result (λ why. why ≡ unread.Unreadable → lacks self.now name.now) };
 
+    /// Whether somebody looks on at standard error.
+    fn is_watched(&self) -> bool;
+
     /// Runs the gateway live, by settings of these octets, until it ends.
     fn run(&self, config: &[u8], wishes: Wishes) -> Result<(), Fault>
         ensures { ran self.now config.now wishes result };
@@ -58,7 +61,11 @@ pub(crate) trait Host {
 
 /// The system of a process. Of what its files hold nothing is known.
 #[derive(Clone, Copy)]
-pub(crate) struct System<'r, R>(pub(crate) &'r R);
+pub(crate) struct System<'r, R> {
+    pub(crate) rt: &'r R,
+    /// Whether its standard error is a terminal.
+    pub(crate) is_watched: bool,
+}
 
 impl<R> Host for System<'_, R>
 where
@@ -76,14 +83,18 @@ where
     ghost ran = { λ _ _ _ _. Unit {0} };
 
     fn read(&self, name: &str) -> Result<Vec<u8>, Unread> {
-        match std::fs::read(self.0, name) {
+        match std::fs::read(self.rt, name) {
             Ok(octets) => Ok(octets),
             Err(fault) if fault.kind() == io::ErrorKind::OutOfMemory => Err(Unread::NoMemory),
             Err(_) => Err(Unread::Unreadable),
         }
     }
 
+    fn is_watched(&self) -> bool {
+        self.is_watched
+    }
+
     fn run(&self, config: &[u8], wishes: Wishes) -> Result<(), Fault> {
-        run_live(self.0, config, wishes)
+        run_live(self.rt, config, wishes)
     }
 }

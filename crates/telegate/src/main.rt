@@ -32,13 +32,14 @@ mod running;
 mod shell;
 mod showing;
 mod simulating;
+mod watched;
 
 use fault::{Fault, USAGE};
 use host::System;
 use performing::tell;
 use shell::obey;
 use std::io;
-use std::io::Write;
+use std::io::{IsTerminal, Write};
 use std::net::{Net, TcpListener, TcpStream};
 use std::process::ExitCode;
 use std::rt::{Clock, Env, Files};
@@ -50,7 +51,7 @@ fn main(rt: HostRuntime) -> ExitCode {
 }
 
 /// Does what the process's words ask for, and answers the exit status.
-fn run<R, W: Write, E: Write>(rt: &R, out: &mut W, err: &mut E) -> u8
+fn run<R, W: Write, E: Write + IsTerminal>(rt: &R, out: &mut W, err: &mut E) -> u8
 where
     R: Env
         + Files
@@ -61,7 +62,11 @@ where
         + Net<Listener = TcpListener, Stream = TcpStream>,
 {
     match words_of(rt) {
-        Ok(words) => obey(rt.alloc(), &System(rt), words.as_slice(), out, err),
+        Ok(words) => {
+            let is_watched = err.is_terminal();
+            let system = System { rt, is_watched };
+            obey(rt.alloc(), &system, words.as_slice(), out, err)
+        }
         Err(Unspoken::NoMemory) => tell(&Fault::NoMemory, err),
         Err(Unspoken::NotText) => {
             let _ = writeln!(err, "error: the words are not UTF-8");

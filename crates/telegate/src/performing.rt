@@ -14,11 +14,18 @@ use std::io::{ErrorKind, Write};
 
 /// Does a command: its answer goes to `out`, or the line of a fault to `err`. Answers the exit
 /// status: 0 done, 1 a bad frame or a file with wrong content, 3 where the output can't be written
-/// (what was written is then a beginning of the answer's text), 4 where memory was refused.
-pub fn perform<W: Write, E: Write>(alloc: Global, job: &Job<'_>, out: &mut W, err: &mut E) -> u8
+/// (what was written is then a beginning of the answer's text), 4 where memory was refused. Where
+/// it is watched, a long command tells `err` how far it has come.
+pub fn perform<W: Write, E: Write>(
+    alloc: Global,
+    job: &Job<'_>,
+    is_watched: bool,
+    out: &mut W,
+    err: &mut E,
+) -> u8
     ensures { Performs job.now (W.contents out.old) (W.contents out.new) result }
 {
-    match answer_to(alloc, job) {
+    match answer_to(alloc, job, is_watched, err) {
         Ok(answer) => match print(answer.text.as_slice(), out) {
             Ok(()) => answer.status,
             Err(_) => tell(&Fault::Device, err),

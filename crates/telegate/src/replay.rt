@@ -1,65 +1,84 @@
 //! The command that runs the gateway over a trace.
-ghost use Rattle.std.specs.Prelude.{◌≡◌, ◌++◌, MatchResult};
-ghost use Rattle.traces.specs.Progress.{AreEvents};
+ghost use Rattle.std.specs.Prelude.{◌≡◌, ◌+◌, ◌++◌, false, length, IfSome, MatchResult};
 ghost use Rattle.traces.specs.Trace.{lines_of};
-ghost use Rattle.telegate.specs.Answers.{IsReplayed, IsRunOf, IsMemory};
+ghost use Rattle.telegate.specs.Answers.{IsReplayed, IsRunOf, IsStopped, IsMemory};
 ghost use Rattle.telegate.specs.Closing.{closing_lines};
 
 use crate::answer::Answer;
 use crate::check::read_config;
 use crate::closing::{Closing, push_closing};
 use crate::fault::{DONE, Fault};
+use crate::watched::drive_watched;
 use delivery::nothing_is_lost;
-use gateway::{Config, End, Gateway, drive_on, steps_keep_their_order};
+use gateway::{Config, End, Gateway, steps_keep_their_order};
 use std::alloc::Global;
-use traces::{TextFault, TextPort, judge};
+use std::io::Write;
+use traces::{TextFault, TextPort, judge, line_count};
 
 /// Runs the gateway over the events of a trace, and answers a line for each action, and then the
-/// lines of `closing`. The settings are judged before the trace, and the whole trace before the
-/// run.
-pub(crate) fn replay(
+/// lines of `closing`. The settings are judged before the trace, and a wrong line of it is the only
+/// answer. Where it is watched, a long run tells on standard error how far it has come.
+pub(crate) fn replay<E: Write>(
     alloc: Global,
     config: &[u8],
     trace: &[u8],
     closing: Closing,
+    is_watched: bool,
+    err: &mut E,
 ) -> Result<Answer, Fault>
-    ensures { IsReplayed config.now trace.now closing result }
+    ensures answer { IsReplayed config.now trace.now closing result }
+    ensures unwatched { is_watched ≡ false → err.new ≡ err.old }
 {
     let config = read_config(alloc, config)?;
-    match judge(trace) {
-        Ok(events) => run(alloc, &config, trace, events, closing),
-        Err(TextFault::Line(n)) => Err(Fault::Trace(n)),
-        Err(TextFault::NoMemory) => Err(Fault::NoMemory),
-    }
+    run(alloc, &config, trace, closing, is_watched, err)
 }
 
-/// Runs the gateway over a trace that tells so many events. The lines of its actions go to a page,
-/// which is printed at once.
-fn run(
+/// Runs the gateway over a trace. The lines of its actions go to a page, which is printed at once.
+/// A wrong line ends the run, and nothing of it is printed.
+fn run<E: Write>(
     alloc: Global,
     config: &Config,
     trace: &[u8],
-    events: u64,
     closing: Closing,
+    is_watched: bool,
+    err: &mut E,
 ) -> Result<Answer, Fault>
-    requires { AreEvents (lines_of trace.now) events }
-    ensures { IsRunOf config.now trace.now closing result }
+    ensures answer { IsRunOf config.now trace.now closing result }
+    ensures unwatched { is_watched ≡ false → err.new ≡ err.old }
 {
     nothing_is_lost();
     steps_keep_their_order();
-    // A turn for each event, one for the tick at moment 0, and one in which there is no more.
-    let Some(turns) = events.checked_add(2) else {
+    let Some(turns) = most_turns(trace) else {
         return Err(Fault::NoMemory);
     };
-    let mut gateway = Gateway::new(alloc, config)?;
+    let Ok(mut gateway) = Gateway::new(alloc, config) else {
+        return Err(stopped(trace));
+    };
     let mut port = TextPort::new(alloc, trace);
-    let end = drive_on(&mut gateway, &mut port, turns);
+    let end = drive_watched(&mut gateway, &mut port, turns, is_watched, err);
     let text = port.into_page();
     match end {
         End::Finished => close(alloc, text, &gateway, closing),
-        // A page takes all lines but for want of memory.
-        End::Device => Err(Fault::NoMemory),
+        End::Device => Err(stopped(trace)),
         End::Turns => unreachable!(),
+    }
+}
+
+/// A turn for each line, one for the tick at moment 0, and one in which there is no more.
+fn most_turns(trace: &[u8]) -> Option<u64>
+    ensures { IfSome result (λ turns. turns ≡ length (lines_of trace.now) + 2) }
+{
+    u64::try_from(line_count(trace)).ok()?.checked_add(2)
+}
+
+/// Why a run over a trace stopped: the first wrong line, or else want of memory. The lines are
+/// judged only then, since a run reads each of them itself.
+fn stopped(trace: &[u8]) -> Fault
+    ensures { IsStopped trace.now result }
+{
+    match judge(trace) {
+        Err(TextFault::Line(n)) => Fault::Trace(n),
+        Ok(_) | Err(TextFault::NoMemory) => Fault::NoMemory,
     }
 }
 

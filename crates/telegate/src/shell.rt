@@ -71,11 +71,18 @@ pub(crate) fn respond<H: Host, W: Write, E: Write>(
     ensures { Responds (H.has host.now) (H.lacks host.now) (H.ran host.now) request.now
         (W.contents out.old) (W.contents out.new) result }
 {
+    let is_watched = host.is_watched();
     match request {
-        Request::Show101 { sizes, hex } => perform(alloc, &Job::Show101(*sizes, *hex), out, err),
-        Request::Show104 { hex } => perform(alloc, &Job::Show104(*hex), out, err),
+        Request::Show101 { sizes, hex } => perform(
+            alloc,
+            &Job::Show101(*sizes, *hex),
+            is_watched,
+            out,
+            err,
+        ),
+        Request::Show104 { hex } => perform(alloc, &Job::Show104(*hex), is_watched, out, err),
         Request::Check { config } => match read_file(host, *config, err) {
-            Ok(config) => perform(alloc, &Job::Check(config.as_slice()), out, err),
+            Ok(config) => perform(alloc, &Job::Check(config.as_slice()), is_watched, out, err),
             Err(status) => status,
         },
         Request::Replay {
@@ -91,21 +98,21 @@ pub(crate) fn respond<H: Host, W: Write, E: Write>(
                     left: *left,
                     counts: *counts,
                 };
-                perform(alloc, &job, out, err)
+                perform(alloc, &job, is_watched, out, err)
             }
             Err(status) => status,
         },
         Request::Sim { config, script } => match read_files(host, *config, *script, err) {
             Ok((config, script)) => {
                 let job = Job::Sim(config.as_slice(), script.as_slice());
-                perform(alloc, &job, out, err)
+                perform(alloc, &job, is_watched, out, err)
             }
             Err(status) => status,
         },
         Request::Audit { config, text } => match read_files(host, *config, *text, err) {
             Ok((config, text)) => {
                 let job = Job::Audit(config.as_slice(), text.as_slice());
-                perform(alloc, &job, out, err)
+                perform(alloc, &job, is_watched, out, err)
             }
             Err(status) => status,
         },

@@ -10,11 +10,11 @@ use Rattle.gateway.specs.declared.entries.Entry.TheVariants.{Line, Open, Bytes, 
 use Rattle.gateway.specs.declared.ports.Next.{Next}
 use Rattle.gateway.specs.declared.ports.Next.TheVariants as answers
 use Rattle.traces.specs.Actions.{line_of, lines_of_actions}
-use Rattle.traces.specs.Event.{event_of, event_in}
+use Rattle.traces.specs.Event.{Event, event_of, event_in}
 use Rattle.traces.specs.Fields.{parts_after}
 use Rattle.traces.specs.Printed.{IsPrintable, ArePrinted, entries_in, actions_of}
 use Rattle.traces.specs.Progress.{came, events_in, script_in, IsRight, Progress, events_among, woven, all_told, log_in, events_left, coming_in, IsProgress, tells_event}
-use Rattle.traces.specs.Trace.{is_skipped, told, is_wrong, first_wrong}
+use Rattle.traces.specs.Trace.{lines_of, is_skipped, told, is_wrong, first_wrong}
 use Rattle.traces.proofs.ReadingBack.{actions_printed}
 
 -- Lines
@@ -39,31 +39,24 @@ pub events_next : (entry : Entry) (lines rest : List (List ℕ)) (line : List �
     → entry_event entry ∷ events_in rest ≡ events_in lines
 events_next entry lines rest line is e some = rw (is, e, some, came_entry)
 
--- no line is wrong
-right_here : (n m : ℕ) (line : List ℕ) (lines : List (List ℕ))
-    → (first_wrong m lines ≡ None → AllByRecursion IsRight lines) → first_wrong n (line ∷ lines) ≡ None → m ≡ n + 1
-    → IsRight line × AllByRecursion IsRight lines
-right_here n m line lines those none is = by (is_wrong line) refl none
-  where
-    by : (b : Bool) → is_wrong line ≡ b → (if b then Some n else first_wrong (n + 1) lines) ≡ None
-        → IsRight line × AllByRecursion IsRight lines
-    by true e none = cc
-    by false e none = (e, those (ap (λ k. first_wrong k lines) is ∙ none))
+-- where each line is right, none is wrong
+pub none_wrong : (n : ℕ) (lines : List (List ℕ)) → AllByRecursion IsRight lines → first_wrong n lines ≡ None
+none_wrong n [] all = refl
+none_wrong n (line ∷ lines) all = rw all.0 (none_wrong (n + 1) lines all.1)
 
-pub all_right : (n : ℕ) (lines : List (List ℕ)) → first_wrong n lines ≡ None → AllByRecursion IsRight lines
-all_right n [] none = tt
-all_right n (line ∷ lines) none = right_here n (n + 1) line lines (all_right (n + 1) lines) none refl
+-- a skipped line is right, and so is one that is an event
+pub right_skip : (lines rest : List (List ℕ)) (line : List ℕ) → lines ≡ line ∷ rest → is_skipped line ≡ true
+    → AllByRecursion IsRight rest → AllByRecursion IsRight lines
+right_skip lines rest line is skipped all =
+    let right : IsRight line = rw skipped refl in
+    subst (AllByRecursion IsRight) (sym is) (right, all)
 
--- a line that is neither skipped nor an event is wrong
-pub not_right : (line : List ℕ) → IsRight line → is_skipped line ≡ false → event_in line ≡ None → ⊥
-not_right line right e none =
-    let wrong : is_wrong line ≡ true = rw (e, none) in
-    let both : true ≡ false = sym wrong ∙ right in
-    cc
-
-pub right_first : (lines rest : List (List ℕ)) (line : List ℕ) → lines ≡ line ∷ rest → AllByRecursion IsRight lines
-    → IsRight line × AllByRecursion IsRight rest
-right_first lines rest line is all = subst (AllByRecursion IsRight) is all
+pub right_event : (lines rest : List (List ℕ)) (line : List ℕ) (event : Event) → lines ≡ line ∷ rest
+    → is_skipped line ≡ false → event_in line ≡ Some event → AllByRecursion IsRight rest
+    → AllByRecursion IsRight lines
+right_event lines rest line event is told some all =
+    let right : IsRight line = rw (told, some) refl in
+    subst (AllByRecursion IsRight) (sym is) (right, all)
 
 -- The log
 
@@ -158,7 +151,7 @@ went p marks page now action holds ok marked printed = record {
 -- an event came
 event_came : (p : Progress) (left : Option (List ℕ)) (started : Bool) (marks : List Bool) (now : ℕ) (event : Input)
     → IsProgress p → started ≡ true → Came now event ∷ events_in (parts_after 10 left) ≡ coming_in p
-    → AllByRecursion IsRight (parts_after 10 left) →
+    → (AllByRecursion IsRight (parts_after 10 left) → first_wrong 1 (lines_of p.text) ≡ None) →
     marks ≡ p.marks ++ true ∷ [] → GoesOn p (record p { left = left; started = started; marks = marks })
     (Came now event ∷ [])
 event_came p left started marks now event holds begun told right marked = record {
@@ -194,8 +187,8 @@ event_came p left started marks now event holds begun told right marked = record
 
 pub told_next : (p : Progress) (left : Option (List ℕ)) (started : Bool) (marks : List Bool) (next : Next)
     (buf : List ℕ) → IsProgress p → started ≡ true → tells_event next ≡ true →
-    told_by next buf ++ events_in (parts_after 10 left) ≡ coming_in p → AllByRecursion IsRight (parts_after 10 left)
-    → marks ≡ p.marks ++ true ∷ [] →
+    told_by next buf ++ events_in (parts_after 10 left) ≡ coming_in p
+    → (AllByRecursion IsRight (parts_after 10 left) → first_wrong 1 (lines_of p.text) ≡ None) → marks ≡ p.marks ++ true ∷ [] →
     GoesOn p (record p { left = left; started = started; marks = marks }) (told_by next buf)
 told_next p left started marks (answers.Line now len) buf holds begun is told right marked =
     event_came p left started marks now (LineIn (take len buf)) holds begun told right marked

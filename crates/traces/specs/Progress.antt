@@ -89,6 +89,7 @@ pub record IsProgress (p : Progress) : Type 0 where
   pub lines : lines_of_actions (log_in p) ≡ p.page
   pub printable : ArePrinted (log_in p)
   pub right : AllByRecursion IsRight (parts_after 10 p.left)
+      → first_wrong 1 (lines_of p.text) ≡ None
   pub first : p.started ≡ false → p.left ≡ Some p.text
 
 -- whether an answer tells an event
@@ -97,14 +98,15 @@ tells_event answers.Done = false
 tells_event answers.Fault = false
 tells_event next = true
 
--- an answer tells the first event of these lines, where there is one, and these are left
+-- An answer tells the first event of these lines, where there is one and no wrong line before it,
+-- and these are left; then none of the others is wrong.
 pub record IsFirst (lines : List (List ℕ)) (left : Option (List ℕ)) (next : Next)
     (buf : List ℕ) : Type 0 where
   pub told : tells_event next ≡ true
       → told_by next buf ++ events_in (parts_after 10 left) ≡ events_in lines
   pub none : tells_event next ≡ false → events_in (parts_after 10 left) ≡ events_in lines
   pub done : next ≡ answers.Done → left ≡ None
-  pub right : AllByRecursion IsRight (parts_after 10 left)
+  pub right : AllByRecursion IsRight (parts_after 10 left) → AllByRecursion IsRight lines
   pub fits : FitsBuffer next
 
 -- no line is wrong, and so many are events

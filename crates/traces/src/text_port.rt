@@ -1,16 +1,15 @@
 //! The port over the text of a trace.
 ghost use Rattle.std.specs.Prelude.{◌≡◌, ℕ, ◌+◌, ◌<◌, ◌++◌, ◌∷◌, [], Bool, true, false, List, Some, None, IfOk, OnOk, OnErr, if◌then◌else◌, string_bytes};
-ghost use Rattle.std.specs.List.{AllByRecursion};
 ghost use Rattle.std.specs.Option.{option_copied};
 ghost use Rattle.gateway.specs.Log.{events_of};
 ghost use Rattle.gateway.specs.Ports.{output_of};
 ghost use Rattle.traces.specs.Actions.{line_of, lines_of_actions};
 ghost use Rattle.traces.specs.Fields.{parts_after};
-ghost use Rattle.traces.specs.Progress.{IsFirst, IsRight, script_in, log_in, coming_in, tells_event};
+ghost use Rattle.traces.specs.Progress.{IsFirst, script_in, log_in, coming_in, is_through, tells_event};
 ghost use Rattle.traces.specs.Trace.{first_wrong, lines_of};
 
 use crate::actions::print_action;
-use crate::event::{FirstLine, announce, first_line};
+use crate::event::{FirstLine, announce, first_line, is_right};
 use gateway::{Action, Next, Port};
 use std::alloc::Global;
 use std::marker::Model;
@@ -19,7 +18,8 @@ use std::marker::Model;
 /// prints the line of each action on a page: `MS > S HEX` (to the line), `MS > T HEX` (to TCP), `MS
 /// > X CAUSE` (a close) or `MS > G S K` (a gap of station S, counted from 1, at the end of its
 /// session K), in upper case. It stores no log: that is told by the text, by the page, and by one
-/// mark for each entry. After a fault, which is want of memory, it takes and gives nothing more.
+/// mark for each entry. A wrong line is a fault, as want of memory is; after one it takes and gives
+/// nothing more.
 pub struct TextPort<'a> {
     alloc: Global,
     text: &'a [u8],
@@ -58,10 +58,9 @@ impl<'a> Model for TextPort<'a> {
 }
 
 /// The first event of these lines, whose octets are put at the front of the buffer, and the lines
-/// behind it.
-#[tactic(auto, using(crate::proofs::ProgressLemmas::events_skip, crate::proofs::ProgressLemmas::right_first))]
+/// behind it. A wrong line before it is a fault.
+#[tactic(auto, using(crate::proofs::ProgressLemmas::events_skip, crate::proofs::ProgressLemmas::right_skip, crate::proofs::ProgressLemmas::right_event))]
 fn first_event<'a>(text: Option<&'a [u8]>, buf: &mut [u8; 1024]) -> (Next, Option<&'a [u8]>)
-    requires { AllByRecursion IsRight (parts_after 10 (option_copied text)) }
     ensures { IsFirst (parts_after 10 (option_copied text.entry)) (option_copied result.1)
         result.0 buf.new }
 {
@@ -72,8 +71,10 @@ fn first_event<'a>(text: Option<&'a [u8]>, buf: &mut [u8; 1024]) -> (Next, Optio
         };
         match first_line(text) {
             FirstLine::Skipped(rest) => left = rest,
-            FirstLine::Event(event, rest) => return (announce(&event, buf), rest),
-            FirstLine::Wrong => unreachable!(),
+            FirstLine::Event(event, rest) if is_right(&event) => {
+                return (announce(&event, buf), rest);
+            }
+            _ => return (Next::Fault, left),
         }
     }
     // No memory holds so many lines.
@@ -88,9 +89,8 @@ fn is_event(next: Next) -> bool
 }
 
 impl<'a> TextPort<'a> {
-    /// A port over this text, no line of which is wrong.
+    /// A port over this text.
     pub fn new(alloc: Global, text: &'a [u8]) -> TextPort<'a>
-        requires { first_wrong 1 (lines_of text.now) ≡ None }
         ensures { result ≡ record {
           text = text.now;
           left = Some text.now;
@@ -117,6 +117,9 @@ impl<'a> TextPort<'a> {
         // The events that came, and those that are still to come, are those of the text.
         ensures whole { events_of (log_in self.entry) ++ coming_in self.entry
             ≡ script_in self.entry.text }
+        // Where all lines were read, none is wrong.
+        ensures right { is_through self.entry ≡ true →
+            first_wrong 1 (lines_of self.entry.text) ≡ None }
     {
         let TextPort {
             alloc: _,
@@ -140,7 +143,10 @@ impl<'a> Port for TextPort<'a> {
 
     ghost ended = { is_through };
 
-    ghost script = { λ p. script_in p.text };
+    /// The text.
+    ghost Fixed = { List ℕ };
+
+    ghost script = { λ p. p.text };
 
     fn next(&mut self, buf: &mut [u8; 1024]) -> Next {
         if self.failures > 0 || self.marks.try_reserve(1).is_err() {

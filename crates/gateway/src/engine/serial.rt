@@ -1,7 +1,7 @@
 //! The line's side: its primary station, what its octets bring, and the commands that go down to
 //! it.
 ghost use Rattle.std.specs.Prelude.{◌≡◌, ℕ, ◌<◌, ◌≤◌, true, false, List, [], length};
-ghost use Rattle.std.specs.Prelude.{Some, None, option_map, take, if◌then◌else◌, ◌⊎◌, IfSome, IfNone};
+ghost use Rattle.std.specs.Prelude.{Some, None, option_map, take, drop, if◌then◌else◌, ◌⊎◌, IfSome, IfNone};
 ghost use Rattle.std.specs.List.{AllByRecursion};
 ghost use Rattle.asdu.specs.Asdu.{IsAsdu};
 ghost use Rattle.asdu.specs.InformationObjects.{monitor_objects_of};
@@ -140,6 +140,24 @@ impl SerialSide {
     {
         polls_wait_for_leave();
         self.line.hear_whole(octets)
+    }
+
+    /// Gathers octets of the line up to one that may be the last of the answer, and says how many:
+    /// all where none may, and then nothing comes of them. What is heard of the others is what is
+    /// heard of all.
+    fn gather_inner(&mut self, octets: &[u8]) -> usize
+        ensures within { result ≤ length octets.now }
+        ensures all { result ≡ length octets.now → (self.new ≡ heard octets.now self.old)
+            × (heard_outcome octets.now self.old ≡ exchange.None) }
+        ensures rest { result < length octets.now →
+            (heard (drop result octets.now) self.new ≡ heard octets.now self.old)
+            × (heard_outcome (drop result octets.now) self.new
+            ≡ heard_outcome octets.now self.old) }
+        ensures others { self.new ≡ record self.old { line = self.new.line } }
+        ensures polls { is_polling self.new.line ≡ true → is_polling self.old.line ≡ true }
+    {
+        polls_wait_for_leave();
+        self.line.gather_inner(octets)
     }
 
     /// Gathers octets of the line up to the frame that is the answer.
@@ -391,8 +409,20 @@ impl Gateway {
     }
 
     /// As `hear`, for octets that aren't a whole answer by themselves.
-    #[inline(never)]
     fn hear_piece(&mut self, octets: &[u8]) -> bool
+        ensures { Hears self.old octets.now result self.new }
+    {
+        let count = self.serial.gather_inner(octets);
+        if count == octets.len() {
+            return true;
+        }
+        self.hear_end(&octets[count..])
+    }
+
+    /// As `hear`, for octets of which the first may be the last of an answer. It stands apart, so
+    /// that octets that end none make no place for a frame.
+    #[inline(never)]
+    fn hear_end(&mut self, octets: &[u8]) -> bool
         ensures { Hears self.old octets.now result self.new }
     {
         polls_wait_for_leave();

@@ -7,7 +7,7 @@ returns-in-Ok-print g c =
     let same = c.as_slice.ensures.value in
     inl (record {
       answer = c.in-Ok.answer;
-      answered = c.in-Ok.ensures;
+      answered = c.in-Ok.ensures.answer;
       printed = rw same at c.in-Ok-print.ensures.all;
       status = refl;
     })
@@ -17,7 +17,7 @@ returns-in-Ok g c =
     let same = c.as_slice.ensures.value in
     inr (inr (record {
       answer = c.in-Ok.answer;
-      answered = c.in-Ok.ensures;
+      answered = c.in-Ok.ensures.answer;
       printed = rw same at c.in-Err-print.ensures.begun;
       status = c.tell.ensures;
     }))
@@ -26,7 +26,7 @@ pub returns : goal.returns
 returns g c =
     inr (inl (record {
       fault = c.in-Err.fault;
-      answered = c.in-Err.ensures;
+      answered = c.in-Err.ensures.answer;
       printed = keeps_same (g.W.Write.contents c.args.out.now);
       status = c.tell-in-Err.ensures;
     }))

@@ -1,13 +1,7 @@
 use Rattle.telegate.proofs.RunLemmas.{replayed}
 use Rattle.telegate.proofs.replay.replay.Goals as goal
 
-pub returns-in-Ok : goal.returns-in-Ok
-returns-in-Ok c =
+pub returns-clause-answer : goal.returns-clause-answer
+returns-clause-answer g c =
     replayed c.args.config.now c.args.trace.now c.args.closing c.in_ok-config.config c.run.result
-    c.in_ok-config.ensures c.in-Ok.ensures.0 c.run.ensures
-
-pub returns-in-Err-Line : goal.returns-in-Err-Line
-returns-in-Err-Line c =
-    let told = rw c.in-Err-Line.field-0-is at c.in-Err-Line.ensures in
-    let number = c.in-Err-Line.n-is in
-    ((c.in_ok-config.config, c.in_ok-config.ensures), (cc))
+    c.in_ok-config.ensures c.run.ensures.answer

@@ -1,6 +1,6 @@
 use Rattle.std.proofs.Common.{refl}
 use Rattle.traces.specs.Trace.{lines_of}
-use Rattle.traces.proofs.ProgressLemmas.{all_right}
+use Rattle.traces.proofs.ProgressLemmas.{none_wrong}
 use Rattle.traces.proofs.text_port.TextPort.new.Goals as goal
 
 pub invariant_of-result : goal.invariant_of-result
@@ -9,6 +9,6 @@ invariant_of-result c = rw (c.new.ensures.items, c.new-2.ensures.items) (record 
   rest = refl;
   lines = refl;
   printable = tt;
-  right = all_right 1 (lines_of c.args.text.now) c.requires;
+  right = none_wrong 1 (lines_of c.args.text.now);
   first = λ fresh. refl;
 })

@@ -34,7 +34,7 @@ invariant_of-self-then-is_event c =
     rw c.try_reserve.ensures.items at c.push_reserved-then-is_event.ensures.items in
     (told_next _ (option_copied c.first_event-next.result.1) c.self.inside.is_started
     c.push_reserved-then-is_event.new.self.items c.first_event-next.result.0 c.first_event-next.new.buf
-    c.self.invariant begun is told c.first_event-next.ensures.right marked).holds
+    c.self.invariant begun is told (λ all. c.self.invariant.right (c.first_event-next.ensures.right all)) marked).holds
 
 pub returns-then-is_event-clause-told : goal.returns-then-is_event-clause-told
 returns-then-is_event-clause-told c =
@@ -48,5 +48,5 @@ returns-then-is_event-clause-told c =
     rw c.try_reserve.ensures.items at c.push_reserved-then-is_event.ensures.items in
     ap Some ((told_next _ (option_copied c.first_event-next.result.1) c.self.inside.is_started
     c.push_reserved-then-is_event.new.self.items c.first_event-next.result.0 c.first_event-next.new.buf
-    c.self.invariant begun is told c.first_event-next.ensures.right marked).log
+    c.self.invariant begun is told (λ all. c.self.invariant.right (c.first_event-next.ensures.right all)) marked).log
     ∙ ap (λ (p : Progress). told_by c.first_event-next.result.0 c.first_event-next.new.buf ++ log_in p) c.self.view_is)
