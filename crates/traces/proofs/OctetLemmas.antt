@@ -1,14 +1,15 @@
 -- Octets in hexadecimal: when they are right, and how many they are.
-use Rattle.std.proofs.Common.{◌≡◌, ℕ, ◌+◌, ◌<◌, ◌*◌, ◌/◌, ◌%◌, ◌≤◌, nat_le, ◌&&◌, Bool, true, false, List, length, slice_index, Option, Some, None, Result, Ok, Err, is_some, if◌then◌else◌, refl, sym, ap, ◌∙◌, arith, take, drop, ◌^◌}
-use Rattle.std.specs.Prelude.{IsSome, bit_or, nat_lt}
-use Rattle.std.specs.List.{AllPass, list_all}
-use Rattle.std.proofs.lemmas.Bool.{ltb-true}
-use Rattle.std.proofs.lemmas.List.{take-append-drop}
-use Rattle.std.proofs.lemmas.List.Folds.{list_all-append, list_all_more}
+use Rattle.std.proofs.Common.{◌≡◌, ℕ, ◌+◌, ◌<◌, ◌*◌, ◌%◌, ◌≤◌, nat_le, ◌&&◌, Bool, true, false, List, length, slice_index, Option, Some, None, Result, Ok, Err, is_some, if◌then◌else◌, refl, sym, ap, ◌∙◌, arith, take, drop, ◌^◌, ◌==◌, slice_set}
+use Rattle.std.specs.Prelude.{bit_or, nat_lt}
+use Rattle.std.specs.List.{list_all}
+use Rattle.std.proofs.lemmas.Bool.{and_parts, ltb-true}
+use Rattle.std.proofs.lemmas.List.{take_all}
+use Rattle.std.proofs.lemmas.List.Folds.{list_all_more}
 use Rattle.std.proofs.lemmas.List.Sums.{AllPass-from_list_all, list_all-from_AllPass}
 use Rattle.std.proofs.lemmas.Nat.{le_or_l, le_or_r, or_lt}
 use Rattle.hex.specs.Hex.{decode_of, decode_pairs, hex_digit_value, is_hex_digit, pair_value}
 use Rattle.hex.specs.declared.error.FromHexError.{FromHexError}
+use Rattle.hex.proofs.Pairs.{prepend, decode_start, decode_step, decode_done}
 use Rattle.hex.proofs.HexLemmas.{decode_of-even, decode_of-ok, decode_of-digits}
 use Rattle.traces.specs.Fields.{some_octets, octets_of}
 
@@ -38,28 +39,54 @@ are_octets text octets is = by (decode_of text) refl is
         }
     by (Err fault) e same = cc
 
+-- so many digits may be octets
+abbrev pub may_be_octets : List ℕ → Bool
+may_be_octets text = length text % 2 == 0 && nat_le 2 (length text) && nat_le (length text) 2048
+
 -- a text of a wrong length isn't octets
-pub wrong_length : (text : List ℕ) → (length text % 2 ≡ 0 → 2 ≤ length text → length text ≤ 2048 → ⊥)
-    → is_some (octets_of text) ≡ false
+pub wrong_length : (text : List ℕ) → may_be_octets text ≡ false → octets_of text ≡ None
 wrong_length text wrong = by (octets_of text) refl
   where
-    by : (o : Option (List ℕ)) → octets_of text ≡ o → is_some o ≡ false
+    by : (o : Option (List ℕ)) → octets_of text ≡ o → o ≡ None
     by None e = refl
     by (Some octets) e =
         let are = are_octets text octets e in
-        absurd (wrong (omega (arith, are.twice)) (omega (arith, are.twice, are.some))
-        (omega (arith, are.twice, are.most)))
+        let twice = are.twice in
+        let some = are.some in
+        let most = are.most in
+        let odd : true ≡ false = may (length text) (length octets) twice some most wrong in
+        absurd (cc)
+      where
+        may : (n m : ℕ) → n ≡ 2 * m → 1 ≤ m → m ≤ 1024 → (n % 2 == 0 && nat_le 2 n && nat_le n 2048) ≡ false → true ≡ false
+        may n m twice some most wrong =
+            let even : n % 2 ≡ 0 = omega arith in
+            let right : (n % 2 == 0 && nat_le 2 n && nat_le n 2048) ≡ true = grind arith in
+            sym right ∙ wrong
 
--- of a right length it is, where each of them is a digit
-pub digits_right : (text : List ℕ) → length text % 2 ≡ 0 → 2 ≤ length text → length text ≤ 2048
-    → list_all is_hex_digit text ≡ is_some (octets_of text)
-digits_right text even some most = by (list_all is_hex_digit text) refl
+record MayBe (n : ℕ) : Type 0 where
+  even : n % 2 ≡ 0
+  some : 2 ≤ n
+  most : n ≤ 2048
+
+may_be : (n : ℕ) → (n % 2 == 0 && nat_le 2 n && nat_le n 2048) ≡ true → MayBe n
+may_be n is = record { even = grind arith; some = grind arith; most = grind arith }
+
+-- what its pairs decode to
+pub octets_decoded : (text out : List ℕ) → may_be_octets text ≡ true → decode_pairs 0 text ≡ Ok out
+    → octets_of text ≡ Some out
+octets_decoded text out may decoded =
+    let is = may_be (length text) may in
+    let both : decode_of text ≡ Ok out = decode_of-even text is.even ∙ decoded in
+    let twice = (decode_of-ok text out both).2 in
+    let some : 1 ≤ length out = omega (arith, twice, is.some) in
+    let most : length out ≤ 1024 = omega (arith, twice, is.most) in
+    let fits : (nat_le 1 (length out) && nat_le (length out) 1024) ≡ true = grind arith in
+    ap some_octets both ∙ ap (λ (b : Bool). if b then Some out else None) fits
+
+-- of a right length it is octets where each of them is a digit
+pub digits_right : (text : List ℕ) → may_be_octets text ≡ true → list_all is_hex_digit text ≡ is_some (octets_of text)
+digits_right text may = by (list_all is_hex_digit text) refl
   where
-    within : (os : List ℕ) → length text ≡ 2 * length os → is_some (some_octets (Ok os)) ≡ true
-    within os twice =
-        let fits : (nat_le 1 (length os) && nat_le (length os) 1024) ≡ true = grind arith in
-        rw fits refl
-
     none : (o : Option (List ℕ)) → octets_of text ≡ o → list_all is_hex_digit text ≡ false → is_some o ≡ false
     none None e all = refl
     none (Some octets) e all =
@@ -70,20 +97,19 @@ digits_right text even some most = by (list_all is_hex_digit text) refl
 
     by : (b : Bool) → list_all is_hex_digit text ≡ b → b ≡ is_some (octets_of text)
     by true all =
+        let even = (may_be (length text) may).even in
         let found = decode_of-digits text even (AllPass-from_list_all is_hex_digit text all) in
-        let twice = (decode_of-ok text found.0 found.1).2 in
-        sym (rw found.1 (within found.0 twice))
+        let decoded : decode_pairs 0 text ≡ Ok found.0 = sym (decode_of-even text even) ∙ found.1 in
+        sym (ap is_some (octets_decoded text found.0 may decoded))
     by false all = sym (none (octets_of text) refl all)
 
-some_value : (o : Option (List ℕ)) → IsSome o → (octets : List ℕ) × (o ≡ Some octets)
-some_value (Some octets) is = (octets, refl)
-some_value None is = cc is
-
-pub octets_most : (text : List ℕ) → IsSome (octets_of text) → length text / 2 ≤ 1024
-octets_most text is =
-    let found = some_value (octets_of text) is in
-    let are = are_octets text found.0 found.1 in
-    omega (arith, are.twice, are.most)
+pub other_digits : (text : List ℕ) → may_be_octets text ≡ true → list_all is_hex_digit text ≡ false
+    → octets_of text ≡ None
+other_digits text may all = by (octets_of text) (sym (digits_right text may) ∙ all)
+  where
+    by : (o : Option (List ℕ)) → is_some o ≡ false → o ≡ None
+    by None e = refl
+    by (Some octets) e = cc
 
 -- a text with another octet isn't octets
 pub other_octet : (text : List ℕ) (k : ℕ) → k < length text → is_hex_digit (slice_index text k) ≡ false
@@ -98,68 +124,10 @@ other_octet text k lt other = by (octets_of text) refl
         let odd : true ≡ false = sym pass ∙ other in
         absurd (cc)
 
--- Decoding
-
--- octets that are spelled right are digits, two for each
-pub octets_digits : (text : List ℕ) → IsSome (octets_of text) → AllPass is_hex_digit text
-octets_digits text is =
-    let found = some_value (octets_of text) is in
-    let are = are_octets text found.0 found.1 in (decode_of-ok text found.0 are.decoded).1
-
-pub octets_even : (text : List ℕ) → IsSome (octets_of text) → length text ≡ 2 * (length text / 2)
-octets_even text is =
-    let found = some_value (octets_of text) is in
-    let are = are_octets text found.0 found.1 in
-    omega (arith, are.twice)
-
--- and what their pairs decode to
-pub octets_found : (text out : List ℕ) → IsSome (octets_of text) → decode_pairs 0 text ≡ Ok out
-    → octets_of text ≡ Some out
-octets_found text out is decoded =
-    let found = some_value (octets_of text) is in
-    let are = are_octets text found.0 found.1 in
-    let even : length text % 2 ≡ 0 = omega (arith, are.twice) in
-    let both : decode_of text ≡ Ok out = decode_of-even text even ∙ decoded in
-    let same : found.0 ≡ out = one found.0 out (decode_of text) are.decoded both in
-    found.1 ∙ ap (λ (os : List ℕ). Some os) same
-  where
-    one : (a b : List ℕ) (r : Result (List ℕ) FromHexError) → r ≡ Ok a → r ≡ Ok b → a ≡ b
-    one a b r e h = cc
-
-pub pair_is : (a b i high low : ℕ) → hex_digit_value a ≡ Some high → hex_digit_value b ≡ Some low
-    → pair_value a b i ≡ Ok (high * 16 + low)
-pair_is a b i high low first second = rw (first, second) refl
-
 -- Values of octets: those of digits are below 16, and others aren't.
 
 abbrev pub HasValue : ℕ → ℕ → Type 0
 HasValue octet value = hex_digit_value octet ≡ (if nat_lt value 16 then Some value else None)
-
-digit_value : (octet value : ℕ) → HasValue octet value → is_hex_digit octet ≡ true
-    → (hex_digit_value octet ≡ Some value) × (value < 16)
-digit_value octet value has is = by (nat_lt value 16) refl has
-  where
-    by : (b : Bool) → nat_lt value 16 ≡ b → hex_digit_value octet ≡ (if b then Some value else None)
-        → (hex_digit_value octet ≡ Some value) × (value < 16)
-    by true e has = (has, ltb-true value 16 e)
-    by false e has = let never : is_hex_digit octet ≡ false = ap is_some has in
-        let odd : true ≡ false = sym is ∙ never in
-        absurd (cc)
-
--- the two digits of an octet
-pub record IsPair (text : List ℕ) (i high low : ℕ) : Type 0 where
-  pub first : hex_digit_value (slice_index text (2 * i)) ≡ Some high
-  pub second : hex_digit_value (slice_index text (2 * i + 1)) ≡ Some low
-  pub high_below : high < 16
-  pub low_below : low < 16
-
-pub pair_at : (text : List ℕ) (i high low : ℕ) → IsSome (octets_of text) → 2 * i + 1 < length text
-    → HasValue (slice_index text (2 * i)) high → HasValue (slice_index text (2 * i + 1)) low → IsPair text i high low
-pair_at text i high low is lt first second =
-    let all = octets_digits text is in
-    let one = digit_value (slice_index text (2 * i)) high first (all (2 * i) 0 (omega (arith, lt))) in
-    let two = digit_value (slice_index text (2 * i + 1)) low second (all (2 * i + 1) 0 lt) in
-    record { first = one.0; second = two.0; high_below = one.1; low_below = two.1 }
 
 value_is_digit : (octet value : ℕ) → HasValue octet value → nat_lt value 16 ≡ is_hex_digit octet
 value_is_digit octet value has = by (nat_lt value 16) has
@@ -198,8 +166,47 @@ bits_more text i bits value lt has so_far =
     ∙ ap (λ b. list_all is_hex_digit (take i text) && b) (value_is_digit (slice_index text i) value has)
     ∙ sym (list_all_more is_hex_digit text i 0 lt)
 
--- a text has digits alone where its front and the rest have
-pub digits_cut : (text : List ℕ) (n : ℕ)
-    → (list_all is_hex_digit (take n text) && list_all is_hex_digit (drop n text)) ≡ list_all is_hex_digit text
-digits_cut text n =
-    sym (list_all-append is_hex_digit (take n text) (drop n text)) ∙ ap (list_all is_hex_digit) (take-append-drop n text)
+-- Decoding in one pass: the bits so far tell whether all were digits, and if so, what is decoded, and the pairs that
+-- are left, are all of them.
+
+pub record Decoding (text out : List ℕ) (i bits : ℕ) : Type 0 where
+  pub digits : nat_lt bits 16 ≡ list_all is_hex_digit (take (2 * i) text)
+  pub decoded : nat_lt bits 16 ≡ true
+      → decode_pairs 0 text ≡ prepend (take i out) (decode_pairs (2 * i) (drop (2 * i) text))
+
+pub decoding_start : (text out : List ℕ) → Decoding text out 0 0
+decoding_start text out = record { digits = refl; decoded = λ all. decode_start text out }
+
+pair_is : (a b i high low : ℕ) → hex_digit_value a ≡ Some high → hex_digit_value b ≡ Some low
+    → pair_value a b i ≡ Ok (high * 16 + low)
+pair_is a b i high low first second = rw (first, second) refl
+
+pub decoding_more : (text out : List ℕ) (i bits high low octet : ℕ) → 2 * i + 1 < length text → i < length out
+    → HasValue (slice_index text (2 * i)) high → HasValue (slice_index text (2 * i + 1)) low
+    → (high < 16 → low < 16 → octet ≡ high * 16 + low) → Decoding text out i bits
+    → Decoding text (slice_set out i octet) (i + 1) (bit_or (bit_or bits high) low)
+decoding_more text out i bits high low octet lt room first second is so_far = record {
+  digits =
+      let two : 2 * i + 1 + 1 ≡ 2 * (i + 1) = omega arith in
+      bits_more text (2 * i + 1) (bit_or bits high) low lt second
+      (bits_more text (2 * i) bits high (omega (arith, lt)) first so_far.digits)
+      ∙ ap (λ n. list_all is_hex_digit (take n text)) two;
+  decoded = λ all.
+      let both = and_parts (nat_lt (bit_or bits high) 16) (nat_lt low 16) (sym (bits_below (bit_or bits high) low) ∙ all) in
+      let front = and_parts (nat_lt bits 16) (nat_lt high 16) (sym (bits_below bits high) ∙ both.0) in
+      let one : hex_digit_value (slice_index text (2 * i)) ≡ Some high =
+      first ∙ ap (λ (b : Bool). if b then Some high else None) front.1 in
+      let other : hex_digit_value (slice_index text (2 * i + 1)) ≡ Some low =
+      second ∙ ap (λ (b : Bool). if b then Some low else None) both.1 in
+      let pair = pair_is (slice_index text (2 * i)) (slice_index text (2 * i + 1)) (2 * i) high low one other in
+      let same = is (ltb-true high 16 front.1) (ltb-true low 16 both.1) in
+      decode_step text out i octet lt room (pair ∙ ap Ok (sym same)) (so_far.decoded front.0);
+}
+
+pub decoding_done : (text out : List ℕ) (i bits : ℕ) → length text ≡ 2 * length out → length out ≤ i
+    → Decoding text out i bits
+    → (nat_lt bits 16 ≡ list_all is_hex_digit text) × (nat_lt bits 16 ≡ true → decode_pairs 0 text ≡ Ok out)
+decoding_done text out i bits twice done all = (
+  all.digits ∙ ap (list_all is_hex_digit) (take_all (2 * i) text (omega (arith, twice, done))),
+  λ digits. decode_done text out i done (omega (arith, twice, done)) (all.decoded digits),
+)

@@ -9,7 +9,7 @@ ghost use Rattle.traces.specs.Progress.{IsFirst, script_in, log_in, coming_in, i
 ghost use Rattle.traces.specs.Trace.{first_wrong, lines_of};
 
 use crate::actions::print_action;
-use crate::event::{FirstLine, announce, first_line, is_right};
+use crate::event::{FirstLine, announce, first_line};
 use gateway::{Action, Next, Port};
 use std::alloc::Global;
 use std::marker::Model;
@@ -71,10 +71,11 @@ fn first_event<'a>(text: Option<&'a [u8]>, buf: &mut [u8; 1024]) -> (Next, Optio
         };
         match first_line(text) {
             FirstLine::Skipped(rest) => left = rest,
-            FirstLine::Event(event, rest) if is_right(&event) => {
-                return (announce(&event, buf), rest);
-            }
-            _ => return (Next::Fault, left),
+            FirstLine::Event(event, rest) => match announce(&event, buf) {
+                Some(next) => return (next, rest),
+                None => return (Next::Fault, left),
+            },
+            FirstLine::Wrong => return (Next::Fault, left),
         }
     }
     // No memory holds so many lines.
