@@ -3,7 +3,7 @@ use Rattle.std.proofs.Common.{◌≡◌, ◌≢◌, ℕ, zero, suc, ◌+◌, ◌
 use Rattle.std.proofs.Math.Nat.{pow-le-pow_right}
 use Rattle.std.proofs.lemmas.Bool.{cases_lt}
 use Rattle.std.proofs.lemmas.Nat.{pow-add}
-use Rattle.std.proofs.lemmas.List.{get_or-take, length-take-le, take_all}
+use Rattle.std.proofs.lemmas.List.{get_or-take, length-take-le}
 use Rattle.std.specs.Char.{is_ascii_digit}
 use Rattle.traces.specs.Fields.{digits_after, decimal_of}
 use Rattle.traces.specs.FirstLines.{NumberMayEnd, IsFrontNumber}
@@ -86,7 +86,8 @@ ended_at text zero v most ends is = λ j at. by j at
     by (suc j) at =
         let le : suc j ≤ length text = at.within in
         let len : length (take (suc j) text) ≡ suc j = length-take-le (suc j) text le in
-        let same : slice_index (take (suc j) text) 0 ≡ slice_index text 0 = get_or-take (suc j) text 0 0 (omega arith) in
+        let same : slice_index (take (suc j) text) 0 ≡ slice_index text 0 =
+        get_or-take (suc j) text 0 0 (omega arith) in
         no_number (take (suc j) text) 0 (omega (arith, len)) (ap is_ascii_digit same ∙ ends.over (omega (arith, le)))
 ended_at text (suc i) v most ends is =
     let on : (nat_le 1 (suc i) && nat_le (suc i) 15) ≡ true = grind arith in
@@ -122,20 +123,9 @@ ended_near text near v le all most is = elim (cases_lt near 16) [
           too_long (take j text) (omega (arith, len, behind, e))
     ]
 
--- A whole text as a number, by the number at its front.
-
-pub whole_number : (text : List ℕ) (v i : ℕ) → IsFrontNumber text (Some (v, i)) → i ≡ length text
-    → Some v ≡ decimal_of text
-whole_number text v i is e =
-    let all : take i text ≡ text = take_all i text (omega (arith, e)) in
-    sym (ap decimal_of (sym all) ∙ is.1)
+-- A text behind whose number more stands is none.
 
 pub number_in_front : (text : List ℕ) (v i : ℕ) → IsFrontNumber text (Some (v, i)) → i ≢ length text
     → None ≡ decimal_of text
 number_in_front text v i is other =
     let lt : i < length text = omega (arith, is.0.within, other) in sym (no_number text i lt (is.0.over lt))
-
-pub none_in_front : (text : List ℕ) → IsFrontNumber text None → None ≡ decimal_of text
-none_in_front text is =
-    let all : take (length text) text ≡ text = take_all (length text) text (omega arith) in
-    sym (ap decimal_of (sym all) ∙ is (length text) (record { within = omega arith; over = λ lt. absurd (omega (arith, lt)) }))

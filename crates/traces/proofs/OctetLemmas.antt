@@ -1,10 +1,15 @@
 -- Octets in hexadecimal: when they are right, and how many they are.
-use Rattle.std.proofs.Common.{◌≡◌, ℕ, ◌+◌, ◌-◌, ◌<◌, ◌*◌, ◌/◌, ◌%◌, ◌≤◌, nat_le, ◌&&◌, Bool, true, false, List, length, slice_index, Option, Some, None, Result, Ok, Err, is_some, if◌then◌else◌, refl, sym, ap, ◌∙◌, arith}
-use Rattle.std.specs.Prelude.{IsSome}
-use Rattle.std.specs.List.{AllPass, list_all}
+use Rattle.std.proofs.Common.{◌≡◌, ℕ, ◌+◌, ◌<◌, ◌*◌, ◌%◌, ◌≤◌, nat_le, ◌&&◌, Bool, true, false, List, length, slice_index, Option, Some, None, Result, Ok, Err, is_some, if◌then◌else◌, refl, sym, ap, ◌∙◌, arith, take, drop, ◌^◌, ◌==◌, slice_set}
+use Rattle.std.specs.Prelude.{bit_or, nat_lt}
+use Rattle.std.specs.List.{list_all}
+use Rattle.std.proofs.lemmas.Bool.{and_parts, ltb-true}
+use Rattle.std.proofs.lemmas.List.{take_all}
+use Rattle.std.proofs.lemmas.List.Folds.{list_all_more}
 use Rattle.std.proofs.lemmas.List.Sums.{AllPass-from_list_all, list_all-from_AllPass}
+use Rattle.std.proofs.lemmas.Nat.{le_or_l, le_or_r, or_lt}
 use Rattle.hex.specs.Hex.{decode_of, decode_pairs, hex_digit_value, is_hex_digit, pair_value}
 use Rattle.hex.specs.declared.error.FromHexError.{FromHexError}
+use Rattle.hex.proofs.Pairs.{prepend, decode_start, decode_step, decode_done}
 use Rattle.hex.proofs.HexLemmas.{decode_of-even, decode_of-ok, decode_of-digits}
 use Rattle.traces.specs.Fields.{some_octets, octets_of}
 
@@ -34,28 +39,54 @@ are_octets text octets is = by (decode_of text) refl is
         }
     by (Err fault) e same = cc
 
+-- so many digits may be octets
+abbrev pub may_be_octets : List ℕ → Bool
+may_be_octets text = length text % 2 == 0 && nat_le 2 (length text) && nat_le (length text) 2048
+
 -- a text of a wrong length isn't octets
-pub wrong_length : (text : List ℕ) → (length text % 2 ≡ 0 → 2 ≤ length text → length text ≤ 2048 → ⊥)
-    → is_some (octets_of text) ≡ false
+pub wrong_length : (text : List ℕ) → may_be_octets text ≡ false → octets_of text ≡ None
 wrong_length text wrong = by (octets_of text) refl
   where
-    by : (o : Option (List ℕ)) → octets_of text ≡ o → is_some o ≡ false
+    by : (o : Option (List ℕ)) → octets_of text ≡ o → o ≡ None
     by None e = refl
     by (Some octets) e =
         let are = are_octets text octets e in
-        absurd (wrong (omega (arith, are.twice)) (omega (arith, are.twice, are.some))
-        (omega (arith, are.twice, are.most)))
+        let twice = are.twice in
+        let some = are.some in
+        let most = are.most in
+        let odd : true ≡ false = may (length text) (length octets) twice some most wrong in
+        absurd (cc)
+      where
+        may : (n m : ℕ) → n ≡ 2 * m → 1 ≤ m → m ≤ 1024 → (n % 2 == 0 && nat_le 2 n && nat_le n 2048) ≡ false → true ≡ false
+        may n m twice some most wrong =
+            let even : n % 2 ≡ 0 = omega arith in
+            let right : (n % 2 == 0 && nat_le 2 n && nat_le n 2048) ≡ true = grind arith in
+            sym right ∙ wrong
 
--- of a right length it is, where each of them is a digit
-pub digits_right : (text : List ℕ) → length text % 2 ≡ 0 → 2 ≤ length text → length text ≤ 2048
-    → list_all is_hex_digit text ≡ is_some (octets_of text)
-digits_right text even some most = by (list_all is_hex_digit text) refl
+record MayBe (n : ℕ) : Type 0 where
+  even : n % 2 ≡ 0
+  some : 2 ≤ n
+  most : n ≤ 2048
+
+may_be : (n : ℕ) → (n % 2 == 0 && nat_le 2 n && nat_le n 2048) ≡ true → MayBe n
+may_be n is = record { even = grind arith; some = grind arith; most = grind arith }
+
+-- what its pairs decode to
+pub octets_decoded : (text out : List ℕ) → may_be_octets text ≡ true → decode_pairs 0 text ≡ Ok out
+    → octets_of text ≡ Some out
+octets_decoded text out may decoded =
+    let is = may_be (length text) may in
+    let both : decode_of text ≡ Ok out = decode_of-even text is.even ∙ decoded in
+    let twice = (decode_of-ok text out both).2 in
+    let some : 1 ≤ length out = omega (arith, twice, is.some) in
+    let most : length out ≤ 1024 = omega (arith, twice, is.most) in
+    let fits : (nat_le 1 (length out) && nat_le (length out) 1024) ≡ true = grind arith in
+    ap some_octets both ∙ ap (λ (b : Bool). if b then Some out else None) fits
+
+-- of a right length it is octets where each of them is a digit
+pub digits_right : (text : List ℕ) → may_be_octets text ≡ true → list_all is_hex_digit text ≡ is_some (octets_of text)
+digits_right text may = by (list_all is_hex_digit text) refl
   where
-    within : (os : List ℕ) → length text ≡ 2 * length os → is_some (some_octets (Ok os)) ≡ true
-    within os twice =
-        let fits : (nat_le 1 (length os) && nat_le (length os) 1024) ≡ true = grind arith in
-        rw fits refl
-
     none : (o : Option (List ℕ)) → octets_of text ≡ o → list_all is_hex_digit text ≡ false → is_some o ≡ false
     none None e all = refl
     none (Some octets) e all =
@@ -66,20 +97,19 @@ digits_right text even some most = by (list_all is_hex_digit text) refl
 
     by : (b : Bool) → list_all is_hex_digit text ≡ b → b ≡ is_some (octets_of text)
     by true all =
+        let even = (may_be (length text) may).even in
         let found = decode_of-digits text even (AllPass-from_list_all is_hex_digit text all) in
-        let twice = (decode_of-ok text found.0 found.1).2 in
-        sym (rw found.1 (within found.0 twice))
+        let decoded : decode_pairs 0 text ≡ Ok found.0 = sym (decode_of-even text even) ∙ found.1 in
+        sym (ap is_some (octets_decoded text found.0 may decoded))
     by false all = sym (none (octets_of text) refl all)
 
-some_value : (o : Option (List ℕ)) → IsSome o → (octets : List ℕ) × (o ≡ Some octets)
-some_value (Some octets) is = (octets, refl)
-some_value None is = cc is
-
-pub octets_most : (text : List ℕ) → IsSome (octets_of text) → length text / 2 ≤ 1024
-octets_most text is =
-    let found = some_value (octets_of text) is in
-    let are = are_octets text found.0 found.1 in
-    omega (arith, are.twice, are.most)
+pub other_digits : (text : List ℕ) → may_be_octets text ≡ true → list_all is_hex_digit text ≡ false
+    → octets_of text ≡ None
+other_digits text may all = by (octets_of text) (sym (digits_right text may) ∙ all)
+  where
+    by : (o : Option (List ℕ)) → is_some o ≡ false → o ≡ None
+    by None e = refl
+    by (Some octets) e = cc
 
 -- a text with another octet isn't octets
 pub other_octet : (text : List ℕ) (k : ℕ) → k < length text → is_hex_digit (slice_index text k) ≡ false
@@ -94,69 +124,89 @@ other_octet text k lt other = by (octets_of text) refl
         let odd : true ≡ false = sym pass ∙ other in
         absurd (cc)
 
--- Decoding
+-- Values of octets: those of digits are below 16, and others aren't.
 
--- octets that are spelled right are digits, two for each
-pub octets_digits : (text : List ℕ) → IsSome (octets_of text) → AllPass is_hex_digit text
-octets_digits text is =
-    let found = some_value (octets_of text) is in
-    let are = are_octets text found.0 found.1 in (decode_of-ok text found.0 are.decoded).1
+abbrev pub HasValue : ℕ → ℕ → Type 0
+HasValue octet value = hex_digit_value octet ≡ (if nat_lt value 16 then Some value else None)
 
-pub octets_even : (text : List ℕ) → IsSome (octets_of text) → length text ≡ 2 * (length text / 2)
-octets_even text is =
-    let found = some_value (octets_of text) is in
-    let are = are_octets text found.0 found.1 in
-    omega (arith, are.twice)
-
--- and what their pairs decode to
-pub octets_found : (text out : List ℕ) → IsSome (octets_of text) → decode_pairs 0 text ≡ Ok out
-    → octets_of text ≡ Some out
-octets_found text out is decoded =
-    let found = some_value (octets_of text) is in
-    let are = are_octets text found.0 found.1 in
-    let even : length text % 2 ≡ 0 = omega (arith, are.twice) in
-    let both : decode_of text ≡ Ok out = decode_of-even text even ∙ decoded in
-    let same : found.0 ≡ out = one found.0 out (decode_of text) are.decoded both in
-    found.1 ∙ ap (λ (os : List ℕ). Some os) same
+value_is_digit : (octet value : ℕ) → HasValue octet value → nat_lt value 16 ≡ is_hex_digit octet
+value_is_digit octet value has = by (nat_lt value 16) has
   where
-    one : (a b : List ℕ) (r : Result (List ℕ) FromHexError) → r ≡ Ok a → r ≡ Ok b → a ≡ b
-    one a b r e h = cc
+    by : (b : Bool) → hex_digit_value octet ≡ (if b then Some value else None) → b ≡ is_hex_digit octet
+    by true has = sym (ap is_some has)
+    by false has = sym (ap is_some has)
 
-pub pair_is : (a b i high low : ℕ) → hex_digit_value a ≡ Some high → hex_digit_value b ≡ Some low
+-- the bits of several octets' values are below 16 where each is
+bits_below : (bits value : ℕ) → nat_lt (bit_or bits value) 16 ≡ (nat_lt bits 16 && nat_lt value 16)
+bits_below bits value = by (nat_lt bits 16) (nat_lt value 16) (nat_lt (bit_or bits value) 16) refl refl refl
+  where
+    by : (x y z : Bool) → nat_lt bits 16 ≡ x → nat_lt value 16 ≡ y → nat_lt (bit_or bits value) 16 ≡ z → z ≡ (x && y)
+    by true true true e f g = refl
+    by true true false e f g =
+        let low : bit_or bits value < 2 ^ 4 = or_lt 4 bits value (ltb-true bits 16 e) (ltb-true value 16 f) in
+        absurd (grind arith)
+    by true false false e f g = refl
+    by true false true e f g =
+        let low = ltb-true (bit_or bits value) 16 g in
+        let below : value < 16 = omega (arith, low, le_or_r bits value) in
+        absurd (grind arith)
+    by false y false e f g = refl
+    by false y true e f g =
+        let low = ltb-true (bit_or bits value) 16 g in
+        let below : bits < 16 = omega (arith, low, le_or_l bits value) in
+        absurd (grind arith)
+
+-- one octet more
+pub bits_more : (text : List ℕ) (i bits value : ℕ) → i < length text → HasValue (slice_index text i) value
+    → nat_lt bits 16 ≡ list_all is_hex_digit (take i text)
+    → nat_lt (bit_or bits value) 16 ≡ list_all is_hex_digit (take (i + 1) text)
+bits_more text i bits value lt has so_far =
+    bits_below bits value
+    ∙ ap (λ b. b && nat_lt value 16) so_far
+    ∙ ap (λ b. list_all is_hex_digit (take i text) && b) (value_is_digit (slice_index text i) value has)
+    ∙ sym (list_all_more is_hex_digit text i 0 lt)
+
+-- Decoding in one pass: the bits so far tell whether all were digits, and if so, what is decoded, and the pairs that
+-- are left, are all of them.
+
+pub record Decoding (text out : List ℕ) (i bits : ℕ) : Type 0 where
+  pub digits : nat_lt bits 16 ≡ list_all is_hex_digit (take (2 * i) text)
+  pub decoded : nat_lt bits 16 ≡ true
+      → decode_pairs 0 text ≡ prepend (take i out) (decode_pairs (2 * i) (drop (2 * i) text))
+
+pub decoding_start : (text out : List ℕ) → Decoding text out 0 0
+decoding_start text out = record { digits = refl; decoded = λ all. decode_start text out }
+
+pair_is : (a b i high low : ℕ) → hex_digit_value a ≡ Some high → hex_digit_value b ≡ Some low
     → pair_value a b i ≡ Ok (high * 16 + low)
 pair_is a b i high low first second = rw (first, second) refl
 
--- a digit's value by arithmetic
+pub decoding_more : (text out : List ℕ) (i bits high low octet : ℕ) → 2 * i + 1 < length text → i < length out
+    → HasValue (slice_index text (2 * i)) high → HasValue (slice_index text (2 * i + 1)) low
+    → (high < 16 → low < 16 → octet ≡ high * 16 + low) → Decoding text out i bits
+    → Decoding text (slice_set out i octet) (i + 1) (bit_or (bit_or bits high) low)
+decoding_more text out i bits high low octet lt room first second is so_far = record {
+  digits =
+      let two : 2 * i + 1 + 1 ≡ 2 * (i + 1) = omega arith in
+      bits_more text (2 * i + 1) (bit_or bits high) low lt second
+      (bits_more text (2 * i) bits high (omega (arith, lt)) first so_far.digits)
+      ∙ ap (λ n. list_all is_hex_digit (take n text)) two;
+  decoded = λ all.
+      let both = and_parts (nat_lt (bit_or bits high) 16) (nat_lt low 16) (sym (bits_below (bit_or bits high) low) ∙ all) in
+      let front = and_parts (nat_lt bits 16) (nat_lt high 16) (sym (bits_below bits high) ∙ both.0) in
+      let one : hex_digit_value (slice_index text (2 * i)) ≡ Some high =
+      first ∙ ap (λ (b : Bool). if b then Some high else None) front.1 in
+      let other : hex_digit_value (slice_index text (2 * i + 1)) ≡ Some low =
+      second ∙ ap (λ (b : Bool). if b then Some low else None) both.1 in
+      let pair = pair_is (slice_index text (2 * i)) (slice_index text (2 * i + 1)) (2 * i) high low one other in
+      let same = is (ltb-true high 16 front.1) (ltb-true low 16 both.1) in
+      decode_step text out i octet lt room (pair ∙ ap Ok (sym same)) (so_far.decoded front.0);
+}
 
-bounds : (a b c : ℕ) → (nat_le a c && nat_le c b) ≡ true → (a ≤ c) × (c ≤ b)
-bounds a b c is = (grind arith, grind arith)
-
-pub record HasValue (c : ℕ) : Type 0 where
-  pub value : hex_digit_value c ≡ Some (c % 16 + 9 * (c / 64))
-  pub below : c % 16 + 9 * (c / 64) < 16
-
-pub digit_value_is : (c : ℕ) → is_hex_digit c ≡ true → HasValue c
-digit_value_is c is =
-    go (nat_le 65 c && nat_le c 70) (nat_le 97 c && nat_le c 102) (nat_le 48 c && nat_le c 57) refl refl refl
-  where
-    go : (x y z : Bool) → (nat_le 65 c && nat_le c 70) ≡ x → (nat_le 97 c && nat_le c 102) ≡ y
-        → (nat_le 48 c && nat_le c 57) ≡ z → HasValue c
-    go true y z e f g =
-        let low : 65 ≤ c = (bounds 65 70 c e).0 in
-        let high : c ≤ 70 = (bounds 65 70 c e).1 in
-        let same : c - 55 ≡ c % 16 + 9 * (c / 64) = omega arith in
-        record { value = rw e (ap Some same); below = omega arith }
-    go false true z e f g =
-        let low : 97 ≤ c = (bounds 97 102 c f).0 in
-        let high : c ≤ 102 = (bounds 97 102 c f).1 in
-        let same : c - 87 ≡ c % 16 + 9 * (c / 64) = omega arith in
-        record { value = rw (e, f) (ap Some same); below = omega arith }
-    go false false true e f g =
-        let low : 48 ≤ c = (bounds 48 57 c g).0 in
-        let high : c ≤ 57 = (bounds 48 57 c g).1 in
-        let same : c - 48 ≡ c % 16 + 9 * (c / 64) = omega arith in
-        record { value = rw (e, f, g) (ap Some same); below = omega arith }
-    go false false false e f g =
-        let never : is_hex_digit c ≡ false = rw (e, f, g) refl in
-        let odd : true ≡ false = sym is ∙ never in
-        absurd (cc)
+pub decoding_done : (text out : List ℕ) (i bits : ℕ) → length text ≡ 2 * length out → length out ≤ i
+    → Decoding text out i bits
+    → (nat_lt bits 16 ≡ list_all is_hex_digit text) × (nat_lt bits 16 ≡ true → decode_pairs 0 text ≡ Ok out)
+decoding_done text out i bits twice done all = (
+  all.digits ∙ ap (list_all is_hex_digit) (take_all (2 * i) text (omega (arith, twice, done))),
+  λ digits. decode_done text out i done (omega (arith, twice, done)) (all.decoded digits),
+)

@@ -49,7 +49,7 @@ event_behind now (kind ∷ []) = bare_event kind now
 event_behind now (kind ∷ text ∷ []) = valued_at (Some now) kind text
 event_behind now _ = None
 
--- the moment of the first line of a text, and what stands behind its space; or that line is no event
+-- the moment of the first line of a text, and what stands behind its space; or it is no event
 abbrev pub IsMomentAt : List ℕ → Option (ℕ × Bor (List ℕ)) → Type 0
 IsMomentAt text None = event_in (first_line text) ≡ None
 IsMomentAt text (Some found) =

@@ -38,7 +38,8 @@ pub(crate) fn front_number(text: &[u8]) -> Option<(u64, usize)>
 
 /// A number of so many digits, if a number may have them.
 fn ended(value: u64, digits: usize) -> Option<(u64, usize)>
-    ensures { result ≡ (if nat_le 1 digits && nat_le digits 15 then Some (value, digits) else None) }
+    ensures { result
+        ≡ (if nat_le 1 digits && nat_le digits 15 then Some (value, digits) else None) }
 {
     if 1 <= digits && digits <= MOST_DIGITS {
         Some((value, digits))

@@ -1,5 +1,5 @@
 //! The first line of a text.
-ghost use Rattle.std.specs.Prelude.{◌≡◌, ◌∷◌, [], true, false, Some, IfOk, IfSome, IsSome, OnSome, is_some, option_map};
+ghost use Rattle.std.specs.Prelude.{◌≡◌, ◌∷◌, [], true, false, Some, IfOk, IfSome, OnSome, is_some, option_map};
 ghost use Rattle.gateway.specs.Entries.{FitsPort};
 ghost use Rattle.gateway.specs.Ports.{FitsBuffer, told_by};
 ghost use Rattle.traces.specs.Event.{event_of, bare_event, valued_at};
@@ -132,21 +132,22 @@ pub(crate) fn is_right(event: &Spelled<'_>) -> bool
     }
 }
 
-/// An event that is spelled right, as a port gives it: its octets are put at the front of the
-/// buffer.
-pub(crate) fn announce(event: &Spelled<'_>, buf: &mut [u8; 1024]) -> Next
-    requires { IsSome (spelled_event event.now) }
-    ensures told { IfSome (spelled_event event.now) (λ e. told_by result buf.new ≡ came e ∷ []) }
-    ensures some { tells_event result ≡ true }
-    ensures fits { FitsBuffer result }
+/// An event as a port gives it: its octets are put at the front of the buffer. `None` where they
+/// are wrong; then the buffer may hold anything.
+pub(crate) fn announce(event: &Spelled<'_>, buf: &mut [u8; 1024]) -> Option<Next>
+    ensures right { is_some result ≡ is_some (spelled_event event.now) }
+    ensures told { IfSome result (λ next. IfSome (spelled_event event.now)
+        (λ e. told_by next buf.new ≡ came e ∷ [])) }
+    ensures some { IfSome result (λ next. tells_event next ≡ true) }
+    ensures fits { IfSome result FitsBuffer }
 {
     match event {
-        Spelled::Line(now, digits) => Next::Line(*now, write_octets(*digits, buf)),
-        Spelled::Open(now) => Next::Open(*now),
-        Spelled::Bytes(now, digits) => Next::Bytes(*now, write_octets(*digits, buf)),
-        Spelled::Cut(now) => Next::Cut(*now),
-        Spelled::Tick(now) => Next::Tick(*now),
-        Spelled::Wall(now, number) => Next::Wall(*now, *number),
+        Spelled::Line(now, digits) => Some(Next::Line(*now, write_octets(*digits, buf)?)),
+        Spelled::Open(now) => Some(Next::Open(*now)),
+        Spelled::Bytes(now, digits) => Some(Next::Bytes(*now, write_octets(*digits, buf)?)),
+        Spelled::Cut(now) => Some(Next::Cut(*now)),
+        Spelled::Tick(now) => Some(Next::Tick(*now)),
+        Spelled::Wall(now, number) => Some(Next::Wall(*now, *number)),
     }
 }
 

@@ -1,6 +1,6 @@
 //! Octets in hexadecimal.
-ghost use Rattle.std.specs.Prelude.{◌≡◌, ◌*◌, ◌<◌, ◌≤◌, true, Some, IfOk, IfSome, IsSome, is_some, length, option_map, string_bytes, take};
-ghost use Rattle.hex.specs.Hex.{IsBytes, encode_upper, hex_digit_value, is_hex_digit};
+ghost use Rattle.std.specs.Prelude.{◌≡◌, ◌==◌, ◌*◌, ◌%◌, ◌≤◌, ◌&&◌, nat_le, nat_lt, true, Some, None, Ok, IfOk, IfSome, if◌then◌else◌, is_some, length, option_map, string_bytes, take};
+ghost use Rattle.hex.specs.Hex.{IsBytes, decode_pairs, encode_upper, hex_digit_value, is_hex_digit};
 ghost use Rattle.std.specs.List.{list_all};
 ghost use Rattle.traces.specs.Fields.{octets_of};
 
@@ -9,6 +9,27 @@ use std::alloc::{AllocError, Global};
 
 /// The most octets of one event.
 const MOST_OCTETS: usize = 1024;
+
+/// The value of each octet as a digit in hexadecimal, and 255 where it is none.
+#[rattlefmt::skip]
+static VALUES: [u8; 256] = [
+    255, 255, 255, 255, 255, 255, 255, 255, 255, 255, 255, 255, 255, 255, 255, 255,
+    255, 255, 255, 255, 255, 255, 255, 255, 255, 255, 255, 255, 255, 255, 255, 255,
+    255, 255, 255, 255, 255, 255, 255, 255, 255, 255, 255, 255, 255, 255, 255, 255,
+      0,   1,   2,   3,   4,   5,   6,   7,   8,   9, 255, 255, 255, 255, 255, 255, // `0` to `9`
+    255,  10,  11,  12,  13,  14,  15, 255, 255, 255, 255, 255, 255, 255, 255, 255, // `A` to `F`
+    255, 255, 255, 255, 255, 255, 255, 255, 255, 255, 255, 255, 255, 255, 255, 255,
+    255,  10,  11,  12,  13,  14,  15, 255, 255, 255, 255, 255, 255, 255, 255, 255, // `a` to `f`
+    255, 255, 255, 255, 255, 255, 255, 255, 255, 255, 255, 255, 255, 255, 255, 255,
+    255, 255, 255, 255, 255, 255, 255, 255, 255, 255, 255, 255, 255, 255, 255, 255,
+    255, 255, 255, 255, 255, 255, 255, 255, 255, 255, 255, 255, 255, 255, 255, 255,
+    255, 255, 255, 255, 255, 255, 255, 255, 255, 255, 255, 255, 255, 255, 255, 255,
+    255, 255, 255, 255, 255, 255, 255, 255, 255, 255, 255, 255, 255, 255, 255, 255,
+    255, 255, 255, 255, 255, 255, 255, 255, 255, 255, 255, 255, 255, 255, 255, 255,
+    255, 255, 255, 255, 255, 255, 255, 255, 255, 255, 255, 255, 255, 255, 255, 255,
+    255, 255, 255, 255, 255, 255, 255, 255, 255, 255, 255, 255, 255, 255, 255, 255,
+    255, 255, 255, 255, 255, 255, 255, 255, 255, 255, 255, 255, 255, 255, 255, 255,
+];
 
 /// 1 to 1,024 octets in hexadecimal, each as two digits of either case. `None` where the text is
 /// anything else; an `Err` is want of memory.
@@ -32,64 +53,69 @@ pub fn hex_digits(alloc: Global, octets: &[u8]) -> Result<String, AllocError>
     hex::encode_upper(alloc, octets)
 }
 
+/// Whether so many digits may be 1 to 1,024 octets.
+fn may_be_octets(digits: usize) -> bool
+    ensures { result ≡ (digits % 2 == 0 && nat_le 2 digits && nat_le digits 2048) }
+{
+    digits % 2 == 0 && 2 <= digits && digits <= 2 * MOST_OCTETS
+}
+
 /// Whether a text is 1 to 1,024 octets in hexadecimal.
 pub(crate) fn are_octets(text: &[u8]) -> bool
     ensures { result ≡ is_some (octets_of text.now) }
 {
-    if text.len() % 2 != 0 || text.len() < 2 || text.len() > 2 * MOST_OCTETS {
-        return false;
-    }
-    are_digits(text)
+    may_be_octets(text.len()) && are_digits(text)
 }
 
 /// Whether a text has digits alone. It looks at all of them, which takes less time than an end at
-/// the first other octet.
+/// the first other octet: only digits have values of four bits.
 fn are_digits(text: &[u8]) -> bool
     ensures { result ≡ list_all is_hex_digit text.now }
 {
-    let mut all = true;
+    let mut bits = 0;
     for octet in text {
-        all &= is_digit(*octet);
+        bits |= value_of(*octet);
     }
-    all
+    bits < 16
 }
 
-fn is_digit(octet: u8) -> bool
-    ensures { result ≡ is_hex_digit octet }
+/// Puts the octets that stand in hexadecimal at the front of the buffer, and answers their number.
+/// `None` where the text isn't 1 to 1,024 octets; then the buffer may hold anything.
+pub(crate) fn write_octets(text: &[u8], buf: &mut [u8; 1024]) -> Option<usize>
+    ensures octets { option_map (λ len. take len buf.new) result ≡ octets_of text.now }
+    ensures most { IfSome result (λ len. len ≤ 1024) }
 {
-    matches!(octet, b'0'..=b'9' | b'A'..=b'F' | b'a'..=b'f')
-}
-
-/// Puts octets that stand in hexadecimal at the front of the buffer, and answers their number.
-pub(crate) fn write_octets(text: &[u8], buf: &mut [u8; 1024]) -> usize
-    requires { IsSome (octets_of text.now) }
-    ensures octets { IfSome (octets_of text.now) (λ octets. take result buf.new ≡ octets) }
-    ensures most { result ≤ 1024 }
-{
+    if !may_be_octets(text.len()) {
+        return None;
+    }
     let len = text.len() / 2;
-    decode_right(text, &mut buf[..len]);
-    len
+    if decode_digits(text, &mut buf[..len]) {
+        Some(len)
+    } else {
+        None
+    }
 }
 
-/// Decodes octets that are spelled right.
-fn decode_right(text: &[u8], out: &mut [u8])
-    requires right { IsSome (octets_of text.now) }
-    requires room { length text.now ≡ 2 * length out.old }
-    ensures { octets_of text.now ≡ Some out.new }
+/// Decodes pairs of digits, and answers whether all of them are digits. Both in one pass.
+fn decode_digits(text: &[u8], out: &mut [u8]) -> bool
+    requires { length text.now ≡ 2 * length out.old }
+    ensures digits { result ≡ list_all is_hex_digit text.now }
+    ensures octets { result ≡ true → decode_pairs 0 text.now ≡ Ok out.new }
 {
+    let mut bits = 0;
     'octets: for i in 0..out.len() {
         let high = value_of(text[2 * i]);
         let low = value_of(text[2 * i + 1]);
-        out[i] = high * 16 + low;
+        bits = bits | high | low;
+        // Nothing is lost of two digits' values.
+        out[i] = high.wrapping_mul(16).wrapping_add(low);
     }
+    bits < 16
 }
 
-/// The value of a digit. By arithmetic, since so the compiler takes many digits at a time: `0` is
-/// 3 * 16, `A` is 4 * 16 + 1 and `a` 6 * 16 + 1, and letters stand for 10 and more.
-fn value_of(digit: u8) -> u8
-    requires { is_hex_digit digit ≡ true }
-    ensures value { hex_digit_value digit ≡ Some result }
-    ensures below { result < 16 }
+/// The value of a digit, which is below 16. Another octet has a greater one.
+fn value_of(octet: u8) -> u8
+    ensures { hex_digit_value octet ≡ (if nat_lt result 16 then Some result else None) }
 {
-    digit % 16 + 9 * (digit / 64)
+    VALUES[octet as usize]
 }

@@ -8,9 +8,14 @@ ghost use Rattle.traces.specs.Fields.{parts_after};
 ghost use Rattle.traces.specs.Progress.{IsFirst, script_in, log_in, coming_in, is_through, tells_event};
 ghost use Rattle.traces.specs.Trace.{first_wrong, lines_of};
 
+<<<<<<< HEAD
 use crate::actions::print_action_at;
 use crate::event::{FirstLine, announce, first_line, is_right};
 use crate::moments::Moment;
+=======
+use crate::actions::print_action;
+use crate::event::{FirstLine, announce, first_line};
+>>>>>>> reading
 use gateway::{Action, Next, Port};
 use std::alloc::Global;
 use std::marker::Model;
@@ -74,10 +79,11 @@ fn first_event<'a>(text: Option<&'a [u8]>, buf: &mut [u8; 1024]) -> (Next, Optio
         };
         match first_line(text) {
             FirstLine::Skipped(rest) => left = rest,
-            FirstLine::Event(event, rest) if is_right(&event) => {
-                return (announce(&event, buf), rest);
-            }
-            _ => return (Next::Fault, left),
+            FirstLine::Event(event, rest) => match announce(&event, buf) {
+                Some(next) => return (next, rest),
+                None => return (Next::Fault, left),
+            },
+            FirstLine::Wrong => return (Next::Fault, left),
         }
     }
     // No memory holds so many lines.

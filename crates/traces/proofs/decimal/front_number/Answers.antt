@@ -7,11 +7,13 @@ use Rattle.traces.proofs.decimal.front_number.Goals as goal
 
 pub overflow_mul-value : goal.overflow_mul-value
 overflow_mul-value c =
-    let small : c.loop-i.value < 10 ^ 15 = below_limit _ c.loop-i.i c.loop-i.invariant.small (omega arith) in omega arith
+    let small : c.loop-i.value < 10 ^ 15 = below_limit _ c.loop-i.i c.loop-i.invariant.small (omega arith) in
+    omega arith
 
 pub overflow_add-value : goal.overflow_add-value
 overflow_add-value c =
-    let small : c.loop-i.value < 10 ^ 15 = below_limit _ c.loop-i.i c.loop-i.invariant.small (omega arith) in omega arith
+    let small : c.loop-i.value < 10 ^ 15 = below_limit _ c.loop-i.i c.loop-i.invariant.small (omega arith) in
+    omega arith
 
 pub loop-i-preserved : goal.loop-i-preserved
 loop-i-preserved c =
@@ -20,7 +22,10 @@ loop-i-preserved c =
     let lt : i < length text = search rules in
     let digit : is_ascii_digit (slice_index text i) ≡ true = grind arith in
     let more = digits_more 0 c.loop-i.value (take i text) (slice_index text i) c.loop-i.invariant.read digit in
-    record { read = ap (digits_after 0) (take_more text i 0 lt) ∙ more; small = small_more c.loop-i.value _ i c.loop-i.invariant.small (omega arith) }
+    record {
+      read = ap (digits_after 0) (take_more text i 0 lt) ∙ more;
+      small = small_more c.loop-i.value _ i c.loop-i.invariant.small (omega arith);
+    }
 
 pub returns : goal.returns
 returns c =

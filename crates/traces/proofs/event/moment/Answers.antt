@@ -15,7 +15,8 @@ returns-then-text-end-eq32 c =
     let now = c.in_ok-now.now in
     let end = c.in_ok-now.end in
     subst
-    (λ (rest : List ℕ). (event_in (first_line text) ≡ event_behind now (first_fields rest)) × (later_lines text ≡ later_lines rest))
+    (λ (rest : List ℕ). (event_in (first_line text) ≡ event_behind now (first_fields rest))
+    × (later_lines text ≡ later_lines rest))
     (sym (take_rest text (end + 1)))
     (moment_here text now end c.in_ok-now.ensures c.if-end-text.true c.if-text-end-eq32.true)
 
