@@ -139,7 +139,8 @@ end_wrong size s kept o d octet apart =
 
 -- with the end octet they are a whole frame
 whole_by : (size : LinkSize) (kind : Kind) (len c a total : ℕ) (kept : List ℕ) → IsLen size kind len
-    → FitsAddress size c a → All IsOctet kept → length (user size c a kept) ≡ len → total ≡ sum (user size c a kept) % 256
+    → FitsAddress size c a → All IsOctet kept → length (user size c a kept) ≡ len
+    → total ≡ sum (user size c a kept) % 256
     → (frame : Frame) × IsLineFrame size frame (((head kind len ++ user size c a kept) ++ total ∷ []) ++ 0x16 ∷ [])
 whole_by size Fixed len c a total kept long fits octets all sum_is =
     let none : kept ≡ [] = nil_from_length kept (omega (arith, length-user size c a kept, all, long)) in (

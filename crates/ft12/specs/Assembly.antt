@@ -43,9 +43,9 @@ IsEndDue size octets =
     (frame : Frame) × IsFront size (octets ++ 0x16 ∷ []) (front.Whole frame (length octets + 1))
 
 -- What n octets of a piece are, after the octets so far, where no frame ends in them: with these
--- the proper beginning of a frame, of which the end octet is due where octets of the piece are left.
--- Or the piece goes on to begin none, and then it is taken as a whole, and none is looked at after
--- the one that shows it. So many were looked at before and after.
+-- the proper beginning of a frame, whose end octet is due where octets of the piece are left. Or
+-- the piece goes on to begin none, and then it is taken as a whole, and none is looked at after the
+-- one that shows it. So many were looked at before and after.
 abbrev pub HearsInner : LinkSize → (so_far piece : List ℕ) → (n before looked : ℕ) →
     Option (List ℕ) → Type 0
 HearsInner size so_far piece n before looked (Some after) =

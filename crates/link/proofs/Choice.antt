@@ -2,10 +2,10 @@
 use Rattle.std.proofs.Common.{◌≡◌, ℕ, zero, suc, ◌<◌, ◌&&◌, ◌||◌, nat_lt, Bool, true, false, not, List, length, Option, Some, None, refl, if◌then◌else◌, arith}
 use Rattle.std.proofs.lemmas.Bool.{ltb-true}
 use Rattle.ft12.specs.declared.frame.LinkSize.{LinkSize}
-use Rattle.link.specs.Answers.{Class1, Command, Counted}
+use Rattle.link.specs.Answers.{Class1, Counted}
 use Rattle.link.specs.Procedure.{Link, Down, Available, Next, Held, MaySend}
 use Rattle.link.specs.Requests.{FitsAsked}
-use Rattle.link.specs.Turns.{StationState, Phase, Starting, Commanding, Polling, Class1Polling, Over, station_at, Wanted, wants, is_poll, wanted_poll, polls_from, commands_from, next_of, wanted_by, Chosen, place_after, chosen_or, first_after}
+use Rattle.link.specs.Turns.{StationState, Phase, Starting, Commanding, Polling, Class1Polling, Over, station_at, Wanted, wants, is_poll, wanted_poll, polls_from, wanted_command, commands_from, next_of, wanted_by, Chosen, place_after, chosen_or, first_after}
 use Rattle.link.specs.Primary.{Primary, choice}
 use Rattle.link.specs.Holding.{FitsLink, FitsOffer, IsFitting, IsFittingChoice}
 use Rattle.link.proofs.Fitting.{FitStations, station_fits}
@@ -40,8 +40,8 @@ commands_may : (size : LinkSize) (burst : ℕ) (may_poll fcb : Bool) (s : Statio
 commands_may size burst may_poll fcb s None fits = polls_may size burst may_poll fcb s Polling
 commands_may size burst may_poll fcb s (Some asdu) fits = go s.dfc
   where
-    go : (b : Bool) → MayWant size (Next fcb) (if b then polls_from burst may_poll fcb s Polling else wants
-        (Counted fcb (Command asdu)) Polling)
+    go : (b : Bool) → MayWant size (Next fcb)
+        (if b then polls_from burst may_poll fcb s Polling else wanted_command fcb asdu)
     go true = polls_may size burst may_poll fcb s Polling
     go false = (fits, refl)
 

@@ -1,11 +1,11 @@
 -- A new service heeds the flags of its station.
 use Rattle.std.proofs.Common.{◌≡◌, ℕ, suc, ◌&&◌, nat_lt, Bool, true, false, List, Option, Some, None, refl, sym, ap, subst, ◌∙◌, ◌⊎◌, inl, inr, if◌then◌else◌}
 use Rattle.ft12.specs.declared.frame.Front.{Front}
-use Rattle.link.specs.Answers.{Class1, Class2, Command, Asked, Counted}
+use Rattle.link.specs.Answers.{Class1, Class2, Asked, Counted}
 use Rattle.link.specs.Exchanges.{Exchanges, Sending}
 use Rattle.link.specs.Flags.{Flags, Heeds, flags_at, link_at}
 use Rattle.link.specs.Procedure.{LinkSettings, Link, Down, Available, Next, Held, is_held}
-use Rattle.link.specs.Turns.{StationState, Phase, Starting, Commanding, Polling, Class1Polling, Over, Wanted, station_at, wants, wanted_poll, polls_from, commands_from, next_of, wanted_by}
+use Rattle.link.specs.Turns.{StationState, Phase, Starting, Commanding, Polling, Class1Polling, Over, Wanted, station_at, wants, wanted_poll, polls_from, wanted_command, commands_from, next_of, wanted_by}
 use Rattle.link.specs.Primary.{Primary, sending}
 use Rattle.link.specs.Telling.{TellsBy, flags_of}
 use Rattle.link.specs.Runs.{BeginsTurn}
@@ -46,7 +46,7 @@ commands_heed burst may_poll fcb s None = polls_heed burst may_poll fcb s Pollin
 commands_heed burst may_poll fcb s (Some asdu) = go s.dfc refl
   where
     go : (b : Bool) → s.dfc ≡ b → HeedsIt (flags_of s)
-        (if b then polls_from burst may_poll fcb s Polling else wants (Counted fcb (Command asdu)) Polling)
+        (if b then polls_from burst may_poll fcb s Polling else wanted_command fcb asdu)
     go true e = polls_heed burst may_poll fcb s Polling
     go false e = e
 

@@ -2,7 +2,7 @@
 use Rattle.std.proofs.Common.{◌≡◌, ℕ, zero, suc, ◌⊎◌, inl, inr, ◌&&◌, ◌||◌, nat_lt, Bool, true, false, not, List, length, Option, Some, None, refl, if◌then◌else◌}
 use Rattle.link.specs.Answers.{Service, Class1, Class2, Command, Asked, Counted}
 use Rattle.link.specs.Procedure.{Link, Down, Available, Next, Held, is_held}
-use Rattle.link.specs.Turns.{StationState, Phase, Starting, Commanding, Polling, Class1Polling, Over, station_at, Wanted, wants, is_poll, wanted, wanted_poll, polls_from, commands_from, next_of, wanted_by, Chosen, place_after, chosen_or, first_after}
+use Rattle.link.specs.Turns.{StationState, Phase, Starting, Commanding, Polling, Class1Polling, Over, station_at, Wanted, wants, is_poll, wanted, wanted_poll, polls_from, wanted_command, commands_from, next_of, wanted_by, Chosen, place_after, chosen_or, first_after}
 use Rattle.link.specs.Primary.{Primary, choice}
 
 abbrev pub IsKnownCommand : Link → (offered : Option (List ℕ)) → Asked → Type 0
@@ -49,8 +49,8 @@ commands_known : (link : Link) (burst : ℕ) (may_poll fcb : Bool) (s : StationS
 commands_known link burst may_poll fcb s None = polls_known link None burst may_poll fcb s Polling
 commands_known link burst may_poll fcb s (Some asdu) = go s.dfc
   where
-    go : (b : Bool) → IsKnownWant link (Some asdu) (if b then polls_from burst may_poll fcb s Polling else wants
-        (Counted fcb (Command asdu)) Polling)
+    go : (b : Bool) → IsKnownWant link (Some asdu)
+        (if b then polls_from burst may_poll fcb s Polling else wanted_command fcb asdu)
     go true = polls_known link (Some asdu) burst may_poll fcb s Polling
     go false = inr refl
 

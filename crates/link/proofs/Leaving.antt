@@ -7,7 +7,7 @@ use Rattle.ft12.specs.declared.frame.Front.{Front}
 use Rattle.link.specs.Answers.{Service, Frame, Single, Fixed, Data, Class1, Class2, Command, Asked, Status, Reset, Counted, Answer, Ready, Confirmed, Busy, Report, NoData, Unable, unable_answer, code_answer, single_answer, data_answer, comes_from, answer_of}
 use Rattle.link.specs.Exchanges.{Sending, whole_of}
 use Rattle.link.specs.Procedure.{LinkSettings, Link, Down, Available, Next, Held, missed_so_far, after_answer, after_silence, has_repeats}
-use Rattle.link.specs.Turns.{StationState, Phase, Starting, Commanding, Polling, Class1Polling, Over, no_station, station_at, is_poll, wants, polls_from, commands_from, next_of, wanted_by, Wanted, Chosen}
+use Rattle.link.specs.Turns.{StationState, Phase, Starting, Commanding, Polling, Class1Polling, Over, no_station, station_at, is_poll, wants, polls_from, wanted_command, commands_from, next_of, wanted_by, Wanted, Chosen}
 use Rattle.link.specs.Primary.{Outstanding, Primary, choice, after_choice, asked_from, asked, sending_by, sending_from, sending, station_answered, answered, answer_at, said_by, open_octets, took, with_octets, received_after, received_from, received, outcome_by, outcome_of, outcome_at, outcome_after, outcome_from, received_outcome, station_unanswered, unanswered, is_late, due_from, timed_out, may_offer, with_offer, offered_to, without_offer, withdrawn, Outcome, turn_gap, started, with_gap}
 use Rattle.link.specs.declared.outcome.Outcome.TheVariants as outcome
 use Rattle.link.specs.Leave.{is_poll_request, holds_poll, is_polling_by, is_polling, is_report}
@@ -31,10 +31,10 @@ no_offered_poll : (burst : ℕ) (fcb : Bool) (s : StationState) (offered : Optio
 no_offered_poll burst fcb s None w is poll = cc
 no_offered_poll burst fcb s (Some asdu) w is poll = go s.dfc is
   where
-    go : (b : Bool) → (if b then polls_from burst false fcb s Polling else wants (Counted fcb (Command asdu)) Polling)
+    go : (b : Bool) → (if b then polls_from burst false fcb s Polling else wanted_command fcb asdu)
         ≡ Some w → ⊥
     go true e = cc
-    go false e = no_poll w (poll_is (Counted fcb (Command asdu)) Polling w e) poll
+    go false e = no_poll w (poll_is (Counted fcb (Command asdu)) _ w e) poll
 
 no_next_poll : (burst : ℕ) (fcb : Bool) (s : StationState) (phase : Phase) (w : Wanted)
     → next_of burst false fcb s phase ≡ Some w →

@@ -5,7 +5,7 @@ use Rattle.std.proofs.lemmas.Bool.{cases_lt, lt-ltb, le-ltb}
 use Rattle.link.specs.Answers.{Class1, Class2, Command, Counted}
 use Rattle.link.specs.Exchanges.{Sending}
 use Rattle.link.specs.Procedure.{LinkSettings, Link, Down, Available, Next, Held, is_up, holds_command}
-use Rattle.link.specs.Turns.{StationState, Starting, Commanding, Polling, Class1Polling, station_at, is_poll, wants, polls_from, commands_from, wanted_by, place_after, Over, Wanted, Chosen, chosen_or, first_after}
+use Rattle.link.specs.Turns.{StationState, Starting, Commanding, Polling, Class1Polling, station_at, is_poll, wants, polls_from, wanted_command, commands_from, wanted_by, place_after, Over, Wanted, Chosen, chosen_or, first_after}
 use Rattle.link.specs.Primary.{Outstanding, Primary, start, choice, after_choice, asked_from, asked, sending_by, sending_from, sending}
 use Rattle.link.specs.Runs.{nth_after}
 use Rattle.link.specs.Leave.{IsLeftToPolls}
@@ -67,7 +67,7 @@ offered_none burst may_poll fcb s None e none = (polls_none burst may_poll fcb s
 offered_none burst may_poll fcb s (Some asdu) e none = go s.dfc refl none
   where
     go : (b : Bool) → s.dfc ≡ b
-        → (if b then polls_from burst may_poll fcb s Polling else wants (Counted fcb (Command asdu)) Polling) ≡ None →
+        → (if b then polls_from burst may_poll fcb s Polling else wanted_command fcb asdu) ≡ None →
         (may_poll ≡ false) × ((s.offered ≡ None) ⊎ (s.dfc ≡ true))
     go true full h = (polls_none burst may_poll fcb s h, inr full)
     go false open_ h = cc

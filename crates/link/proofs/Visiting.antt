@@ -2,12 +2,12 @@
 use Rattle.std.proofs.Common.{◌≡◌, ℕ, zero, suc, ◌+◌, ◌-◌, ◌*◌, ◌<◌, ◌≤◌, ◌&&◌, ◌||◌, nat_lt, Bool, true, false, not, List, [], ◌∷◌, ◌++◌, length, Option, Some, None, refl, sym, ap, subst, ◌∙◌, arith, if◌then◌else◌, append_assoc}
 use Rattle.std.proofs.lemmas.Nat.{mul-le}
 use Rattle.std.proofs.lemmas.Bool.{ltb-true}
-use Rattle.link.specs.Answers.{Service, Class1, Class2, Command, Asked, Status, Reset, Counted}
+use Rattle.link.specs.Answers.{Service, Class1, Class2, Asked, Status, Reset, Counted}
 use Rattle.link.specs.Exchanges.{Exchange}
 use Rattle.link.specs.Procedure.{LinkSettings, Link, Down, Available, Next, Held, MaySend, after, link_after, missed_so_far}
 use Rattle.link.specs.Requests.{RequestKind, kind_of}
 use Rattle.link.specs.declared.request.RequestKind.TheVariants as kind
-use Rattle.link.specs.Turns.{StationState, Phase, Starting, Commanding, Polling, Class1Polling, Over, Wanted, wants, is_poll, wanted_poll, polls_from, commands_from, next_of, wanted_by}
+use Rattle.link.specs.Turns.{StationState, Phase, Starting, Commanding, Polling, Class1Polling, Over, Wanted, wants, is_poll, wanted_poll, polls_from, wanted_command, commands_from, next_of, wanted_by}
 use Rattle.link.specs.Visits.{Left, class1_polls, services, whole_visit, MayFollow, IsVisitFrom, most_of_visit}
 
 -- ---- visits
@@ -224,8 +224,8 @@ commands_follow settings may_poll fcb s None left some plan =
 commands_follow settings may_poll fcb s (Some asdu) left some plan = go s.dfc
   where
     go : (dfc : Bool) →
-        FollowsIt settings (Next fcb) left (if dfc then polls_from settings.burst may_poll fcb s Polling else wants
-        (Counted fcb (Command asdu)) Polling)
+        FollowsIt settings (Next fcb) left
+        (if dfc then polls_from settings.burst may_poll fcb s Polling else wanted_command fcb asdu)
     go true = polls_follow settings may_poll fcb s left (kind.Command ∷ []) some plan
     go false = record {
       later = record { plan = kind.Class2 ∷ class1_polls settings.burst; repeats = settings.retries };

@@ -394,9 +394,9 @@ impl Master {
     }
 
     /// Gathers octets of the line up to one that may be the last of the answer, and says how many:
-    /// all where none may. The others are to be gathered as well ([`Master::gather`]), and then what
-    /// is heard is what all of them say. It makes no place for a frame, so it is the first call for
-    /// octets that aren't a whole answer.
+    /// all where none may. The others are to be gathered as well ([`Master::gather`]), and then
+    /// what is heard is what all of them say. It makes no place for a frame, so it is the first
+    /// call for octets that aren't a whole answer.
     pub fn gather_inner(&mut self, octets: &[u8]) -> usize
         ensures within { result ≤ length octets.now }
         ensures all { result ≡ length octets.now → (self.new
