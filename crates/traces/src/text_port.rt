@@ -8,14 +8,9 @@ ghost use Rattle.traces.specs.Fields.{parts_after};
 ghost use Rattle.traces.specs.Progress.{IsFirst, script_in, log_in, coming_in, is_through, tells_event};
 ghost use Rattle.traces.specs.Trace.{first_wrong, lines_of};
 
-<<<<<<< HEAD
 use crate::actions::print_action_at;
-use crate::event::{FirstLine, announce, first_line, is_right};
-use crate::moments::Moment;
-=======
-use crate::actions::print_action;
 use crate::event::{FirstLine, announce, first_line};
->>>>>>> reading
+use crate::moments::Moment;
 use gateway::{Action, Next, Port};
 use std::alloc::Global;
 use std::marker::Model;
