@@ -57,7 +57,8 @@ wrong_length text wrong = by (octets_of text) refl
         let odd : true ≡ false = may (length text) (length octets) twice some most wrong in
         absurd (cc)
       where
-        may : (n m : ℕ) → n ≡ 2 * m → 1 ≤ m → m ≤ 1024 → (n % 2 == 0 && nat_le 2 n && nat_le n 2048) ≡ false → true ≡ false
+        may : (n m : ℕ) → n ≡ 2 * m → 1 ≤ m → m ≤ 1024 → (n % 2 == 0 && nat_le 2 n && nat_le n 2048) ≡ false
+            → true ≡ false
         may n m twice some most wrong =
             let even : n % 2 ≡ 0 = omega arith in
             let right : (n % 2 == 0 && nat_le 2 n && nat_le n 2048) ≡ true = grind arith in
@@ -192,7 +193,8 @@ decoding_more text out i bits high low octet lt room first second is so_far = re
       (bits_more text (2 * i) bits high (omega (arith, lt)) first so_far.digits)
       ∙ ap (λ n. list_all is_hex_digit (take n text)) two;
   decoded = λ all.
-      let both = and_parts (nat_lt (bit_or bits high) 16) (nat_lt low 16) (sym (bits_below (bit_or bits high) low) ∙ all) in
+      let both = and_parts (nat_lt (bit_or bits high) 16) (nat_lt low 16)
+      (sym (bits_below (bit_or bits high) low) ∙ all) in
       let front = and_parts (nat_lt bits 16) (nat_lt high 16) (sym (bits_below bits high) ∙ both.0) in
       let one : hex_digit_value (slice_index text (2 * i)) ≡ Some high =
       first ∙ ap (λ (b : Bool). if b then Some high else None) front.1 in

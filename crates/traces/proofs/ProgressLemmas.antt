@@ -1,5 +1,5 @@
 -- A port over the text of a trace, call by call.
-use Rattle.std.proofs.Common.{◌≡◌, ℕ, ◌+◌, Bool, true, false, List, [], ◌∷◌, ◌++◌, take, drop, reverse, Option, Some, None, if◌then◌else◌, zero, suc, refl, ap, sym, ◌∙◌, subst, append_assoc}
+use Rattle.std.proofs.Common.{◌≡◌, ℕ, ◌+◌, Bool, true, false, List, [], ◌∷◌, ◌++◌, take, drop, reverse, Option, Some, None, zero, suc, refl, ap, sym, ◌∙◌, subst, append_assoc}
 use Rattle.std.proofs.lemmas.List.{reverse-append}
 use Rattle.std.specs.List.{AllByRecursion}
 use Rattle.gateway.specs.Log.{Log, LogEntry, Came, Went, Input, LineIn, Opened, TcpIn, CutOff, Ticked, WallIs, Output, events_of}
@@ -14,7 +14,7 @@ use Rattle.traces.specs.Event.{Event, event_of, event_in}
 use Rattle.traces.specs.Fields.{parts_after}
 use Rattle.traces.specs.Printed.{IsPrintable, ArePrinted, entries_in, actions_of}
 use Rattle.traces.specs.Progress.{came, events_in, script_in, IsRight, Progress, events_among, woven, all_told, log_in, events_left, coming_in, IsProgress, tells_event}
-use Rattle.traces.specs.Trace.{lines_of, is_skipped, told, is_wrong, first_wrong}
+use Rattle.traces.specs.Trace.{lines_of, is_skipped, told, first_wrong}
 use Rattle.traces.proofs.ReadingBack.{actions_printed}
 
 -- Lines
