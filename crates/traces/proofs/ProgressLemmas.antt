@@ -188,8 +188,8 @@ event_came p left started marks now event holds begun told right marked = record
 pub told_next : (p : Progress) (left : Option (List ℕ)) (started : Bool) (marks : List Bool) (next : Next)
     (buf : List ℕ) → IsProgress p → started ≡ true → tells_event next ≡ true →
     told_by next buf ++ events_in (parts_after 10 left) ≡ coming_in p
-    → (AllByRecursion IsRight (parts_after 10 left) → first_wrong 1 (lines_of p.text) ≡ None) → marks ≡ p.marks ++ true ∷ [] →
-    GoesOn p (record p { left = left; started = started; marks = marks }) (told_by next buf)
+    → (AllByRecursion IsRight (parts_after 10 left) → first_wrong 1 (lines_of p.text) ≡ None)
+    → marks ≡ p.marks ++ true ∷ [] → GoesOn p (record p { left = left; started = started; marks = marks }) (told_by next buf)
 told_next p left started marks (answers.Line now len) buf holds begun is told right marked =
     event_came p left started marks now (LineIn (take len buf)) holds begun told right marked
 told_next p left started marks (answers.Open now) buf holds begun is told right marked =
