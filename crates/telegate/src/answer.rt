@@ -20,8 +20,8 @@ pub(crate) struct Answer {
     pub(crate) status: u8,
 }
 
-/// The answer to a command, or why it stops. Where it is watched, a long one tells on standard error
-/// how far it has come.
+/// The answer to a command, or why it stops. Where it is watched, a long one tells on standard
+/// error how far it has come.
 pub(crate) fn answer_to<E: Write>(
     alloc: Global,
     job: &Job<'_>,
