@@ -25,7 +25,7 @@ use Rattle.gateway.specs.declared.runs.End.TheVariants.{Turns}
 use Rattle.settings.specs.Settings.{IsReadOfText}
 use Rattle.sim.specs.Scripts.{IsScriptOf}
 use Rattle.sim.specs.declared.directive.Directive.{Directive}
-use Rattle.telegate.specs.Answers.{IsMemory, IsStopped, IsGood, IsChecked, IsRunOf, IsReplayed, IsSimulationOf, IsSimulatedBy}
+use Rattle.telegate.specs.Answers.{IsMemory, StopsRun, IsGood, IsChecked, IsRunOf, IsReplayed, IsSimulationOf, IsSimulatedBy}
 use Rattle.telegate.specs.declared.answer.Answer.{Answer}
 use Rattle.telegate.specs.declared.closing.Closing.{Closing}
 use Rattle.telegate.specs.declared.fault.Fault.{Fault}
@@ -97,7 +97,7 @@ all_came t trace over whole = sym (append-nil (events_of (log_in t)))
     by false left over = cc
 
 -- want of memory is a reason to stop
-stopped : (trace : List ℕ) (e : Fault) → IsMemory e → IsStopped trace e
+stopped : (trace : List ℕ) (e : Fault) → IsMemory e → StopsRun trace e
 stopped trace NoMemory h = tt
 stopped trace (Config why) h = absurd h
 stopped trace (Trace n) h = absurd h

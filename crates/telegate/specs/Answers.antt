@@ -141,16 +141,16 @@ abbrev pub IsGood : Result Answer Fault → Type 0
 IsGood result = MatchResult result TellsGood IsMemory
 
 -- a run over a trace stops at its first wrong line, or by want of memory
-abbrev pub IsStopped : List ℕ → Fault → Type 0
-IsStopped trace (Trace n) = first_wrong 1 (lines_of trace) ≡ Some n
-IsStopped trace NoMemory = Unit {0}
-IsStopped trace _ = ⊥
+abbrev pub StopsRun : List ℕ → Fault → Type 0
+StopsRun trace (Trace n) = first_wrong 1 (lines_of trace) ≡ Some n
+StopsRun trace NoMemory = Unit {0}
+StopsRun trace _ = ⊥
 
 -- what is answered of a run is that of a trace without a wrong line
 abbrev pub IsRunOf : Settings → List ℕ → Closing → Result Answer Fault → Type 0
 IsRunOf settings trace closing result = MatchResult result
     (λ answer. (first_wrong 1 (lines_of trace) ≡ None) × IsRun settings trace closing answer)
-    (IsStopped trace)
+    (StopsRun trace)
 
 -- settings are judged before the trace
 abbrev pub IsRunFault : List ℕ → List ℕ → Fault → Type 0

@@ -1,7 +1,7 @@
 //! The command that runs the gateway over a trace.
 ghost use Rattle.std.specs.Prelude.{◌≡◌, ◌+◌, ◌++◌, false, length, IfSome, MatchResult};
 ghost use Rattle.traces.specs.Trace.{lines_of};
-ghost use Rattle.telegate.specs.Answers.{IsReplayed, IsRunOf, IsStopped, IsMemory};
+ghost use Rattle.telegate.specs.Answers.{IsReplayed, IsRunOf, StopsRun, IsMemory};
 ghost use Rattle.telegate.specs.Closing.{closing_lines};
 
 use crate::answer::Answer;
@@ -74,7 +74,7 @@ fn most_turns(trace: &[u8]) -> Option<u64>
 /// Why a run over a trace stopped: the first wrong line, or else want of memory. The lines are
 /// judged only then, since a run reads each of them itself.
 fn stopped(trace: &[u8]) -> Fault
-    ensures { IsStopped trace.now result }
+    ensures { StopsRun trace.now result }
 {
     match judge(trace) {
         Err(TextFault::Line(n)) => Fault::Trace(n),
