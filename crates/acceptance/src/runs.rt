@@ -72,7 +72,8 @@ impl Port for Sink {
 fn a_run_ends_where_the_port_does(rt: HostRuntime) -> Result<(), Fail> {
     let alloc = rt.alloc();
     let config = config(alloc)?;
-    assert!(rt; matches!(drive(alloc, &config, &mut Sink, 5), Ok(End::Finished)));
-    assert!(rt; matches!(drive(alloc, &config, &mut Sink, 0), Ok(End::Turns)));
+    for (turns, end) in [(5, End::Finished), (0, End::Turns)] {
+        assert!(rt; drive(alloc, &config, &mut Sink, turns)? == end, "{turns}");
+    }
     Ok(())
 }

@@ -394,31 +394,66 @@ fn is_tagged_pair(plain: &[u8], tagged: &[u8]) -> bool {
     untag(&with).as_slice() == plain && retag(&without, &Cp56(THURSDAY)).as_slice() == tagged
 }
 
-/// Types of commands without a tag, and an element of each.
-const COMMANDS: [(u8, &[u8]); 5] = [
-    (45, &[0x81]),
-    (46, &[0x02]),
-    (47, &[0x01]),
-    (48, &[0x00, 0xC0, 0x80]),
-    (49, &[0x64, 0x00, 0x05]),
+/// Commands without a tag, and with that of Thursday 2024-02-29 12:34:56.789, in the sizes of a
+/// connection.
+const COMMANDS: [(&[u8], &[u8]); 5] = [
+    (
+        &[45, 1, 6, 0, 1, 0, 0x0A, 0, 0, 0x81],
+        &[
+            58, 1, 6, 0, 1, 0, 0x0A, 0, 0, 0x81, 0xD5, 0xDD, 0x22, 0x0C, 0x9D, 0x02, 0x18,
+        ],
+    ),
+    (
+        &[46, 1, 6, 0, 1, 0, 0x0A, 0, 0, 0x02],
+        &[
+            59, 1, 6, 0, 1, 0, 0x0A, 0, 0, 0x02, 0xD5, 0xDD, 0x22, 0x0C, 0x9D, 0x02, 0x18,
+        ],
+    ),
+    (
+        &[47, 1, 6, 0, 1, 0, 0x0A, 0, 0, 0x01],
+        &[
+            60, 1, 6, 0, 1, 0, 0x0A, 0, 0, 0x01, 0xD5, 0xDD, 0x22, 0x0C, 0x9D, 0x02, 0x18,
+        ],
+    ),
+    (
+        &[48, 1, 6, 0, 1, 0, 0x0A, 0, 0, 0x00, 0xC0, 0x80],
+        &[
+            61, 1, 6, 0, 1, 0, 0x0A, 0, 0, 0x00, 0xC0, 0x80, 0xD5, 0xDD, 0x22, 0x0C, 0x9D, 0x02,
+            0x18,
+        ],
+    ),
+    (
+        &[49, 1, 6, 0, 1, 0, 0x0A, 0, 0, 0x64, 0x00, 0x05],
+        &[
+            62, 1, 6, 0, 1, 0, 0x0A, 0, 0, 0x64, 0x00, 0x05, 0xD5, 0xDD, 0x22, 0x0C, 0x9D, 0x02,
+            0x18,
+        ],
+    ),
 ];
 
-/// Commands with a tag: in the sizes of a connection, as they go down without it, and back.
+/// A select with SQ 1, in sizes of one octet each, with that tag and without it.
+const SELECT: [u8; 13] = [
+    58, 0x81, 6, 1, 10, 0x81, 0xD5, 0xDD, 0x22, 0x0C, 0x9D, 0x02, 0x18,
+];
+
+const UNTAGGED: [u8; 6] = [45, 0x81, 6, 1, 10, 0x81];
+
+/// Whether the octets, in sizes of one octet each, are these without their tag.
+fn is_untagged(octets: &[u8], wanted: &[u8]) -> bool {
+    let Ok(asdu) = read(SMALL, octets) else {
+        return false;
+    };
+    if !is_tagged_command(asdu.kind) || asdu.number() != 1 {
+        return false;
+    }
+    untag(&asdu).as_slice() == wanted
+}
+
+/// Commands with a tag: as they go down without it, and back.
 #[test]
 fn takes_tags_off_and_puts_them_on(rt: HostRuntime) {
-    for (octet, element) in COMMANDS {
-        let mut plain = joined(&[&[octet, 1, 6, 0, 1, 0, 0x0A, 0, 0]]);
-        let mut tagged = joined(&[&[octet + 13, 1, 6, 0, 1, 0, 0x0A, 0, 0]]);
-        let _ = extend(&mut plain, element)
-            && extend(&mut tagged, element)
-            && extend(&mut tagged, &THURSDAY);
-        assert!(rt; is_tagged_pair(&plain, &tagged));
+    for (plain, tagged) in COMMANDS {
+        assert!(rt; is_tagged_pair(plain, tagged));
     }
-    // With SQ 1, in sizes of one octet each.
-    let select = joined(&[&[58, 0x81, 6, 1, 10, 0x81], &THURSDAY]);
-    let untagged = match read(SMALL, &select) {
-        Ok(asdu) if is_tagged_command(asdu.kind) && asdu.number() == 1 => untag(&asdu),
-        _ => Octets::new(),
-    };
-    assert!(rt; untagged.as_slice() == [45, 0x81, 6, 1, 10, 0x81].as_slice());
+    assert!(rt; is_untagged(&SELECT, &UNTAGGED));
 }
