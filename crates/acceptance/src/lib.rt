@@ -10,6 +10,8 @@
 #[cfg(test)]
 mod runs;
 #[cfg(test)]
+mod scripts;
+#[cfg(test)]
 mod setting_texts;
 #[cfg(test)]
 mod trace_texts;
