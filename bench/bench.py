@@ -212,14 +212,27 @@ WORKLOADS = {
 
 
 def replay(program, settings, trace, output=os.devnull):
-    """The processor time of one replay in seconds, and its peak memory in octets."""
+    """The processor time of one replay in seconds."""
     with open(output, "wb") as out:
         child = subprocess.Popen([program, "replay", settings, trace], stdout=out)
         _, status, used = os.wait4(child.pid, 0)
     child.returncode = os.waitstatus_to_exitcode(status)
     if child.returncode != 0:
         sys.exit(f"bench: exit status {child.returncode}")
-    return used.ru_utime + used.ru_stime, used.ru_maxrss * 1024
+    return used.ru_utime + used.ru_stime
+
+
+def most_memory(program, settings, trace):
+    """The peak of the resident memory of one replay in octets, as it stands when the program prints: the run is over then, and waits
+    for its output to be taken. (What the system tells at the end begins with the memory of this process.)"""
+    with subprocess.Popen([program, "replay", settings, trace], stdout=subprocess.PIPE) as child:
+        os.read(child.stdout.fileno(), 1)
+        with open(f"/proc/{child.pid}/status") as status:
+            peaks = [line.split()[1] for line in status if line.startswith("VmHWM:")]
+        while os.read(child.stdout.fileno(), 1 << 20):
+            pass
+    # What prints less than a pipe holds is gone already.
+    return int(peaks[0]) * 1024 if peaks else 0
 
 
 def made(folder, name, events):
@@ -250,7 +263,7 @@ def measured(programs, folder, name, events, runs):
     settings, path, trace, counted = made(folder, name, events)
     alike = len(programs) == 1 or is_alike(programs, folder, settings, path)
     taken = [[replay(program, settings, path) for program in programs] for _ in range(runs)]
-    costs = [(min(run[n][0] for run in taken), max(run[n][1] for run in taken)) for n, _ in enumerate(programs)]
+    costs = [(min(run[n] for run in taken), most_memory(program, settings, path)) for n, program in enumerate(programs)]
     octets = os.path.getsize(path)
     for seconds, peak in costs:
         print(
