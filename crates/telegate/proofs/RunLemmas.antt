@@ -1,6 +1,8 @@
 -- The end of a run over a trace.
-use Rattle.std.proofs.Common.{◌≡◌, ℕ, ◌+◌, Bool, true, false, ◌&&◌, List, [], ◌∷◌, ◌++◌, length, Option, Some, None, IfOk, refl, subst, ◌∙◌, ap, sym, arith, length-append, suc, ◌≤◌}
+use Rattle.std.proofs.Common.{◌≡◌, ℕ, ◌+◌, Bool, true, false, ◌&&◌, List, [], ◌∷◌, ◌++◌, length, Option, Some, None, IfOk, refl, subst, ◌∙◌, ap, sym, arith, length-append, suc, ◌≤◌, ◌==◌}
 use Rattle.std.proofs.lemmas.List.{append-nil, length-map}
+use Rattle.std.proofs.lemmas.List.Splits.{length-slice_split}
+use Rattle.std.proofs.lemmas.List.Sums.{count_by-le-length}
 use Rattle.gateway.specs.Log.{Log, LogEntry, events_of}
 use Rattle.gateway.specs.Runs.{MoreEvents}
 use Rattle.std.specs.Option.{is_none}
@@ -50,9 +52,18 @@ events_at_most lines =
     let same : length (events_in lines) ≡ length (filter_map told lines) = length-map (filter_map told lines) came in
     omega (arith, same, told_at_most lines)
 
+-- a text has at most one line more than octets
+pub lines_at_most : (text : List ℕ) → length (lines_of text) ≤ length text + 1
+lines_at_most text = omega (
+  arith,
+  length-slice_split (λ (b : ℕ). b == 10) text,
+  count_by-le-length (λ (b : ℕ). b == 10) text,
+)
+
 -- a turn for each line and two more aren't used up
-turns_suffice : (log : Log) (coming : List LogEntry) (trace : List ℕ) (turns : ℕ) → turns ≡ length (lines_of trace) + 2
-    → events_of log ++ coming ≡ script_in trace → MoreEvents turns (Some []) (Some log) → ⊥
+turns_suffice : (log : Log) (coming : List LogEntry) (trace : List ℕ) (turns : ℕ)
+    → length (lines_of trace) + 2 ≤ turns → events_of log ++ coming ≡ script_in trace
+    → MoreEvents turns (Some []) (Some log) → ⊥
 turns_suffice log coming trace turns enough whole more =
     let came : length (events_of log) ≡ 0 + turns = same_number (length (events_of log)) (0 + turns) more in
     let split : length (events_of log ++ coming) ≡ length (events_of log) + length coming =
@@ -63,7 +74,7 @@ turns_suffice log coming trace turns enough whole more =
 -- so a run over a trace, from its beginning on, doesn't end by its turns
 pub turns_are_left : (trace : List ℕ) (turns : ℕ) (old new : Progress)
     → old ≡ record { text = trace; left = Some trace; started = false; marks = []; page = []; failed = 0 }
-    → turns ≡ length (lines_of trace) + 2 → events_of (log_in new) ++ coming_in new ≡ script_in new.text
+    → length (lines_of trace) + 2 ≤ turns → events_of (log_in new) ++ coming_in new ≡ script_in new.text
     → new.text ≡ old.text → MoreEvents turns (Some (log_in old)) (Some (log_in new)) → ⊥
 turns_are_left trace turns old new is enough whole same more =
     turns_suffice (log_in new) (coming_in new) trace turns enough (whole ∙ ap script_in same
@@ -117,20 +128,22 @@ pub closed : (settings : Settings) (trace : List ℕ) (closing : Closing) (state
     → IsAccounted (setup_of settings) state log → text ≡ lines_of_actions log
     → MatchResult r (λ answer. (answer.text.items ≡ text ++ closing_lines closing.left closing.counts state)
     × (answer.status ≡ 0)) IsMemory → first_wrong 1 (lines_of trace) ≡ None → IsRunOf settings trace closing r
-closed settings trace closing s log text (Ok answer) events faithful rests ordered delivers follows accounts is h all =
-    (all, record {
-      log = log;
-      events = events;
-      faithful = faithful;
-      rests = rests;
-      ordered = ordered;
-      delivers = delivers;
-      state = s;
-      follows = follows;
-      accounts = accounts;
-      text = h.0 ∙ ap (λ xs. xs ++ closing_lines closing.left closing.counts s) is;
-      status = h.1;
-    })
+closed settings trace closing s log text (Ok answer) events faithful rests ordered delivers follows accounts is h all = (
+  all,
+  record {
+    log = log;
+    events = events;
+    faithful = faithful;
+    rests = rests;
+    ordered = ordered;
+    delivers = delivers;
+    state = s;
+    follows = follows;
+    accounts = accounts;
+    text = h.0 ∙ ap (λ xs. xs ++ closing_lines closing.left closing.counts s) is;
+    status = h.1;
+  },
+)
 closed settings trace closing s log text (Err e) events faithful rests ordered delivers follows accounts is h all =
     stopped trace e h
 

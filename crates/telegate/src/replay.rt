@@ -1,5 +1,5 @@
 //! The command that runs the gateway over a trace.
-ghost use Rattle.std.specs.Prelude.{◌≡◌, ◌+◌, ◌++◌, false, length, IfSome, MatchResult};
+ghost use Rattle.std.specs.Prelude.{◌≡◌, ◌+◌, ◌≤◌, ◌++◌, false, length, IfSome, MatchResult};
 ghost use Rattle.traces.specs.Trace.{lines_of};
 ghost use Rattle.telegate.specs.Answers.{IsReplayed, IsRunOf, StopsRun, IsMemory};
 ghost use Rattle.telegate.specs.Closing.{closing_lines};
@@ -48,7 +48,7 @@ fn run<E: Write>(
 {
     nothing_is_lost();
     steps_keep_their_order();
-    let Some(turns) = most_turns(trace) else {
+    let Some(turns) = most_turns(trace, is_watched) else {
         return Err(Fault::NoMemory);
     };
     let Ok(mut gateway) = Gateway::new(alloc, config) else {
@@ -64,11 +64,19 @@ fn run<E: Write>(
     }
 }
 
-/// A turn for each line, one for the tick at moment 0, and one in which there is no more.
-fn most_turns(trace: &[u8]) -> Option<u64>
-    ensures { IfSome result (λ turns. turns ≡ length (lines_of trace.now) + 2) }
+/// As many turns as a run over a trace may want: one for each line, one for the tick at moment 0,
+/// and one in which there is no more. The lines are counted only for who watches the run: without
+/// a count there are no more of them than octets and one.
+#[tactic(auto, using(crate::proofs::RunLemmas::lines_at_most))]
+fn most_turns(trace: &[u8], is_watched: bool) -> Option<u64>
+    ensures { IfSome result (λ turns. length (lines_of trace.now) + 2 ≤ turns) }
 {
-    u64::try_from(line_count(trace)).ok()?.checked_add(2)
+    let lines = if is_watched {
+        line_count(trace)
+    } else {
+        trace.len() + 1
+    };
+    u64::try_from(lines).ok()?.checked_add(2)
 }
 
 /// Why a run over a trace stopped: the first wrong line, or else want of memory. The lines are
