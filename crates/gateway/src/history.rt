@@ -27,6 +27,13 @@ impl History {
         History {}
     }
 
+    /// The log as it stands, beside one that goes on.
+    pub fn again(&self) -> History
+        ensures { result.entries ≡ self.now.entries }
+    {
+        History {}
+    }
+
     /// The log with the event that a port's answer tells, if it tells one: its octets are the front
     /// of the buffer.
     pub fn came(&self, _next: &Next, _buf: &[u8; 1024]) -> History

@@ -14,7 +14,7 @@ use Rattle.traces.specs.Progress.{script_in}
 use Rattle.traces.specs.Trace.{lines_of, first_wrong}
 use Rattle.traces.specs.declared.reading.TextFault.TheVariants.{Line as WrongLine}
 use Rattle.gateway.specs.Config.{Settings}
-use Rattle.gateway.specs.Log.{Log, events_of}
+use Rattle.gateway.specs.Log.{Log, LogEntry, events_of}
 use Rattle.gateway.specs.Setups.{setup_of}
 use Rattle.gateway.specs.Traffic.{IsFaithful, HasRested}
 use Rattle.delivery.specs.Delivery.{Delivers}
@@ -28,11 +28,11 @@ use Rattle.gateway.specs.Order.{KeepsOrder}
 use Rattle.gateway.specs.State.{State}
 use Rattle.telegate.specs.Audits.{IsAuditedBy}
 use Rattle.telegate.specs.Closing.{closing_lines}
-use Rattle.telegate.specs.Faults.{status_of}
+use Rattle.telegate.specs.Faults.{status_of, status_of_end}
 use Rattle.telegate.specs.declared.closing.Closing.{Closing}
 use Rattle.telegate.specs.declared.answer.Answer.{Answer}
 use Rattle.telegate.specs.declared.fault.Fault.{Fault}
-use Rattle.telegate.specs.declared.fault.Fault.TheVariants.{Config, Trace, Script, Sizes, Octets, NoMemory}
+use Rattle.telegate.specs.declared.fault.Fault.TheVariants.{Config, Trace, Script, Sizes, Octets, Device, NoMemory}
 use Rattle.telegate.specs.declared.job.Job.{Job}
 use Rattle.telegate.specs.declared.job.Job.TheVariants.{Show101, Show104, Check, Replay, Sim, Audit}
 
@@ -112,7 +112,7 @@ IsChecked config result = MatchResult result (IsCheckAnswer config) (IsConfigFau
 -- on the open connection the very ASDUs that aren't acknowledged, then as many pieces of the others
 -- as have places.
 pub record IsRun (settings : Settings) (trace : List ℕ) (closing : Closing)
-    (answer : Answer) : Type 0 where
+    (text : List ℕ) : Type 0 where
   pub log : Log
   pub events : events_of log ≡ script_in trace
   pub faithful : IsFaithful (setup_of settings) log
@@ -122,15 +122,30 @@ pub record IsRun (settings : Settings) (trace : List ℕ) (closing : Closing)
   pub state : State
   pub follows : Follows (setup_of settings) state (Some log)
   pub accounts : IsAccounted (setup_of settings) state log
-  pub text : answer.text.items ≡ lines_of_actions log
+  pub lines : text ≡ lines_of_actions log
       ++ closing_lines closing.left closing.counts state
-  pub status : answer.status ≡ 0
 
-pub record IsRunAnswer (config trace : List ℕ) (closing : Closing) (answer : Answer) : Type 0 where
+-- settings and trace are free of faults, and so much of the text of a run over them was printed
+pub record IsRunPrinted (config trace : List ℕ) (closing : Closing)
+    (IsPrinted : List ℕ → Type 0) : Type 0 where
   pub settings : Settings
   pub read_config : IsReadOfText config (Ok settings)
   pub read_trace : first_wrong 1 (lines_of trace) ≡ None
-  pub run : IsRun settings trace closing answer
+  pub text : List ℕ
+  pub run : IsRun settings trace closing text
+  pub printed : IsPrinted text
+
+-- The same of a run that stopped before its end: the events of its log are the first of the trace,
+-- and a beginning of the lines of its actions was printed.
+pub record IsRunStopped (config trace : List ℕ) (old new : Option (List ℕ)) : Type 0 where
+  pub settings : Settings
+  pub read_config : IsReadOfText config (Ok settings)
+  pub read_trace : first_wrong 1 (lines_of trace) ≡ None
+  pub log : Log
+  pub rest : List LogEntry
+  pub events : events_of log ++ rest ≡ script_in trace
+  pub faithful : IsFaithful (setup_of settings) log
+  pub printed : IsBegun old new (lines_of_actions log)
 
 -- a run that is started stops by want of memory alone
 abbrev pub IsMemory : Fault → Type 0
@@ -140,29 +155,26 @@ IsMemory _ = ⊥
 abbrev pub IsGood : Result Answer Fault → Type 0
 IsGood result = MatchResult result TellsGood IsMemory
 
--- a run over a trace stops at its first wrong line, or by want of memory
-abbrev pub StopsRun : List ℕ → Fault → Type 0
-StopsRun trace (Trace n) = first_wrong 1 (lines_of trace) ≡ Some n
-StopsRun trace NoMemory = Unit {0}
-StopsRun trace _ = ⊥
+-- Settings are judged before the trace, and both before anything is printed. Where the output
+-- failed, of the text of the whole run a beginning was printed.
+abbrev pub IsReplayFault : List ℕ → List ℕ → Closing → (old new : Option (List ℕ)) → Fault
+    → Type 0
+IsReplayFault config trace closing old new (Config why) =
+    IsReadOfText config (Err why) × Keeps old new
+IsReplayFault config trace closing old new (Trace n) =
+    ((s : Settings) × IsReadOfText config (Ok s)) × (first_wrong 1 (lines_of trace) ≡ Some n)
+    × Keeps old new
+IsReplayFault config trace closing old new Device =
+    IsRunPrinted config trace closing (IsBegun old new)
+IsReplayFault config trace closing old new NoMemory =
+    Keeps old new ⊎ IsRunStopped config trace old new
+IsReplayFault config trace closing old new _ = ⊥
 
--- what is answered of a run is that of a trace without a wrong line
-abbrev pub IsRunOf : Settings → List ℕ → Closing → Result Answer Fault → Type 0
-IsRunOf settings trace closing result = MatchResult result
-    (λ answer. (first_wrong 1 (lines_of trace) ≡ None) × IsRun settings trace closing answer)
-    (StopsRun trace)
-
--- settings are judged before the trace
-abbrev pub IsRunFault : List ℕ → List ℕ → Fault → Type 0
-IsRunFault config trace (Config why) = IsReadOfText config (Err why)
-IsRunFault config trace (Trace n) = ((s : Settings) × IsReadOfText config (Ok s))
-    × (first_wrong 1 (lines_of trace) ≡ Some n)
-IsRunFault config trace NoMemory = Unit {0}
-IsRunFault config trace _ = ⊥
-
-abbrev pub IsReplayed : List ℕ → List ℕ → Closing → Result Answer Fault → Type 0
-IsReplayed config trace closing result =
-    MatchResult result (IsRunAnswer config trace closing) (IsRunFault config trace)
+abbrev pub IsReplayed : List ℕ → List ℕ → Closing → (old new : Option (List ℕ))
+    → Result (Unit {0}) Fault → Type 0
+IsReplayed config trace closing old new result =
+    MatchResult result (λ done. IsRunPrinted config trace closing (Appends old new))
+    (IsReplayFault config trace closing old new)
 
 -- the text of a run of the script over a simulated line, whatever it loses
 pub record IsSimulation (settings : Settings) (script : List Directive)
@@ -192,39 +204,35 @@ abbrev pub IsSimulatedBy : List ℕ → List ℕ → Result Answer Fault → Typ
 IsSimulatedBy config text result =
     MatchResult result (IsSimulationAnswer config text) (IsSimulationFault config text)
 
--- the answer to a command
-abbrev pub IsAnsweredBy : Job → Result Answer Fault → Type 0
-IsAnsweredBy (Show101 sizes hex) result = IsShown101 sizes.now hex.now result
-IsAnsweredBy (Show104 hex) result = IsShown104 hex.now result
-IsAnsweredBy (Check config) result = IsChecked config.now result
-IsAnsweredBy (Replay config trace left counts) result =
-    IsReplayed config.now trace.now (record { left = left; counts = counts }) result
-IsAnsweredBy (Sim config script) result = IsSimulatedBy config.now script.now result
-IsAnsweredBy (Audit config text) result = IsAuditedBy config.now text.now result
+-- A command's answer was appended to the output, and the exit status is the answer's; or the output
+-- failed, and a beginning of it was. A fault (which may be want of memory) was told before anything
+-- was printed.
+abbrev pub IsGiven : Result Answer Fault → (old new : Option (List ℕ)) → (exit : ℕ) → Type 0
+IsGiven (Ok answer) old new exit =
+    (Appends old new (answer.text.items) × (exit ≡ answer.status))
+    ⊎ (IsBegun old new (answer.text.items) × (exit ≡ 3))
+IsGiven (Err fault) old new exit = Keeps old new × (exit ≡ status_of fault)
 
--- the command is done: its answer's text was appended to the output, and the status is the answer's
-pub record IsDone (job : Job) (old new : Option (List ℕ)) (exit : ℕ) : Type 0 where
-  pub answer : Answer
-  pub answered : IsAnsweredBy job (Ok answer)
-  pub printed : Appends old new (answer.text.items)
-  pub status : exit ≡ answer.status
+-- the command has this answer, or this fault, and that was given
+pub record Gives (IsAnswer : Result Answer Fault → Type 0) (old new : Option (List ℕ))
+    (exit : ℕ) : Type 0 where
+  pub answer : Result Answer Fault
+  pub answered : IsAnswer answer
+  pub given : IsGiven answer old new exit
 
--- the command stopped at a fault (which may be want of memory) before anything was printed
-pub record IsStopped (job : Job) (old new : Option (List ℕ)) (exit : ℕ) : Type 0 where
-  pub fault : Fault
-  pub answered : IsAnsweredBy job (Err fault)
-  pub printed : Keeps old new
-  pub status : exit ≡ status_of fault
-
--- the command has an answer, of whose text a beginning was appended to the output, which then
--- failed
-pub record IsCutShort (job : Job) (old new : Option (List ℕ)) (exit : ℕ) : Type 0 where
-  pub answer : Answer
-  pub answered : IsAnsweredBy job (Ok answer)
-  pub printed : IsBegun old new (answer.text.items)
-  pub status : exit ≡ 3
+-- a run over a trace prints its text while it goes on
+pub record Replays (config trace : List ℕ) (closing : Closing) (old new : Option (List ℕ))
+    (exit : ℕ) : Type 0 where
+  pub result : Result (Unit {0}) Fault
+  pub replayed : IsReplayed config trace closing old new result
+  pub status : exit ≡ status_of_end result
 
 -- what a command does to the output, whose octets are these before and after, and its exit status
-abbrev pub Performs : Job → Option (List ℕ) → Option (List ℕ) → ℕ → Type 0
-Performs job old new status =
-    IsDone job old new status ⊎ (IsStopped job old new status ⊎ IsCutShort job old new status)
+abbrev pub Performs : Job → (old new : Option (List ℕ)) → (exit : ℕ) → Type 0
+Performs (Show101 sizes hex) = Gives (IsShown101 sizes.now hex.now)
+Performs (Show104 hex) = Gives (IsShown104 hex.now)
+Performs (Check config) = Gives (IsChecked config.now)
+Performs (Replay config trace left counts) =
+    Replays config.now trace.now (record { left = left; counts = counts })
+Performs (Sim config script) = Gives (IsSimulatedBy config.now script.now)
+Performs (Audit config text) = Gives (IsAuditedBy config.now text.now)

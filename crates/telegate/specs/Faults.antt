@@ -1,5 +1,5 @@
 -- The exit statuses of faults (this gateway's own profile).
-use Rattle.std.specs.Prelude.{ℕ}
+use Rattle.std.specs.Prelude.{ℕ, Result, Ok, Err}
 use Rattle.telegate.specs.declared.fault.Fault.{Fault}
 use Rattle.telegate.specs.declared.fault.Fault.TheVariants.{Config, Trace, Script, Record, Differs, Sizes, Octets, Address, Device, NoMemory}
 
@@ -15,3 +15,8 @@ status_of Octets = 1
 status_of Address = 2
 status_of Device = 3
 status_of NoMemory = 4
+
+-- that of a command that has ended, or stopped at a fault
+abbrev pub status_of_end : Result (Unit {0}) Fault → ℕ
+status_of_end (Ok done) = 0
+status_of_end (Err fault) = status_of fault

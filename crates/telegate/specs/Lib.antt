@@ -1,7 +1,8 @@
 pub mod Closing
 pub mod Faults
 pub mod Answers
-pub mod Watched
+pub mod Percent
+pub mod Printed
 pub mod Running
 pub mod CommandLine
 pub mod Shell

@@ -9,7 +9,7 @@ use Rattle.clap.specs.declared.error.kind.ErrorKind.{ErrorKind}
 use Rattle.clap.specs.declared.error.kind.ErrorKind.TheVariants as kind
 use Rattle.telegate.specs.Answers.{Performs}
 use Rattle.telegate.specs.CommandLine.{IsRequestOf, text_of, texts_of, program}
-use Rattle.telegate.specs.Faults.{status_of}
+use Rattle.telegate.specs.Faults.{status_of, status_of_end}
 use Rattle.telegate.specs.Guests.{AreGuests, IsGuestsFault}
 use Rattle.telegate.specs.declared.host.Wishes.{Wishes}
 use Rattle.telegate.specs.declared.command_line.Request.{Request}
@@ -85,10 +85,6 @@ pub record IsJobDone (has : Text → List ℕ → Type 0) (request : Request) (o
   pub of : IsJobOf has request job
   pub done : Performs job old new exit
 
-abbrev pub status_of_run : Result (Unit {0}) Fault → ℕ
-status_of_run (Ok done) = 0
-status_of_run (Err fault) = status_of fault
-
 -- The gateway ran live by settings of these octets, behind a record of these, if one is given, and
 -- the exit status says how that ended.
 pub record HasEndedLive (ran : List ℕ → Wishes → Result (Unit {0}) Fault → Type 0)
@@ -96,7 +92,7 @@ pub record HasEndedLive (ran : List ℕ → Wishes → Result (Unit {0}) Fault �
     : Type 0 where
   pub ended : Result (Unit {0}) Fault
   pub run : ran config (record wishes { earlier = earlier }) ended
-  pub status : exit ≡ status_of_run ended
+  pub status : exit ≡ status_of_end ended
 
 -- the record of a run that goes on is that of the file that is named, if one is
 abbrev pub IsEarlier : (has : Text → List ℕ → Type 0) → Option Text → Option (Vec ℕ Global)

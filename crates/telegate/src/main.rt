@@ -27,12 +27,13 @@ mod help;
 mod host;
 mod job;
 mod performing;
+mod printed;
 mod replay;
 mod running;
 mod shell;
 mod showing;
 mod simulating;
-mod watched;
+
 
 use fault::{Fault, USAGE};
 use host::System;

@@ -3,19 +3,26 @@ ghost use Rattle.std.specs.Prelude.{◌≡◌, OnErr, OnOk};
 ghost use Rattle.std.specs.Io.KnownBytes.{Appends};
 ghost use Rattle.sim.specs.Runs.{IsBegun};
 ghost use Rattle.telegate.specs.Faults.{status_of};
-ghost use Rattle.telegate.specs.Answers.{Performs};
+ghost use Rattle.telegate.specs.Answers.{IsGiven, Performs};
 
-use crate::answer::answer_to;
-use crate::fault::Fault;
+use crate::answer::Answer;
+use crate::auditing::audit;
+use crate::check::check;
+use crate::closing::Closing;
+use crate::fault::{DONE, Fault};
 use crate::job::Job;
+use crate::replay::replay;
+use crate::showing::{show101, show104};
+use crate::simulating::simulate;
 use std::alloc::Global;
 use std::io;
 use std::io::{ErrorKind, Write};
 
 /// Does a command: its answer goes to `out`, or the line of a fault to `err`. Answers the exit
 /// status: 0 done, 1 a bad frame or a file with wrong content, 3 where the output can't be written
-/// (what was written is then a beginning of the answer's text), 4 where memory was refused. Where
-/// it is watched, a long command tells `err` how far it has come.
+/// (what was written is then a beginning of the answer's text), 4 where memory was refused. A run
+/// over a trace prints while it goes on, and where it is watched it tells `err` how far it has
+/// come; the others print when all is there.
 pub fn perform<W: Write, E: Write>(
     alloc: Global,
     job: &Job<'_>,
@@ -25,17 +32,45 @@ pub fn perform<W: Write, E: Write>(
 ) -> u8
     ensures { Performs job.now (W.contents out.old) (W.contents out.new) result }
 {
-    match answer_to(alloc, job, is_watched, err) {
+    match job {
+        Job::Show101(sizes, hex) => give(&show101(alloc, *sizes, *hex), out, err),
+        Job::Show104(hex) => give(&show104(alloc, *hex), out, err),
+        Job::Check(config) => give(&check(alloc, *config), out, err),
+        Job::Replay {
+            config,
+            trace,
+            left,
+            counts,
+        } => {
+            let closing = Closing {
+                left: *left,
+                counts: *counts,
+            };
+            match replay(alloc, *config, *trace, closing, is_watched, out, err) {
+                Ok(()) => DONE,
+                Err(fault) => tell(&fault, err),
+            }
+        }
+        Job::Sim(config, script) => give(&simulate(alloc, *config, *script), out, err),
+        Job::Audit(config, record) => give(&audit(alloc, *config, *record), out, err),
+    }
+}
+
+/// Prints an answer, or tells a fault, and answers the exit status.
+fn give<W: Write, E: Write>(answer: &Result<Answer, Fault>, out: &mut W, err: &mut E) -> u8
+    ensures { IsGiven answer.now (W.contents out.old) (W.contents out.new) result }
+{
+    match answer {
         Ok(answer) => match print(answer.text.as_slice(), out) {
             Ok(()) => answer.status,
             Err(_) => tell(&Fault::Device, err),
         },
-        Err(fault) => tell(&fault, err),
+        Err(fault) => tell(fault, err),
     }
 }
 
 /// Writes a whole text. Where that fails, a beginning of it was written.
-fn print<W: Write>(text: &[u8], out: &mut W) -> io::Result<()>
+pub(crate) fn print<W: Write>(text: &[u8], out: &mut W) -> io::Result<()>
     ensures all { OnOk result (Appends (W.contents out.old) (W.contents out.new) text.now) }
     ensures begun { OnErr result (IsBegun (W.contents out.old) (W.contents out.new) text.now) }
 {

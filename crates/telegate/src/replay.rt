@@ -1,107 +1,130 @@
 //! The command that runs the gateway over a trace.
-ghost use Rattle.std.specs.Prelude.{◌≡◌, ◌+◌, ◌≤◌, ◌++◌, false, length, IfSome, MatchResult};
-ghost use Rattle.traces.specs.Trace.{lines_of};
-ghost use Rattle.telegate.specs.Answers.{IsReplayed, IsRunOf, StopsRun, IsMemory};
+ghost use Rattle.std.specs.Prelude.{◌≡◌, ℕ, List, Option, ◌+◌, false, length, None, Ok, IfSome};
+ghost use Rattle.settings.specs.Settings.{IsReadOfText};
+ghost use Rattle.traces.specs.Progress.{events_in};
+ghost use Rattle.traces.specs.Trace.{first_wrong, lines_of};
+ghost use Rattle.telegate.specs.Answers.{IsReplayed};
 ghost use Rattle.telegate.specs.Closing.{closing_lines};
+ghost use Rattle.telegate.specs.Printed.{IsPoured, IsClosedBy};
 
-use crate::answer::Answer;
 use crate::check::read_config;
 use crate::closing::{Closing, push_closing};
-use crate::fault::{DONE, Fault};
-use crate::watched::drive_watched;
+use crate::fault::Fault;
+use crate::performing::print;
+use crate::printed::drive_printed;
 use delivery::nothing_is_lost;
 use gateway::{Config, End, Gateway, steps_keep_their_order};
 use std::alloc::Global;
 use std::io::Write;
-use traces::{TextFault, TextPort, judge, line_count};
+use traces::{TextFault, TextPort, judge};
 
-/// Runs the gateway over the events of a trace, and answers a line for each action, and then the
-/// lines of `closing`. The settings are judged before the trace, and a wrong line of it is the only
-/// answer. Where it is watched, a long run tells on standard error how far it has come.
-pub(crate) fn replay<E: Write>(
+/// A trace without a wrong line, and what is asked of the run over it.
+#[derive(Clone, Copy)]
+struct Course<'a> {
+    trace: &'a [u8],
+    /// A turn for each event, one for the tick at moment 0, and one in which there is no more.
+    turns: u64,
+    closing: Closing,
+    is_watched: bool,
+}
+
+/// Runs the gateway over the events of a trace, and prints a line for each action as it is made,
+/// and then the lines of `closing`. The settings are judged before the trace, and the whole trace
+/// before the run, so that nothing is printed where either is wrong. Where it is watched, a long
+/// run tells on standard error how far it has come.
+pub(crate) fn replay<W: Write, E: Write>(
     alloc: Global,
     config: &[u8],
     trace: &[u8],
     closing: Closing,
     is_watched: bool,
+    out: &mut W,
     err: &mut E,
-) -> Result<Answer, Fault>
-    ensures answer { IsReplayed config.now trace.now closing result }
+) -> Result<(), Fault>
+    ensures answer { IsReplayed config.now trace.now closing
+        (W.contents out.old) (W.contents out.new) result }
     ensures unwatched { is_watched ≡ false → err.new ≡ err.old }
 {
     let config = read_config(alloc, config)?;
-    run(alloc, &config, trace, closing, is_watched, err)
+    let events = match judge(trace) {
+        Ok(events) => events,
+        Err(TextFault::Line(n)) => return Err(Fault::Trace(n)),
+        Err(TextFault::NoMemory) => return Err(Fault::NoMemory),
+    };
+    let Some(turns) = turns_of(events) else {
+        return Err(Fault::NoMemory);
+    };
+    let course = Course {
+        trace,
+        turns,
+        closing,
+        is_watched,
+    };
+    run(alloc, &config, &course, out, err)
 }
 
-/// Runs the gateway over a trace. The lines of its actions go to a page, which is printed at once.
-/// A wrong line ends the run, and nothing of it is printed.
-fn run<E: Write>(
+/// As many turns as a run over so many events wants.
+fn turns_of(events: u64) -> Option<u64>
+    ensures { IfSome result (λ turns. turns ≡ events + 2) }
+{
+    events.checked_add(2)
+}
+
+/// Runs the gateway over a trace. An output that fails is written to no more, and told at the end.
+fn run<W: Write, E: Write>(
     alloc: Global,
     config: &Config,
-    trace: &[u8],
-    closing: Closing,
-    is_watched: bool,
+    course: &Course<'_>,
+    out: &mut W,
     err: &mut E,
-) -> Result<Answer, Fault>
-    ensures answer { IsRunOf config.now trace.now closing result }
-    ensures unwatched { is_watched ≡ false → err.new ≡ err.old }
+) -> Result<(), Fault>
+    requires { course.now.turns ≡ length (events_in (lines_of course.now.trace.now)) + 2 }
+    ensures answer { (settings : List ℕ) → IsReadOfText settings (Ok config.now) →
+        first_wrong 1 (lines_of course.now.trace.now) ≡ None →
+        IsReplayed settings course.now.trace.now course.now.closing
+        (W.contents out.old) (W.contents out.new) result }
+    ensures unwatched { course.now.is_watched ≡ false → err.new ≡ err.old }
 {
     nothing_is_lost();
     steps_keep_their_order();
-    let Some(turns) = most_turns(trace, is_watched) else {
-        return Err(Fault::NoMemory);
-    };
-    let Ok(mut gateway) = Gateway::new(alloc, config) else {
-        return Err(stopped(trace));
-    };
-    let mut port = TextPort::new(alloc, trace);
-    let end = drive_watched(&mut gateway, &mut port, turns, is_watched, err);
-    let text = port.into_page();
+    let mut gateway = Gateway::new(alloc, config)?;
+    let mut port = TextPort::new(alloc, course.trace);
+    let (end, is_whole) = drive_printed(
+        &mut gateway,
+        &mut port,
+        course.turns,
+        course.is_watched,
+        out,
+        err,
+    );
     match end {
-        End::Finished => close(alloc, text, &gateway, closing),
-        End::Device => Err(stopped(trace)),
+        End::Finished => close(alloc, &gateway, course.closing, is_whole, out),
+        // No line is wrong, so it is memory that the page wanted.
+        End::Device => Err(Fault::NoMemory),
         End::Turns => unreachable!(),
     }
 }
 
-/// As many turns as a run over a trace may want: one for each line, one for the tick at moment 0,
-/// and one in which there is no more. The lines are counted only for who watches the run: without
-/// a count there are no more of them than octets and one.
-#[tactic(auto, using(crate::proofs::RunLemmas::lines_at_most))]
-fn most_turns(trace: &[u8], is_watched: bool) -> Option<u64>
-    ensures { IfSome result (λ turns. length (lines_of trace.now) + 2 ≤ turns) }
-{
-    let lines = if is_watched {
-        line_count(trace)
-    } else {
-        trace.len() + 1
-    };
-    u64::try_from(lines).ok()?.checked_add(2)
-}
-
-/// Why a run over a trace stopped: the first wrong line, or else want of memory. The lines are
-/// judged only then, since a run reads each of them itself.
-fn stopped(trace: &[u8]) -> Fault
-    ensures { StopsRun trace.now result }
-{
-    match judge(trace) {
-        Err(TextFault::Line(n)) => Fault::Trace(n),
-        Ok(_) | Err(TextFault::NoMemory) => Fault::NoMemory,
-    }
-}
-
-/// The answer with these lines of actions, of a run that this gateway has come to the end of.
-fn close(
+/// Prints the lines with which a run ends, where all others were printed.
+fn close<W: Write>(
     alloc: Global,
-    mut text: Vec<u8>,
     gateway: &Gateway,
     closing: Closing,
-) -> Result<Answer, Fault>
-    ensures { MatchResult result (λ answer. (answer.text.items ≡ text.items
-        ++ closing_lines closing.left closing.counts gateway.now) × (answer.status ≡ 0)) IsMemory }
+    is_whole: bool,
+    out: &mut W,
+) -> Result<(), Fault>
+    ensures { (before : Option (List ℕ)) (text : List ℕ) →
+        IsPoured is_whole before (W.contents out.old) text →
+        IsClosedBy before (W.contents out.new) text
+        (closing_lines closing.left closing.counts gateway.now) result }
 {
     let mut lines = String::new(alloc);
     push_closing(alloc, &mut lines, gateway, closing)?;
-    text.extend_from_slice(lines.as_bytes())?;
-    Ok(Answer { text, status: DONE })
+    if !is_whole {
+        return Err(Fault::Device);
+    }
+    match print(lines.as_bytes(), out) {
+        Ok(()) => Ok(()),
+        Err(_) => Err(Fault::Device),
+    }
 }

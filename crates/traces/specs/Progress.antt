@@ -1,6 +1,6 @@
--- What a port over the text of a trace is to its callers. Its log is stored nowhere: it is told by
--- that text, by the lines that were printed, and by how events and actions follow one another.
-use Rattle.std.specs.Prelude.{◌≡◌, ℕ, suc, Bool, true, false, ◌&&◌, List, [], ◌∷◌, ◌++◌, map, take, drop, reverse, length, Option, Some, None, Result, MatchResult}
+-- What a port over the text of a trace is to its callers. Its log is stored nowhere: only proofs
+-- know it.
+use Rattle.std.specs.Prelude.{◌≡◌, ℕ, Bool, true, false, ◌&&◌, List, [], ◌∷◌, ◌++◌, map, length, Option, Some, None, Result, MatchResult}
 use Rattle.std.specs.List.{filter_map, AllByRecursion}
 use Rattle.std.specs.Option.{is_none}
 use Rattle.gateway.specs.Log.{Log, LogEntry, Came, LineIn, Opened, TcpIn, CutOff, Ticked, WallIs, events_of}
@@ -10,7 +10,6 @@ use Rattle.gateway.specs.declared.ports.Next.TheVariants as answers
 use Rattle.traces.specs.Actions.{lines_of_actions}
 use Rattle.traces.specs.Event.{Event, line, opening, received, cut, tick, wall}
 use Rattle.traces.specs.Fields.{parts_after}
-use Rattle.traces.specs.Printed.{ArePrinted, entries_in}
 use Rattle.traces.specs.Trace.{lines_of, told, is_wrong, first_wrong, IsFaultOf}
 use Rattle.traces.specs.declared.reading.TextFault.{TextFault}
 
@@ -36,39 +35,20 @@ abbrev pub IsRight : List ℕ → Type 0
 IsRight octets = is_wrong octets ≡ false
 
 -- how far a run over a text has come: the lines of it that are still to come, whether the tick at
--- moment 0 came, what an entry of the log is (an event, or else an action), the oldest first, the
--- lines that were printed, and how often the port failed
+-- moment 0 came, the log so far, the part of it whose lines were taken off the page, the lines that
+-- stand on the page, and how often the port failed
 pub record Progress : Type 0 where
   pub text : List ℕ
   pub left : Option (List ℕ)
   pub started : Bool
-  pub marks : List Bool
+  pub log : Log
+  pub poured : Log
   pub page : List ℕ
   pub failed : ℕ
-
--- how many events are marked
-abbrev pub events_among : List Bool → ℕ
-events_among [] = 0
-events_among (true ∷ marks) = suc (events_among marks)
-events_among (false ∷ marks) = events_among marks
-
--- a log of these events and actions, in the order of the marks (of all, the newest first)
-abbrev pub woven : (marks : List Bool) → (events actions : List LogEntry) → Log
-woven [] events actions = []
-woven (true ∷ marks) [] actions = []
-woven (true ∷ marks) (event ∷ events) actions = event ∷ woven marks events actions
-woven (false ∷ marks) events [] = []
-woven (false ∷ marks) events (action ∷ actions) = action ∷ woven marks events actions
 
 abbrev pub all_told : Option (List LogEntry) → List LogEntry
 all_told None = []
 all_told (Some entries) = entries
-
--- the log so far
-abbrev pub log_in : Progress → Log
-log_in p = woven (reverse p.marks)
-    (reverse (take (events_among p.marks) (script_in p.text)))
-    (reverse (all_told (entries_in p.page)))
 
 -- the events that are still to come
 abbrev pub events_left : (started : Bool) → (text : List ℕ) → (left : Option (List ℕ))
@@ -82,12 +62,11 @@ coming_in p = events_left p.started p.text p.left
 abbrev pub is_through : Progress → Bool
 is_through p = p.started && is_none p.left
 
--- what always holds of a port over a text
+-- What always holds of a port over a text: the events that came and those that are still to come
+-- are those of the text, and the page has the lines of the log that weren't taken off it.
 pub record IsProgress (p : Progress) : Type 0 where
-  pub whole : events_of (log_in p) ++ coming_in p ≡ script_in p.text
-  pub rest : drop (events_among p.marks) (script_in p.text) ≡ coming_in p
-  pub lines : lines_of_actions (log_in p) ≡ p.page
-  pub printable : ArePrinted (log_in p)
+  pub whole : events_of p.log ++ coming_in p ≡ script_in p.text
+  pub lines : lines_of_actions p.poured ++ p.page ≡ lines_of_actions p.log
   pub right : AllByRecursion IsRight (parts_after 10 p.left)
       → first_wrong 1 (lines_of p.text) ≡ None
   pub first : p.started ≡ false → p.left ≡ Some p.text

@@ -5,30 +5,31 @@ ghost use Rattle.gateway.specs.Log.{events_of};
 ghost use Rattle.gateway.specs.Ports.{output_of};
 ghost use Rattle.traces.specs.Actions.{line_of, lines_of_actions};
 ghost use Rattle.traces.specs.Fields.{parts_after};
-ghost use Rattle.traces.specs.Progress.{IsFirst, script_in, log_in, coming_in, is_through, tells_event};
+ghost use Rattle.traces.specs.Progress.{IsFirst, script_in, coming_in, is_through, tells_event};
 ghost use Rattle.traces.specs.Trace.{first_wrong, lines_of};
 
 use crate::actions::print_action_at;
 use crate::event::{FirstLine, announce, first_line};
 use crate::moments::Moment;
-use gateway::{Action, Next, Port};
+use gateway::{Action, History, Next, Port};
 use std::alloc::Global;
 use std::marker::Model;
 
 /// A port that gives a tick at moment 0 and then the events of a text, each as its line is due, and
 /// prints the line of each action on a page: `MS > S HEX` (to the line), `MS > T HEX` (to TCP), `MS
 /// > X CAUSE` (a close) or `MS > G S K` (a gap of station S, counted from 1, at the end of its
-/// session K), in upper case. It stores no log: that is told by the text, by the page, and by one
-/// mark for each entry. A wrong line is a fault, as want of memory is; after one it takes and gives
-/// nothing more.
+/// session K), in upper case. It stores no log, and of its lines those alone that weren't taken off
+/// the page. A wrong line is a fault, as want of memory is; after one it takes and gives nothing
+/// more.
 pub struct TextPort<'a> {
     alloc: Global,
     text: &'a [u8],
     /// The lines that are still to come.
     left: Option<&'a [u8]>,
     is_started: bool,
-    /// Whether an entry of the log is an event, the oldest first.
-    marks: Vec<bool>,
+    history: History,
+    /// The log as it was when the page was cleared.
+    poured: History,
     page: Vec<u8>,
     /// That of the latest action.
     moment: Moment,
@@ -45,7 +46,8 @@ impl<'a> Model for TextPort<'a> {
       text = a.text.now;
       left = option_copied a.left;
       started = a.is_started;
-      marks = a.marks.items;
+      log = a.history.entries;
+      poured = a.poured.entries;
       page = a.page.items;
       failed = a.failures;
     } };
@@ -54,7 +56,8 @@ impl<'a> Model for TextPort<'a> {
       text = a.text.now;
       left = option_copied a.left;
       started = a.is_started;
-      marks = a.marks.items;
+      log = a.history.entries;
+      poured = a.poured.entries;
       page = a.page.items;
       failed = a.failures;
     }) };
@@ -99,7 +102,8 @@ impl<'a> TextPort<'a> {
           text = text.now;
           left = Some text.now;
           started = false;
-          marks = [];
+          log = [];
+          poured = [];
           page = [];
           failed = 0;
         } }
@@ -109,41 +113,41 @@ impl<'a> TextPort<'a> {
             text,
             left: Some(text),
             is_started: false,
-            marks: Vec::new(alloc),
+            history: History::new(),
+            poured: History::new(),
             page: Vec::new(alloc),
             moment: Moment::new(0),
             failures: 0,
         }
     }
 
-    /// The page, which has got the lines of the log's actions.
-    pub fn into_page(self) -> Vec<u8>
-        ensures lines { result.items ≡ lines_of_actions (log_in self.entry) }
+    /// The page: lines of the log's actions, behind those that were taken off it.
+    pub fn page(&self) -> &[u8]
+        ensures page { result.now ≡ self.now.page }
+        ensures lines { lines_of_actions self.now.poured ++ result.now
+            ≡ lines_of_actions self.now.log }
         // The events that came, and those that are still to come, are those of the text.
-        ensures whole { events_of (log_in self.entry) ++ coming_in self.entry
-            ≡ script_in self.entry.text }
+        ensures whole { events_of self.now.log ++ coming_in self.now ≡ script_in self.now.text }
         // Where all lines were read, none is wrong.
-        ensures right { is_through self.entry ≡ true →
-            first_wrong 1 (lines_of self.entry.text) ≡ None }
+        ensures right { is_through self.now ≡ true →
+            first_wrong 1 (lines_of self.now.text) ≡ None }
     {
-        let TextPort {
-            alloc: _,
-            text: _,
-            left: _,
-            is_started: _,
-            marks: _,
-            page,
-            moment: _,
-            failures: _,
-        } = self;
-        page
+        self.page.as_slice()
+    }
+
+    /// Takes all lines off the page, which keeps its room.
+    pub fn clear_page(&mut self)
+        ensures { self.new ≡ record self.old { poured = self.old.log; page = [] } }
+    {
+        self.page.clear();
+        self.poured = self.history.again();
     }
 }
 
 impl<'a> Port for TextPort<'a> {
     ghost use Rattle.traces.specs.Progress.{is_through};
 
-    ghost log = { λ p. Some (log_in p) };
+    ghost log = { λ p. Some p.log };
 
     ghost failed = { λ p. p.failed };
 
@@ -155,19 +159,19 @@ impl<'a> Port for TextPort<'a> {
     ghost script = { λ p. p.text };
 
     fn next(&mut self, buf: &mut [u8; 1024]) -> Next {
-        if self.failures > 0 || self.marks.try_reserve(1).is_err() {
+        if self.failures > 0 {
             self.failures += 1;
             return Next::Fault;
         }
         if !self.is_started {
             self.is_started = true;
-            self.marks.push_reserved(true);
+            self.history = self.history.came(&Next::Tick(0), buf);
             return Next::Tick(0);
         }
         let (next, left) = first_event(self.left, buf);
         if is_event(next) {
             self.left = left;
-            self.marks.push_reserved(true);
+            self.history = self.history.came(&next, buf);
             return next;
         }
         if let Next::Done = next {
@@ -179,7 +183,7 @@ impl<'a> Port for TextPort<'a> {
     }
 
     fn put(&mut self, now: u64, action: &Action<'_>) -> bool {
-        if self.failures > 0 || self.marks.try_reserve(1).is_err() {
+        if self.failures > 0 {
             self.failures += 1;
             return false;
         }
@@ -188,7 +192,7 @@ impl<'a> Port for TextPort<'a> {
             self.failures += 1;
             return false;
         }
-        self.marks.push_reserved(false);
+        self.history = self.history.went(&now, action);
         true
     }
 

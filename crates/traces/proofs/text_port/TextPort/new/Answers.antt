@@ -4,11 +4,9 @@ use Rattle.traces.proofs.ProgressLemmas.{none_wrong}
 use Rattle.traces.proofs.text_port.TextPort.new.Goals as goal
 
 pub invariant_of-result : goal.invariant_of-result
-invariant_of-result c = rw (c.new.ensures.items, c.new-2.ensures.items) (record {
+invariant_of-result c = rw (c.new.ensures, c.new-2.ensures, c.new-3.ensures.items) (record {
   whole = refl;
-  rest = refl;
   lines = refl;
-  printable = tt;
   right = none_wrong 1 (lines_of c.args.text.now);
   first = λ fresh. refl;
 })

@@ -1,0 +1,143 @@
+//! Runs over a trace that print while they go on, and tell on a terminal how far they have come.
+ghost use Rattle.std.specs.Prelude.{◌≡◌, ℕ, List, [], Option, ◌+◌, ◌++◌, ◌<◌, ◌≤◌, false, OnOk, Some};
+ghost use Rattle.std.specs.Io.KnownBytes.{Appends};
+ghost use Rattle.gateway.specs.Accounts.{IsAccounted};
+ghost use Rattle.gateway.specs.Agrees.{Follows, Rests};
+ghost use Rattle.gateway.specs.Reports.{Setup};
+ghost use Rattle.gateway.specs.Runs.{UnlessDevice, MoreEvents};
+ghost use Rattle.gateway.specs.Traffic.{IsFaithful, HasRested};
+ghost use Rattle.traces.specs.Progress.{is_through};
+ghost use Rattle.telegate.specs.Percent.{percent_of, percent_text, blank_text};
+ghost use Rattle.telegate.specs.Printed.{IsPoured};
+
+use crate::performing::print;
+use gateway::{End, Gateway, drive_on};
+use std::io;
+use std::io::Write;
+use traces::TextPort;
+
+/// So many turns pass before their lines are printed: some 100 KB, where each event has an action.
+const PART: u64 = 2_048;
+
+/// So many turns pass before it is told how far a run has come: 2^19, about half a second.
+const STRIDE: u64 = 524_288;
+
+/// Takes the events of a trace one after another, at most so many, as `drive_on` does, and prints
+/// the lines of the actions as they are made. Where the output fails, nothing more is printed, and
+/// the run goes on to its end: the second answer is whether all was printed. Where a run of more
+/// than one stride is watched, standard error tells after each how far it has come, and is blank
+/// again at the end; whether it takes that changes nothing.
+pub(crate) fn drive_printed<W: Write, E: Write>(
+    gateway: &mut Gateway,
+    port: &mut TextPort<'_>,
+    turns: u64,
+    is_watched: bool,
+    out: &mut W,
+    err: &mut E,
+) -> (End, bool)
+    requires healthy { port.old.failed ≡ 0 }
+    requires blank { (port.old.poured ≡ []) × (port.old.page ≡ []) }
+    // As of `drive_on`.
+    ensures faithful { (p : Setup) → Follows p gateway.old (Some port.old.log) →
+        Rests p (Some port.old.log) → IsFaithful p port.new.log }
+    ensures rests { (p : Setup) → Follows p gateway.old (Some port.old.log) →
+        Rests p (Some port.old.log) → UnlessDevice result.0 (HasRested p port.new.log) }
+    ensures kept { (p : Setup) → Follows p gateway.old (Some port.old.log) →
+        Rests p (Some port.old.log) →
+        UnlessDevice result.0 (Follows p gateway.new (Some port.new.log)) }
+    ensures accounts { (p : Setup) → Follows p gateway.old (Some port.old.log) →
+        Rests p (Some port.old.log) →
+        UnlessDevice result.0 (IsAccounted p gateway.new port.new.log) }
+    ensures turns { result.0 ≡ End.Turns →
+        MoreEvents turns (Some port.old.log) (Some port.new.log) }
+    ensures finished { result.0 ≡ End.Finished → is_through port.new ≡ true }
+    ensures script { port.new.text ≡ port.old.text }
+    // All lines left the page, and were printed, or a beginning of them.
+    ensures page { port.new.page ≡ [] }
+    ensures poured { IsPoured result.1 (W.contents out.old) (W.contents out.new) port.new.poured }
+    // Where nobody looks on, nothing is told.
+    ensures unwatched { is_watched ≡ false → err.new ≡ err.old }
+{
+    let is_told = is_watched && turns > STRIDE;
+    let mut is_whole = true;
+    let mut done = 0;
+    'parts: while turns - done > PART {
+        let end = drive_on(gateway, port, PART);
+        is_whole = pour(port, is_whole, out);
+        if !matches!(end, End::Turns) {
+            blank_if(is_told, err);
+            return (end, is_whole);
+        }
+        done += PART;
+        if done % STRIDE == 0 {
+            tell_if(is_told, done, turns, err);
+        }
+    }
+    let end = drive_on(gateway, port, turns - done);
+    is_whole = pour(port, is_whole, out);
+    blank_if(is_told, err);
+    (end, is_whole)
+}
+
+/// Prints the lines that are on the page, unless the output failed before, and takes them off it.
+/// Answers whether the output has taken all.
+fn pour<W: Write>(port: &mut TextPort<'_>, is_whole: bool, out: &mut W) -> bool
+    ensures page { port.new ≡ record port.old {
+        poured = port.old.poured ++ port.old.page;
+        page = [];
+    } }
+    ensures poured { (before : Option (List ℕ)) →
+        IsPoured is_whole before (W.contents out.old) port.old.poured →
+        IsPoured result before (W.contents out.new) port.new.poured }
+{
+    let is_taken = is_whole && print(port.page(), out).is_ok();
+    port.clear_page();
+    is_taken
+}
+
+/// Tells how far a run has come, where that is to be told.
+fn tell_if<E: Write>(is_told: bool, done: u64, all: u64, err: &mut E)
+    requires within { done ≤ all }
+    requires some { 0 < all }
+    ensures { is_told ≡ false → err.new ≡ err.old }
+{
+    if is_told {
+        let _ = tell_percent(done, all, err);
+    }
+}
+
+/// Takes what was told from the terminal, where something was.
+fn blank_if<E: Write>(is_told: bool, err: &mut E)
+    ensures { is_told ≡ false → err.new ≡ err.old }
+{
+    if is_told {
+        let _ = blank(err);
+    }
+}
+
+/// Tells which part of so many turns is done, over what stands on the line.
+fn tell_percent<E: Write>(done: u64, all: u64, err: &mut E) -> io::Result<()>
+    requires within { done ≤ all }
+    requires some { 0 < all }
+    ensures { OnOk result (Appends (E.contents err.old) (E.contents err.new)
+        (percent_text (percent_of done all))) }
+{
+    let percent = percent(done, all);
+    write!(err, "\r{percent} %")
+}
+
+/// Which part of a number another is, in whole percent.
+fn percent(done: u64, all: u64) -> u8
+    requires within { done ≤ all }
+    requires some { 0 < all }
+    ensures { result ≡ percent_of done all }
+{
+    (u128::from(done) * 100 / u128::from(all)) as u8
+}
+
+/// Blanks the line on which percent were told.
+fn blank<E: Write>(err: &mut E) -> io::Result<()>
+    ensures { OnOk result (Appends (E.contents err.old) (E.contents err.new) blank_text) }
+{
+    write!(err, "\r    \r")
+}
