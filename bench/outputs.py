@@ -39,8 +39,15 @@ COMMANDS = [
         "50 > T 680E0000000001010300010064000001\nleft 01010300010064000001\ncounts skipped 0 mirrors 0 lost 0 spoilt 0\n",
     ),
 ]
+# A run that prints while it goes on, in some parts: each of so many TESTFR act is answered.
+TESTS = 6000
+LONG = "0 O\n" + "0 R 680443000000\n" * TESTS
+LONG_LINES = "0 > S 1049014A16\n" + "0 > T 680483000000\n" * TESTS
 FILES = {
     "config.toml": CONFIG,
+    "long.trace": LONG,
+    # Its last line is wrong: nothing is printed.
+    "wrong.trace": LONG + "0 R 6\n",
     "one.trace": TRACE,
     "none.script": "turns 0\n",
     "one.script": "turns 8\nreport 1 2 01010301640001\n",
@@ -122,6 +129,12 @@ def cases(program, folder, library):
         came = ran(program, words, folder, writer, preexec_fn=lambda: signal.signal(signal.SIGPIPE, signal.SIG_IGN))
         yield f"{words}, a pipe without a reader", came, (3, "", "device failed\n")
         os.close(writer)
+    words = "replay config.toml long.trace"
+    for octets in (0, 1, 1000, 30_000, 60_000, 100_000, len(LONG_LINES) - 1, len(LONG_LINES)):
+        came = ran(program, words, folder, None, preexec_fn=limited(octets))
+        yield f"{words}, a file of {octets} octets", came, wanted(LONG_LINES, octets)
+    wrong = (1, "", f"trace: line {TESTS + 2}\n")
+    yield "a trace whose last line is wrong", ran(program, "replay config.toml wrong.trace", folder, None), wrong
     # A fault that can't be told keeps its status; the text of wrong words is an output that fails.
     for words, status in (("check empty", 1), ("check nowhere", 3), ("check", 3)):
         with open("/dev/full", "wb") as full:

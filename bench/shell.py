@@ -220,11 +220,11 @@ def failing_outputs(count, program, folder):
         count.judge(f"{words} with no standard error", done.returncode == status, done)
 
 
-def looked_at(program, words, folder):
+def looked_at(program, words, folder, **more):
     """What a terminal for standard error was told, and the rest."""
     ours, theirs = pty.openpty()
     try:
-        done = ran([program, *words.split()], folder, stderr=theirs)
+        done = ran([program, *words.split()], folder, stderr=theirs, **{end: theirs for end in more.get("ends", ())})
     finally:
         os.close(theirs)
     told = b""
@@ -239,7 +239,8 @@ def looked_at(program, words, folder):
 
 
 def looks(count, program, folder):
-    """A long replay tells a terminal after each 2^19 turns how far it has come, and leaves a blank line. Else nothing is told."""
+    """A long replay tells a terminal after each 2^19 turns how far it has come, and leaves a blank line. Else nothing is told, as
+    where standard output is a terminal too."""
     part = 1 << 19
     # A run has a few turns more than events: the tick at moment 0, the one in which there is no more.
     for events, told in (
@@ -256,6 +257,9 @@ def looks(count, program, folder):
         done = ran([program, *"replay good.toml long.trace".split()], folder)
         is_right = (done.returncode, text(done.stdout), done.stderr) == (0, "0 > S 1049014A16\n", b"")
         count.judge(f"{events} events, nobody looks", is_right, done)
+        seen, done = looked_at(program, "replay good.toml long.trace", folder, ends=["stdout"])
+        is_right = (seen, done.returncode) == (b"0 > S 1049014A16\r\n", 0)
+        count.judge(f"{events} events to a terminal", is_right, (seen, done))
     for words, told, status in (("replay good.toml none.script", b"trace: line 1\r\n", 1), ("check good.toml", b"", 0)):
         seen, done = looked_at(program, words, folder)
         count.judge(f"{words} looked at", (seen, done.returncode) == (told, status), (seen, done))

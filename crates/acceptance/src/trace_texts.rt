@@ -176,7 +176,9 @@ fn texts_give_events_and_get_actions(rt: HostRuntime) -> Result<(), Fail> {
         let mut port = TextPort::new(alloc, text);
         assert!(rt; all_answer(&mut port, steps));
         assert!(rt; port.failures() == 0);
-        assert!(rt; port.into_page().as_slice() == page);
+        assert!(rt; port.page() == page);
+        port.clear_page();
+        assert!(rt; port.page().is_empty());
     }
     Ok(())
 }

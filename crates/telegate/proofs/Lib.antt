@@ -7,3 +7,5 @@ pub mod Addresses
 pub mod Turning
 pub mod AuditLemmas
 pub mod Worded
+pub mod Poured
+pub mod ReplayLemmas

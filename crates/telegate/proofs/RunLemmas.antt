@@ -4,11 +4,11 @@ use Rattle.std.proofs.lemmas.List.{append-nil, length-map}
 use Rattle.std.proofs.lemmas.List.Splits.{length-slice_split}
 use Rattle.std.proofs.lemmas.List.Sums.{count_by-le-length}
 use Rattle.gateway.specs.Log.{Log, LogEntry, events_of}
-use Rattle.gateway.specs.Runs.{MoreEvents}
+use Rattle.gateway.specs.Runs.{MoreEvents, UnlessDevice}
 use Rattle.std.specs.Option.{is_none}
 use Rattle.std.specs.List.{filter_map, cons_option}
 use Rattle.traces.specs.Event.{Event}
-use Rattle.traces.specs.Progress.{Progress, came, events_in, script_in, log_in, events_left, coming_in, is_through}
+use Rattle.traces.specs.Progress.{Progress, came, events_in, script_in, events_left, coming_in, is_through}
 use Rattle.traces.specs.Trace.{lines_of, told, first_wrong}
 use Rattle.std.specs.Prelude.{Result, Ok, Err, MatchResult}
 use Rattle.traces.specs.Actions.{lines_of_actions}
@@ -23,11 +23,11 @@ use Rattle.delivery.specs.Delivery.{Delivers}
 use Rattle.telegate.specs.Closing.{closing_lines}
 use Rattle.gateway.specs.Config.{Settings}
 use Rattle.gateway.specs.declared.runs.End.{End}
-use Rattle.gateway.specs.declared.runs.End.TheVariants.{Turns}
+use Rattle.gateway.specs.declared.runs.End.TheVariants.{Turns, Finished}
 use Rattle.settings.specs.Settings.{IsReadOfText}
 use Rattle.sim.specs.Scripts.{IsScriptOf}
 use Rattle.sim.specs.declared.directive.Directive.{Directive}
-use Rattle.telegate.specs.Answers.{IsMemory, StopsRun, IsGood, IsChecked, IsRunOf, IsReplayed, IsSimulationOf, IsSimulatedBy}
+use Rattle.telegate.specs.Answers.{IsMemory, IsGood, IsChecked, IsSimulationOf, IsSimulatedBy}
 use Rattle.telegate.specs.declared.answer.Answer.{Answer}
 use Rattle.telegate.specs.declared.closing.Closing.{Closing}
 use Rattle.telegate.specs.declared.fault.Fault.{Fault}
@@ -36,58 +36,34 @@ use Rattle.telegate.specs.declared.fault.Fault.TheVariants.{Config, Trace, Scrip
 same_number : (m n : ℕ) → Some m ≡ Some n → m ≡ n
 same_number m n e = cc
 
--- a line tells one event at most
-one_at_most : (event : Option Event) (events : List Event) (n : ℕ) → length events ≤ n
-    → length (cons_option event events) ≤ suc n
-one_at_most None events n few = omega arith
-one_at_most (Some event) events n few = omega arith
-
-told_at_most : (lines : List (List ℕ)) → length (filter_map told lines) ≤ length lines
-told_at_most [] = omega arith
-told_at_most (line ∷ lines) =
-    one_at_most (told line) (filter_map told lines) (length lines) (told_at_most lines)
-
-events_at_most : (lines : List (List ℕ)) → length (events_in lines) ≤ length lines
-events_at_most lines =
-    let same : length (events_in lines) ≡ length (filter_map told lines) = length-map (filter_map told lines) came in
-    omega (arith, same, told_at_most lines)
-
--- a text has at most one line more than octets
-pub lines_at_most : (text : List ℕ) → length (lines_of text) ≤ length text + 1
-lines_at_most text = omega (
-  arith,
-  length-slice_split (λ (b : ℕ). b == 10) text,
-  count_by-le-length (λ (b : ℕ). b == 10) text,
-)
-
--- a turn for each line and two more aren't used up
+-- a turn for each event and two more aren't used up
 turns_suffice : (log : Log) (coming : List LogEntry) (trace : List ℕ) (turns : ℕ)
-    → length (lines_of trace) + 2 ≤ turns → events_of log ++ coming ≡ script_in trace
+    → turns ≡ length (events_in (lines_of trace)) + 2 → events_of log ++ coming ≡ script_in trace
     → MoreEvents turns (Some []) (Some log) → ⊥
 turns_suffice log coming trace turns enough whole more =
     let came : length (events_of log) ≡ 0 + turns = same_number (length (events_of log)) (0 + turns) more in
     let split : length (events_of log ++ coming) ≡ length (events_of log) + length coming =
     length-append (events_of log) coming in
     let all : length (events_of log ++ coming) ≡ length (script_in trace) = ap length whole in
-    omega (arith, came, split, all, events_at_most (lines_of trace), enough)
+    omega (arith, came, split, all, enough)
 
 -- so a run over a trace, from its beginning on, doesn't end by its turns
 pub turns_are_left : (trace : List ℕ) (turns : ℕ) (old new : Progress)
-    → old ≡ record { text = trace; left = Some trace; started = false; marks = []; page = []; failed = 0 }
-    → length (lines_of trace) + 2 ≤ turns → events_of (log_in new) ++ coming_in new ≡ script_in new.text
-    → new.text ≡ old.text → MoreEvents turns (Some (log_in old)) (Some (log_in new)) → ⊥
+    → old ≡ record { text = trace; left = Some trace; started = false; log = []; poured = []; page = []; failed = 0 }
+    → turns ≡ length (events_in (lines_of trace)) + 2 → events_of new.log ++ coming_in new ≡ script_in new.text
+    → new.text ≡ old.text → MoreEvents turns (Some old.log) (Some new.log) → ⊥
 turns_are_left trace turns old new is enough whole same more =
-    turns_suffice (log_in new) (coming_in new) trace turns enough (whole ∙ ap script_in same
+    turns_suffice new.log (coming_in new) trace turns enough (whole ∙ ap script_in same
     ∙ ap (λ (t : Progress). script_in t.text) is) (subst
-    (λ (t : Progress). MoreEvents turns (Some (log_in t)) (Some (log_in new))) is more)
+    (λ (t : Progress). MoreEvents turns (Some t.log) (Some new.log)) is more)
 
 -- a gateway that may begin with an empty log may begin with this port
 pub at_first : (p : Setup) (s : State) (t : Progress) {trace : List ℕ}
-    → t ≡ record { text = trace; left = Some trace; started = false; marks = []; page = []; failed = 0 }
-    → Follows p s (Some []) → Follows p s (Some (log_in t)) × Rests p (Some (log_in t))
+    → t ≡ record { text = trace; left = Some trace; started = false; log = []; poured = []; page = []; failed = 0 }
+    → Follows p s (Some []) → Follows p s (Some t.log) × Rests p (Some t.log)
 at_first p s t is begins = (
-  subst (λ (x : Progress). Follows p s (Some (log_in x))) (sym is) begins,
-  subst (λ (x : Progress). Rests p (Some (log_in x))) (sym is) tt,
+  subst (λ (x : Progress). Follows p s (Some x.log)) (sym is) begins,
+  subst (λ (x : Progress). Rests p (Some x.log)) (sym is) tt,
 )
 
 -- what an answer promises of this end
@@ -96,72 +72,20 @@ pub at_end : {E : Type 0} (r : Result End E) (end : End) (P : Type 0) → IfOk r
 at_end (Ok x) end P h is turns = let same : x ≡ end = cc in h (same ∙ turns)
 at_end (Err x) end P h is turns = cc
 
+-- what is promised of each end but that of a device
+pub at_finish : (end : End) (P : Type 0) → end ≡ Finished → UnlessDevice end P → P
+at_finish end P is promised = subst (λ (e : End). UnlessDevice e P) is promised
+
 -- where no more is to come, the events are those of the whole trace
 pub all_came : (t : Progress) (trace : List ℕ) → is_through t ≡ true
-    → events_of (log_in t) ++ coming_in t ≡ script_in trace → events_of (log_in t) ≡ script_in trace
-all_came t trace over whole = sym (append-nil (events_of (log_in t)))
-    ∙ ap (λ es. events_of (log_in t) ++ es) (sym (by t.started t.left over)) ∙ whole
+    → events_of t.log ++ coming_in t ≡ script_in trace → events_of t.log ≡ script_in trace
+all_came t trace over whole = sym (append-nil (events_of t.log))
+    ∙ ap (λ es. events_of t.log ++ es) (sym (by t.started t.left over)) ∙ whole
   where
     by : (b : Bool) (left : Option (List ℕ)) → (b && is_none left) ≡ true → events_left b t.text left ≡ []
     by true None over = refl
     by true (Some text) over = cc
     by false left over = cc
-
--- want of memory is a reason to stop
-stopped : (trace : List ℕ) (e : Fault) → IsMemory e → StopsRun trace e
-stopped trace NoMemory h = tt
-stopped trace (Config why) h = absurd h
-stopped trace (Trace n) h = absurd h
-stopped trace (Script n) h = absurd h
-stopped trace (Record n) h = absurd h
-stopped trace (Differs n) h = absurd h
-stopped trace Sizes h = absurd h
-stopped trace Octets h = absurd h
-stopped trace Address h = absurd h
-stopped trace Device h = absurd h
-
--- the answer of a run that has come to its end
-pub closed : (settings : Settings) (trace : List ℕ) (closing : Closing) (state : State) (log : Log) (text : List ℕ)
-    (r : Result Answer Fault) → events_of log ≡ script_in trace → IsFaithful (setup_of settings) log
-    → HasRested (setup_of settings) log → KeepsOrder log →
-    Delivers (setup_of settings) log → Follows (setup_of settings) state (Some log)
-    → IsAccounted (setup_of settings) state log → text ≡ lines_of_actions log
-    → MatchResult r (λ answer. (answer.text.items ≡ text ++ closing_lines closing.left closing.counts state)
-    × (answer.status ≡ 0)) IsMemory → first_wrong 1 (lines_of trace) ≡ None → IsRunOf settings trace closing r
-closed settings trace closing s log text (Ok answer) events faithful rests ordered delivers follows accounts is h all = (
-  all,
-  record {
-    log = log;
-    events = events;
-    faithful = faithful;
-    rests = rests;
-    ordered = ordered;
-    delivers = delivers;
-    state = s;
-    follows = follows;
-    accounts = accounts;
-    text = h.0 ∙ ap (λ xs. xs ++ closing_lines closing.left closing.counts s) is;
-    status = h.1;
-  },
-)
-closed settings trace closing s log text (Err e) events faithful rests ordered delivers follows accounts is h all =
-    stopped trace e h
-
--- the answer to the command, where its files were read
-pub replayed : (config trace : List ℕ) (closing : Closing) (settings : Settings) (r : Result Answer Fault)
-    → IsReadOfText config (Ok settings) → IsRunOf settings trace closing r → IsReplayed config trace closing r
-replayed config trace closing settings (Ok answer) read run =
-    record { settings = settings; read_config = read; read_trace = run.0; run = run.1 }
-replayed config trace closing settings (Err NoMemory) read run = tt
-replayed config trace closing settings (Err (Config why)) read run = absurd run
-replayed config trace closing settings (Err (Trace n)) read run = ((settings, read), run)
-replayed config trace closing settings (Err (Script n)) read run = absurd run
-replayed config trace closing settings (Err (Record n)) read run = absurd run
-replayed config trace closing settings (Err (Differs n)) read run = absurd run
-replayed config trace closing settings (Err Sizes) read run = absurd run
-replayed config trace closing settings (Err Octets) read run = absurd run
-replayed config trace closing settings (Err Address) read run = absurd run
-replayed config trace closing settings (Err Device) read run = absurd run
 
 -- the answer to the command over a simulated line, where its files were read
 pub simulated : (config text : List ℕ) (settings : Settings) (script : List Directive) (r : Result Answer Fault)

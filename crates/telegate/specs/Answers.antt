@@ -227,12 +227,16 @@ pub record Replays (config trace : List ℕ) (closing : Closing) (old new : Opti
   pub replayed : IsReplayed config trace closing old new result
   pub status : exit ≡ status_of_end result
 
--- what a command does to the output, whose octets are these before and after, and its exit status
-abbrev pub Performs : Job → (old new : Option (List ℕ)) → (exit : ℕ) → Type 0
-Performs (Show101 sizes hex) = Gives (IsShown101 sizes.now hex.now)
-Performs (Show104 hex) = Gives (IsShown104 hex.now)
-Performs (Check config) = Gives (IsChecked config.now)
-Performs (Replay config trace left counts) =
+-- what a command does to the output
+abbrev pub DoesJob : Job → (old new : Option (List ℕ)) → (exit : ℕ) → Type 0
+DoesJob (Show101 sizes hex) = Gives (IsShown101 sizes.now hex.now)
+DoesJob (Show104 hex) = Gives (IsShown104 hex.now)
+DoesJob (Check config) = Gives (IsChecked config.now)
+DoesJob (Replay config trace left counts) =
     Replays config.now trace.now (record { left = left; counts = counts })
-Performs (Sim config script) = Gives (IsSimulatedBy config.now script.now)
-Performs (Audit config text) = Gives (IsAuditedBy config.now text.now)
+DoesJob (Sim config script) = Gives (IsSimulatedBy config.now script.now)
+DoesJob (Audit config text) = Gives (IsAuditedBy config.now text.now)
+
+-- the same, of an output whose octets are these before and after, and with this exit status
+pub record Performs (job : Job) (old new : Option (List ℕ)) (exit : ℕ) : Type 0 where
+  pub does : DoesJob job old new exit

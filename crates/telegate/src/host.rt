@@ -63,7 +63,7 @@ pub(crate) trait Host {
 #[derive(Clone, Copy)]
 pub(crate) struct System<'r, R> {
     pub(crate) rt: &'r R,
-    /// Whether its standard error is a terminal.
+    /// Whether its standard error is a terminal, and its standard output isn't.
     pub(crate) is_watched: bool,
 }
 

@@ -34,7 +34,6 @@ mod shell;
 mod showing;
 mod simulating;
 
-
 use fault::{Fault, USAGE};
 use host::System;
 use performing::tell;
@@ -52,7 +51,7 @@ fn main(rt: HostRuntime) -> ExitCode {
 }
 
 /// Does what the process's words ask for, and answers the exit status.
-fn run<R, W: Write, E: Write + IsTerminal>(rt: &R, out: &mut W, err: &mut E) -> u8
+fn run<R, W: Write + IsTerminal, E: Write + IsTerminal>(rt: &R, out: &mut W, err: &mut E) -> u8
 where
     R: Env
         + Files
@@ -64,7 +63,8 @@ where
 {
     match words_of(rt) {
         Ok(words) => {
-            let is_watched = err.is_terminal();
+            // Lines that pass on a terminal tell by their moments how far a run has come.
+            let is_watched = err.is_terminal() && !out.is_terminal();
             let system = System { rt, is_watched };
             obey(rt.alloc(), &system, words.as_slice(), out, err)
         }

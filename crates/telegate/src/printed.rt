@@ -1,11 +1,12 @@
 //! Runs over a trace that print while they go on, and tell on a terminal how far they have come.
-ghost use Rattle.std.specs.Prelude.{◌≡◌, ℕ, List, [], Option, ◌+◌, ◌++◌, ◌<◌, ◌≤◌, false, OnOk, Some};
+ghost use Rattle.std.specs.Prelude.{◌≡◌, ℕ, List, [], Option, ◌+◌, ◌++◌, ◌<◌, ◌≤◌, false, true, OnOk, Some};
 ghost use Rattle.std.specs.Io.KnownBytes.{Appends};
 ghost use Rattle.gateway.specs.Accounts.{IsAccounted};
 ghost use Rattle.gateway.specs.Agrees.{Follows, Rests};
 ghost use Rattle.gateway.specs.Reports.{Setup};
 ghost use Rattle.gateway.specs.Runs.{UnlessDevice, MoreEvents};
 ghost use Rattle.gateway.specs.Traffic.{IsFaithful, HasRested};
+ghost use Rattle.traces.specs.Actions.{lines_of_actions};
 ghost use Rattle.traces.specs.Progress.{is_through};
 ghost use Rattle.telegate.specs.Percent.{percent_of, percent_text, blank_text};
 ghost use Rattle.telegate.specs.Printed.{IsPoured};
@@ -52,9 +53,9 @@ pub(crate) fn drive_printed<W: Write, E: Write>(
         MoreEvents turns (Some port.old.log) (Some port.new.log) }
     ensures finished { result.0 ≡ End.Finished → is_through port.new ≡ true }
     ensures script { port.new.text ≡ port.old.text }
-    // All lines left the page, and were printed, or a beginning of them.
-    ensures page { port.new.page ≡ [] }
-    ensures poured { IsPoured result.1 (W.contents out.old) (W.contents out.new) port.new.poured }
+    // All lines of the log were printed, or a beginning of them.
+    ensures poured { IsPoured result.1 (W.contents out.old) (W.contents out.new)
+        (lines_of_actions port.new.log) }
     // Where nobody looks on, nothing is told.
     ensures unwatched { is_watched ≡ false → err.new ≡ err.old }
 {
@@ -64,14 +65,14 @@ pub(crate) fn drive_printed<W: Write, E: Write>(
     'parts: while turns - done > PART {
         let end = drive_on(gateway, port, PART);
         is_whole = pour(port, is_whole, out);
-        if !matches!(end, End::Turns) {
-            blank_if(is_told, err);
-            return (end, is_whole);
+        match end {
+            End::Turns => done += PART,
+            end => {
+                blank_if(is_told, err);
+                return (end, is_whole);
+            }
         }
-        done += PART;
-        if done % STRIDE == 0 {
-            tell_if(is_told, done, turns, err);
-        }
+        tell_after(is_told, done, turns, err);
     }
     let end = drive_on(gateway, port, turns - done);
     is_whole = pour(port, is_whole, out);
@@ -82,26 +83,24 @@ pub(crate) fn drive_printed<W: Write, E: Write>(
 /// Prints the lines that are on the page, unless the output failed before, and takes them off it.
 /// Answers whether the output has taken all.
 fn pour<W: Write>(port: &mut TextPort<'_>, is_whole: bool, out: &mut W) -> bool
-    ensures page { port.new ≡ record port.old {
-        poured = port.old.poured ++ port.old.page;
-        page = [];
-    } }
+    ensures page { port.new ≡ record port.old { poured = port.old.log; page = [] } }
     ensures poured { (before : Option (List ℕ)) →
-        IsPoured is_whole before (W.contents out.old) port.old.poured →
-        IsPoured result before (W.contents out.new) port.new.poured }
+        IsPoured is_whole before (W.contents out.old) (lines_of_actions port.old.poured) →
+        IsPoured result before (W.contents out.new) (lines_of_actions port.old.log) }
 {
-    let is_taken = is_whole && print(port.page(), out).is_ok();
+    let page = port.page();
+    let is_taken = is_whole && print(page, out).is_ok();
     port.clear_page();
     is_taken
 }
 
-/// Tells how far a run has come, where that is to be told.
-fn tell_if<E: Write>(is_told: bool, done: u64, all: u64, err: &mut E)
+/// Tells how far a run has come after each stride, where that is to be told.
+fn tell_after<E: Write>(is_told: bool, done: u64, all: u64, err: &mut E)
     requires within { done ≤ all }
     requires some { 0 < all }
     ensures { is_told ≡ false → err.new ≡ err.old }
 {
-    if is_told {
+    if is_told && done % STRIDE == 0 {
         let _ = tell_percent(done, all, err);
     }
 }

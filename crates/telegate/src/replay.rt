@@ -97,6 +97,7 @@ fn run<W: Write, E: Write>(
         out,
         err,
     );
+    let _page_is_clear = port.page();
     match end {
         End::Finished => close(alloc, &gateway, course.closing, is_whole, out),
         // No line is wrong, so it is memory that the page wanted.

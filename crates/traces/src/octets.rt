@@ -67,16 +67,26 @@ pub(crate) fn are_octets(text: &[u8]) -> bool
     may_be_octets(text.len()) && are_digits(text)
 }
 
-/// Whether a text has digits alone. It looks at all of them, which takes less time than an end at
-/// the first other octet: only digits have values of four bits.
+/// Whether a text has digits alone. It looks at all of them, many at a time, which takes less time
+/// than an end at the first other octet.
 fn are_digits(text: &[u8]) -> bool
     ensures { result ≡ list_all is_hex_digit text.now }
 {
-    let mut bits = 0;
+    let mut are = true;
     for octet in text {
-        bits |= value_of(*octet);
+        are = are & is_digit(*octet);
     }
-    bits < 16
+    are
+}
+
+/// Whether an octet is a digit. No look at the table, so that many octets are judged at a time.
+#[inline(always)]
+fn is_digit(octet: u8) -> bool
+    ensures { result ≡ is_hex_digit octet }
+{
+    (octet.wrapping_sub(b'0') < 10)
+        | (octet.wrapping_sub(b'A') < 6)
+        | (octet.wrapping_sub(b'a') < 6)
 }
 
 /// Puts the octets that stand in hexadecimal at the front of the buffer, and answers their number.

@@ -21,6 +21,7 @@ use std::marker::Model;
 /// session K), in upper case. It stores no log, and of its lines those alone that weren't taken off
 /// the page. A wrong line is a fault, as want of memory is; after one it takes and gives nothing
 /// more.
+#[derive(Drop)]
 pub struct TextPort<'a> {
     alloc: Global,
     text: &'a [u8],
@@ -145,6 +146,7 @@ impl<'a> TextPort<'a> {
 }
 
 impl<'a> Port for TextPort<'a> {
+    ghost use Rattle.gateway.specs.Log.{Log};
     ghost use Rattle.traces.specs.Progress.{is_through};
 
     ghost log = { λ p. Some p.log };
@@ -153,10 +155,10 @@ impl<'a> Port for TextPort<'a> {
 
     ghost ended = { is_through };
 
-    /// The text.
-    ghost Fixed = { List ℕ };
+    /// The text, and what was taken off the page.
+    ghost Fixed = { List ℕ × Log };
 
-    ghost script = { λ p. p.text };
+    ghost script = { λ p. (p.text, p.poured) };
 
     fn next(&mut self, buf: &mut [u8; 1024]) -> Next {
         if self.failures > 0 {

@@ -1,0 +1,27 @@
+use Rattle.std.proofs.Common.{◌≡◌, ℕ, ◌++◌, List, Option, Bool, false, subst, sym, ◌∙◌}
+use Rattle.std.specs.Result.{is_ok}
+use Rattle.sim.specs.Runs.{IsBegun}
+use Rattle.traces.specs.Actions.{lines_of_actions}
+use Rattle.telegate.specs.Printed.{IsPoured}
+use Rattle.telegate.proofs.Poured.{poured_more, begun_longer, poured_as}
+use Rattle.telegate.proofs.printed.pour.Goals as goal
+use Rattle.telegate.proofs.printed.pour.Goals.{then-is_whole, else-is_whole}
+
+pub returns-clause-poured : goal.returns-clause-poured
+returns-clause-poured g c = λ before poured.
+    let old = g.W.Write.contents c.args.out.now in
+    let xs : List ℕ = lines_of_actions c.args.port.now.poured in
+    let ys : List ℕ = c.page-page.result.now in
+    let zs : List ℕ = lines_of_actions c.args.port.now.log in
+    elim c.if-is_whole.branch [
+      | then-is_whole w ↦
+          poured_as g.W.Write.contents before zs c.if-is_whole.is_taken (is_ok w.print.result) c.if-is_whole.out
+          w.print.new.out (w.is_taken-is ∙ w.is_ok-is_taken.ensures.value) w.out-is
+          (poured_more before old (g.W.Write.contents w.print.new.out) xs ys zs w.print.result
+          (subst (λ (b : Bool). IsPoured b before old xs) w.if-is_whole.true poured) c.page-page.ensures.lines
+          w.print.ensures.all w.print.ensures.begun)
+      | else-is_whole w ↦
+          poured_as g.W.Write.contents before zs c.if-is_whole.is_taken false c.if-is_whole.out c.args.out.now
+          w.is_taken-is w.out-is (subst (IsBegun before old) c.page-page.ensures.lines (begun_longer before old xs ys
+          (subst (λ (b : Bool). IsPoured b before old xs) w.if-is_whole.false poured)))
+    ]
