@@ -1,6 +1,7 @@
 -- The ends of a live run, and what its port does with them (this gateway's own profile).
-use Rattle.std.specs.Prelude.{ℕ, ◌+◌, ◌-◌, ◌≤◌, ◌⊎◌, List, Bool, true, false, not, Option, Some, None, IfSome, ◌≡◌}
-use Rattle.gateway.specs.Log.{Output, LineOut, TcpOut, Closed, GapOut}
+use Rattle.std.specs.Prelude.{ℕ, ◌+◌, ◌-◌, ◌≤◌, ◌⊎◌, List, ◌∷◌, ◌++◌, Bool, true, false, not, Option, Some, None, IfSome, ◌≡◌}
+use Rattle.gateway.specs.Log.{Log, Went, Output, LineOut, TcpOut, Closed, GapOut}
+use Rattle.gateway.specs.Ports.{told_by}
 use Rattle.gateway.specs.declared.ports.Next.{Next}
 use Rattle.gateway.specs.declared.ports.Next.TheVariants as next
 use Rattle.session.specs.declared.kinds.Close.{Close}
@@ -32,8 +33,8 @@ pub record IsGuest (guests : Guests) (peer : Peer) : Type 0 where
 
 -- Who may come in; what happened at the line, at the connection, if there is one, at the door, and
 -- what the clock told; the source that is looked at first; whether a write to the connection
--- failed, so that a cut is due; how often the line was gone; what tells the moment of an event; and
--- what the wall clock showed, and when it was told last.
+-- failed, so that a cut is due; how often the line was gone; what tells the moment of an event; what
+-- the wall clock showed, and when it was told last; and the log, the newest entry first.
 pub record Ends : Type 0 where
   pub guests : Guests
   pub line : History
@@ -46,6 +47,7 @@ pub record Ends : Type 0 where
   pub timing : Timing
   pub walls : Moments
   pub walled : Walled
+  pub log : Log
 
 -- the sources in their round
 abbrev pub after : Source → Source
@@ -254,6 +256,15 @@ pub record TurnsToEnds (old : Ends) (event : Next) (new : Ends) : Type 0 where
 abbrev pub Turns : Ends → Next → Ends → Type 0
 Turns old event new = TurnsToWall old event new ⊎ TurnsToEnds old event new
 
+-- with this log
+abbrev pub as_logged : Log → Ends → Ends
+as_logged log ends = record ends { log = log }
+
+-- The ends turned so, and the log has what the event tells. Its octets are the front of the buffer.
+pub record LogsTurn (old : Ends) (event : Next) (buf : List ℕ) (new : Ends) : Type 0 where
+  pub turns : Turns old event (as_logged old.log new)
+  pub logged : new.log ≡ told_by event buf ++ old.log
+
 -- the ends after octets for the connection: they are dropped where there is none, and where a cut
 -- is due
 abbrev pub written_open : Bool → List ℕ → Bool → Option Peer → Ends → Ends
@@ -295,3 +306,8 @@ pub record Puts (old : Ends) (moment : ℕ) (action : Output) (new : Ends) : Typ
   pub written : ℕ
   pub taken : Bool
   pub done : new ≡ after_action moment action written taken old
+
+-- the action was put out so, and the log has it
+pub record LogsPut (old : Ends) (moment : ℕ) (action : Output) (new : Ends) : Type 0 where
+  pub puts : Puts old moment action (as_logged old.log new)
+  pub logged : new.log ≡ Went moment action ∷ old.log

@@ -1,0 +1,141 @@
+-- The log of the port over live ends. Looks and actions leave it as it was; it is told apart.
+use Rattle.std.proofs.Common.{◌≡◌, ℕ, true, false, Bool, List, ◌∷◌, ◌++◌, Option, Some, None, refl, sym, ap, subst, ◌∙◌, ◌⊎◌, inl, inr}
+use Rattle.gateway.specs.declared.ports.Next.{Next}
+use Rattle.gateway.specs.Log.{Log, Went, Output, LineOut, TcpOut, Closed, GapOut}
+use Rattle.gateway.specs.Ports.{told_by}
+use Rattle.session.specs.declared.kinds.Close.{Close}
+use Rattle.session.specs.declared.kinds.Close.TheVariants as close
+use Rattle.live.specs.Timing.{is_behind}
+use Rattle.live.specs.Ends.{Ends, Peer, Answers, Turns, Puts, LogsTurn, LogsPut, as_logged, looking, taken_by, told_at, turn_by, sources_by, round, look, unless_found, next_round, looked_at, found_at, after, nothing_more, let_in, written_open, closed_by, after_action}
+use Rattle.live.specs.declared.found.Found.{Found}
+use Rattle.live.specs.declared.found.Found.TheVariants as found
+use Rattle.live.specs.declared.source.Source.{Source}
+use Rattle.live.specs.declared.source.Source.TheVariants.{Door, Connection, Line}
+
+let_in_same : (v : Option Peer) (e : Ends) → (let_in v e).log ≡ e.log
+let_in_same None e = refl
+let_in_same (Some visitor) e = refl
+
+looked_same : (s : Source) (t : ℕ) (a : Answers) (e : Ends) → (looked_at s t a e).log ≡ e.log
+looked_same Door t a e = let_in_same a.visitor e
+looked_same Connection t a e = refl
+looked_same Line t a e = refl
+
+next_same : (s : Source) (f : Option Found) (e : Ends) → (next_round s f e).log ≡ e.log
+next_same s None e = refl
+next_same s (Some f) e = refl
+
+-- what goes on leaves the log as it is
+IsSilent : (Ends → Option Found × Ends) → Type 0
+IsSilent others = (e : Ends) → (others e).1.log ≡ e.log
+
+unless_same : (f : Option Found) (e : Ends) (others : Ends → Option Found × Ends) → IsSilent others
+    → (unless_found f e others).1.log ≡ e.log
+unfolding IsSilent
+unless_same None e others on = on e
+unless_same (Some f) e others on = refl
+
+look_same : (s : Source) (t : ℕ) (a : Answers) (others : Ends → Option Found × Ends) → IsSilent others
+    → IsSilent (λ e. look s t a e others)
+unfolding IsSilent
+look_same s t a others on e =
+    let f = found_at s a e in
+    unless_same f (next_round s f (looked_at s t a e)) others on
+    ∙ (next_same s f (looked_at s t a e) ∙ looked_same s t a e)
+
+nothing_same : IsSilent nothing_more
+unfolding IsSilent
+nothing_same e = refl
+
+round_same : (t : ℕ) (a : Answers) (e : Ends) → (round t a e).1.log ≡ e.log
+unfolding IsSilent
+round_same t a e =
+    let third = look_same (after (after e.first)) t a nothing_more nothing_same in
+    let second = look_same (after e.first) t a (λ x. look (after (after e.first)) t a x nothing_more) third in
+    look_same e.first t a (λ x. look (after e.first) t a x (λ y. look (after (after e.first)) t a y nothing_more))
+    second e
+
+sources_same : (b : Bool) (t : ℕ) (a : Answers) (e : Ends) → (sources_by b t a e).1.log ≡ e.log
+unfolding IsSilent
+sources_same true t a e = look_same Line t a nothing_more nothing_same e
+sources_same false t a e = round_same t a e
+
+turn_same : (d : Bool) (t : ℕ) (a : Answers) (e : Ends) → (turn_by d t a e).1.log ≡ e.log
+turn_same true t a e = refl
+turn_same false t a e = sources_same (is_behind e.timing t) t a e
+
+taken_same : (b : Bool) (f : Option Found) (e : Ends) → (taken_by b f e).1.log ≡ e.log
+taken_same false f e = refl
+taken_same true None e = refl
+taken_same true (Some found.Open) e = refl
+taken_same true (Some (found.Bytes len)) e = refl
+taken_same true (Some found.Cut) e = refl
+taken_same true (Some (found.Line len)) e = refl
+taken_same true (Some found.Fault) e = refl
+
+log_of : Option Found × Ends → Log
+log_of p = p.1.log
+
+pub turns_same : (old new : Ends) (event : Next) → Turns old event new → new.log ≡ old.log
+unfolding log_of
+turns_same old new event (inl t) = ap (λ (e : Ends). e.log) t.told.ends
+turns_same old new event (inr t) =
+    ap log_of t.told.ends ∙ (taken_same (is_behind t.found.timing t.now) t.f (told_at t.now t.found)
+    ∙ (ap log_of t.turn.turned
+    ∙ turn_same old.is_cut_due t.begun t.turn.answers (looking (told_at t.begun old))))
+
+written_same : (b : Bool) (octets : List ℕ) (taken : Bool) (p : Option Peer) (e : Ends)
+    → (written_open b octets taken p e).log ≡ e.log
+written_same true octets taken p e = refl
+written_same false octets taken None e = refl
+written_same false octets taken (Some peer) e = refl
+
+closed_same : (c : Close) (e : Ends) → (closed_by c e).log ≡ e.log
+closed_same close.Grammar e = refl
+closed_same close.SendNumber e = refl
+closed_same close.ReceiveNumber e = refl
+closed_same close.Stopped e = refl
+closed_same close.Timeout e = refl
+closed_same close.OwnAnswers e = refl
+closed_same close.Replaced e = refl
+
+action_same : (moment : ℕ) (action : Output) (written : ℕ) (taken : Bool) (e : Ends)
+    → (after_action moment action written taken e).log ≡ e.log
+action_same moment (LineOut octets) written taken e = refl
+action_same moment (TcpOut octets) written taken e = written_same e.is_cut_due octets taken e.connection e
+action_same moment (Closed cause) written taken e = closed_same cause e
+action_same moment (GapOut station session) written taken e = refl
+
+pub puts_same : (old new : Ends) (moment : ℕ) (action : Output) → Puts old moment action new → new.log ≡ old.log
+puts_same old new moment action p =
+    ap (λ (e : Ends). e.log) p.done ∙ action_same moment action p.written p.taken old
+
+-- the log with the event of a turn
+pub next_told : (old mid shown : Ends) (event : Next) (buf : List ℕ) (log : Log) → Turns old event mid → shown ≡ mid
+    → log ≡ told_by event buf ++ shown.log → log ≡ told_by event buf ++ old.log
+next_told old mid shown event buf log t same told =
+    told ∙ ap (λ l. told_by event buf ++ l) (ap (λ (e : Ends). e.log) same ∙ turns_same old mid event t)
+
+pub next_logged : (old mid shown : Ends) (event : Next) (buf : List ℕ) (log : Log) → Turns old event mid → shown ≡ mid
+    → log ≡ told_by event buf ++ shown.log → LogsTurn old event buf (as_logged log shown)
+next_logged old mid shown event buf log t same told =
+    let P : Ends → Type 0 = λ e. Turns old event e in
+    record {
+      turns = subst P (sym (ap (as_logged old.log) same ∙ ap (λ l. as_logged l mid) (sym (turns_same old mid event t)))) t;
+      logged = next_told old mid shown event buf log t same told;
+    }
+
+-- the log with an action
+pub put_told : (old mid shown : Ends) (moment : ℕ) (action : Output) (log : Log) → Puts old moment action mid
+    → shown ≡ mid → log ≡ Went moment action ∷ shown.log → log ≡ Went moment action ∷ old.log
+put_told old mid shown moment action log p same told =
+    told ∙ ap (λ l. Went moment action ∷ l) (ap (λ (e : Ends). e.log) same ∙ puts_same old mid moment action p)
+
+pub put_logged : (old mid shown : Ends) (moment : ℕ) (action : Output) (log : Log) → Puts old moment action mid
+    → shown ≡ mid → log ≡ Went moment action ∷ shown.log → LogsPut old moment action (as_logged log shown)
+put_logged old mid shown moment action log p same told =
+    let P : Ends → Type 0 = λ e. Puts old moment action e in
+    record {
+      puts = subst P (sym (ap (as_logged old.log) same ∙ ap (λ l. as_logged l mid) (sym (puts_same old mid moment action p)))) p;
+      logged = put_told old mid shown moment action log p same told;
+    }
