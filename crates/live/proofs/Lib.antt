@@ -6,3 +6,4 @@ pub mod Strangers
 pub mod Octets
 pub mod Walls
 pub mod Logs
+pub mod Passed

@@ -16,10 +16,10 @@ let_in_same : (v : Option Peer) (e : Ends) → (let_in v e).log ≡ e.log
 let_in_same None e = refl
 let_in_same (Some visitor) e = refl
 
-looked_same : (s : Source) (t : ℕ) (a : Answers) (e : Ends) → (looked_at s t a e).log ≡ e.log
-looked_same Door t a e = let_in_same a.visitor e
-looked_same Connection t a e = refl
-looked_same Line t a e = refl
+looked_same : (s : Source) (t : ℕ) (a : Answers) (buf : List ℕ) (e : Ends) → (looked_at s t a buf e).log ≡ e.log
+looked_same Door t a buf e = let_in_same a.visitor e
+looked_same Connection t a buf e = refl
+looked_same Line t a buf e = refl
 
 next_same : (s : Source) (f : Option Found) (e : Ends) → (next_round s f e).log ≡ e.log
 next_same s None e = refl
@@ -35,34 +35,34 @@ unfolding IsSilent
 unless_same None e others on = on e
 unless_same (Some f) e others on = refl
 
-look_same : (s : Source) (t : ℕ) (a : Answers) (others : Ends → Option Found × Ends) → IsSilent others
-    → IsSilent (λ e. look s t a e others)
+look_same : (s : Source) (t : ℕ) (a : Answers) (buf : List ℕ) (others : Ends → Option Found × Ends) → IsSilent others
+    → IsSilent (λ e. look s t a buf e others)
 unfolding IsSilent
-look_same s t a others on e =
+look_same s t a buf others on e =
     let f = found_at s a e in
-    unless_same f (next_round s f (looked_at s t a e)) others on
-    ∙ (next_same s f (looked_at s t a e) ∙ looked_same s t a e)
+    unless_same f (next_round s f (looked_at s t a buf e)) others on
+    ∙ (next_same s f (looked_at s t a buf e) ∙ looked_same s t a buf e)
 
 nothing_same : IsSilent nothing_more
 unfolding IsSilent
 nothing_same e = refl
 
-round_same : (t : ℕ) (a : Answers) (e : Ends) → (round t a e).1.log ≡ e.log
+round_same : (t : ℕ) (a : Answers) (buf : List ℕ) (e : Ends) → (round t a buf e).1.log ≡ e.log
 unfolding IsSilent
-round_same t a e =
-    let third = look_same (after (after e.first)) t a nothing_more nothing_same in
-    let second = look_same (after e.first) t a (λ x. look (after (after e.first)) t a x nothing_more) third in
-    look_same e.first t a (λ x. look (after e.first) t a x (λ y. look (after (after e.first)) t a y nothing_more))
+round_same t a buf e =
+    let third = look_same (after (after e.first)) t a buf nothing_more nothing_same in
+    let second = look_same (after e.first) t a buf (λ x. look (after (after e.first)) t a buf x nothing_more) third in
+    look_same e.first t a buf (λ x. look (after e.first) t a buf x (λ y. look (after (after e.first)) t a buf y nothing_more))
     second e
 
-sources_same : (b : Bool) (t : ℕ) (a : Answers) (e : Ends) → (sources_by b t a e).1.log ≡ e.log
+sources_same : (b : Bool) (t : ℕ) (a : Answers) (buf : List ℕ) (e : Ends) → (sources_by b t a buf e).1.log ≡ e.log
 unfolding IsSilent
-sources_same true t a e = look_same Line t a nothing_more nothing_same e
-sources_same false t a e = round_same t a e
+sources_same true t a buf e = look_same Line t a buf nothing_more nothing_same e
+sources_same false t a buf e = round_same t a buf e
 
-turn_same : (d : Bool) (t : ℕ) (a : Answers) (e : Ends) → (turn_by d t a e).1.log ≡ e.log
-turn_same true t a e = refl
-turn_same false t a e = sources_same (is_behind e.timing t) t a e
+turn_same : (d : Bool) (t : ℕ) (a : Answers) (buf : List ℕ) (e : Ends) → (turn_by d t a buf e).1.log ≡ e.log
+turn_same true t a buf e = refl
+turn_same false t a buf e = sources_same (is_behind e.timing t) t a buf e
 
 taken_same : (b : Bool) (f : Option Found) (e : Ends) → (taken_by b f e).1.log ≡ e.log
 taken_same false f e = refl
@@ -76,13 +76,13 @@ taken_same true (Some found.Fault) e = refl
 log_of : Option Found × Ends → Log
 log_of p = p.1.log
 
-pub turns_same : (old new : Ends) (event : Next) → Turns old event new → new.log ≡ old.log
+pub turns_same : (old new : Ends) (event : Next) (buf : List ℕ) → Turns old event buf new → new.log ≡ old.log
 unfolding log_of
-turns_same old new event (inl t) = ap (λ (e : Ends). e.log) t.told.ends
-turns_same old new event (inr t) =
+turns_same old new event buf (inl t) = ap (λ (e : Ends). e.log) t.told.ends
+turns_same old new event buf (inr t) =
     ap log_of t.told.ends ∙ (taken_same (is_behind t.found.timing t.now) t.f (told_at t.now t.found)
     ∙ (ap log_of t.turn.turned
-    ∙ turn_same old.is_cut_due t.begun t.turn.answers (looking (told_at t.begun old))))
+    ∙ turn_same old.is_cut_due t.begun t.turn.answers buf (looking (told_at t.begun old))))
 
 written_same : (b : Bool) (octets : List ℕ) (taken : Bool) (p : Option Peer) (e : Ends)
     → (written_open b octets taken p e).log ≡ e.log
@@ -111,17 +111,17 @@ puts_same old new moment action p =
     ap (λ (e : Ends). e.log) p.done ∙ action_same moment action p.written p.taken old
 
 -- the log with the event of a turn
-pub next_told : (old mid shown : Ends) (event : Next) (buf : List ℕ) (log : Log) → Turns old event mid → shown ≡ mid
+pub next_told : (old mid shown : Ends) (event : Next) (buf : List ℕ) (log : Log) → Turns old event buf mid → shown ≡ mid
     → log ≡ told_by event buf ++ shown.log → log ≡ told_by event buf ++ old.log
 next_told old mid shown event buf log t same told =
-    told ∙ ap (λ l. told_by event buf ++ l) (ap (λ (e : Ends). e.log) same ∙ turns_same old mid event t)
+    told ∙ ap (λ l. told_by event buf ++ l) (ap (λ (e : Ends). e.log) same ∙ turns_same old mid event buf t)
 
-pub next_logged : (old mid shown : Ends) (event : Next) (buf : List ℕ) (log : Log) → Turns old event mid → shown ≡ mid
+pub next_logged : (old mid shown : Ends) (event : Next) (buf : List ℕ) (log : Log) → Turns old event buf mid → shown ≡ mid
     → log ≡ told_by event buf ++ shown.log → LogsTurn old event buf (as_logged log shown)
 next_logged old mid shown event buf log t same told =
-    let P : Ends → Type 0 = λ e. Turns old event e in
+    let P : Ends → Type 0 = λ e. Turns old event buf e in
     record {
-      turns = subst P (sym (ap (as_logged old.log) same ∙ ap (λ l. as_logged l mid) (sym (turns_same old mid event t)))) t;
+      turns = subst P (sym (ap (as_logged old.log) same ∙ ap (λ l. as_logged l mid) (sym (turns_same old mid event buf t)))) t;
       logged = next_told old mid shown event buf log t same told;
     }
 

@@ -55,7 +55,8 @@ mod wires;
 pub use guests::Guests;
 pub use laws::{
     looks_ask_nothing, no_exchange_ends_unheard, nobody_but_guests_comes_in,
-    the_ends_are_looked_at_between_wall_moments, what_the_centre_sent_is_told_in_time,
+    the_ends_are_looked_at_between_wall_moments, the_log_tells_what_passed,
+    what_the_centre_sent_is_told_in_time,
 };
 pub use port::Live;
 pub use redial::{Dialler, Redialled};

@@ -151,7 +151,7 @@ impl<L: Wire, D: Door + Drop, C: Clock + Drop> Live<L, D, C> {
         requires { self.old.failed < u64.MAX }
         ensures fits { IfSome result FitsFound }
         ensures failed { self.new.failed ≡ self.old.failed + faults_in result }
-        ensures turn { IsTurn begun self.old result self.new }
+        ensures turn { IsTurn begun self.old result buf.new self.new }
     {
         if self.is_cut_due {
             self.is_cut_due = false;
@@ -181,7 +181,7 @@ impl<L: Wire, D: Door + Drop, C: Clock + Drop> Live<L, D, C> {
         requires { self.old.failed < u64.MAX }
         ensures fits { IfSome result FitsFound }
         ensures failed { self.new.failed ≡ self.old.failed + faults_in result }
-        ensures looks { Looks source begun self.old result self.new }
+        ensures looks { Looks source begun self.old result buf.new self.new }
     {
         let found = match source {
             Source::Door => self.look_at_door(),
@@ -198,7 +198,7 @@ impl<L: Wire, D: Door + Drop, C: Clock + Drop> Live<L, D, C> {
     fn look_at_door(&mut self) -> Option<Found>
         ensures fits { IfSome result FitsFound }
         ensures failed { self.new.failed ≡ self.old.failed + faults_in result }
-        ensures looks { LooksAt sources.Door 0 self.old result self.new }
+        ensures looks { LooksAt sources.Door 0 self.old result [] self.new }
     {
         match self.door.accept(&self.guests) {
             Some(visitor) => {
@@ -213,7 +213,7 @@ impl<L: Wire, D: Door + Drop, C: Clock + Drop> Live<L, D, C> {
     fn look_at_connection(&mut self, buf: &mut [u8; 1024]) -> Option<Found>
         ensures fits { IfSome result FitsFound }
         ensures failed { self.new.failed ≡ self.old.failed + faults_in result }
-        ensures looks { LooksAt sources.Connection 0 self.old result self.new }
+        ensures looks { LooksAt sources.Connection 0 self.old result buf.new self.new }
     {
         let Some(visitor) = self.connection.as_mut() else {
             return None;
@@ -233,7 +233,7 @@ impl<L: Wire, D: Door + Drop, C: Clock + Drop> Live<L, D, C> {
         requires { self.old.failed < u64.MAX }
         ensures fits { IfSome result FitsFound }
         ensures failed { self.new.failed ≡ self.old.failed + faults_in result }
-        ensures looks { LooksAt sources.Line begun self.old result self.new }
+        ensures looks { LooksAt sources.Line begun self.old result buf.new self.new }
     {
         self.timing.hear(begun);
         match self.line.read(buf) {
@@ -303,7 +303,7 @@ impl<L: Wire, D: Door + Drop, C: Clock + Drop> Live<L, D, C> {
         ensures fits { FitsBuffer result }
         ensures done { result ≢ Done }
         ensures cause { self.new.failed ≡ self.old.failed + faults_of result }
-        ensures turns { Turns self.old result self.new }
+        ensures turns { Turns self.old result buf.new self.new }
     {
         // Before the looks: the line has been heard out only up to where a look begins.
         let begun = self.read_clock();
