@@ -1,7 +1,7 @@
 -- The log of the port over live ends. Looks and actions leave it as it was; it is told apart.
-use Rattle.std.proofs.Common.{◌≡◌, ℕ, true, false, Bool, List, ◌∷◌, ◌++◌, Option, Some, None, refl, sym, ap, subst, ◌∙◌, ◌⊎◌, inl, inr}
+use Rattle.std.proofs.Common.{◌≡◌, ℕ, true, false, Bool, List, [], ◌∷◌, ◌++◌, Option, Some, None, refl, sym, ap, subst, ◌∙◌, inl, inr}
 use Rattle.gateway.specs.declared.ports.Next.{Next}
-use Rattle.gateway.specs.Log.{Log, Went, Output, LineOut, TcpOut, Closed, GapOut}
+use Rattle.gateway.specs.Log.{Log, tell, Went, Output, LineOut, TcpOut, Closed, GapOut}
 use Rattle.gateway.specs.Ports.{told_by}
 use Rattle.session.specs.declared.kinds.Close.{Close}
 use Rattle.session.specs.declared.kinds.Close.TheVariants as close
@@ -110,32 +110,34 @@ pub puts_same : (old new : Ends) (moment : ℕ) (action : Output) → Puts old m
 puts_same old new moment action p =
     ap (λ (e : Ends). e.log) p.done ∙ action_same moment action p.written p.taken old
 
--- the log with the event of a turn
-pub next_told : (old mid shown : Ends) (event : Next) (buf : List ℕ) (log : Log) → Turns old event buf mid → shown ≡ mid
-    → log ≡ told_by event buf ++ shown.log → log ≡ told_by event buf ++ old.log
-next_told old mid shown event buf log t same told =
-    told ∙ ap (λ l. told_by event buf ++ l) (ap (λ (e : Ends). e.log) same ∙ turns_same old mid event buf t)
+-- the event of a turn, once it is logged
+pub next_told : (old mid new : Ends) (event : Next) (buf : List ℕ) → Turns old event buf mid
+    → new ≡ as_logged (told_by event buf ++ mid.log) mid → Some new.log ≡ tell (Some old.log) (told_by event buf)
+next_told old mid new event buf t done =
+    ap (λ (e : Ends). Some e.log) done ∙ ap (λ l. Some (told_by event buf ++ l)) (turns_same old mid event buf t)
 
-pub next_logged : (old mid shown : Ends) (event : Next) (buf : List ℕ) (log : Log) → Turns old event buf mid → shown ≡ mid
-    → log ≡ told_by event buf ++ shown.log → LogsTurn old event buf (as_logged log shown)
-next_logged old mid shown event buf log t same told =
+pub next_logged : (old mid new : Ends) (event : Next) (buf : List ℕ) → Turns old event buf mid
+    → new ≡ as_logged (told_by event buf ++ mid.log) mid → LogsTurn old event buf new
+next_logged old mid new event buf t done =
+    let same = turns_same old mid event buf t in
     let P : Ends → Type 0 = λ e. Turns old event buf e in
     record {
-      turns = subst P (sym (ap (as_logged old.log) same ∙ ap (λ l. as_logged l mid) (sym (turns_same old mid event buf t)))) t;
-      logged = next_told old mid shown event buf log t same told;
+      turns = subst P (sym (ap (as_logged old.log) done ∙ ap (λ l. as_logged l mid) (sym same))) t;
+      logged = ap (λ (e : Ends). e.log) done ∙ ap (λ l. told_by event buf ++ l) same;
     }
 
--- the log with an action
-pub put_told : (old mid shown : Ends) (moment : ℕ) (action : Output) (log : Log) → Puts old moment action mid
-    → shown ≡ mid → log ≡ Went moment action ∷ shown.log → log ≡ Went moment action ∷ old.log
-put_told old mid shown moment action log p same told =
-    told ∙ ap (λ l. Went moment action ∷ l) (ap (λ (e : Ends). e.log) same ∙ puts_same old mid moment action p)
+-- an action, once it is logged
+pub put_told : (old mid new : Ends) (moment : ℕ) (action : Output) → Puts old moment action mid
+    → new ≡ as_logged (Went moment action ∷ mid.log) mid → Some new.log ≡ tell (Some old.log) (Went moment action ∷ [])
+put_told old mid new moment action p done =
+    ap (λ (e : Ends). Some e.log) done ∙ ap (λ l. Some (Went moment action ∷ l)) (puts_same old mid moment action p)
 
-pub put_logged : (old mid shown : Ends) (moment : ℕ) (action : Output) (log : Log) → Puts old moment action mid
-    → shown ≡ mid → log ≡ Went moment action ∷ shown.log → LogsPut old moment action (as_logged log shown)
-put_logged old mid shown moment action log p same told =
+pub put_logged : (old mid new : Ends) (moment : ℕ) (action : Output) → Puts old moment action mid
+    → new ≡ as_logged (Went moment action ∷ mid.log) mid → LogsPut old moment action new
+put_logged old mid new moment action p done =
+    let same = puts_same old mid moment action p in
     let P : Ends → Type 0 = λ e. Puts old moment action e in
     record {
-      puts = subst P (sym (ap (as_logged old.log) same ∙ ap (λ l. as_logged l mid) (sym (puts_same old mid moment action p)))) p;
-      logged = put_told old mid shown moment action log p same told;
+      puts = subst P (sym (ap (as_logged old.log) done ∙ ap (λ l. as_logged l mid) (sym same))) p;
+      logged = ap (λ (e : Ends). e.log) done ∙ ap (λ l. Went moment action ∷ l) same;
     }

@@ -1,14 +1,14 @@
 -- The log tells what passed at the wires.
-use Rattle.std.proofs.Common.{◌≡◌, ℕ, List, [], ◌∷◌, ◌++◌, true, false, not, Bool, Option, Some, None, IfSome, refl, sym, ap, subst, ◌⊎◌, inl, inr}
+use Rattle.std.proofs.Common.{◌≡◌, ℕ, List, [], ◌∷◌, ◌++◌, true, false, not, Bool, Option, Some, None, IfSome, refl, sym, ap, subst, inl, inr}
 use Rattle.gateway.specs.declared.ports.Next.{Next}
-use Rattle.gateway.specs.Log.{Log, Came, Went, LineIn, LineOut, Opened, TcpIn, TcpOut, Closed, GapOut, Output}
+use Rattle.gateway.specs.Log.{Log, Went, LineOut, TcpOut, Closed, GapOut, Output}
 use Rattle.gateway.specs.Ports.{told_by}
 use Rattle.session.specs.declared.kinds.Close.{Close}
 use Rattle.session.specs.declared.kinds.Close.TheVariants as close
-use Rattle.live.specs.Wires.{Happening, Gave, WasQuiet, WasGone, Wrote, History, IsNew, noted, looked}
+use Rattle.live.specs.Wires.{Happening, Gave, WasQuiet, WasGone, Wrote, History, IsNew, noted}
 use Rattle.live.specs.Timing.{is_behind, moment_at}
-use Rattle.live.specs.Ends.{Ends, Peer, IsGuest, Answers, Turns, TurnsToWall, TurnsToEnds, Puts, LogsTurn, LogsPut, as_logged, looking, event_at, taken_by, told_at, turn, turn_by, sources_by, round, look, unless_found, next_round, looked_at, found_at, after, nothing_more, let_in, of_visitor, of_open, of_line, failed_by, read_from, written_open, closed_by, after_action}
-use Rattle.live.specs.Passed.{line_in, line_out, centre_in, centre_out, given, handed, taken_of, TellsLine, TellsWritten, TellsWire, TellsCentre, TellsEnds, IsFresh, Run, Begun, Told, Put}
+use Rattle.live.specs.Ends.{Ends, Peer, IsGuest, Answers, Turns, Puts, as_logged, looking, event_at, taken_by, told_at, turn_by, sources_by, round, look, unless_found, next_round, looked_at, after, nothing_more, let_in, of_visitor, of_open, of_line, read_from, written_open, closed_by, after_action}
+use Rattle.live.specs.Passed.{line_in, line_out, centre_in, centre_out, TellsLine, TellsWritten, TellsWire, TellsCentre, TellsEnds, IsFresh, Run, Begun, Told, Put}
 use Rattle.live.specs.declared.guests.Guests.{Guests}
 use Rattle.live.specs.declared.found.Found.{Found}
 use Rattle.live.specs.declared.found.Found.TheVariants as found

@@ -1,11 +1,11 @@
 -- Nobody but a guest comes in.
-use Rattle.std.proofs.Common.{◌≡◌, ℕ, true, false, Bool, List, Option, Some, None, IfSome, option_map, refl, sym, ap, subst, ◌⊎◌, inl, inr}
+use Rattle.std.proofs.Common.{◌≡◌, ℕ, true, false, Bool, List, Option, Some, None, IfSome, option_map, refl, sym, ap, subst, inl, inr}
 use Rattle.std.specs.declared.net.ip_addr.IpAddr.{IpAddr}
 use Rattle.gateway.specs.Log.{Log}
 use Rattle.gateway.specs.declared.ports.Next.{Next}
 use Rattle.gateway.specs.declared.ports.Next.TheVariants as next
 use Rattle.live.specs.Timing.{is_behind, moment_at}
-use Rattle.live.specs.Ends.{Ends, Peer, IsGuest, Answers, Turns, LogsTurn, as_logged, looking, event_at, taken_by, told_at, turn, turn_by, sources_by, round, look, unless_found, next_round, looked_at, found_at, after, nothing_more, let_in, of_visitor, of_open, of_line, read_from}
+use Rattle.live.specs.Ends.{Ends, Peer, IsGuest, Answers, Turns, LogsTurn, as_logged, looking, event_at, taken_by, told_at, turn_by, sources_by, round, look, unless_found, next_round, looked_at, after, nothing_more, let_in, of_visitor, of_open, of_line, read_from}
 use Rattle.live.specs.Law.{IsOfGuest, IsSameOrNone, peer_of, KeepsOut}
 use Rattle.live.specs.declared.found.Found.{Found}
 use Rattle.live.specs.declared.found.Found.TheVariants as found

@@ -1,6 +1,5 @@
 -- A wire that is reached again.
-use Rattle.std.proofs.Common.{◌≡◌, ℕ, true, false, Some, None, List, sym, ap, ◌∙◌, IfSome, Option}
-use Rattle.live.specs.Wires.{History, IsNew}
+use Rattle.std.proofs.Common.{◌≡◌, ℕ, true, false, None, List, sym, ap, ◌∙◌}
 use Rattle.live.specs.Redial.{Redial, is_due, told_at, tried_by, looked_by, IsTried, IsRedialled}
 use Rattle.live.specs.declared.wires.Got.TheVariants.{Quiet}
 

@@ -1,5 +1,5 @@
 -- A turn from its looks. Each source answers at its look; a turn is told by the answers of all three.
-use Rattle.std.proofs.Common.{◌≡◌, ℕ, true, false, List, Option, Some, None, IfSome, refl, sym, ap, subst, ◌∙◌, ◌⊎◌, inl, inr}
+use Rattle.std.proofs.Common.{◌≡◌, ℕ, true, false, List, Option, Some, None, IfSome, refl, sym, ap, subst, ◌∙◌, inl, inr}
 use Rattle.live.specs.declared.guests.Guests.{Guests}
 use Rattle.live.specs.Timing.{is_behind, moment_at}
 use Rattle.live.specs.Ends.{Ends, Peer, IsGuest, let_in, Answers, after, found_at, looked_at, read_from, next_round, unless_found, look, nothing_more, round, turn, turn_by, sources_by, taken_by, told_at, looking, IsTurn, IsTold, IsWallTold, Turns, TurnsToWall, TurnsToEnds, event_at}

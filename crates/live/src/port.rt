@@ -1,7 +1,7 @@
 //! The port over live ends.
-ghost use Rattle.std.specs.Prelude.{◌≡◌, ◌≢◌, ℕ, ◌+◌, ◌<◌, true, false, List, [], ◌∷◌, Some, None, IfSome, option_map};
+ghost use Rattle.std.specs.Prelude.{◌≡◌, ◌≢◌, ℕ, ◌+◌, ◌<◌, true, false, List, [], ◌∷◌, ◌++◌, Some, None, IfSome, option_map};
 ghost use Rattle.gateway.specs.Ports.{FitsBuffer, faults_of, output_of, told_by};
-ghost use Rattle.live.specs.Ends.{Ends, Peer, told_at, IsTurn, IsTold, IsWallTold, Turns, Puts, LogsTurn, LogsPut, FitsFound, IsWritten, faults_in};
+ghost use Rattle.live.specs.Ends.{Ends, Peer, told_at, IsTurn, IsTold, IsWallTold, Turns, Puts, LogsTurn, LogsPut, as_logged, FitsFound, IsWritten, faults_in};
 ghost use Rattle.live.specs.Timing.{is_behind, moment_at};
 ghost use Rattle.live.specs.Looks.{Looks, LooksAt};
 ghost use Rattle.live.specs.Walls.{untold};
@@ -339,6 +339,21 @@ impl<L: Wire, D: Door + Drop, C: Clock + Drop> Live<L, D, C> {
             Action::Gap { .. } => {}
         }
     }
+
+    /// The log gets what an event tells. Its octets are the front of the buffer.
+    fn log_event(&mut self, event: &Next, buf: &[u8; 1024])
+        ensures { self.new ≡ as_logged (told_by event.now buf.now ++ self.old.log) self.old }
+    {
+        self.history = self.history.came(event, buf);
+    }
+
+    /// The log gets an action of this moment.
+    fn log_action(&mut self, now: u64, action: &Action<'_>)
+        ensures { self.new
+            ≡ as_logged (Went now (output_of action.now) ∷ self.old.log) self.old }
+    {
+        self.history = self.history.went(&now, action);
+    }
 }
 
 impl<L: Wire + Reached, D: Door + Drop, C: Clock + Drop> Live<L, D, C> {
@@ -368,18 +383,20 @@ impl<L: Wire, D: Door + Drop, C: Clock + Drop> Port for Live<L, D, C> {
         ensures turns { LogsTurn self.old result buf.new self.new }
     {
         let next = self.find(buf);
-        self.history = self.history.came(&next, buf);
+        self.log_event(&next, buf);
         next
     }
 
     /// It never fails: what an end doesn't take is lost.
+    #[tactic(auto, using(crate::proofs::Logs::put_told, crate::proofs::Logs::put_logged))]
     fn put(&mut self, now: u64, action: &Action<'_>) -> bool
         ensures done { result ≡ true }
-        ensures told { Some self.new.log ≡ tell (Some self.old.log) (Went now (output_of action.now) ∷ []) }
+        ensures told { Some self.new.log
+            ≡ tell (Some self.old.log) (Went now (output_of action.now) ∷ []) }
         ensures puts { LogsPut self.old now (output_of action.now) self.new }
     {
         self.put_out(now, action);
-        self.history = self.history.went(&now, action);
+        self.log_action(now, action);
         true
     }
 
