@@ -33,7 +33,8 @@ by_request : (t : Timing) (q : Option Request) (r : Request) (now : ℕ) → q �
 by_request t q r now asked some late = heard_by (is_heard_out t r) (goes_on t r now) t r now refl refl some
     (let P : Option Request → Type 0 = λ q. r.moment + t.answer_ms ≤ moment_by t q now in subst P asked late)
 
-heard_out_by : (old new : Ends) (event : Next) (buf : List ℕ) (r : Request) → Turns old event buf new → new.timing.request ≡ Some r
+heard_out_by : (old new : Ends) (event : Next) (buf : List ℕ) (r : Request) → Turns old event buf new
+    → new.timing.request ≡ Some r
     → 0 < new.timing.answer_ms →
     AtMoment event (λ moment. r.moment + new.timing.answer_ms ≤ moment
     → new.timing.answer_ms ≤ new.timing.heard - r.written)
@@ -134,7 +135,8 @@ unfolding IsKeeping
 unless_keeps k None e others h on = on e h
 unless_keeps k (Some f) e others h on = h
 
-look_keeps : (k : Timing) (s : Source) (t : ℕ) (a : Answers) (buf : List ℕ) (others : Ends → Option Found × Ends) → IsKeeping k others
+look_keeps : (k : Timing) (s : Source) (t : ℕ) (a : Answers) (buf : List ℕ) (others : Ends → Option Found × Ends)
+    → IsKeeping k others
     → IsKeeping k (λ e. look s t a buf e others)
 unfolding IsKeeping
 look_keeps k s t a buf others on e h =
@@ -146,12 +148,15 @@ nothing_keeps : (k : Timing) → IsKeeping k nothing_more
 unfolding IsKeeping
 nothing_keeps k e h = h
 
-round_keeps : (k : Timing) (t : ℕ) (a : Answers) (buf : List ℕ) (e : Ends) → Keeps k e.timing → Keeps k (round t a buf e).1.timing
+round_keeps : (k : Timing) (t : ℕ) (a : Answers) (buf : List ℕ) (e : Ends) → Keeps k e.timing
+    → Keeps k (round t a buf e).1.timing
 unfolding IsKeeping
 round_keeps k t a buf e h =
     let third = look_keeps k (after (after e.first)) t a buf nothing_more (nothing_keeps k) in
-    let second = look_keeps k (after e.first) t a buf (λ x. look (after (after e.first)) t a buf x nothing_more) third in
-    look_keeps k e.first t a buf (λ x. look (after e.first) t a buf x (λ y. look (after (after e.first)) t a buf y nothing_more))
+    let second = look_keeps k (after e.first) t a buf
+    (λ x. look (after (after e.first)) t a buf x nothing_more) third in
+    look_keeps k e.first t a buf
+    (λ x. look (after e.first) t a buf x (λ y. look (after (after e.first)) t a buf y nothing_more))
     second e h
 
 sources_keeps : (k : Timing) (b : Bool) (t : ℕ) (a : Answers) (buf : List ℕ) (e : Ends) → Keeps k e.timing

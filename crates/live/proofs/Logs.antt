@@ -52,7 +52,8 @@ unfolding IsSilent
 round_same t a buf e =
     let third = look_same (after (after e.first)) t a buf nothing_more nothing_same in
     let second = look_same (after e.first) t a buf (λ x. look (after (after e.first)) t a buf x nothing_more) third in
-    look_same e.first t a buf (λ x. look (after e.first) t a buf x (λ y. look (after (after e.first)) t a buf y nothing_more))
+    look_same e.first t a buf
+    (λ x. look (after e.first) t a buf x (λ y. look (after (after e.first)) t a buf y nothing_more))
     second e
 
 sources_same : (b : Bool) (t : ℕ) (a : Answers) (buf : List ℕ) (e : Ends) → (sources_by b t a buf e).1.log ≡ e.log

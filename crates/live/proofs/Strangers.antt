@@ -60,20 +60,24 @@ at_line g b (Octets len) e others on h = h
 at_line g b Quiet e others on h = on e h
 at_line g b Gone e others on h = h
 
-look_out : (g : Guests) (b : Option IpAddr) (s : Source) (t : ℕ) (a : Answers) (buf : List ℕ) (others : Ends → Option Found × Ends)
+look_out : (g : Guests) (b : Option IpAddr) (s : Source) (t : ℕ) (a : Answers) (buf : List ℕ) (others : Ends
+    → Option Found × Ends)
     → IfSome a.visitor (IsGuest g) → KeepsOn g b others → KeepsOn g b (λ e. look s t a buf e others)
 unfolding KeepsOn
 look_out g b Door t a buf others guest on e h = at_door g b a.visitor e others on guest h
 look_out g b Connection t a buf others guest on e h = at_connection g b e.connection a.connection buf e others on h
 look_out g b Line t a buf others guest on e h = at_line g b a.line (looked_at Line t a buf e) others on h
 
-round_out : (g : Guests) (b : Option IpAddr) (t : ℕ) (a : Answers) (buf : List ℕ) (e : Ends) → IfSome a.visitor (IsGuest g)
+round_out : (g : Guests) (b : Option IpAddr) (t : ℕ) (a : Answers) (buf : List ℕ) (e : Ends)
+    → IfSome a.visitor (IsGuest g)
     → IsSameOrNone b e.connection → Out g b (round t a buf e)
 unfolding KeepsOn
 round_out g b t a buf e guest h =
     let third = look_out g b (after (after e.first)) t a buf nothing_more guest (nothing_out g b) in
-    let second = look_out g b (after e.first) t a buf (λ x. look (after (after e.first)) t a buf x nothing_more) guest third in
-    look_out g b e.first t a buf (λ x. look (after e.first) t a buf x (λ y. look (after (after e.first)) t a buf y nothing_more))
+    let second = look_out g b (after e.first) t a buf
+    (λ x. look (after (after e.first)) t a buf x nothing_more) guest third in
+    look_out g b e.first t a buf
+    (λ x. look (after e.first) t a buf x (λ y. look (after (after e.first)) t a buf y nothing_more))
     guest second e h
 
 sources_out : (g : Guests) (b : Option IpAddr) (is_late : Bool) (t : ℕ) (a : Answers) (buf : List ℕ) (e : Ends)
@@ -131,7 +135,8 @@ kept_out_by old new event buf (inr t) =
     subst P (sym t.told.told) (told_out old new (moment_at new.timing t.now) t.told.taken told)
 
 -- the log is no matter
-logged_out : (log : Log) (old new : Ends) (event : Next) → KeepsOut old event (as_logged log new) → KeepsOut old event new
+logged_out : (log : Log) (old new : Ends) (event : Next) → KeepsOut old event (as_logged log new)
+    → KeepsOut old event new
 logged_out log old new (next.Line now len) h = h
 logged_out log old new (next.Open now) h = h
 logged_out log old new (next.Bytes now len) h = h

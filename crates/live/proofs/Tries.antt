@@ -4,7 +4,8 @@ use Rattle.live.specs.Redial.{Redial, is_due, told_at, tried_by, looked_by, IsTr
 use Rattle.live.specs.declared.wires.Got.TheVariants.{Quiet}
 
 -- a look while it is away, where a try is due
-pub away_due : (now : ℕ) (buf : List ℕ) (old mid new : Redial) → old.wire ≡ None → is_due old.tried now ≡ true → mid ≡ told_at now old
+pub away_due : (now : ℕ) (buf : List ℕ) (old mid new : Redial) → old.wire ≡ None → is_due old.tried now ≡ true
+    → mid ≡ told_at now old
     → IsTried now mid new → IsRedialled old Quiet buf new
 away_due now buf old mid new away due told t = record {
   now = now;
@@ -17,7 +18,8 @@ away_due now buf old mid new away due told t = record {
 }
 
 -- and where none is
-pub away_wait : (now : ℕ) (buf : List ℕ) (old new : Redial) → old.wire ≡ None → is_due old.tried now ≡ false → new ≡ told_at now old
+pub away_wait : (now : ℕ) (buf : List ℕ) (old new : Redial) → old.wire ≡ None → is_due old.tried now ≡ false
+    → new ≡ told_at now old
     → IsRedialled old Quiet buf new
 away_wait now buf old new away due told = record {
   now = now;

@@ -62,7 +62,8 @@ found_1 Door a b c e = refl
 found_1 Connection a b c e = refl
 found_1 Line a b c e = refl
 
-ends_1 : (s : Source) (n : ℕ) (a b c : Answers) (buf : List ℕ) (e : Ends) → looked_at s n (joined s a b c) buf e ≡ looked_at s n a buf e
+ends_1 : (s : Source) (n : ℕ) (a b c : Answers) (buf : List ℕ) (e : Ends)
+    → looked_at s n (joined s a b c) buf e ≡ looked_at s n a buf e
 unfolding joined
 ends_1 Door n a b c buf e = refl
 ends_1 Connection n a b c buf e = refl
@@ -96,39 +97,46 @@ ends_3 Connection n a b c buf e = refl
 ends_3 Line n a b c buf e = refl
 
 -- a look with these answers
-look_of : (s : Source) (t : ℕ) (a : Answers) (buf : List ℕ) (e n : Ends) (f : Option Found) (others : Ends → Option Found × Ends)
-    → f ≡ found_at s a e → n ≡ next_round s f (looked_at s t a buf e) → look s t a buf e others ≡ unless_found f n others
+look_of : (s : Source) (t : ℕ) (a : Answers) (buf : List ℕ) (e n : Ends) (f : Option Found) (others : Ends
+    → Option Found × Ends)
+    → f ≡ found_at s a e → n ≡ next_round s f (looked_at s t a buf e)
+    → look s t a buf e others ≡ unless_found f n others
 look_of s t a buf e n f others found ends = rw (ends, ← found) refl
 
 -- the cut that is due
 pub due_turn : (t : ℕ) (buf : List ℕ) (old new : Ends) → old.is_cut_due ≡ true
-    → new ≡ record old { connection = None; first = after Connection; is_cut_due = false } → IsTurn t old (Some Cut) buf new
+    → new ≡ record old { connection = None; first = after Connection; is_cut_due = false }
+    → IsTurn t old (Some Cut) buf new
 due_turn t buf old new due done = record {
   answers = record { visitor = None; connection = Quiet; line = Quiet };
   visitor = tt;
   turned = rw (due, done) refl;
 }
 
-look_1 : (s : Source) (t : ℕ) (a b c : Answers) (buf : List ℕ) (e n : Ends) (f : Option Found) (others : Ends → Option Found × Ends)
+look_1 : (s : Source) (t : ℕ) (a b c : Answers) (buf : List ℕ) (e n : Ends) (f : Option Found) (others : Ends
+    → Option Found × Ends)
     → f ≡ found_at s a e → n ≡ next_round s f (looked_at s t a buf e)
     → look s t (joined s a b c) buf e others ≡ unless_found f n others
 look_1 s t a b c buf e n f others found ends = look_of s t (joined s a b c) buf e n f others (found
     ∙ sym (found_1 s a b c e)) (ends ∙ ap (next_round s f) (sym (ends_1 s t a b c buf e)))
 
-look_2 : (s : Source) (t : ℕ) (a b c : Answers) (buf : List ℕ) (e n : Ends) (f : Option Found) (others : Ends → Option Found × Ends)
+look_2 : (s : Source) (t : ℕ) (a b c : Answers) (buf : List ℕ) (e n : Ends) (f : Option Found) (others : Ends
+    → Option Found × Ends)
     → f ≡ found_at (after s) b e → n ≡ next_round (after s) f (looked_at (after s) t b buf e)
     → look (after s) t (joined s a b c) buf e others ≡ unless_found f n others
 look_2 s t a b c buf e n f others found ends = look_of (after s) t (joined s a b c) buf e n f others (found
     ∙ sym (found_2 s a b c e)) (ends ∙ ap (next_round (after s) f) (sym (ends_2 s t a b c buf e)))
 
-look_3 : (s : Source) (t : ℕ) (a b c : Answers) (buf : List ℕ) (e n : Ends) (f : Option Found) (others : Ends → Option Found × Ends)
+look_3 : (s : Source) (t : ℕ) (a b c : Answers) (buf : List ℕ) (e n : Ends) (f : Option Found) (others : Ends
+    → Option Found × Ends)
     → f ≡ found_at (after (after s)) c e → n ≡ next_round (after (after s)) f (looked_at (after (after s)) t c buf e)
     → look (after (after s)) t (joined s a b c) buf e others ≡ unless_found f n others
 look_3 s t a b c buf e n f others found ends = look_of (after (after s)) t (joined s a b c) buf e n f others (found
     ∙ sym (found_3 s a b c e)) (ends ∙ ap (next_round (after (after s)) f) (sym (ends_3 s t a b c buf e)))
 
 -- no cut is due, and no moment too far behind
-plain : (t : ℕ) (answers : Answers) (buf : List ℕ) (old : Ends) → old.is_cut_due ≡ false → is_behind old.timing t ≡ false
+plain : (t : ℕ) (answers : Answers) (buf : List ℕ) (old : Ends) → old.is_cut_due ≡ false
+    → is_behind old.timing t ≡ false
     → turn t answers buf old ≡ round t answers buf old
 plain t answers buf old due level = ap (λ b. turn_by b t answers buf old) due
     ∙ ap (λ b. sources_by b t answers buf old) level

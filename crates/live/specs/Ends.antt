@@ -33,8 +33,8 @@ pub record IsGuest (guests : Guests) (peer : Peer) : Type 0 where
 
 -- Who may come in; what happened at the line, at the connection, if there is one, at the door, and
 -- what the clock told; the source that is looked at first; whether a write to the connection
--- failed, so that a cut is due; how often the line was gone; what tells the moment of an event; what
--- the wall clock showed, and when it was told last; and the log, the newest entry first.
+-- failed, so that a cut is due; how often the line was gone; what tells the moment of an event;
+-- what the wall clock showed, and when it was told last; and the log, the newest entry first.
 pub record Ends : Type 0 where
   pub guests : Guests
   pub line : History

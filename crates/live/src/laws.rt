@@ -44,7 +44,8 @@ pub fn nobody_but_guests_comes_in()
 /// the ends are looked at in between.
 pub fn the_ends_are_looked_at_between_wall_moments()
     ensures { (a b c : Ends) (first second : Next) (buf more : List ℕ) →
-        LogsTurn a first buf b → LogsTurn b second more c → is_wall first ≡ true → is_wall second ≡ false }
+        LogsTurn a first buf b → LogsTurn b second more c → is_wall first ≡ true →
+        is_wall second ≡ false }
 {}
 
 /// The log tells what passed at the wires. After any run in which nothing had been logged before,
