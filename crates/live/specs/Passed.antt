@@ -2,7 +2,7 @@
 use Rattle.std.specs.Prelude.{◌≡◌, ℕ, List, [], ◌∷◌, ◌++◌, Bool, true, false, Option, Some, None}
 use Rattle.gateway.specs.Log.{Log, Came, Went, LineIn, LineOut, Opened, TcpIn, TcpOut, Output}
 use Rattle.gateway.specs.declared.ports.Next.{Next}
-use Rattle.live.specs.Wires.{Happening, Gave, Wrote, History, IsNew}
+use Rattle.live.specs.Wires.{Happening, Gave, WasQuiet, Wrote, History, IsNew}
 use Rattle.live.specs.Ends.{Ends, Peer, LogsTurn, LogsPut}
 
 -- the octets that came from the line, in their order
@@ -89,3 +89,17 @@ pub data Run (start : Ends) : Ends → Type 0 where
       → LogsTurn before event buf now → Run start now
   Put : (before now : Ends) → (moment : ℕ) → (action : Output) → Run start before
       → LogsPut before moment action now → Run start now
+
+-- two requests, three octets of the line in two pieces, and two connections, the second open
+abbrev pub example_log : Log
+example_log =
+    Went 7 (LineOut (16 ∷ 4 ∷ [])) ∷ Came 7 (LineIn (3 ∷ [])) ∷ Came 6 (TcpIn (9 ∷ []))
+    ∷ Went 5 (TcpOut (104 ∷ [])) ∷ Came 5 (TcpIn (8 ∷ [])) ∷ Came 4 Opened
+    ∷ Went 3 (TcpOut (106 ∷ [])) ∷ Came 3 (LineIn (1 ∷ 2 ∷ [])) ∷ Went 2 (LineOut (16 ∷ []))
+    ∷ Came 2 (TcpIn (7 ∷ [])) ∷ Came 1 Opened ∷ []
+
+-- the same at the line, which didn't take the second request
+abbrev pub example_line : List Happening
+example_line =
+    Wrote (16 ∷ 4 ∷ []) false ∷ Gave (3 ∷ []) ∷ WasQuiet ∷ Gave (1 ∷ 2 ∷ [])
+    ∷ Wrote (16 ∷ []) true ∷ WasQuiet ∷ []

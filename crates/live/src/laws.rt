@@ -1,10 +1,10 @@
 //! Laws of the port over live ends, in the terms of the clock, the requests and the looks at the
 //! line.
-ghost use Rattle.std.specs.Prelude.{◌≡◌, ◌+◌, ◌-◌, ◌<◌, ◌≤◌, ℕ, List, Some, true, false};
+ghost use Rattle.std.specs.Prelude.{◌≡◌, ◌+◌, ◌-◌, ◌<◌, ◌≤◌, ℕ, List, [], ◌∷◌, Some, true, false};
 ghost use Rattle.gateway.specs.declared.ports.Next.{Next};
 ghost use Rattle.live.specs.Ends.{Ends, LogsTurn};
 ghost use Rattle.live.specs.Law.{AtMoment, AtBytes, AtClock, KeepsOut};
-ghost use Rattle.live.specs.Passed.{IsFresh, Run, TellsEnds};
+ghost use Rattle.live.specs.Passed.{IsFresh, Run, TellsEnds, line_in, line_out, centre_in, centre_out, given, handed, taken_of, example_log, example_line};
 ghost use Rattle.live.specs.Walls.{is_wall};
 ghost use Rattle.live.specs.declared.timing.Request.{Request};
 
@@ -55,4 +55,16 @@ pub fn the_ends_are_looked_at_between_wall_moments()
 /// gave, and, while no cut is due, each APDU that went there was handed to it and taken.
 pub fn the_log_tells_what_passed()
     ensures { (start end : Ends) → IsFresh start → Run start end → TellsEnds end.log end }
+{}
+
+/// What the words of that law count, by worked examples: the octets and requests of a log, those of
+/// a line that didn't take its last request, and those of a log whose second connection is open.
+pub fn what_passed_by_example()
+    ensures line { (line_in example_log ≡ 1 ∷ 2 ∷ 3 ∷ [])
+        × (line_out example_log ≡ (16 ∷ 4 ∷ []) ∷ (16 ∷ []) ∷ []) }
+    ensures centre { (centre_in example_log ≡ 8 ∷ 9 ∷ [])
+        × (centre_out example_log ≡ (104 ∷ []) ∷ []) }
+    ensures wire { (given example_line ≡ 1 ∷ 2 ∷ 3 ∷ [])
+        × (handed example_line ≡ (16 ∷ 4 ∷ []) ∷ (16 ∷ []) ∷ [])
+        × (taken_of example_line ≡ (16 ∷ []) ∷ []) }
 {}

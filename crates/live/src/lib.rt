@@ -59,7 +59,7 @@ mod wires;
 pub use guests::Guests;
 pub use laws::{
     looks_ask_nothing, no_exchange_ends_unheard, nobody_but_guests_comes_in,
-    the_ends_are_looked_at_between_wall_moments, the_log_tells_what_passed,
+    the_ends_are_looked_at_between_wall_moments, the_log_tells_what_passed, what_passed_by_example,
     what_the_centre_sent_is_told_in_time,
 };
 pub use port::Live;
