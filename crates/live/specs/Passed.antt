@@ -1,8 +1,8 @@
 -- What passed at the wires, as the log tells it (this gateway's own profile).
-use Rattle.std.specs.Prelude.{◌≡◌, ℕ, List, [], ◌∷◌, ◌++◌, Bool, true, false, Option, Some, None}
+use Rattle.std.specs.Prelude.{◌≡◌, ℕ, ◌+◌, List, [], ◌∷◌, ◌++◌, Bool, true, false, Option, Some, None}
 use Rattle.gateway.specs.Log.{Log, Came, Went, LineIn, LineOut, Opened, TcpIn, TcpOut, Output}
 use Rattle.gateway.specs.declared.ports.Next.{Next}
-use Rattle.live.specs.Wires.{Happening, Gave, WasQuiet, Wrote, History, IsNew}
+use Rattle.live.specs.Wires.{Happening, Gave, WasQuiet, Wrote, History, IsNew, Visits}
 use Rattle.live.specs.Ends.{Ends, Peer, LogsTurn, LogsPut}
 
 -- the octets that came from the line, in their order
@@ -30,6 +30,18 @@ centre_out [] = []
 centre_out (Came now Opened ∷ log) = []
 centre_out (Went now (TcpOut octets) ∷ log) = octets ∷ centre_out log
 centre_out (entry ∷ log) = centre_out log
+
+-- how many connections were opened
+abbrev pub opened_in : Log → ℕ
+opened_in [] = 0
+opened_in (Came now Opened ∷ log) = opened_in log + 1
+opened_in (entry ∷ log) = opened_in log
+
+-- how often a door let somebody in
+abbrev pub let_in_at : List Bool → ℕ
+let_in_at [] = 0
+let_in_at (true ∷ before) = let_in_at before + 1
+let_in_at (false ∷ before) = let_in_at before
 
 -- the octets that a wire gave, in their order
 abbrev pub given : List Happening → List ℕ
@@ -70,16 +82,29 @@ abbrev pub TellsCentre : (is_cut_due : Bool) → List ℕ → List (List ℕ) �
 TellsCentre is_cut_due came went None = Unit {0}
 TellsCentre is_cut_due came went (Some peer) = TellsWire is_cut_due came went peer.wire
 
--- the log tells what passed at the line, and at the open connection
+-- each connection that was opened is one that the door let in
+abbrev pub TellsDoor : ℕ → Visits → Type 0
+TellsDoor count None = Unit {0}
+TellsDoor count (Some before) = count ≡ let_in_at before
+
+-- the log tells what passed at the line, at the open connection, and at the door
 abbrev pub TellsEnds : Log → Ends → Type 0
 TellsEnds log ends =
     TellsLine (line_in log) (line_out log) ends.line
     × TellsCentre ends.is_cut_due (centre_in log) (centre_out log) ends.connection
+    × TellsDoor (opened_in log) ends.door
 
--- nothing has been logged, nothing has happened at the line, and no connection is open
+-- nobody has been at the door yet
+abbrev pub IsUnvisited : Visits → Type 0
+IsUnvisited None = Unit {0}
+IsUnvisited (Some before) = before ≡ []
+
+-- nothing has been logged, nothing has happened at the line and at the door, and no connection is
+-- open
 pub record IsFresh (ends : Ends) : Type 0 where
   pub log : ends.log ≡ []
   pub line : IsNew ends.line
+  pub door : IsUnvisited ends.door
   pub connection : ends.connection ≡ None
 
 -- events and actions in any order

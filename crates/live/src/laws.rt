@@ -4,7 +4,7 @@ ghost use Rattle.std.specs.Prelude.{◌≡◌, ◌+◌, ◌-◌, ◌<◌, ◌≤
 ghost use Rattle.gateway.specs.declared.ports.Next.{Next};
 ghost use Rattle.live.specs.Ends.{Ends, LogsTurn};
 ghost use Rattle.live.specs.Law.{AtMoment, AtBytes, AtClock, KeepsOut};
-ghost use Rattle.live.specs.Passed.{IsFresh, Run, TellsEnds, line_in, line_out, centre_in, centre_out, given, handed, taken_of, example_log, example_line};
+ghost use Rattle.live.specs.Passed.{IsFresh, Run, TellsEnds, line_in, line_out, centre_in, centre_out, opened_in, let_in_at, given, handed, taken_of, example_log, example_line};
 ghost use Rattle.live.specs.Walls.{is_wall};
 ghost use Rattle.live.specs.declared.timing.Request.{Request};
 
@@ -52,7 +52,8 @@ pub fn the_ends_are_looked_at_between_wall_moments()
 /// where the line and the connection tell what happens at them: the octets that came from the line,
 /// by the log, are those that its wire gave, and each request that went there was handed to it,
 /// whole and in that order; the octets that came on the open connection are those that its wire
-/// gave, and, while no cut is due, each APDU that went there was handed to it and taken.
+/// gave, and, while no cut is due, each APDU that went there was handed to it and taken; and where
+/// the door tells whom it let in, as many connections were opened.
 pub fn the_log_tells_what_passed()
     ensures { (start end : Ends) → IsFresh start → Run start end → TellsEnds end.log end }
 {}
@@ -63,8 +64,9 @@ pub fn what_passed_by_example()
     ensures line { (line_in example_log ≡ 1 ∷ 2 ∷ 3 ∷ [])
         × (line_out example_log ≡ (16 ∷ 4 ∷ []) ∷ (16 ∷ []) ∷ []) }
     ensures centre { (centre_in example_log ≡ 8 ∷ 9 ∷ [])
-        × (centre_out example_log ≡ (104 ∷ []) ∷ []) }
+        × (centre_out example_log ≡ (104 ∷ []) ∷ []) × (opened_in example_log ≡ 2) }
     ensures wire { (given example_line ≡ 1 ∷ 2 ∷ 3 ∷ [])
         × (handed example_line ≡ (16 ∷ 4 ∷ []) ∷ (16 ∷ []) ∷ [])
         × (taken_of example_line ≡ (16 ∷ []) ∷ []) }
+    ensures door { let_in_at (true ∷ false ∷ true ∷ []) ≡ 2 }
 {}
