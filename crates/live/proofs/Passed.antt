@@ -123,7 +123,8 @@ at_line : (n : ℕ) (buf : List ℕ) (log : Log) (t : ℕ) (a : Answers) (got : 
 unfolding TellsOn Tells
 at_line n buf log t a (Octets len) e others on h is = (line_gave (line_in log) (line_out log) _ e.line h.0, h.1, h.2)
 at_line n buf log t a Quiet e others on h is =
-    on (looked_at Line t (record a { line = Quiet }) buf e) (line_quiet (line_in log) (line_out log) e.line h.0, h.1, h.2)
+    on (looked_at Line t (record a { line = Quiet }) buf e)
+    (line_quiet (line_in log) (line_out log) e.line h.0, h.1, h.2)
 at_line n buf log t a Gone e others on h is = (line_gone (line_in log) (line_out log) e.line h.0, h.1, h.2)
 
 look_tells : (n : ℕ) (buf : List ℕ) (log : Log) (g : Guests) (s : Source) (t : ℕ) (a : Answers) (others : Ends
