@@ -1,10 +1,8 @@
 -- The laws of the port over live ends.
-use Rattle.std.proofs.Common.{◌≡◌, ℕ, ◌+◌, ◌-◌, ◌<◌, ◌≤◌, true, false, Bool, List, ◌∷◌, Option, Some, None, refl, sym, ap, subst, ◌∙◌, arith, nat_le, nat_lt, if◌then◌else◌, ◌⊎◌, inl, inr}
+use Rattle.std.proofs.Common.{◌≡◌, ℕ, ◌+◌, ◌-◌, ◌<◌, ◌≤◌, true, false, Bool, List, Option, Some, None, refl, sym, ap, subst, arith, nat_lt, if◌then◌else◌, inl, inr}
 use Rattle.gateway.specs.declared.ports.Next.{Next}
-use Rattle.gateway.specs.declared.ports.Next.TheVariants as next
 use Rattle.live.specs.Timing.{Moments, read_at, moment_at, moment_by, is_heard_out, goes_on, is_behind, eve}
-use Rattle.live.specs.Ends.{Ends, Peer, Answers, Turns, TurnsToWall, TurnsToEnds, looking, IsTold, IsTurn, event_at, taken_by, told_at, turn, turn_by, sources_by, round, look, unless_found, next_round, looked_at, found_at, after, nothing_more, let_in}
-use Rattle.live.specs.Wires.{History}
+use Rattle.live.specs.Ends.{Ends, Peer, Answers, Turns, LogsTurn, as_logged, looking, event_at, taken_by, told_at, turn_by, sources_by, round, look, unless_found, next_round, looked_at, found_at, after, nothing_more, let_in}
 use Rattle.live.specs.declared.source.Source.{Source}
 use Rattle.live.specs.declared.source.Source.TheVariants.{Door, Connection, Line}
 use Rattle.live.specs.Law.{AtMoment, AtBytes, AtClock}
@@ -35,23 +33,30 @@ by_request : (t : Timing) (q : Option Request) (r : Request) (now : ℕ) → q �
 by_request t q r now asked some late = heard_by (is_heard_out t r) (goes_on t r now) t r now refl refl some
     (let P : Option Request → Type 0 = λ q. r.moment + t.answer_ms ≤ moment_by t q now in subst P asked late)
 
-pub heard_out : (old new : Ends) (event : Next) (r : Request) → Turns old event new → new.timing.request ≡ Some r
+heard_out_by : (old new : Ends) (event : Next) (buf : List ℕ) (r : Request) → Turns old event buf new
+    → new.timing.request ≡ Some r
     → 0 < new.timing.answer_ms →
     AtMoment event (λ moment. r.moment + new.timing.answer_ms ≤ moment
     → new.timing.answer_ms ≤ new.timing.heard - r.written)
-heard_out old new event r (inl t) asked some =
+heard_out_by old new event buf r (inl t) asked some =
     let Holds : ℕ → Type 0 = λ moment. r.moment + new.timing.answer_ms ≤ moment →
     new.timing.answer_ms ≤ new.timing.heard - r.written in
     let P : Next → Type 0 = λ e. AtMoment e Holds in
     let Q : Timing → Type 0 = λ k. Holds (moment_at k t.begun) in
     let same : new.timing ≡ old.timing = ap (λ (e : Ends). e.timing) t.told.ends in
     subst P (sym t.told.told) (subst Q same (by_request new.timing new.timing.request r t.begun asked some))
-heard_out old new event r (inr t) asked some =
+heard_out_by old new event buf r (inr t) asked some =
     let Holds : ℕ → Type 0 = λ moment. r.moment + new.timing.answer_ms ≤ moment →
     new.timing.answer_ms ≤ new.timing.heard - r.written in
     let P : Next → Type 0 = λ e. AtMoment e Holds in
     subst P (sym t.told.told) (at_moment (moment_at new.timing t.now) t.told.taken Holds
     (by_request new.timing new.timing.request r t.now asked some))
+
+pub heard_out : (old new : Ends) (event : Next) (buf : List ℕ) (r : Request) → LogsTurn old event buf new
+    → new.timing.request ≡ Some r → 0 < new.timing.answer_ms →
+    AtMoment event (λ moment. r.moment + new.timing.answer_ms ≤ moment
+    → new.timing.answer_ms ≤ new.timing.heard - r.written)
+heard_out old new event buf r l = heard_out_by old (as_logged old.log new) event buf r l.turns
 
 -- the clock has told this last
 at_clock : (told : Moments) (now : ℕ) (Holds : ℕ → Type 0) → Holds now → AtClock (read_at told now) Holds
@@ -82,19 +87,23 @@ timely false (Some found.Cut) e now behind = at_clock e.clock now (λ n. Unit {0
 timely false (Some (found.Line len)) e now behind = at_clock e.clock now (λ n. Unit {0}) tt
 timely false (Some found.Fault) e now behind = at_clock e.clock now (λ n. Unit {0}) tt
 
-pub in_time : (old new : Ends) (event : Next) → Turns old event new
+in_time_by : (old new : Ends) (event : Next) (buf : List ℕ) → Turns old event buf new
     → AtClock new.clock (λ now. AtBytes event (λ moment. now ≤ moment + 50))
 unfolding InTime
-in_time old new event (inl t) =
+in_time_by old new event buf (inl t) =
     let P : Next → Type 0 = λ e. AtClock new.clock (λ now. AtBytes e (λ moment. now ≤ moment + 50)) in
     let R : Moments → Type 0 = λ c. AtClock c (λ now. Unit {0}) in
     let told = ap (λ (e : Ends). e.clock) t.told.ends in
     subst P (sym t.told.told) (subst R (sym told) (at_clock old.clock t.begun (λ n. Unit {0}) tt))
-in_time old new event (inr t) =
+in_time_by old new event buf (inr t) =
     let P : Next → Type 0 = λ e. AtClock new.clock (λ now. AtBytes e (λ moment. now ≤ moment + 50)) in
     let Q : Option Found × Ends → Type 0 = λ p. InTime t.now p in
     subst P (sym t.told.told) (subst Q (sym t.told.ends)
     (timely (is_behind t.found.timing t.now) t.f t.found t.now refl))
+
+pub in_time : (old new : Ends) (event : Next) (buf : List ℕ) → LogsTurn old event buf new
+    → AtClock new.clock (λ now. AtBytes event (λ moment. now ≤ moment + 50))
+in_time old new event buf l = in_time_by old (as_logged old.log new) event buf l.turns
 
 -- the latest request and how long an answer is awaited are the same
 Keeps : Timing → Timing → Type 0
@@ -104,12 +113,12 @@ let_in_keeps : (k : Timing) (v : Option Peer) (e : Ends) → Keeps k e.timing �
 let_in_keeps k None e h = h
 let_in_keeps k (Some visitor) e h = h
 
-looked_keeps : (k : Timing) (s : Source) (t : ℕ) (a : Answers) (e : Ends) → Keeps k e.timing
-    → Keeps k (looked_at s t a e).timing
+looked_keeps : (k : Timing) (s : Source) (t : ℕ) (a : Answers) (buf : List ℕ) (e : Ends) → Keeps k e.timing
+    → Keeps k (looked_at s t a buf e).timing
 unfolding Keeps
-looked_keeps k Door t a e h = let_in_keeps k a.visitor e h
-looked_keeps k Connection t a e h = h
-looked_keeps k Line t a e h = h
+looked_keeps k Door t a buf e h = let_in_keeps k a.visitor e h
+looked_keeps k Connection t a buf e h = h
+looked_keeps k Line t a buf e h = h
 
 next_keeps : (k : Timing) (s : Source) (f : Option Found) (e : Ends) → Keeps k e.timing
     → Keeps k (next_round s f e).timing
@@ -126,36 +135,40 @@ unfolding IsKeeping
 unless_keeps k None e others h on = on e h
 unless_keeps k (Some f) e others h on = h
 
-look_keeps : (k : Timing) (s : Source) (t : ℕ) (a : Answers) (others : Ends → Option Found × Ends) → IsKeeping k others
-    → IsKeeping k (λ e. look s t a e others)
+look_keeps : (k : Timing) (s : Source) (t : ℕ) (a : Answers) (buf : List ℕ) (others : Ends → Option Found × Ends)
+    → IsKeeping k others
+    → IsKeeping k (λ e. look s t a buf e others)
 unfolding IsKeeping
-look_keeps k s t a others on e h =
+look_keeps k s t a buf others on e h =
     let f = found_at s a e in
-    unless_keeps k f (next_round s f (looked_at s t a e)) others
-    (next_keeps k s f (looked_at s t a e) (looked_keeps k s t a e h)) on
+    unless_keeps k f (next_round s f (looked_at s t a buf e)) others
+    (next_keeps k s f (looked_at s t a buf e) (looked_keeps k s t a buf e h)) on
 
 nothing_keeps : (k : Timing) → IsKeeping k nothing_more
 unfolding IsKeeping
 nothing_keeps k e h = h
 
-round_keeps : (k : Timing) (t : ℕ) (a : Answers) (e : Ends) → Keeps k e.timing → Keeps k (round t a e).1.timing
+round_keeps : (k : Timing) (t : ℕ) (a : Answers) (buf : List ℕ) (e : Ends) → Keeps k e.timing
+    → Keeps k (round t a buf e).1.timing
 unfolding IsKeeping
-round_keeps k t a e h =
-    let third = look_keeps k (after (after e.first)) t a nothing_more (nothing_keeps k) in
-    let second = look_keeps k (after e.first) t a (λ x. look (after (after e.first)) t a x nothing_more) third in
-    look_keeps k e.first t a (λ x. look (after e.first) t a x (λ y. look (after (after e.first)) t a y nothing_more))
+round_keeps k t a buf e h =
+    let third = look_keeps k (after (after e.first)) t a buf nothing_more (nothing_keeps k) in
+    let second = look_keeps k (after e.first) t a buf
+    (λ x. look (after (after e.first)) t a buf x nothing_more) third in
+    look_keeps k e.first t a buf
+    (λ x. look (after e.first) t a buf x (λ y. look (after (after e.first)) t a buf y nothing_more))
     second e h
 
-sources_keeps : (k : Timing) (b : Bool) (t : ℕ) (a : Answers) (e : Ends) → Keeps k e.timing
-    → Keeps k (sources_by b t a e).1.timing
+sources_keeps : (k : Timing) (b : Bool) (t : ℕ) (a : Answers) (buf : List ℕ) (e : Ends) → Keeps k e.timing
+    → Keeps k (sources_by b t a buf e).1.timing
 unfolding IsKeeping
-sources_keeps k true t a e h = look_keeps k Line t a nothing_more (nothing_keeps k) e h
-sources_keeps k false t a e h = round_keeps k t a e h
+sources_keeps k true t a buf e h = look_keeps k Line t a buf nothing_more (nothing_keeps k) e h
+sources_keeps k false t a buf e h = round_keeps k t a buf e h
 
-turn_keeps : (k : Timing) (d : Bool) (t : ℕ) (a : Answers) (e : Ends) → Keeps k e.timing
-    → Keeps k (turn_by d t a e).1.timing
-turn_keeps k true t a e h = h
-turn_keeps k false t a e h = sources_keeps k (is_behind e.timing t) t a e h
+turn_keeps : (k : Timing) (d : Bool) (t : ℕ) (a : Answers) (buf : List ℕ) (e : Ends) → Keeps k e.timing
+    → Keeps k (turn_by d t a buf e).1.timing
+turn_keeps k true t a buf e h = h
+turn_keeps k false t a buf e h = sources_keeps k (is_behind e.timing t) t a buf e h
 
 taken_keeps : (k : Timing) (b : Bool) (f : Option Found) (e : Ends) → Keeps k e.timing
     → Keeps k (taken_by b f e).1.timing
@@ -167,16 +180,20 @@ taken_keeps k true (Some found.Cut) e h = h
 taken_keeps k true (Some (found.Line len)) e h = h
 taken_keeps k true (Some found.Fault) e h = h
 
-pub kept : (old new : Ends) (event : Next) → Turns old event new
+kept_by : (old new : Ends) (event : Next) (buf : List ℕ) → Turns old event buf new
     → (new.timing.request ≡ old.timing.request) × (new.timing.answer_ms ≡ old.timing.answer_ms)
 unfolding Keeps
-kept old new event (inl t) =
+kept_by old new event buf (inl t) =
     let same : new.timing ≡ old.timing = ap (λ (e : Ends). e.timing) t.told.ends in
     (ap (λ (k : Timing). k.request) same, ap (λ (k : Timing). k.answer_ms) same)
-kept old new event (inr t) =
+kept_by old new event buf (inr t) =
     let Q : Option Found × Ends → Type 0 = λ p. Keeps old.timing p.1.timing in
     let found : Keeps old.timing t.found.timing = subst Q (sym t.turn.turned)
-    (turn_keeps old.timing old.is_cut_due t.begun t.turn.answers (looking (told_at t.begun old)) (refl, refl))
+    (turn_keeps old.timing old.is_cut_due t.begun t.turn.answers buf (looking (told_at t.begun old)) (refl, refl))
     in
     subst Q (sym t.told.ends) (taken_keeps old.timing (is_behind t.found.timing t.now) t.f
     (told_at t.now t.found) found)
+
+pub kept : (old new : Ends) (event : Next) (buf : List ℕ) → LogsTurn old event buf new
+    → (new.timing.request ≡ old.timing.request) × (new.timing.answer_ms ≡ old.timing.answer_ms)
+kept old new event buf l = kept_by old (as_logged old.log new) event buf l.turns

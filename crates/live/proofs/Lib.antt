@@ -5,3 +5,5 @@ pub mod Law
 pub mod Strangers
 pub mod Octets
 pub mod Walls
+pub mod Logs
+pub mod Passed

@@ -1,9 +1,11 @@
 -- Nobody but a guest comes in.
-use Rattle.std.proofs.Common.{◌≡◌, ℕ, true, false, Bool, Option, Some, None, IfSome, option_map, refl, sym, ap, subst, ◌⊎◌, inl, inr}
+use Rattle.std.proofs.Common.{◌≡◌, ℕ, true, false, Bool, List, Option, Some, None, IfSome, option_map, refl, sym, ap, subst, inl, inr}
 use Rattle.std.specs.declared.net.ip_addr.IpAddr.{IpAddr}
+use Rattle.gateway.specs.Log.{Log}
 use Rattle.gateway.specs.declared.ports.Next.{Next}
+use Rattle.gateway.specs.declared.ports.Next.TheVariants as next
 use Rattle.live.specs.Timing.{is_behind, moment_at}
-use Rattle.live.specs.Ends.{Ends, Peer, IsGuest, Answers, Turns, looking, event_at, taken_by, told_at, turn, turn_by, sources_by, round, look, unless_found, next_round, looked_at, found_at, after, nothing_more, let_in, of_visitor, of_open, of_line, read_from}
+use Rattle.live.specs.Ends.{Ends, Peer, IsGuest, Answers, Turns, LogsTurn, as_logged, looking, event_at, taken_by, told_at, turn_by, sources_by, round, look, unless_found, next_round, looked_at, after, nothing_more, let_in, of_visitor, of_open, of_line, read_from}
 use Rattle.live.specs.Law.{IsOfGuest, IsSameOrNone, peer_of, KeepsOut}
 use Rattle.live.specs.declared.found.Found.{Found}
 use Rattle.live.specs.declared.found.Found.TheVariants as found
@@ -40,15 +42,15 @@ unfolding KeepsOn Out IsKeptOut
 at_door g b None e others on guest h = on (let_in None e) h
 at_door g b (Some peer) e others on guest h = guest.lets_in
 
-at_connection : (g : Guests) (b : Option IpAddr) (c : Option Peer) (got : Got) (e : Ends) (others : Ends
+at_connection : (g : Guests) (b : Option IpAddr) (c : Option Peer) (got : Got) (buf : List ℕ) (e : Ends) (others : Ends
     → Option Found × Ends) → KeepsOn g b others → IsSameOrNone b c →
     Out g b (unless_found (of_open c got) (next_round Connection (of_open c got)
-    (record e { connection = read_from c got })) others)
+    (record e { connection = read_from c got buf })) others)
 unfolding KeepsOn Out IsKeptOut
-at_connection g b None got e others on h = on (record e { connection = None }) tt
-at_connection g b (Some peer) (Octets len) e others on h = h
-at_connection g b (Some peer) Quiet e others on h = on (record e { connection = read_from (Some peer) Quiet }) h
-at_connection g b (Some peer) Gone e others on h = tt
+at_connection g b None got buf e others on h = on (record e { connection = None }) tt
+at_connection g b (Some peer) (Octets len) buf e others on h = h
+at_connection g b (Some peer) Quiet buf e others on h = on (record e { connection = read_from (Some peer) Quiet buf }) h
+at_connection g b (Some peer) Gone buf e others on h = tt
 
 at_line : (g : Guests) (b : Option IpAddr) (got : Got) (e : Ends) (others : Ends → Option Found × Ends)
     → KeepsOn g b others → IsSameOrNone b e.connection →
@@ -58,33 +60,37 @@ at_line g b (Octets len) e others on h = h
 at_line g b Quiet e others on h = on e h
 at_line g b Gone e others on h = h
 
-look_out : (g : Guests) (b : Option IpAddr) (s : Source) (t : ℕ) (a : Answers) (others : Ends → Option Found × Ends)
-    → IfSome a.visitor (IsGuest g) → KeepsOn g b others → KeepsOn g b (λ e. look s t a e others)
+look_out : (g : Guests) (b : Option IpAddr) (s : Source) (t : ℕ) (a : Answers) (buf : List ℕ) (others : Ends
+    → Option Found × Ends)
+    → IfSome a.visitor (IsGuest g) → KeepsOn g b others → KeepsOn g b (λ e. look s t a buf e others)
 unfolding KeepsOn
-look_out g b Door t a others guest on e h = at_door g b a.visitor e others on guest h
-look_out g b Connection t a others guest on e h = at_connection g b e.connection a.connection e others on h
-look_out g b Line t a others guest on e h = at_line g b a.line (looked_at Line t a e) others on h
+look_out g b Door t a buf others guest on e h = at_door g b a.visitor e others on guest h
+look_out g b Connection t a buf others guest on e h = at_connection g b e.connection a.connection buf e others on h
+look_out g b Line t a buf others guest on e h = at_line g b a.line (looked_at Line t a buf e) others on h
 
-round_out : (g : Guests) (b : Option IpAddr) (t : ℕ) (a : Answers) (e : Ends) → IfSome a.visitor (IsGuest g)
-    → IsSameOrNone b e.connection → Out g b (round t a e)
+round_out : (g : Guests) (b : Option IpAddr) (t : ℕ) (a : Answers) (buf : List ℕ) (e : Ends)
+    → IfSome a.visitor (IsGuest g)
+    → IsSameOrNone b e.connection → Out g b (round t a buf e)
 unfolding KeepsOn
-round_out g b t a e guest h =
-    let third = look_out g b (after (after e.first)) t a nothing_more guest (nothing_out g b) in
-    let second = look_out g b (after e.first) t a (λ x. look (after (after e.first)) t a x nothing_more) guest third in
-    look_out g b e.first t a (λ x. look (after e.first) t a x (λ y. look (after (after e.first)) t a y nothing_more))
+round_out g b t a buf e guest h =
+    let third = look_out g b (after (after e.first)) t a buf nothing_more guest (nothing_out g b) in
+    let second = look_out g b (after e.first) t a buf
+    (λ x. look (after (after e.first)) t a buf x nothing_more) guest third in
+    look_out g b e.first t a buf
+    (λ x. look (after e.first) t a buf x (λ y. look (after (after e.first)) t a buf y nothing_more))
     guest second e h
 
-sources_out : (g : Guests) (b : Option IpAddr) (is_late : Bool) (t : ℕ) (a : Answers) (e : Ends)
-    → IfSome a.visitor (IsGuest g) → IsSameOrNone b e.connection → Out g b (sources_by is_late t a e)
+sources_out : (g : Guests) (b : Option IpAddr) (is_late : Bool) (t : ℕ) (a : Answers) (buf : List ℕ) (e : Ends)
+    → IfSome a.visitor (IsGuest g) → IsSameOrNone b e.connection → Out g b (sources_by is_late t a buf e)
 unfolding KeepsOn
-sources_out g b true t a e guest h = look_out g b Line t a nothing_more guest (nothing_out g b) e h
-sources_out g b false t a e guest h = round_out g b t a e guest h
+sources_out g b true t a buf e guest h = look_out g b Line t a buf nothing_more guest (nothing_out g b) e h
+sources_out g b false t a buf e guest h = round_out g b t a buf e guest h
 
-turn_out : (g : Guests) (b : Option IpAddr) (is_due : Bool) (t : ℕ) (a : Answers) (e : Ends)
-    → IfSome a.visitor (IsGuest g) → IsSameOrNone b e.connection → Out g b (turn_by is_due t a e)
+turn_out : (g : Guests) (b : Option IpAddr) (is_due : Bool) (t : ℕ) (a : Answers) (buf : List ℕ) (e : Ends)
+    → IfSome a.visitor (IsGuest g) → IsSameOrNone b e.connection → Out g b (turn_by is_due t a buf e)
 unfolding Out IsKeptOut
-turn_out g b true t a e guest h = tt
-turn_out g b false t a e guest h = sources_out g b (is_behind e.timing t) t a e guest h
+turn_out g b true t a buf e guest h = tt
+turn_out g b false t a buf e guest h = sources_out g b (is_behind e.timing t) t a buf e guest h
 
 taken_out : (g : Guests) (b : Option IpAddr) (is_late : Bool) (f : Option Found) (e : Ends)
     → IsKeptOut g b f e.connection → Out g b (taken_by is_late f e)
@@ -111,19 +117,35 @@ as_it_was : (c : Option Peer) → IsSameOrNone (option_map (λ (p : Peer). p.add
 as_it_was None = tt
 as_it_was (Some peer) = refl
 
-pub kept_out : (old new : Ends) (event : Next) → Turns old event new → KeepsOut old event new
+kept_out_by : (old new : Ends) (event : Next) (buf : List ℕ) → Turns old event buf new → KeepsOut old event new
 unfolding Out
-kept_out old new event (inl t) =
+kept_out_by old new event buf (inl t) =
     let P : Next → Type 0 = λ e. KeepsOut old e new in
     let Q : Option Peer → Type 0 = λ c. IsSameOrNone (peer_of old) c in
     let same : new.connection ≡ old.connection = ap (λ (e : Ends). e.connection) t.told.ends in
     subst P (sym t.told.told) (subst Q (sym same) (as_it_was old.connection))
-kept_out old new event (inr t) =
+kept_out_by old new event buf (inr t) =
     let Q : Option Found × Ends → Type 0 = λ p. Out old.guests (peer_of old) p in
     let P : Next → Type 0 = λ e. KeepsOut old e new in
-    let turned = turn_out old.guests (peer_of old) old.is_cut_due t.begun t.turn.answers
+    let turned = turn_out old.guests (peer_of old) old.is_cut_due t.begun t.turn.answers buf
     (looking (told_at t.begun old)) t.turn.visitor (as_it_was old.connection) in
     let found : IsKeptOut old.guests (peer_of old) t.f t.found.connection = subst Q (sym t.turn.turned) turned in
     let taken = taken_out old.guests (peer_of old) (is_behind t.found.timing t.now) t.f (told_at t.now t.found) found in
     let told : IsKeptOut old.guests (peer_of old) t.told.taken new.connection = subst Q (sym t.told.ends) taken in
     subst P (sym t.told.told) (told_out old new (moment_at new.timing t.now) t.told.taken told)
+
+-- the log is no matter
+logged_out : (log : Log) (old new : Ends) (event : Next) → KeepsOut old event (as_logged log new)
+    → KeepsOut old event new
+logged_out log old new (next.Line now len) h = h
+logged_out log old new (next.Open now) h = h
+logged_out log old new (next.Bytes now len) h = h
+logged_out log old new (next.Cut now) h = h
+logged_out log old new (next.Tick now) h = h
+logged_out log old new (next.Wall now number) h = h
+logged_out log old new next.Done h = h
+logged_out log old new next.Fault h = h
+
+pub kept_out : (old new : Ends) (event : Next) (buf : List ℕ) → LogsTurn old event buf new → KeepsOut old event new
+kept_out old new event buf l =
+    logged_out old.log old new event (kept_out_by old (as_logged old.log new) event buf l.turns)

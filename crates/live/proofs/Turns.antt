@@ -1,8 +1,8 @@
 -- A turn from its looks. Each source answers at its look; a turn is told by the answers of all three.
-use Rattle.std.proofs.Common.{◌≡◌, ℕ, true, false, Option, Some, None, IfSome, refl, sym, ap, subst, ◌∙◌, ◌⊎◌, inl, inr}
+use Rattle.std.proofs.Common.{◌≡◌, ℕ, true, false, List, Option, Some, None, IfSome, refl, sym, ap, subst, ◌∙◌, inl, inr}
 use Rattle.live.specs.declared.guests.Guests.{Guests}
 use Rattle.live.specs.Timing.{is_behind, moment_at}
-use Rattle.live.specs.Ends.{Ends, Peer, IsGuest, let_in, Answers, after, found_at, looked_at, next_round, unless_found, look, nothing_more, round, turn, turn_by, sources_by, taken_by, told_at, looking, IsTurn, IsTold, IsWallTold, Turns, TurnsToWall, TurnsToEnds, event_at}
+use Rattle.live.specs.Ends.{Ends, Peer, IsGuest, let_in, Answers, after, found_at, looked_at, read_from, next_round, unless_found, look, nothing_more, round, turn, turn_by, sources_by, taken_by, told_at, looking, IsTurn, IsTold, IsWallTold, Turns, TurnsToWall, TurnsToEnds, event_at}
 use Rattle.gateway.specs.declared.ports.Next.{Next}
 use Rattle.live.specs.Looks.{Looks, answers_for}
 use Rattle.live.specs.Walls.{is_wall_due}
@@ -30,14 +30,31 @@ let_in_same : (v : Option Peer) (e : Ends) → (let_in v e).guests ≡ e.guests
 let_in_same None e = refl
 let_in_same (Some peer) e = refl
 
-looked_same : (s : Source) (t : ℕ) (a : Answers) (e : Ends) → (looked_at s t a e).guests ≡ e.guests
-looked_same Door t a e = let_in_same a.visitor e
-looked_same Connection t a e = refl
-looked_same Line t a e = refl
+looked_same : (s : Source) (t : ℕ) (a : Answers) (buf : List ℕ) (e : Ends) → (looked_at s t a buf e).guests ≡ e.guests
+looked_same Door t a buf e = let_in_same a.visitor e
+looked_same Connection t a buf e = refl
+looked_same Line t a buf e = refl
 
 -- so does a look that finds nothing
-same_guests : (s : Source) (t : ℕ) (old new : Ends) → Looks s t old None new → new.guests ≡ old.guests
-same_guests s t old new l = ap (λ (e : Ends). e.guests) l.ends ∙ looked_same s t (answers_for None new) old
+same_guests : (s : Source) (t : ℕ) (old new : Ends) (buf : List ℕ) → Looks s t old None buf new
+    → new.guests ≡ old.guests
+same_guests s t old new buf l = ap (λ (e : Ends). e.guests) l.ends ∙ looked_same s t (answers_for None new) buf old
+
+-- and what is in the buffer then is no matter
+quiet_from : (c : Option Peer) (buf other : List ℕ) → read_from c Quiet buf ≡ read_from c Quiet other
+quiet_from None buf other = refl
+quiet_from (Some peer) buf other = refl
+
+quiet_at : (s : Source) (t : ℕ) (old new : Ends) (buf other : List ℕ)
+    → looked_at s t (answers_for None new) buf old ≡ looked_at s t (answers_for None new) other old
+quiet_at Door t old new buf other = refl
+quiet_at Connection t old new buf other = ap (λ c. record old { connection = c }) (quiet_from old.connection buf other)
+quiet_at Line t old new buf other = refl
+
+quiet : (s : Source) (t : ℕ) (old new : Ends) (buf other : List ℕ) → Looks s t old None buf new
+    → Looks s t old None other new
+quiet s t old new buf other l =
+    record { visitor = l.visitor; found = l.found; ends = l.ends ∙ quiet_at s t old new buf other }
 
 found_1 : (s : Source) (a b c : Answers) (e : Ends) → found_at s (joined s a b c) e ≡ found_at s a e
 unfolding joined
@@ -45,11 +62,12 @@ found_1 Door a b c e = refl
 found_1 Connection a b c e = refl
 found_1 Line a b c e = refl
 
-ends_1 : (s : Source) (n : ℕ) (a b c : Answers) (e : Ends) → looked_at s n (joined s a b c) e ≡ looked_at s n a e
+ends_1 : (s : Source) (n : ℕ) (a b c : Answers) (buf : List ℕ) (e : Ends)
+    → looked_at s n (joined s a b c) buf e ≡ looked_at s n a buf e
 unfolding joined
-ends_1 Door n a b c e = refl
-ends_1 Connection n a b c e = refl
-ends_1 Line n a b c e = refl
+ends_1 Door n a b c buf e = refl
+ends_1 Connection n a b c buf e = refl
+ends_1 Line n a b c buf e = refl
 
 found_2 : (s : Source) (a b c : Answers) (e : Ends) → found_at (after s) (joined s a b c) e ≡ found_at (after s) b e
 unfolding joined
@@ -57,12 +75,12 @@ found_2 Door a b c e = refl
 found_2 Connection a b c e = refl
 found_2 Line a b c e = refl
 
-ends_2 : (s : Source) (n : ℕ) (a b c : Answers) (e : Ends)
-    → looked_at (after s) n (joined s a b c) e ≡ looked_at (after s) n b e
+ends_2 : (s : Source) (n : ℕ) (a b c : Answers) (buf : List ℕ) (e : Ends)
+    → looked_at (after s) n (joined s a b c) buf e ≡ looked_at (after s) n b buf e
 unfolding joined
-ends_2 Door n a b c e = refl
-ends_2 Connection n a b c e = refl
-ends_2 Line n a b c e = refl
+ends_2 Door n a b c buf e = refl
+ends_2 Connection n a b c buf e = refl
+ends_2 Line n a b c buf e = refl
 
 found_3 : (s : Source) (a b c : Answers) (e : Ends) → found_at (after (after s)) (joined s a b c) e
     ≡ found_at (after (after s)) c e
@@ -71,114 +89,127 @@ found_3 Door a b c e = refl
 found_3 Connection a b c e = refl
 found_3 Line a b c e = refl
 
-ends_3 : (s : Source) (n : ℕ) (a b c : Answers) (e : Ends)
-    → looked_at (after (after s)) n (joined s a b c) e ≡ looked_at (after (after s)) n c e
+ends_3 : (s : Source) (n : ℕ) (a b c : Answers) (buf : List ℕ) (e : Ends)
+    → looked_at (after (after s)) n (joined s a b c) buf e ≡ looked_at (after (after s)) n c buf e
 unfolding joined
-ends_3 Door n a b c e = refl
-ends_3 Connection n a b c e = refl
-ends_3 Line n a b c e = refl
+ends_3 Door n a b c buf e = refl
+ends_3 Connection n a b c buf e = refl
+ends_3 Line n a b c buf e = refl
 
 -- a look with these answers
-look_of : (s : Source) (t : ℕ) (a : Answers) (e n : Ends) (f : Option Found) (others : Ends → Option Found × Ends)
-    → f ≡ found_at s a e → n ≡ next_round s f (looked_at s t a e) → look s t a e others ≡ unless_found f n others
-look_of s t a e n f others found ends = rw (ends, ← found) refl
+look_of : (s : Source) (t : ℕ) (a : Answers) (buf : List ℕ) (e n : Ends) (f : Option Found) (others : Ends
+    → Option Found × Ends)
+    → f ≡ found_at s a e → n ≡ next_round s f (looked_at s t a buf e)
+    → look s t a buf e others ≡ unless_found f n others
+look_of s t a buf e n f others found ends = rw (ends, ← found) refl
 
 -- the cut that is due
-pub due_turn : (t : ℕ) (old new : Ends) → old.is_cut_due ≡ true
-    → new ≡ record old { connection = None; first = after Connection; is_cut_due = false } → IsTurn t old (Some Cut) new
-due_turn t old new due done = record {
+pub due_turn : (t : ℕ) (buf : List ℕ) (old new : Ends) → old.is_cut_due ≡ true
+    → new ≡ record old { connection = None; first = after Connection; is_cut_due = false }
+    → IsTurn t old (Some Cut) buf new
+due_turn t buf old new due done = record {
   answers = record { visitor = None; connection = Quiet; line = Quiet };
   visitor = tt;
   turned = rw (due, done) refl;
 }
 
-look_1 : (s : Source) (t : ℕ) (a b c : Answers) (e n : Ends) (f : Option Found) (others : Ends → Option Found × Ends)
-    → f ≡ found_at s a e → n ≡ next_round s f (looked_at s t a e)
-    → look s t (joined s a b c) e others ≡ unless_found f n others
-look_1 s t a b c e n f others found ends = look_of s t (joined s a b c) e n f others (found
-    ∙ sym (found_1 s a b c e)) (ends ∙ ap (next_round s f) (sym (ends_1 s t a b c e)))
+look_1 : (s : Source) (t : ℕ) (a b c : Answers) (buf : List ℕ) (e n : Ends) (f : Option Found) (others : Ends
+    → Option Found × Ends)
+    → f ≡ found_at s a e → n ≡ next_round s f (looked_at s t a buf e)
+    → look s t (joined s a b c) buf e others ≡ unless_found f n others
+look_1 s t a b c buf e n f others found ends = look_of s t (joined s a b c) buf e n f others (found
+    ∙ sym (found_1 s a b c e)) (ends ∙ ap (next_round s f) (sym (ends_1 s t a b c buf e)))
 
-look_2 : (s : Source) (t : ℕ) (a b c : Answers) (e n : Ends) (f : Option Found) (others : Ends → Option Found × Ends)
-    → f ≡ found_at (after s) b e → n ≡ next_round (after s) f (looked_at (after s) t b e)
-    → look (after s) t (joined s a b c) e others ≡ unless_found f n others
-look_2 s t a b c e n f others found ends = look_of (after s) t (joined s a b c) e n f others (found
-    ∙ sym (found_2 s a b c e)) (ends ∙ ap (next_round (after s) f) (sym (ends_2 s t a b c e)))
+look_2 : (s : Source) (t : ℕ) (a b c : Answers) (buf : List ℕ) (e n : Ends) (f : Option Found) (others : Ends
+    → Option Found × Ends)
+    → f ≡ found_at (after s) b e → n ≡ next_round (after s) f (looked_at (after s) t b buf e)
+    → look (after s) t (joined s a b c) buf e others ≡ unless_found f n others
+look_2 s t a b c buf e n f others found ends = look_of (after s) t (joined s a b c) buf e n f others (found
+    ∙ sym (found_2 s a b c e)) (ends ∙ ap (next_round (after s) f) (sym (ends_2 s t a b c buf e)))
 
-look_3 : (s : Source) (t : ℕ) (a b c : Answers) (e n : Ends) (f : Option Found) (others : Ends → Option Found × Ends)
-    → f ≡ found_at (after (after s)) c e → n ≡ next_round (after (after s)) f (looked_at (after (after s)) t c e)
-    → look (after (after s)) t (joined s a b c) e others ≡ unless_found f n others
-look_3 s t a b c e n f others found ends = look_of (after (after s)) t (joined s a b c) e n f others (found
-    ∙ sym (found_3 s a b c e)) (ends ∙ ap (next_round (after (after s)) f) (sym (ends_3 s t a b c e)))
+look_3 : (s : Source) (t : ℕ) (a b c : Answers) (buf : List ℕ) (e n : Ends) (f : Option Found) (others : Ends
+    → Option Found × Ends)
+    → f ≡ found_at (after (after s)) c e → n ≡ next_round (after (after s)) f (looked_at (after (after s)) t c buf e)
+    → look (after (after s)) t (joined s a b c) buf e others ≡ unless_found f n others
+look_3 s t a b c buf e n f others found ends = look_of (after (after s)) t (joined s a b c) buf e n f others (found
+    ∙ sym (found_3 s a b c e)) (ends ∙ ap (next_round (after (after s)) f) (sym (ends_3 s t a b c buf e)))
 
 -- no cut is due, and no moment too far behind
-plain : (t : ℕ) (answers : Answers) (old : Ends) → old.is_cut_due ≡ false → is_behind old.timing t ≡ false
-    → turn t answers old ≡ round t answers old
-plain t answers old due level = ap (λ b. turn_by b t answers old) due ∙ ap (λ b. sources_by b t answers old) level
+plain : (t : ℕ) (answers : Answers) (buf : List ℕ) (old : Ends) → old.is_cut_due ≡ false
+    → is_behind old.timing t ≡ false
+    → turn t answers buf old ≡ round t answers buf old
+plain t answers buf old due level = ap (λ b. turn_by b t answers buf old) due
+    ∙ ap (λ b. sources_by b t answers buf old) level
 
 last_look : (f : Option Found) (n : Ends) → unless_found f n nothing_more ≡ (f, n)
 last_look None n = refl
 last_look (Some f) n = refl
 
 -- the line alone is looked at
-pub line_turn : (t : ℕ) (old new : Ends) (f : Option Found) → old.is_cut_due ≡ false → is_behind old.timing t ≡ true
-    → Looks Line t old f new → IsTurn t old f new
-line_turn t old new f due behind l =
+pub line_turn : (t : ℕ) (buf : List ℕ) (old new : Ends) (f : Option Found) → old.is_cut_due ≡ false
+    → is_behind old.timing t ≡ true → Looks Line t old f buf new → IsTurn t old f buf new
+line_turn t buf old new f due behind l =
     let a = answers_for f new in
     record {
       answers = a;
       visitor = l.visitor;
-      turned = sym (ap (λ b. turn_by b t a old) due ∙ (ap (λ b. sources_by b t a old) behind
-          ∙ (look_of Line t a old new f nothing_more l.found l.ends ∙ last_look f new)));
+      turned = sym (ap (λ b. turn_by b t a buf old) due ∙ (ap (λ b. sources_by b t a buf old) behind
+          ∙ (look_of Line t a buf old new f nothing_more l.found l.ends ∙ last_look f new)));
     }
 
 -- the first look finds something
-pub first_turn : (t : ℕ) (old new : Ends) (f : Found) → old.is_cut_due ≡ false → is_behind old.timing t ≡ false
-    → Looks old.first t old (Some f) new → IsTurn t old (Some f) new
-first_turn t old new f due level l =
+pub first_turn : (t : ℕ) (buf : List ℕ) (old new : Ends) (f : Found) → old.is_cut_due ≡ false
+    → is_behind old.timing t ≡ false → Looks old.first t old (Some f) buf new → IsTurn t old (Some f) buf new
+first_turn t buf old new f due level l =
     let a = answers_for (Some f) new in
     record {
       answers = joined old.first a a a;
       visitor = visitor_of old.guests old.first a a a l.visitor l.visitor l.visitor;
-      turned = sym (plain t (joined old.first a a a) old due level
-          ∙ look_1 old.first t a a a old new (Some f) _ l.found l.ends);
+      turned = sym (plain t (joined old.first a a a) buf old due level
+          ∙ look_1 old.first t a a a buf old new (Some f) _ l.found l.ends);
     }
 
 -- the second look finds something
-pub second_turn : (t : ℕ) (old mid new : Ends) (f : Found) → old.is_cut_due ≡ false → is_behind old.timing t ≡ false
-    → Looks old.first t old None mid → Looks (after old.first) t mid (Some f) new → IsTurn t old (Some f) new
-second_turn t old mid new f due level l m =
+pub second_turn : (t : ℕ) (before buf : List ℕ) (old mid new : Ends) (f : Found) → old.is_cut_due ≡ false
+    → is_behind old.timing t ≡ false → Looks old.first t old None before mid
+    → Looks (after old.first) t mid (Some f) buf new → IsTurn t old (Some f) buf new
+second_turn t before buf old mid new f due level first m =
     let a = answers_for None mid in
     let b = answers_for (Some f) new in
+    let l = quiet old.first t old mid before buf first in
     let P : Guests → Type 0 = λ g. IfSome b.visitor (IsGuest g) in
-    let second = subst P (same_guests old.first t old mid l) m.visitor in
+    let second = subst P (same_guests old.first t old mid buf l) m.visitor in
     record {
       answers = joined old.first a b b;
       visitor = visitor_of old.guests old.first a b b l.visitor second second;
-      turned = sym (plain t (joined old.first a b b) old due level
-          ∙ (look_1 old.first t a b b old mid None _ l.found l.ends
-          ∙ look_2 old.first t a b b mid new (Some f) _ m.found m.ends));
+      turned = sym (plain t (joined old.first a b b) buf old due level
+          ∙ (look_1 old.first t a b b buf old mid None _ l.found l.ends
+          ∙ look_2 old.first t a b b buf mid new (Some f) _ m.found m.ends));
     }
 
 -- the third look tells the turn
-pub third_turn : (t : ℕ) (old mid more new : Ends) (f : Option Found) → old.is_cut_due ≡ false
-    → is_behind old.timing t ≡ false → Looks old.first t old None mid → Looks (after old.first) t mid None more
-    → Looks (after (after old.first)) t more f new → IsTurn t old f new
-third_turn t old mid more new f due level l m n =
+pub third_turn : (t : ℕ) (before then buf : List ℕ) (old mid more new : Ends) (f : Option Found)
+    → old.is_cut_due ≡ false → is_behind old.timing t ≡ false → Looks old.first t old None before mid
+    → Looks (after old.first) t mid None then more → Looks (after (after old.first)) t more f buf new
+    → IsTurn t old f buf new
+third_turn t before then buf old mid more new f due level first second n =
     let a = answers_for None mid in
     let b = answers_for None more in
     let c = answers_for f new in
-    let same = same_guests old.first t old mid l in
+    let l = quiet old.first t old mid before buf first in
+    let m = quiet (after old.first) t mid more then buf second in
+    let same = same_guests old.first t old mid buf l in
     let P : Guests → Type 0 = λ g. IfSome b.visitor (IsGuest g) in
     let Q : Guests → Type 0 = λ g. IfSome c.visitor (IsGuest g) in
-    let second = subst P same m.visitor in
-    let third = subst Q (same_guests (after old.first) t mid more m ∙ same) n.visitor in
+    let at_second = subst P same m.visitor in
+    let at_third = subst Q (same_guests (after old.first) t mid more buf m ∙ same) n.visitor in
     record {
       answers = joined old.first a b c;
-      visitor = visitor_of old.guests old.first a b c l.visitor second third;
-      turned = sym (plain t (joined old.first a b c) old due level
-          ∙ (look_1 old.first t a b c old mid None _ l.found l.ends
-          ∙ (look_2 old.first t a b c mid more None _ m.found m.ends
-          ∙ (look_3 old.first t a b c more new f _ n.found n.ends ∙ last_look f new))));
+      visitor = visitor_of old.guests old.first a b c l.visitor at_second at_third;
+      turned = sym (plain t (joined old.first a b c) buf old due level
+          ∙ (look_1 old.first t a b c buf old mid None _ l.found l.ends
+          ∙ (look_2 old.first t a b c buf mid more None _ m.found m.ends
+          ∙ (look_3 old.first t a b c buf more new f _ n.found n.ends ∙ last_look f new))));
     }
 
 -- octets that came too far behind the clock
@@ -201,17 +232,17 @@ told_level now old f event level told = record {
 }
 
 -- a turn, with its event
-pub turned : (old found new : Ends) (begun now : ℕ) (f : Option Found) (event : Next) →
-    is_wall_due old.walled begun ≡ false → IsTurn begun (looking (told_at begun old)) f found →
-    IsTold now (told_at now found) f event new → Turns old event new
-turned old found new begun now f event due turn told =
-    let t : TurnsToEnds old event new =
+pub turned : (old found new : Ends) (begun now : ℕ) (f : Option Found) (event : Next) (buf : List ℕ) →
+    is_wall_due old.walled begun ≡ false → IsTurn begun (looking (told_at begun old)) f buf found →
+    IsTold now (told_at now found) f event new → Turns old event buf new
+turned old found new begun now f event buf due turn told =
+    let t : TurnsToEnds old event buf new =
     record { begun = begun; due = due; now = now; f = f; found = found; turn = turn; told = told } in
     inr t
 
 -- the wall clock, which is due
-pub turned_to_wall : (old new : Ends) (begun : ℕ) (event : Next) → is_wall_due old.walled begun ≡ true →
-    IsWallTold begun (told_at begun old) event new → Turns old event new
-turned_to_wall old new begun event due told =
+pub turned_to_wall : (old new : Ends) (begun : ℕ) (event : Next) (buf : List ℕ) → is_wall_due old.walled begun ≡ true →
+    IsWallTold begun (told_at begun old) event new → Turns old event buf new
+turned_to_wall old new begun event buf due told =
     let t : TurnsToWall old event new = record { begun = begun; due = due; told = told } in
     inl t

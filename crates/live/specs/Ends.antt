@@ -1,6 +1,7 @@
 -- The ends of a live run, and what its port does with them (this gateway's own profile).
-use Rattle.std.specs.Prelude.{ℕ, ◌+◌, ◌-◌, ◌≤◌, ◌⊎◌, List, Bool, true, false, not, Option, Some, None, IfSome, ◌≡◌}
-use Rattle.gateway.specs.Log.{Output, LineOut, TcpOut, Closed, GapOut}
+use Rattle.std.specs.Prelude.{ℕ, ◌+◌, ◌-◌, ◌≤◌, ◌⊎◌, List, ◌∷◌, ◌++◌, Bool, true, false, not, Option, Some, None, IfSome, ◌≡◌}
+use Rattle.gateway.specs.Log.{Log, Went, Output, LineOut, TcpOut, Closed, GapOut}
+use Rattle.gateway.specs.Ports.{told_by}
 use Rattle.gateway.specs.declared.ports.Next.{Next}
 use Rattle.gateway.specs.declared.ports.Next.TheVariants as next
 use Rattle.session.specs.declared.kinds.Close.{Close}
@@ -8,7 +9,7 @@ use Rattle.session.specs.declared.kinds.Close.TheVariants.{Replaced}
 use Rattle.std.specs.declared.net.ip_addr.IpAddr.{IpAddr}
 use Rattle.live.specs.Guests.{LetsIn}
 use Rattle.live.specs.declared.guests.Guests.{Guests}
-use Rattle.live.specs.Wires.{Looked, Wrote, History, noted, IsNew, Visits, visited}
+use Rattle.live.specs.Wires.{looked, Wrote, History, noted, IsNew, Visits, visited}
 use Rattle.live.specs.declared.wires.Got.{Got}
 use Rattle.live.specs.declared.wires.Got.TheVariants.{Octets, Quiet, Gone}
 use Rattle.live.specs.Timing.{Moments, read_at, moment_at, is_behind, heard_at, asked_at}
@@ -32,8 +33,8 @@ pub record IsGuest (guests : Guests) (peer : Peer) : Type 0 where
 
 -- Who may come in; what happened at the line, at the connection, if there is one, at the door, and
 -- what the clock told; the source that is looked at first; whether a write to the connection
--- failed, so that a cut is due; how often the line was gone; what tells the moment of an event; and
--- what the wall clock showed, and when it was told last.
+-- failed, so that a cut is due; how often the line was gone; what tells the moment of an event;
+-- what the wall clock showed, and when it was told last; and the log, the newest entry first.
 pub record Ends : Type 0 where
   pub guests : Guests
   pub line : History
@@ -46,6 +47,7 @@ pub record Ends : Type 0 where
   pub timing : Timing
   pub walls : Moments
   pub walled : Walled
+  pub log : Log
 
 -- the sources in their round
 abbrev pub after : Source → Source
@@ -94,18 +96,18 @@ let_in (Some visitor) ends =
     record ends { door = visited ends.door true; connection = Some visitor }
 
 -- a connection that is gone is none any more
-abbrev pub read_open : History → Got → Option History
-read_open wire (Octets len) = Some (noted wire (Looked (Octets len)))
-read_open wire Quiet = Some (noted wire (Looked Quiet))
-read_open wire Gone = None
+abbrev pub read_open : History → Got → (buf : List ℕ) → Option History
+read_open wire (Octets len) buf = Some (noted wire (looked (Octets len) buf))
+read_open wire Quiet buf = Some (noted wire (looked Quiet buf))
+read_open wire Gone buf = None
 
 abbrev pub at_address : IpAddr → Option History → Option Peer
 at_address address None = None
 at_address address (Some wire) = Some (record { address = address; wire = wire })
 
-abbrev pub read_from : Option Peer → Got → Option Peer
-read_from None got = None
-read_from (Some peer) got = at_address peer.address (read_open peer.wire got)
+abbrev pub read_from : Option Peer → Got → (buf : List ℕ) → Option Peer
+read_from None got buf = None
+read_from (Some peer) got buf = at_address peer.address (read_open peer.wire got buf)
 
 -- a line that is gone has failed once more
 abbrev pub failed_by : Got → ℕ → ℕ
@@ -113,13 +115,14 @@ failed_by (Octets len) failed = failed
 failed_by Quiet failed = failed
 failed_by Gone failed = failed + 1
 
--- the ends after a look at a source, before which the clock told this moment
-abbrev pub looked_at : Source → ℕ → Answers → Ends → Ends
-looked_at Door begun answers ends = let_in answers.visitor ends
-looked_at Connection begun answers ends =
-    record ends { connection = read_from ends.connection answers.connection }
-looked_at Line begun answers ends = record ends {
-  line = noted ends.line (Looked answers.line);
+-- the ends after a look at a source, before which the clock told this moment, and after which the
+-- buffer has this
+abbrev pub looked_at : Source → ℕ → Answers → (buf : List ℕ) → Ends → Ends
+looked_at Door begun answers buf ends = let_in answers.visitor ends
+looked_at Connection begun answers buf ends =
+    record ends { connection = read_from ends.connection answers.connection buf }
+looked_at Line begun answers buf ends = record ends {
+  line = noted ends.line (looked answers.line buf);
   failed = failed_by answers.line ends.failed;
   timing = heard_at begun ends.timing;
 }
@@ -134,38 +137,40 @@ abbrev pub unless_found : Option Found → Ends → (Ends → Option Found × En
 unless_found None ends others = others ends
 unless_found (Some f) ends others = (Some f, ends)
 
-abbrev pub look : Source → ℕ → Answers → Ends → (Ends → Option Found × Ends) → Option Found × Ends
-look source begun answers ends others =
+abbrev pub look : Source → ℕ → Answers → (buf : List ℕ) → Ends → (Ends → Option Found × Ends)
+    → Option Found × Ends
+look source begun answers buf ends others =
     let f = found_at source answers ends in
-    unless_found f (next_round source f (looked_at source begun answers ends)) others
+    unless_found f (next_round source f (looked_at source begun answers buf ends)) others
 
 -- no other is looked at
 abbrev pub nothing_more : Ends → Option Found × Ends
 nothing_more ends = (None, ends)
 
 -- The sources are looked at in turn, beginning with `first`, until something is found; the next
--- round begins after that source.
-abbrev pub round : ℕ → Answers → Ends → Option Found × Ends
-round begun answers ends =
-    look ends.first begun answers ends
-    (λ e. look (after ends.first) begun answers e
-    (λ e. look (after (after ends.first)) begun answers e nothing_more))
+-- round begins after that source. The buffer has what the last look put there.
+abbrev pub round : ℕ → Answers → (buf : List ℕ) → Ends → Option Found × Ends
+round begun answers buf ends =
+    look ends.first begun answers buf ends
+    (λ e. look (after ends.first) begun answers buf e
+    (λ e. look (after (after ends.first)) begun answers buf e nothing_more))
 
 -- Where the moment of an event would be too far behind the clock, the line alone is looked at.
-abbrev pub sources_by : Bool → ℕ → Answers → Ends → Option Found × Ends
-sources_by true begun answers ends = look Line begun answers ends nothing_more
-sources_by false begun answers ends = round begun answers ends
+abbrev pub sources_by : Bool → ℕ → Answers → (buf : List ℕ) → Ends → Option Found × Ends
+sources_by true begun answers buf ends = look Line begun answers buf ends nothing_more
+sources_by false begun answers buf ends = round begun answers buf ends
 
 -- a cut that is due comes before any source is looked at, as an event of the connection, which is
 -- no more
-abbrev pub turn_by : Bool → ℕ → Answers → Ends → Option Found × Ends
-turn_by true begun answers ends =
+abbrev pub turn_by : Bool → ℕ → Answers → (buf : List ℕ) → Ends → Option Found × Ends
+turn_by true begun answers buf ends =
     let cut = record ends { connection = None; first = after Connection; is_cut_due = false } in
     (Some found.Cut, cut)
-turn_by false begun answers ends = sources_by (is_behind ends.timing begun) begun answers ends
+turn_by false begun answers buf ends =
+    sources_by (is_behind ends.timing begun) begun answers buf ends
 
-abbrev pub turn : ℕ → Answers → Ends → Option Found × Ends
-turn begun answers ends = turn_by ends.is_cut_due begun answers ends
+abbrev pub turn : ℕ → Answers → (buf : List ℕ) → Ends → Option Found × Ends
+turn begun answers buf ends = turn_by ends.is_cut_due begun answers buf ends
 
 -- Octets of the connection that would bear a moment too far behind the clock aren't taken: the
 -- connection is cut.
@@ -201,10 +206,11 @@ event_at now (Some (found.Line len)) = next.Line now len
 event_at now (Some found.Fault) = next.Fault
 
 -- what was found, and the ends after it, are those of a turn in which the ends answered so
-pub record IsTurn (begun : ℕ) (old : Ends) (f : Option Found) (new : Ends) : Type 0 where
+pub record IsTurn (begun : ℕ) (old : Ends) (f : Option Found) (buf : List ℕ) (new : Ends)
+    : Type 0 where
   pub answers : Answers
   pub visitor : IfSome answers.visitor (IsGuest old.guests)
-  pub turned : (f, new) ≡ turn begun answers old
+  pub turned : (f, new) ≡ turn begun answers buf old
 
 -- the clock tells this moment
 abbrev pub told_at : ℕ → Ends → Ends
@@ -242,17 +248,26 @@ looking ends = record ends { walled = record ends.walled { has_looked = true } }
 
 -- Where it isn't due the clock is read before the looks and after them, and what was found is an
 -- event of the moment that is due.
-pub record TurnsToEnds (old : Ends) (event : Next) (new : Ends) : Type 0 where
+pub record TurnsToEnds (old : Ends) (event : Next) (buf : List ℕ) (new : Ends) : Type 0 where
   pub begun : ℕ
   pub due : is_wall_due old.walled begun ≡ false
   pub now : ℕ
   pub f : Option Found
   pub found : Ends
-  pub turn : IsTurn begun (looking (told_at begun old)) f found
+  pub turn : IsTurn begun (looking (told_at begun old)) f buf found
   pub told : IsTold now (told_at now found) f event new
 
-abbrev pub Turns : Ends → Next → Ends → Type 0
-Turns old event new = TurnsToWall old event new ⊎ TurnsToEnds old event new
+abbrev pub Turns : Ends → Next → (buf : List ℕ) → Ends → Type 0
+Turns old event buf new = TurnsToWall old event new ⊎ TurnsToEnds old event buf new
+
+-- with this log
+abbrev pub as_logged : Log → Ends → Ends
+as_logged log ends = record ends { log = log }
+
+-- The ends turned so, and the log has what the event tells. Its octets are the front of the buffer.
+pub record LogsTurn (old : Ends) (event : Next) (buf : List ℕ) (new : Ends) : Type 0 where
+  pub turns : Turns old event buf (as_logged old.log new)
+  pub logged : new.log ≡ told_by event buf ++ old.log
 
 -- the ends after octets for the connection: they are dropped where there is none, and where a cut
 -- is due
@@ -295,3 +310,8 @@ pub record Puts (old : Ends) (moment : ℕ) (action : Output) (new : Ends) : Typ
   pub written : ℕ
   pub taken : Bool
   pub done : new ≡ after_action moment action written taken old
+
+-- the action was put out so, and the log has it
+pub record LogsPut (old : Ends) (moment : ℕ) (action : Output) (new : Ends) : Type 0 where
+  pub puts : Puts old moment action (as_logged old.log new)
+  pub logged : new.log ≡ Went moment action ∷ old.log

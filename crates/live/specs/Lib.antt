@@ -7,3 +7,4 @@ pub mod Looks
 pub mod Streams
 pub mod Redial
 pub mod Law
+pub mod Passed

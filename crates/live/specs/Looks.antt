@@ -1,5 +1,5 @@
 -- One look at one source, told by what it found (this gateway's own profile).
-use Rattle.std.specs.Prelude.{◌≡◌, ℕ, Option, Some, None, IfSome}
+use Rattle.std.specs.Prelude.{◌≡◌, ℕ, List, Option, Some, None, IfSome}
 use Rattle.live.specs.Ends.{Ends, Peer, IsGuest, Answers, found_at, looked_at, next_round}
 use Rattle.live.specs.declared.found.Found.{Found}
 use Rattle.live.specs.declared.found.Found.TheVariants as found
@@ -29,15 +29,15 @@ answers_for f new = record {
 }
 
 -- such answers of a source give what was found, and the ends after it
-pub record LooksAt (source : Source) (begun : ℕ) (old : Ends) (f : Option Found) (new : Ends)
-    : Type 0 where
+pub record LooksAt (source : Source) (begun : ℕ) (old : Ends) (f : Option Found) (buf : List ℕ)
+    (new : Ends) : Type 0 where
   pub visitor : IfSome (answers_for f new).visitor (IsGuest old.guests)
   pub found : f ≡ found_at source (answers_for f new) old
-  pub ends : new ≡ looked_at source begun (answers_for f new) old
+  pub ends : new ≡ looked_at source begun (answers_for f new) buf old
 
 -- and the next round begins after the source, where something was found
-pub record Looks (source : Source) (begun : ℕ) (old : Ends) (f : Option Found) (new : Ends)
-    : Type 0 where
+pub record Looks (source : Source) (begun : ℕ) (old : Ends) (f : Option Found) (buf : List ℕ)
+    (new : Ends) : Type 0 where
   pub visitor : IfSome (answers_for f new).visitor (IsGuest old.guests)
   pub found : f ≡ found_at source (answers_for f new) old
-  pub ends : new ≡ next_round source f (looked_at source begun (answers_for f new) old)
+  pub ends : new ≡ next_round source f (looked_at source begun (answers_for f new) buf old)

@@ -42,17 +42,19 @@ quieted Gone = Quiet
 
 -- A look: at the wire, if there is one, which is none any more where it has gone; else it is tried
 -- to reach one.
-abbrev pub looked_by : Option History → ℕ → Option History → Got → Redial → Got × Redial
-looked_by None now reached got r =
+abbrev pub looked_by : Option History → ℕ → Option History → Got → (buf : List ℕ) → Redial
+    → Got × Redial
+looked_by None now reached got buf r =
     (Quiet, tried_by (is_due r.tried now) now reached (told_at now r))
-looked_by (Some wire) now reached got r = (quieted got, record r { wire = read_open wire got })
+looked_by (Some wire) now reached got buf r =
+    (quieted got, record r { wire = read_open wire got buf })
 
-pub record IsRedialled (old : Redial) (got : Got) (new : Redial) : Type 0 where
+pub record IsRedialled (old : Redial) (got : Got) (buf : List ℕ) (new : Redial) : Type 0 where
   pub now : ℕ
   pub reached : Option History
   pub is_new : IfSome reached IsNew
   pub found : Got
-  pub looked : (got, new) ≡ looked_by old.wire now reached found old
+  pub looked : (got, new) ≡ looked_by old.wire now reached found buf old
 
 -- octets are put on the wire, if there is one; else they aren't taken
 abbrev pub put_by : Option History → List ℕ → Bool → Redial → Bool × Redial

@@ -1,5 +1,5 @@
 -- What a wire answers, and what it tells of it (this gateway's own profile).
-use Rattle.std.specs.Prelude.{◌≡◌, ℕ, ◌≤◌, List, [], ◌∷◌, Bool, Option, Some, None}
+use Rattle.std.specs.Prelude.{◌≡◌, ℕ, ◌≤◌, List, [], ◌∷◌, take, Bool, Option, Some, None}
 use Rattle.live.specs.declared.wires.Got.{Got}
 use Rattle.live.specs.declared.wires.Got.TheVariants.{Octets, Quiet, Gone}
 
@@ -9,10 +9,19 @@ FitsBuffer (Octets len) = (1 ≤ len) × (len ≤ 1024)
 FitsBuffer Quiet = Unit {0}
 FitsBuffer Gone = Unit {0}
 
--- what happens at a wire: a look with what it found, or octets put on it, and whether it took them
+-- what happens at a wire: a look, at which it gave octets, was quiet, or was gone, or octets put on
+-- it, and whether it took them
 pub data Happening : Type 0 where
-  Looked : (got : Got) → Happening
+  Gave : (octets : List ℕ) → Happening
+  WasQuiet : Happening
+  WasGone : Happening
   Wrote : (octets : List ℕ) → (taken : Bool) → Happening
+
+-- a look that found this; its octets are the front of the buffer
+abbrev pub looked : Got → (buf : List ℕ) → Happening
+looked (Octets len) buf = Gave (take len buf)
+looked Quiet buf = WasQuiet
+looked Gone buf = WasGone
 
 -- what has happened at a wire, the newest first, where it tells that
 abbrev pub History : Type 0

@@ -1,9 +1,10 @@
 //! Laws of the port over live ends, in the terms of the clock, the requests and the looks at the
 //! line.
-ghost use Rattle.std.specs.Prelude.{◌≡◌, ◌+◌, ◌-◌, ◌<◌, ◌≤◌, Some, true, false};
+ghost use Rattle.std.specs.Prelude.{◌≡◌, ◌+◌, ◌-◌, ◌<◌, ◌≤◌, ℕ, List, [], ◌∷◌, Some, true, false};
 ghost use Rattle.gateway.specs.declared.ports.Next.{Next};
-ghost use Rattle.live.specs.Ends.{Ends, Turns};
+ghost use Rattle.live.specs.Ends.{Ends, LogsTurn};
 ghost use Rattle.live.specs.Law.{AtMoment, AtBytes, AtClock, KeepsOut};
+ghost use Rattle.live.specs.Passed.{IsFresh, Run, TellsEnds, line_in, line_out, centre_in, centre_out, opened_in, let_in_at, given, handed, taken_of, example_log, example_line};
 ghost use Rattle.live.specs.Walls.{is_wall};
 ghost use Rattle.live.specs.declared.timing.Request.{Request};
 
@@ -12,8 +13,8 @@ ghost use Rattle.live.specs.declared.timing.Request.{Request};
 /// ends no exchange whose answer waits.
 #[tactic(auto, using(crate::proofs::Law::heard_out))]
 pub fn no_exchange_ends_unheard()
-    ensures { (old new : Ends) (event : Next) (r : Request) → Turns old event new →
-        new.timing.request ≡ Some r → 0 < new.timing.answer_ms →
+    ensures { (old new : Ends) (event : Next) (buf : List ℕ) (r : Request) →
+        LogsTurn old event buf new → new.timing.request ≡ Some r → 0 < new.timing.answer_ms →
         AtMoment event (λ moment. r.moment + new.timing.answer_ms ≤ moment →
         new.timing.answer_ms ≤ new.timing.heard - r.written) }
 {}
@@ -22,25 +23,50 @@ pub fn no_exchange_ends_unheard()
 /// the clock told last: no stall makes a selection longer than that.
 #[tactic(auto, using(crate::proofs::Law::in_time))]
 pub fn what_the_centre_sent_is_told_in_time()
-    ensures { (old new : Ends) (event : Next) → Turns old event new →
+    ensures { (old new : Ends) (event : Next) (buf : List ℕ) → LogsTurn old event buf new →
         AtClock new.clock (λ now. AtBytes event (λ moment. now ≤ moment + 50)) }
 {}
 
 /// Looks at the ends leave the latest request and `answer_ms` as they were.
 pub fn looks_ask_nothing()
-    ensures { (old new : Ends) (event : Next) → Turns old event new →
+    ensures { (old new : Ends) (event : Next) (buf : List ℕ) → LogsTurn old event buf new →
         (new.timing.request ≡ old.timing.request) × (new.timing.answer_ms ≡ old.timing.answer_ms) }
 {}
 
 /// Nobody but a guest comes in: an event that opens a connection opens one of a guest, and who is
 /// none leaves the open connection as it was.
 pub fn nobody_but_guests_comes_in()
-    ensures { (old new : Ends) (event : Next) → Turns old event new → KeepsOut old event new }
+    ensures { (old new : Ends) (event : Next) (buf : List ℕ) → LogsTurn old event buf new →
+        KeepsOut old event new }
 {}
 
 /// Two events that follow each other never both tell the wall clock: whatever the gateway stalls,
 /// the ends are looked at in between.
 pub fn the_ends_are_looked_at_between_wall_moments()
-    ensures { (a b c : Ends) (first second : Next) → Turns a first b → Turns b second c →
-        is_wall first ≡ true → is_wall second ≡ false }
+    ensures { (a b c : Ends) (first second : Next) (buf more : List ℕ) →
+        LogsTurn a first buf b → LogsTurn b second more c → is_wall first ≡ true →
+        is_wall second ≡ false }
+{}
+
+/// The log tells what passed at the wires. After any run in which nothing had been logged before,
+/// where the line and the connection tell what happens at them: the octets that came from the line,
+/// by the log, are those that its wire gave, and each request that went there was handed to it,
+/// whole and in that order; the octets that came on the open connection are those that its wire
+/// gave, and, while no cut is due, each APDU that went there was handed to it and taken; and where
+/// the door tells whom it let in, as many connections were opened.
+pub fn the_log_tells_what_passed()
+    ensures { (start end : Ends) → IsFresh start → Run start end → TellsEnds end.log end }
+{}
+
+/// What the words of that law count, by worked examples: the octets and requests of a log, those of
+/// a line that didn't take its last request, and those of a log whose second connection is open.
+pub fn what_passed_by_example()
+    ensures line { (line_in example_log ≡ 1 ∷ 2 ∷ 3 ∷ [])
+        × (line_out example_log ≡ (16 ∷ 4 ∷ []) ∷ (16 ∷ []) ∷ []) }
+    ensures centre { (centre_in example_log ≡ 8 ∷ 9 ∷ [])
+        × (centre_out example_log ≡ (104 ∷ []) ∷ []) × (opened_in example_log ≡ 2) }
+    ensures wire { (given example_line ≡ 1 ∷ 2 ∷ 3 ∷ [])
+        × (handed example_line ≡ (16 ∷ 4 ∷ []) ∷ (16 ∷ []) ∷ [])
+        × (taken_of example_line ≡ (16 ∷ []) ∷ []) }
+    ensures door { let_in_at (true ∷ false ∷ true ∷ []) ≡ 2 }
 {}

@@ -25,6 +25,10 @@
 //! have been looked at in between ([`the_ends_are_looked_at_between_wall_moments`]): as it stood at
 //! the moment that the event bears. A wall clock that is set is told as it then shows.
 //!
+//! It tells its log, and stores none of it: each event that it gave and each action that it put
+//! out. Where the ends tell what happens at them, the log's octets are those that the line and the
+//! open connection gave and were handed ([`the_log_tells_what_passed`]).
+//!
 //! [`Redialled`] is a wire that is reached again where it has gone: proved, for any dialler that
 //! tells its tries, is that it is quiet and takes nothing while it is away, is tried at once and
 //! then every second, and begins as a new wire each time.
@@ -55,7 +59,8 @@ mod wires;
 pub use guests::Guests;
 pub use laws::{
     looks_ask_nothing, no_exchange_ends_unheard, nobody_but_guests_comes_in,
-    the_ends_are_looked_at_between_wall_moments, what_the_centre_sent_is_told_in_time,
+    the_ends_are_looked_at_between_wall_moments, the_log_tells_what_passed, what_passed_by_example,
+    what_the_centre_sent_is_told_in_time,
 };
 pub use port::Live;
 pub use redial::{Dialler, Redialled};

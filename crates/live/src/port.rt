@@ -1,7 +1,7 @@
 //! The port over live ends.
-ghost use Rattle.std.specs.Prelude.{◌≡◌, ℕ, ◌+◌, ◌<◌, true, false, List, [], None, IfSome, option_map};
+ghost use Rattle.std.specs.Prelude.{◌≡◌, ◌≢◌, ℕ, ◌+◌, ◌<◌, true, false, List, [], ◌∷◌, ◌++◌, Some, None, IfSome, option_map};
 ghost use Rattle.gateway.specs.Ports.{FitsBuffer, faults_of, output_of, told_by};
-ghost use Rattle.live.specs.Ends.{Ends, Peer, told_at, IsTurn, IsTold, IsWallTold, Turns, Puts, FitsFound, IsWritten, faults_in};
+ghost use Rattle.live.specs.Ends.{Ends, Peer, told_at, IsTurn, IsTold, IsWallTold, Turns, Puts, LogsTurn, LogsPut, as_logged, FitsFound, IsWritten, faults_in};
 ghost use Rattle.live.specs.Timing.{is_behind, moment_at};
 ghost use Rattle.live.specs.Looks.{Looks, LooksAt};
 ghost use Rattle.live.specs.Walls.{untold};
@@ -14,12 +14,13 @@ use crate::source::Source;
 use crate::timing::Timing;
 use crate::walled::Walled;
 use crate::wires::{Clock, CutCause, Door, Got, Reached, SentAway, Visitor, Wire};
-use gateway::{Action, Next, Port};
+use gateway::{Action, History, Next, Port};
 use session::Close;
 use std::marker::Model;
 use std::net::IpAddr;
 
-/// The port over a line, a door and a clock. It tells no log.
+/// The port over a line, a door and a clock. It tells its log: each event that it gave and each
+/// action that it put out, of which it stores none.
 #[derive(Drop)]
 pub struct Live<L: Wire, D: Door + Drop, C: Clock + Drop> {
     line: L,
@@ -36,6 +37,8 @@ pub struct Live<L: Wire, D: Door + Drop, C: Clock + Drop> {
     failures: u64,
     timing: Timing,
     walled: Walled,
+    /// What was told and put out, for proofs alone.
+    history: History,
 }
 
 impl<L: Wire, D: Door + Drop, C: Clock + Drop> Model for Live<L, D, C> {
@@ -59,6 +62,7 @@ impl<L: Wire, D: Door + Drop, C: Clock + Drop> Model for Live<L, D, C> {
       timing = a.timing;
       walls = C.walls a.clock;
       walled = a.walled;
+      log = a.history.entries;
     } };
 }
 
@@ -80,6 +84,7 @@ impl<L: Wire, D: Door + Drop, C: Clock + Drop> Live<L, D, C> {
           timing = record { answer_ms = answer_ms; heard = 0; request = None };
           walls = C.walls clock;
           walled = untold;
+          log = [];
         } }
     {
         Live {
@@ -98,6 +103,7 @@ impl<L: Wire, D: Door + Drop, C: Clock + Drop> Live<L, D, C> {
                 request: None,
             },
             walled: Walled::new(),
+            history: History::new(),
         }
     }
 
@@ -145,7 +151,7 @@ impl<L: Wire, D: Door + Drop, C: Clock + Drop> Live<L, D, C> {
         requires { self.old.failed < u64.MAX }
         ensures fits { IfSome result FitsFound }
         ensures failed { self.new.failed ≡ self.old.failed + faults_in result }
-        ensures turn { IsTurn begun self.old result self.new }
+        ensures turn { IsTurn begun self.old result buf.new self.new }
     {
         if self.is_cut_due {
             self.is_cut_due = false;
@@ -175,7 +181,7 @@ impl<L: Wire, D: Door + Drop, C: Clock + Drop> Live<L, D, C> {
         requires { self.old.failed < u64.MAX }
         ensures fits { IfSome result FitsFound }
         ensures failed { self.new.failed ≡ self.old.failed + faults_in result }
-        ensures looks { Looks source begun self.old result self.new }
+        ensures looks { Looks source begun self.old result buf.new self.new }
     {
         let found = match source {
             Source::Door => self.look_at_door(),
@@ -192,7 +198,7 @@ impl<L: Wire, D: Door + Drop, C: Clock + Drop> Live<L, D, C> {
     fn look_at_door(&mut self) -> Option<Found>
         ensures fits { IfSome result FitsFound }
         ensures failed { self.new.failed ≡ self.old.failed + faults_in result }
-        ensures looks { LooksAt sources.Door 0 self.old result self.new }
+        ensures looks { LooksAt sources.Door 0 self.old result [] self.new }
     {
         match self.door.accept(&self.guests) {
             Some(visitor) => {
@@ -207,7 +213,7 @@ impl<L: Wire, D: Door + Drop, C: Clock + Drop> Live<L, D, C> {
     fn look_at_connection(&mut self, buf: &mut [u8; 1024]) -> Option<Found>
         ensures fits { IfSome result FitsFound }
         ensures failed { self.new.failed ≡ self.old.failed + faults_in result }
-        ensures looks { LooksAt sources.Connection 0 self.old result self.new }
+        ensures looks { LooksAt sources.Connection 0 self.old result buf.new self.new }
     {
         let Some(visitor) = self.connection.as_mut() else {
             return None;
@@ -227,7 +233,7 @@ impl<L: Wire, D: Door + Drop, C: Clock + Drop> Live<L, D, C> {
         requires { self.old.failed < u64.MAX }
         ensures fits { IfSome result FitsFound }
         ensures failed { self.new.failed ≡ self.old.failed + faults_in result }
-        ensures looks { LooksAt sources.Line begun self.old result self.new }
+        ensures looks { LooksAt sources.Line begun self.old result buf.new self.new }
     {
         self.timing.hear(begun);
         match self.line.read(buf) {
@@ -288,34 +294,16 @@ impl<L: Wire, D: Door + Drop, C: Clock + Drop> Live<L, D, C> {
             }
         }
     }
-}
 
-impl<L: Wire + Reached, D: Door + Drop, C: Clock + Drop> Live<L, D, C> {
-    /// The line is there.
-    pub(crate) fn is_line_there(&self) -> bool {
-        self.line.is_reached()
-    }
-}
-
-impl<L: Wire, D: Door + Drop, C: Clock + Drop> Port for Live<L, D, C> {
-    ghost log = { λ _. None };
-
-    ghost failed = { λ ends. ends.failed };
-
-    ghost ended = { λ _. false };
-
-    ghost script = { λ _. [] };
-
-    /// The clock is read before the looks and after them. Where the wall clock is due it is told
-    /// instead.
+    /// What is next. The clock is read before the looks and after them. Where the wall clock is due
+    /// it is told instead.
     #[tactic(auto, using(crate::proofs::Turns::turned, crate::proofs::Turns::turned_to_wall))]
-    fn next(&mut self, buf: &mut [u8; 1024]) -> Next
+    fn find(&mut self, buf: &mut [u8; 1024]) -> Next
         requires { self.old.failed < u64.MAX }
-        ensures told { tell None (told_by result buf.new) ≡ None }
         ensures fits { FitsBuffer result }
-        ensures done { result ≡ Done → false ≡ true }
+        ensures done { result ≢ Done }
         ensures cause { self.new.failed ≡ self.old.failed + faults_of result }
-        ensures turns { Turns self.old result self.new }
+        ensures turns { Turns self.old result buf.new self.new }
     {
         // Before the looks: the line has been heard out only up to where a look begins.
         let begun = self.read_clock();
@@ -328,11 +316,10 @@ impl<L: Wire, D: Door + Drop, C: Clock + Drop> Port for Live<L, D, C> {
         self.tell(now, found)
     }
 
-    /// It never fails: what an end doesn't take is lost.
+    /// Puts an action out. What an end doesn't take is lost.
     #[tactic(auto, using(crate::proofs::Puts::put_line, crate::proofs::Puts::put_tcp, crate::proofs::Puts::put_close, crate::proofs::Puts::put_gap))]
-    fn put(&mut self, now: u64, action: &Action<'_>) -> bool
-        ensures done { result ≡ true }
-        ensures puts { Puts self.old now (output_of action.now) self.new }
+    fn put_out(&mut self, now: u64, action: &Action<'_>)
+        ensures { Puts self.old now (output_of action.now) self.new }
     {
         match action {
             // A request that the line doesn't take is lost.
@@ -351,6 +338,65 @@ impl<L: Wire, D: Door + Drop, C: Clock + Drop> Port for Live<L, D, C> {
             // Nobody at the ends is told of a gap.
             Action::Gap { .. } => {}
         }
+    }
+
+    /// The log gets what an event tells. Its octets are the front of the buffer.
+    fn log_event(&mut self, event: &Next, buf: &[u8; 1024])
+        ensures { self.new ≡ as_logged (told_by event.now buf.now ++ self.old.log) self.old }
+    {
+        self.history = self.history.came(event, buf);
+    }
+
+    /// The log gets an action of this moment.
+    fn log_action(&mut self, now: u64, action: &Action<'_>)
+        ensures { self.new
+            ≡ as_logged (Went now (output_of action.now) ∷ self.old.log) self.old }
+    {
+        self.history = self.history.went(&now, action);
+    }
+}
+
+impl<L: Wire + Reached, D: Door + Drop, C: Clock + Drop> Live<L, D, C> {
+    /// The line is there.
+    pub(crate) fn is_line_there(&self) -> bool {
+        self.line.is_reached()
+    }
+}
+
+impl<L: Wire, D: Door + Drop, C: Clock + Drop> Port for Live<L, D, C> {
+    ghost log = { λ ends. Some ends.log };
+
+    ghost failed = { λ ends. ends.failed };
+
+    ghost ended = { λ _. false };
+
+    ghost script = { λ _. [] };
+
+    /// The clock is read before the looks and after them. Where the wall clock is due it is told
+    /// instead.
+    fn next(&mut self, buf: &mut [u8; 1024]) -> Next
+        requires { self.old.failed < u64.MAX }
+        ensures told { Some self.new.log ≡ tell (Some self.old.log) (told_by result buf.new) }
+        ensures fits { FitsBuffer result }
+        ensures done { result ≡ Done → false ≡ true }
+        ensures cause { self.new.failed ≡ self.old.failed + faults_of result }
+        ensures turns { LogsTurn self.old result buf.new self.new }
+    {
+        let next = self.find(buf);
+        self.log_event(&next, buf);
+        next
+    }
+
+    /// It never fails: what an end doesn't take is lost.
+    #[tactic(auto, using(crate::proofs::Logs::put_told, crate::proofs::Logs::put_logged))]
+    fn put(&mut self, now: u64, action: &Action<'_>) -> bool
+        ensures done { result ≡ true }
+        ensures told { Some self.new.log
+            ≡ tell (Some self.old.log) (Went now (output_of action.now) ∷ []) }
+        ensures puts { LogsPut self.old now (output_of action.now) self.new }
+    {
+        self.put_out(now, action);
+        self.log_action(now, action);
         true
     }
 

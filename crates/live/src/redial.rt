@@ -1,8 +1,8 @@
 //! A wire that comes back.
-ghost use Rattle.std.specs.Prelude.{◌≡◌, ◌≢◌, None, IfSome, is_some};
+ghost use Rattle.std.specs.Prelude.{◌≡◌, ◌≢◌, ℕ, List, None, IfSome, is_some};
 ghost use Rattle.live.specs.Wires.{FitsBuffer, IsNew};
 ghost use Rattle.live.specs.Redial.{IsRedialled, IsTried, IsPut, is_due, told_at};
-ghost use Rattle.live.specs.declared.wires.Got.TheVariants.{Gone};
+ghost use Rattle.live.specs.declared.wires.Got.TheVariants.{Quiet, Gone};
 
 use crate::wires::{Clock, Got, Reached, Wire};
 use std::marker::Model;
@@ -88,7 +88,8 @@ impl<D: Dialler + Drop, C: Clock + Drop> Redialled<D, C> {
     #[tactic(auto, using(crate::proofs::Tries::away_due, crate::proofs::Tries::away_wait))]
     fn look_away(&mut self) -> Got
         requires { self.old.wire ≡ None }
-        ensures { IsRedialled self.old result self.new }
+        ensures quiet { result ≡ Quiet }
+        ensures redialled { (buf : List ℕ) → IsRedialled self.old result buf self.new }
     {
         let now = self.read_clock();
         if self.is_due(now) {
@@ -127,15 +128,15 @@ impl<D: Dialler + Drop, C: Clock + Drop> Reached for Redialled<D, C> {
 }
 
 impl<D: Dialler + Drop, C: Clock + Drop> Wire for Redialled<D, C> {
-    ghost use Rattle.live.specs.Wires.{noted, Looked, Wrote};
+    ghost use Rattle.live.specs.Wires.{noted, looked, Wrote};
 
     ghost history = { λ _. None };
 
     fn read(&mut self, buf: &mut [u8; 1024]) -> Got
         ensures fits { FitsBuffer result }
-        ensures told { None ≡ noted None (Looked result) }
+        ensures told { None ≡ noted None (looked result buf.new) }
         ensures stays { result ≢ Gone }
-        ensures redialled { IsRedialled self.old result self.new }
+        ensures redialled { IsRedialled self.old result buf.new self.new }
     {
         let Some(wire) = &mut self.wire else {
             return self.look_away();

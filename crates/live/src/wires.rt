@@ -15,9 +15,10 @@ pub enum Got {
     Gone,
 }
 
-/// Octets both ways. A wire that tells what happens at it adds each call; dropping it shuts it.
+/// Octets both ways. A wire that tells what happens at it adds each call, with the octets that it
+/// gave or was handed; dropping it shuts it.
 pub trait Wire: Drop {
-    ghost use Rattle.live.specs.Wires.{History, FitsBuffer, Looked, Wrote, noted};
+    ghost use Rattle.live.specs.Wires.{History, FitsBuffer, looked, Wrote, noted};
 
     /// What has happened at it, the newest first, where it tells that.
     ghost history: { Self → History };
@@ -25,7 +26,7 @@ pub trait Wire: Drop {
     /// Looks once, without a long wait. Octets are put at the front of the buffer.
     fn read(&mut self, buf: &mut [u8; 1024]) -> Got
         ensures fits { FitsBuffer result }
-        ensures told { history self.new ≡ noted (history self.old) (Looked result) };
+        ensures told { history self.new ≡ noted (history self.old) (looked result buf.new) };
 
     /// Puts octets on it. `false` says that it didn't take them all.
     fn write(&mut self, octets: &[u8]) -> bool
