@@ -270,10 +270,16 @@ fn serve_recorded<P: Watched + Drop, W: Sheet + Drop, S: Sink + Drop>(
     requires { P.failed journal.old.port.port < u64.MAX }
     // Where the gateway begins with the state that the text of the record leads to, what is then
     // written is the text of a run that keeps every promise of a gateway with these settings.
-    ensures { (p : Setup) →
+    ensures text { (p : Setup) →
         Follows p gateway (told_first (log_of journal.old.port.pen) (P.log journal.old.port.port)) →
         Rests p (told_first (log_of journal.old.port.pen) (P.log journal.old.port.port)) →
         IsRecorded p journal.new.port.pen result }
+    // Where nothing is written down, so is the log that the port tells.
+    ensures faithful { (p : Setup) →
+        Follows p gateway (told_first (log_of journal.old.port.pen) (P.log journal.old.port.port)) →
+        Rests p (told_first (log_of journal.old.port.pen) (P.log journal.old.port.port)) →
+        HasRunFaithfully p
+        (told_first (log_of journal.new.port.pen) (P.log journal.new.port.port)) result }
 {
     let result = serve(gateway, journal);
     let _is_over = journal.port().is_over();
