@@ -470,10 +470,11 @@ impl Gateway {
     {
         line_keeps_the_procedures();
         self.offer_all();
-        let Some(request) = self.next_request() else {
-            return true;
-        };
-        port.put(self.moment(), &Action::Line(&request.octets))
+        let next = self.next_request();
+        match &next {
+            None => true,
+            Some(request) => port.put(self.moment(), &Action::Line(&request.octets)),
+        }
     }
 
     /// Takes one event, and puts out what follows from it: of the connection, then of the line,

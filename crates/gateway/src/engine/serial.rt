@@ -333,11 +333,14 @@ impl SerialSide {
             (is_polling self.old.line ≡ true) ⊎ (may_poll ≡ true) }
     {
         polls_wait_for_leave();
-        let request = self.line.next(moment, may_poll)?;
-        if request.kind == RequestKind::Command && !request.again {
-            self.commands.on_line(request.station);
+        // It is looked at where it stands: no request is moved.
+        let next = self.line.next(moment, may_poll);
+        if let Some(request) = &next {
+            if request.kind == RequestKind::Command && !request.again {
+                self.commands.on_line(request.station);
+            }
         }
-        Some(request)
+        next
     }
 
     /// Writes the frame of the oldest own answer, where one may be sent, and says how many octets
