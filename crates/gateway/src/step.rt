@@ -470,6 +470,10 @@ impl Gateway {
     {
         line_keeps_the_procedures();
         self.offer_all();
+        // Nothing is sought while an answer is awaited, as at each octet that comes in a piece.
+        if self.is_awaiting() {
+            return true;
+        }
         let next = self.next_request();
         match &next {
             None => true,

@@ -1,5 +1,5 @@
 //! The primary station of unbalanced transmission (IEC 60870-5-2).
-ghost use Rattle.std.specs.Prelude.{◌≡◌, ◌<◌, ◌≤◌, ◌+◌, List, [], All, length, map, take, drop, slice_index, ◌++◌, true, false, None, Some, IfSome, IfNone, IfOk, option_map, if◌then◌else◌};
+ghost use Rattle.std.specs.Prelude.{◌≡◌, ◌<◌, ◌≤◌, ◌+◌, List, [], All, length, map, take, drop, slice_index, ◌++◌, true, false, None, Some, IfSome, IfNone, IfOk, is_some, option_map, if◌then◌else◌};
 ghost use Rattle.link.specs.Counts.{saturated};
 ghost use Rattle.link.specs.Turns.{Over, station_at, wished, picked};
 ghost use Rattle.ft12.specs.Borrowed.{owned, FitsMemory};
@@ -288,6 +288,13 @@ impl Master {
         }
     }
 
+    /// Whether a request is outstanding, so that there is no next one.
+    pub fn is_awaiting(&self) -> bool
+        ensures { result ≡ is_some self.now.outstanding }
+    {
+        self.outstanding.is_some()
+    }
+
     /// The next request, at this moment in milliseconds: none where one is outstanding, or no
     /// station has any. With `may_poll` false no data are asked for, save by a poll that is
     /// unanswered and sent again at once. The request is to be put on the line: its exchange begins
@@ -296,7 +303,7 @@ impl Master {
         ensures state { self.new ≡ asked self.old now may_poll }
         ensures request { result ≡ option_map (request_of self.old) (sending self.old may_poll) }
     {
-        if self.outstanding.is_some() {
+        if self.is_awaiting() {
             return None;
         }
         self.begin_next(now, may_poll)
@@ -355,7 +362,7 @@ impl Master {
         self.begin(now, Chosen { station, wanted })
     }
 
-    #[inline]
+    #[inline(always)]
     fn begin(&mut self, now: u64, chosen: Chosen) -> Request
         requires { IsFittingChoice self.old (Some chosen) }
         ensures state { self.new ≡ after_choice self.old now (Some chosen) }
@@ -480,6 +487,7 @@ impl Master {
 
     /// Hears the frame that is the answer to the outstanding request, and says what came of the
     /// exchange. Asks for at most 253 octets of data.
+    #[inline(always)]
     pub fn hear<'a>(&mut self, frame: FrameRef<'a>) -> Outcome<'a>
         requires { FitsMemory frame }
         ensures state { self.new ≡ heard_from self.old self.old.outstanding (owned frame.entry) }
@@ -491,6 +499,7 @@ impl Master {
         }
     }
 
+    #[inline(always)]
     fn hear_for<'a>(&mut self, awaited: Awaited, frame: FrameRef<'a>) -> Outcome<'a>
         requires none { self.old.outstanding ≡ None }
         requires fits { FitsAsked self.old.settings.size awaited.request }

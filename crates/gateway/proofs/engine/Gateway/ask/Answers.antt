@@ -5,7 +5,7 @@ use Rattle.gateway.specs.Polls.{has_room}
 use Rattle.link.specs.Primary.{sending}
 use Rattle.link.specs.declared.request.Request.{Request}
 use Rattle.gateway.specs.State.{State, after_request}
-use Rattle.gateway.proofs.Events.{next_is, none_is, asked_none, asked_leaves}
+use Rattle.gateway.proofs.Events.{next_is, none_is, asked_none, asked_leaves, awaiting_none, awaiting_same}
 use Rattle.gateway.proofs.engine.Gateway.ask.Goals as goal
 
 pub returns-in-None-clause-kept : goal.returns-in-None-clause-kept
@@ -34,3 +34,11 @@ returns-in-Some-clause-kept g c = λ p h.
     (c.deref.ensures.0 ∙ ap (λ (r : Request). r.octets.items) next.2) (c.moment.ensures
     ∙ ap (λ (x : State). x.moment) c.next_request-next.ensures.state) (c.next_request-next.ensures.state
     ∙ ap (after_request r) next.1) put h
+
+pub returns-then-is_awaiting-clause-kept : goal.returns-then-is_awaiting-clause-kept
+returns-then-is_awaiting-clause-kept g c = λ p h.
+    let r : State = c.offer_all.new.self in
+    let some = sym c.is_awaiting.ensures ∙ c.if-is_awaiting.true in
+    asked_none c.line_keeps_the_procedures.ensures p _ c.args.self.now r r c.requires.told
+    (record { is = c.offer_all.ensures.state; tells = λ e t. c.offer_all.ensures.tells p.link p.addresses e t })
+    (awaiting_none r.serial.line (has_room r.centre.queue) some) (awaiting_same r some) h
