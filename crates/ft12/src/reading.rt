@@ -18,7 +18,7 @@ enum Tail {
     WrongEnd,
 }
 
-#[inline]
+#[inline(always)]
 fn tail_of(len: usize, octets: &[u8]) -> Tail
     ensures { IsTail len octets.now result }
 {

@@ -161,10 +161,15 @@ impl Gateway {
         ensures puts { Puts P.log P.script P.failed port.old port.new (faults_unless result) }
     {
         calls_come_to_an_end();
-        if !self.send_due(port) {
-            return false;
+        match self.pull() {
+            None => true,
+            Some(apdu) => {
+                if self.hand_short(apdu, port) {
+                    return self.send_due(port);
+                }
+                false
+            }
         }
-        self.send_due(port)
     }
 
     /// Sends what may be sent: confirmations, then reports, then what else is due.

@@ -322,24 +322,23 @@ impl Master {
             self.again = false;
             return None;
         };
-        let request = match wish {
+        match wish {
             Wish::PollClass1(fcb, sent) => {
                 let wanted = Wanted {
                     request: Asked::Counted(fcb, Service::Class1),
                     following: Phase::Class1Polling(sent),
                 };
-                self.begin(now, Chosen { station, wanted })
+                Some(self.begin(now, Chosen { station, wanted }))
             }
             Wish::PollClass2(fcb) => {
                 let wanted = Wanted {
                     request: Asked::Counted(fcb, Service::Class2),
                     following: Phase::Class1Polling(0),
                 };
-                self.begin(now, Chosen { station, wanted })
+                Some(self.begin(now, Chosen { station, wanted }))
             }
-            _ => self.begin_other(now, station, wish),
-        };
-        Some(request)
+            _ => Some(self.begin_other(now, station, wish)),
+        }
     }
 
     /// As `begin`, for any wish. It stands apart, so that a poll makes no place for a command.
