@@ -147,6 +147,7 @@ impl Gateway {
     }
 
     /// Sends the S frame and the TESTFR act that are due.
+    #[inline(always)]
     fn send_dues<P: Port>(&mut self, port: &mut P) -> bool
         requires { P.failed port.old < u64.MAX }
         ensures kept { (p : Setup) (unjudged : List ℕ) (phase : Phase) → IsFlushing phase →

@@ -466,6 +466,7 @@ impl Gateway {
 
     /// Keeps the pieces of a report that is passed on. An answer to a command is passed on as own
     /// answers while data transfer runs, and any other report is counted.
+    #[inline(always)]
     fn take_report(&mut self, report: &[u8]) -> bool
         requires short { length report.now ≤ 253 }
         requires room { 3 ≤ free_places self.old.centre.queue }
