@@ -174,6 +174,7 @@ impl Gateway {
     }
 
     /// Sends what may be sent: confirmations, then reports, then what else is due.
+    #[inline(always)]
     fn flush<P: Port>(&mut self, port: &mut P) -> bool
         requires { P.failed port.old < u64.MAX }
         ensures kept { (p : Setup) (unjudged : List ℕ) (phase : Phase) → IsFlushing phase →
