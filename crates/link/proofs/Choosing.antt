@@ -31,8 +31,8 @@ looked burst may_poll stations seen place next turn s w found more at is wants s
     ∙ ap (λ (m : ℕ). first_after burst may_poll stations m place) count ∙ rest
 
 -- the same by a wish
-pub looked_wish : (burst : ℕ) (may_poll : Bool) (stations : List StationState) (seen place next turn : ℕ) (s : StationState)
-    (w found : Option Wish) →
+pub looked_wish : (burst : ℕ) (may_poll : Bool) (stations : List StationState) (seen place next turn : ℕ)
+    (s : StationState) (w found : Option Wish) →
     seen < length stations →
     next ≡ place_after (length stations) place → s ≡ station_at stations next
     → option_map (wished s) w ≡ wanted burst may_poll false s Starting → w ≡ found →
