@@ -18,6 +18,7 @@ enum Tail {
     WrongEnd,
 }
 
+#[inline(always)]
 fn tail_of(len: usize, octets: &[u8]) -> Tail
     ensures { IsTail len octets.now result }
 {
@@ -35,6 +36,7 @@ fn tail_of(len: usize, octets: &[u8]) -> Tail
 }
 
 /// Control octet, address and data.
+#[inline]
 fn parts(size: LinkSize, octets: &[u8]) -> (u8, u16, &[u8])
     requires { 1 + address_len size ≤ length octets.now }
     ensures parts { octets.now ≡ user size result.0 result.1 result.2.now }
@@ -67,6 +69,7 @@ fn fixed(size: LinkSize, rest: &[u8]) -> FrontRef<'_>
 }
 
 /// The front of octets that begin with the header of a variable frame.
+#[inline(always)]
 fn after_header(size: LinkSize, len: u8, rest: &[u8]) -> FrontRef<'_>
     requires { 1 + address_len size ≤ len }
     ensures { IsFront size (header len ++ rest.now) (owned_front result) }

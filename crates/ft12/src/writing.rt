@@ -24,6 +24,7 @@ pub(crate) const END: u8 = 0x16;
 const LONGEST: usize = 261;
 
 /// The sum of octets, modulo 256.
+#[inline]
 pub(crate) fn sum_of(octets: &[u8]) -> u8
     ensures { result ≡ sum octets.now % 256 }
 {
@@ -35,6 +36,7 @@ pub(crate) fn sum_of(octets: &[u8]) -> u8
 }
 
 /// Appends control octet, address and data.
+#[inline(always)]
 fn push_user<const CAP: usize>(
     out: &mut ArrayVec<u8, CAP>,
     size: LinkSize,
@@ -58,6 +60,7 @@ fn push_user<const CAP: usize>(
 }
 
 /// Appends control octet, address and data, their sum and the end octet.
+#[inline(always)]
 fn push_checked<const CAP: usize>(
     out: &mut ArrayVec<u8, CAP>,
     size: LinkSize,
@@ -80,6 +83,7 @@ fn push_checked<const CAP: usize>(
 ///
 /// Asks that the address fits its size, and that the control octet, the address and the data are at
 /// most 255 octets.
+#[inline(always)]
 pub fn encode_ref<const CAP: usize>(size: LinkSize, f: FrameRef<'_>) -> ArrayVec<u8, CAP>
     requires fits { Fits size (owned f) }
     requires room { spelling_len size (owned f) ≤ CAP }

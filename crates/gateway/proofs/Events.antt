@@ -1,6 +1,6 @@
 -- The line's lemmas where a port may tell no log, in the form that answers cite.
 use Rattle.std.proofs.Common.{◌≡◌, ℕ, ◌≤◌, ◌+◌, ◌==◌, Bool, true, false, not, List, [], ◌∷◌, ◌++◌, length, refl, ap, sym, ◌∙◌, subst, arith, inl, Option, Some, None, length-append}
-use Rattle.std.specs.Prelude.{IfSome, if◌then◌else◌, option_map}
+use Rattle.std.specs.Prelude.{IfSome, is_some, if◌then◌else◌, option_map}
 use Rattle.std.specs.Bool.{OnTrue}
 use Rattle.std.proofs.lemmas.List.{append-nil}
 use Rattle.std.proofs.lemmas.Bool.{and_parts}
@@ -328,6 +328,25 @@ next_is q (Some x) r e = (x, refl, (let same : r ≡ request_of q x = cc in same
 pub none_is : (q : Primary) (o : Option Sending) → None ≡ option_map (request_of q) o → o ≡ None
 none_is q None e = refl
 none_is q (Some x) e = cc
+
+-- while a request is outstanding there is no next one, and asking for it changes nothing
+pub awaiting_none : (q : Primary) (room : Bool) → is_some q.outstanding ≡ true → sending q room ≡ None
+awaiting_none q room e = go q.outstanding e
+  where
+    go : (o : Option Outstanding) → is_some o ≡ true → sending_from q o room ≡ None
+    go (Some o) e = refl
+    go None e = cc
+
+awaiting_asked : (q : Primary) (at : ℕ) (room : Bool) → is_some q.outstanding ≡ true → asked q at room ≡ q
+awaiting_asked q at room e = go q.outstanding e
+  where
+    go : (o : Option Outstanding) → is_some o ≡ true → asked_from q o at room ≡ q
+    go (Some o) e = refl
+    go None e = cc
+
+pub awaiting_same : (r : State) → is_some r.serial.line.outstanding ≡ true → r ≡ after_next r None
+awaiting_same r e = sym (ap (λ (q : Primary). with_serial (record r.serial { line = q }) r)
+    (awaiting_asked r.serial.line r.moment (has_room r.centre.queue) e))
 
 -- The timers
 

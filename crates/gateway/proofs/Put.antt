@@ -279,6 +279,13 @@ none_pulled s t e rest =
     subst (LeavesWindow s.centre.session) (sym e) (pulled_leaves s.moment s.centre.session) in
     rest ∙ ap (λ (x : Session). with_session x s) h.none
 
+pub none_left : (s t : State) → ◌≡◌ {A = Option Apdu × Session} (None, t.centre.session)
+    (session.pulled s.moment s.centre.session) → t ≡ with_session t.centre.session s
+    → (session.pulled t.moment t.centre.session).0 ≡ None
+none_left s t e rest =
+    subst (λ (x : State). (session.pulled x.moment x.centre.session).0 ≡ None) (sym (none_pulled s t e rest))
+    (sym (ap (λ (d : Option Apdu × Session). d.0) e))
+
 pub confirmed_open : (r : Option Apdu) (s t : Session) → ◌≡◌ {A = Option Apdu × Session} (r, t) (session.confirmed s)
     → session.is_open t ≡ session.is_open s
 confirmed_open r s t e = (subst (LeavesWindow s) (sym e) (confirmed_leaves s)).same.same_connected

@@ -147,6 +147,7 @@ impl Gateway {
     }
 
     /// Sends the S frame and the TESTFR act that are due.
+    #[inline(always)]
     fn send_dues<P: Port>(&mut self, port: &mut P) -> bool
         requires { P.failed port.old < u64.MAX }
         ensures kept { (p : Setup) (unjudged : List ℕ) (phase : Phase) → IsFlushing phase →
@@ -161,13 +162,19 @@ impl Gateway {
         ensures puts { Puts P.log P.script P.failed port.old port.new (faults_unless result) }
     {
         calls_come_to_an_end();
-        if !self.send_due(port) {
-            return false;
+        match self.pull() {
+            None => true,
+            Some(apdu) => {
+                if self.hand_short(apdu, port) {
+                    return self.send_due(port);
+                }
+                false
+            }
         }
-        self.send_due(port)
     }
 
     /// Sends what may be sent: confirmations, then reports, then what else is due.
+    #[inline(always)]
     fn flush<P: Port>(&mut self, port: &mut P) -> bool
         requires { P.failed port.old < u64.MAX }
         ensures kept { (p : Setup) (unjudged : List ℕ) (phase : Phase) → IsFlushing phase →
@@ -470,10 +477,15 @@ impl Gateway {
     {
         line_keeps_the_procedures();
         self.offer_all();
-        let Some(request) = self.next_request() else {
+        // Nothing is sought while an answer is awaited, as at each octet that comes in a piece.
+        if self.is_awaiting() {
             return true;
-        };
-        port.put(self.moment(), &Action::Line(&request.octets))
+        }
+        let next = self.next_request();
+        match &next {
+            None => true,
+            Some(request) => port.put(self.moment(), &Action::Line(&request.octets)),
+        }
     }
 
     /// Takes one event, and puts out what follows from it: of the connection, then of the line,

@@ -1,6 +1,6 @@
 -- How the stations are looked at.
-use Rattle.std.proofs.Common.{◌≡◌, ℕ, suc, ◌-◌, ◌<◌, Bool, false, List, length, Option, sym, ap, ◌∙◌, arith, ◌+◌}
-use Rattle.link.specs.Turns.{StationState, Starting, station_at, Wanted, wanted, place_after, chosen_or, first_after}
+use Rattle.std.proofs.Common.{◌≡◌, ℕ, suc, ◌-◌, ◌<◌, Bool, false, List, length, Option, option_map, sym, ap, ◌∙◌, arith, ◌+◌}
+use Rattle.link.specs.Turns.{StationState, Starting, station_at, Wanted, wanted, Wish, wished, place_after, chosen_or, first_after}
 
 -- one more station is looked at
 pub look_one : (burst : ℕ) (may_poll : Bool) (stations : List StationState) (many place next : ℕ) (w : Option Wanted) →
@@ -29,3 +29,20 @@ looked burst may_poll stations seen place next turn s w found more at is wants s
     ∙ look_one burst may_poll stations (length stations - (seen + 1)) place next w at
     (wants ∙ ap (λ (t : StationState). wanted burst may_poll false t Starting) is)
     ∙ ap (λ (m : ℕ). first_after burst may_poll stations m place) count ∙ rest
+
+-- the same by a wish
+pub looked_wish : (burst : ℕ) (may_poll : Bool) (stations : List StationState) (seen place next turn : ℕ)
+    (s : StationState) (w found : Option Wish) →
+    seen < length stations →
+    next ≡ place_after (length stations) place → s ≡ station_at stations next
+    → option_map (wished s) w ≡ wanted burst may_poll false s Starting → w ≡ found →
+    first_after burst may_poll stations (length stations - seen) place
+    ≡ first_after burst may_poll stations (length stations) turn →
+    chosen_or (option_map (wished (station_at stations next)) found) next
+    (first_after burst may_poll stations (length stations - (seen + 1)) next)
+    ≡ first_after burst may_poll stations (length stations) turn
+looked_wish burst may_poll stations seen place next turn s w found more at is wants same rest =
+    ap (λ (t : StationState). chosen_or (option_map (wished t) found) next (first_after burst may_poll stations
+    (length stations - (seen + 1)) next)) (sym is)
+    ∙ looked burst may_poll stations seen place next turn s (option_map (wished s) w) (option_map (wished s) found)
+    more at is wants (ap (λ (v : Option Wish). option_map (wished s) v) same) rest

@@ -10,6 +10,9 @@ pub use Rattle.link.specs.declared.turn.Phase.{Phase}
 pub use Rattle.link.specs.declared.turn.Phase.TheVariants.{Starting, Commanding, Polling, Class1Polling, Over}
 pub use Rattle.link.specs.declared.turn.Wanted.{Wanted}
 pub use Rattle.link.specs.declared.turn.Chosen.{Chosen}
+pub use Rattle.link.specs.declared.turn.Wish.{Wish}
+pub use Rattle.link.specs.declared.turn.Wish.TheVariants.{AskStatus, AskReset, PollClass1, PollClass2, SendOffered, SendHeld}
+pub use Rattle.link.specs.declared.turn.Pick.{Pick}
 
 -- before the first answered reset
 abbrev pub no_session : SessionState
@@ -106,3 +109,33 @@ first_after burst may_poll stations (suc many) place =
     (station_at stations (place_after (length stations) place)) Starting)
     (place_after (length stations) place)
     (first_after burst may_poll stations many (place_after (length stations) place))
+
+-- the request for an offered command, and for a held service (no wish is for one that isn't there)
+abbrev pub offer_request : (fcb : Bool) → Option (List ℕ) → Asked
+offer_request fcb (Some asdu) = Counted fcb (Command asdu)
+offer_request fcb None = Status
+
+abbrev pub held_request : Link → Asked
+held_request (Held fcb service missed) = Counted fcb service
+held_request link = Status
+
+-- what a wish of a station stands for
+abbrev pub wished : StationState → Wish → Wanted
+wished s AskStatus = record { request = Status; following = Starting }
+wished s AskReset = record { request = Reset; following = Over }
+wished s (PollClass1 fcb sent) = record {
+  request = Counted fcb Class1;
+  following = Class1Polling sent;
+}
+wished s (PollClass2 fcb) = record { request = Counted fcb Class2; following = Class1Polling 0 }
+wished s (SendOffered fcb) = record {
+  request = offer_request fcb s.offered;
+  following = Polling;
+}
+wished s (SendHeld phase) = record { request = held_request s.link; following = phase }
+
+abbrev pub picked : List StationState → Pick → Chosen
+picked stations pick = record {
+  station = pick.station;
+  wanted = wished (station_at stations pick.station) pick.wish;
+}

@@ -1,7 +1,7 @@
 //! The primary station of unbalanced transmission (IEC 60870-5-2).
-ghost use Rattle.std.specs.Prelude.{◌≡◌, ◌<◌, ◌≤◌, ◌+◌, List, [], All, length, map, take, drop, slice_index, ◌++◌, true, false, None, Some, IfSome, IfNone, IfOk, option_map, if◌then◌else◌};
+ghost use Rattle.std.specs.Prelude.{◌≡◌, ◌<◌, ◌≤◌, ◌+◌, List, [], All, length, map, take, drop, slice_index, ◌++◌, true, false, None, Some, IfSome, IfNone, IfOk, is_some, option_map, if◌then◌else◌};
 ghost use Rattle.link.specs.Counts.{saturated};
-ghost use Rattle.link.specs.Turns.{Over};
+ghost use Rattle.link.specs.Turns.{Over, station_at, wished, picked};
 ghost use Rattle.ft12.specs.Borrowed.{owned, FitsMemory};
 ghost use Rattle.ft12.specs.Fronts.{front_of};
 ghost use Rattle.link.specs.Requests.{IsUserData, FitsAddress, FitsAsked};
@@ -20,7 +20,7 @@ use crate::request::Request;
 use crate::service::{Asked, Service};
 use crate::session::SessionState;
 use crate::settings::LinkSettings;
-use crate::turn::{Chosen, Phase, StationState, first_wanted, nth_station};
+use crate::turn::{Chosen, Phase, Pick, StationState, Wanted, Wish, first_wanted, nth_station};
 use ft12::{Assembler, Frame, FrameRef, FrontRef, Heard, front_is_computed, front_ref};
 use std::alloc::Global;
 use std::marker::Model;
@@ -274,18 +274,25 @@ impl Master {
     }
 
     #[inline]
-    fn choose(&self, may_poll: bool) -> Option<Chosen>
-        ensures chosen { result ≡ choice self.now may_poll }
-        ensures fits { IsFittingChoice self.now result }
+    fn choose(&self, may_poll: bool) -> Option<Pick>
+        ensures chosen { option_map (picked self.now.stations) result ≡ choice self.now may_poll }
+        ensures fits { IsFittingChoice self.now (option_map (picked self.now.stations) result) }
     {
         let station = nth_station(&self.stations, self.turn);
-        match station.wants(self.settings.burst, may_poll, self.again, self.phase) {
-            Some(wanted) => Some(Chosen {
+        match station.wish(self.settings.burst, may_poll, self.again, self.phase) {
+            Some(wish) => Some(Pick {
                 station: self.turn,
-                wanted,
+                wish,
             }),
             None => first_wanted(&self.stations, self.settings.burst, may_poll, self.turn),
         }
+    }
+
+    /// Whether a request is outstanding, so that there is no next one.
+    pub fn is_awaiting(&self) -> bool
+        ensures { result ≡ is_some self.now.outstanding }
+    {
+        self.outstanding.is_some()
     }
 
     /// The next request, at this moment in milliseconds: none where one is outstanding, or no
@@ -296,7 +303,7 @@ impl Master {
         ensures state { self.new ≡ asked self.old now may_poll }
         ensures request { result ≡ option_map (request_of self.old) (sending self.old may_poll) }
     {
-        if self.outstanding.is_some() {
+        if self.is_awaiting() {
             return None;
         }
         self.begin_next(now, may_poll)
@@ -310,17 +317,51 @@ impl Master {
         ensures state { self.new ≡ asked self.old now may_poll }
         ensures request { result ≡ option_map (request_of self.old) (sending self.old may_poll) }
     {
-        match self.choose(may_poll) {
-            Some(chosen) => Some(self.begin(now, chosen)),
-            None => {
-                self.phase = Phase::Over;
-                self.again = false;
-                None
+        let Some(Pick { station, wish }) = self.choose(may_poll) else {
+            self.phase = Phase::Over;
+            self.again = false;
+            return None;
+        };
+        match wish {
+            Wish::PollClass1(fcb, sent) => {
+                let wanted = Wanted {
+                    request: Asked::Counted(fcb, Service::Class1),
+                    following: Phase::Class1Polling(sent),
+                };
+                Some(self.begin(now, Chosen { station, wanted }))
             }
+            Wish::PollClass2(fcb) => {
+                let wanted = Wanted {
+                    request: Asked::Counted(fcb, Service::Class2),
+                    following: Phase::Class1Polling(0),
+                };
+                Some(self.begin(now, Chosen { station, wanted }))
+            }
+            _ => Some(self.begin_other(now, station, wish)),
         }
     }
 
-    #[inline]
+    /// As `begin`, for any wish. It stands apart, so that a poll makes no place for a command.
+    #[inline(never)]
+    fn begin_other(&mut self, now: u64, station: usize, wish: Wish) -> Request
+        requires { IsFittingChoice self.old (Some (record {
+          station = station;
+          wanted = wished (station_at self.old.stations station) wish;
+        })) }
+        ensures state { self.new ≡ after_choice self.old now (Some (record {
+          station = station;
+          wanted = wished (station_at self.old.stations station) wish;
+        })) }
+        ensures request { result ≡ request_of self.old (record {
+          station = station;
+          request = (wished (station_at self.old.stations station) wish).request;
+        }) }
+    {
+        let wanted = nth_station(&self.stations, station).wanted(wish);
+        self.begin(now, Chosen { station, wanted })
+    }
+
+    #[inline(always)]
     fn begin(&mut self, now: u64, chosen: Chosen) -> Request
         requires { IsFittingChoice self.old (Some chosen) }
         ensures state { self.new ≡ after_choice self.old now (Some chosen) }
@@ -445,6 +486,7 @@ impl Master {
 
     /// Hears the frame that is the answer to the outstanding request, and says what came of the
     /// exchange. Asks for at most 253 octets of data.
+    #[inline(always)]
     pub fn hear<'a>(&mut self, frame: FrameRef<'a>) -> Outcome<'a>
         requires { FitsMemory frame }
         ensures state { self.new ≡ heard_from self.old self.old.outstanding (owned frame.entry) }
@@ -456,6 +498,7 @@ impl Master {
         }
     }
 
+    #[inline(always)]
     fn hear_for<'a>(&mut self, awaited: Awaited, frame: FrameRef<'a>) -> Outcome<'a>
         requires none { self.old.outstanding ≡ None }
         requires fits { FitsAsked self.old.settings.size awaited.request }

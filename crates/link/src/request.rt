@@ -138,6 +138,7 @@ impl Asked {
     }
 
     /// The octets of this request to the station with this address.
+    #[inline(always)]
     pub fn octets(&self, size: LinkSize, address: u16) -> ArrayVec<u8, LONGEST_REQUEST>
         requires address { FitsAddress size address }
         requires fits { FitsAsked size self.now }

@@ -1,7 +1,6 @@
 //! Turns: what is sent next, and to which station.
-ghost use Rattle.std.specs.Prelude.{◌≡◌, ◌<◌, List, length, IfSome};
-ghost use Rattle.link.specs.Answers.{Counted};
-ghost use Rattle.link.specs.Turns.{wants, is_poll, wanted_poll, wanted_command, polls_from, commands_from, next_of, wanted, station_at, place_after, first_after};
+ghost use Rattle.std.specs.Prelude.{◌≡◌, ◌<◌, List, length, option_map, IfSome};
+ghost use Rattle.link.specs.Turns.{is_poll, wanted_poll, polls_from, commands_from, next_of, wanted, wished, offer_request, held_request, picked, station_at, place_after, first_after};
 
 use crate::asdu::CommandOctets;
 use crate::procedure::Link;
@@ -52,6 +51,28 @@ pub struct Chosen {
     pub wanted: Wanted,
 }
 
+/// What is wanted next of a station, in a word. The octets of a command stay with the station, so
+/// that it is handed on in registers until it is known which request is to be made.
+#[derive(Clone, Copy)]
+pub enum Wish {
+    AskStatus,
+    AskReset,
+    /// A poll, with its frame count bit, and how many of class 1 the turn has sent with it.
+    PollClass1(bool, u8),
+    PollClass2(bool),
+    /// The offered command.
+    SendOffered(bool),
+    /// The unanswered service once more, and the phase that follows.
+    SendHeld(Phase),
+}
+
+/// A station, by its index, and what is wanted of it, in a word.
+#[derive(Clone, Copy)]
+pub struct Pick {
+    pub station: usize,
+    pub wish: Wish,
+}
+
 /// Whether the service is a poll.
 #[inline]
 pub(crate) fn poll_service(service: &Service) -> bool
@@ -63,79 +84,54 @@ pub(crate) fn poll_service(service: &Service) -> bool
     }
 }
 
-#[inline]
-fn poll_wanted(burst: u8, fcb: bool, acd: bool, phase: Phase) -> Option<Wanted>
-    ensures { result ≡ wanted_poll burst fcb acd phase }
-{
-    match phase {
-        Phase::Polling if acd => Some(Wanted {
-            request: Asked::Counted(fcb, Service::Class1),
-            following: Phase::Class1Polling(1),
-        }),
-        Phase::Polling => Some(Wanted {
-            request: Asked::Counted(fcb, Service::Class2),
-            following: Phase::Class1Polling(0),
-        }),
-        Phase::Class1Polling(sent) if acd && sent < burst => Some(Wanted {
-            request: Asked::Counted(fcb, Service::Class1),
-            following: Phase::Class1Polling(sent + 1),
-        }),
-        _ => None,
-    }
-}
-
-/// An offered command. It stands apart, so that a station without one makes no place for it.
-#[inline(never)]
-fn command_wanted(command: &CommandOctets, fcb: bool) -> Option<Wanted>
-    ensures { result ≡ wanted_command fcb command.now }
-{
-    Some(Wanted {
-        request: Asked::Counted(fcb, Service::Command(command.copied())),
-        following: Phase::Polling,
-    })
-}
-
-/// An unanswered service once more. It stands apart, since it has place for a command as well.
-#[inline(never)]
-fn held_wanted(service: &Service, fcb: bool, following: Phase) -> Option<Wanted>
-    ensures { result ≡ wants (Counted fcb service.now) following }
-{
-    Some(Wanted {
-        request: Asked::Counted(fcb, service.copied()),
-        following,
-    })
-}
-
 impl StationState {
     #[inline]
-    fn polls_wanted(&self, burst: u8, may_poll: bool, fcb: bool, phase: Phase) -> Option<Wanted>
-        ensures { result ≡ polls_from burst may_poll fcb self.now phase }
+    fn poll_wish(&self, burst: u8, fcb: bool, phase: Phase) -> Option<Wish>
+        ensures { option_map (wished self.now) result
+            ≡ wanted_poll burst fcb self.now.acd phase }
+    {
+        match phase {
+            Phase::Polling if self.acd => Some(Wish::PollClass1(fcb, 1)),
+            Phase::Polling => Some(Wish::PollClass2(fcb)),
+            Phase::Class1Polling(sent) if self.acd && sent < burst => {
+                Some(Wish::PollClass1(fcb, sent + 1))
+            }
+            _ => None,
+        }
+    }
+
+    #[inline]
+    fn polls_wish(&self, burst: u8, may_poll: bool, fcb: bool, phase: Phase) -> Option<Wish>
+        ensures { option_map (wished self.now) result
+            ≡ polls_from burst may_poll fcb self.now phase }
     {
         if may_poll {
-            poll_wanted(burst, fcb, self.acd, phase)
+            self.poll_wish(burst, fcb, phase)
         } else {
             None
         }
     }
 
     #[inline]
-    fn commands_wanted(&self, burst: u8, may_poll: bool, fcb: bool) -> Option<Wanted>
-        ensures { result ≡ commands_from burst may_poll fcb self.now self.now.offered }
+    fn commands_wish(&self, burst: u8, may_poll: bool, fcb: bool) -> Option<Wish>
+        ensures { option_map (wished self.now) result
+            ≡ commands_from burst may_poll fcb self.now self.now.offered }
     {
         match &self.offered {
-            Some(command) if !self.dfc => command_wanted(command, fcb),
-            _ => self.polls_wanted(burst, may_poll, fcb, Phase::Polling),
+            Some(_) if !self.dfc => Some(Wish::SendOffered(fcb)),
+            _ => self.polls_wish(burst, may_poll, fcb, Phase::Polling),
         }
     }
 
     #[inline]
-    fn next_wanted(&self, burst: u8, may_poll: bool, fcb: bool, phase: Phase) -> Option<Wanted>
-        ensures { result ≡ next_of burst may_poll fcb self.now phase }
+    fn next_wish(&self, burst: u8, may_poll: bool, fcb: bool, phase: Phase) -> Option<Wish>
+        ensures { option_map (wished self.now) result
+            ≡ next_of burst may_poll fcb self.now phase }
     {
         match phase {
-            Phase::Starting | Phase::Commanding => self.commands_wanted(burst, may_poll, fcb),
+            Phase::Starting | Phase::Commanding => self.commands_wish(burst, may_poll, fcb),
             Phase::Polling | Phase::Class1Polling(_) => {
-                self.polls_wanted(burst, may_poll, fcb, phase)
+                self.polls_wish(burst, may_poll, fcb, phase)
             }
             Phase::Over => None,
         }
@@ -143,30 +139,72 @@ impl StationState {
 
     /// What the station's turn has next.
     #[inline]
-    pub(crate) fn wants(
-        &self,
-        burst: u8,
-        may_poll: bool,
-        again: bool,
-        phase: Phase,
-    ) -> Option<Wanted>
-        ensures { result ≡ wanted burst may_poll again self.now phase }
+    pub(crate) fn wish(&self, burst: u8, may_poll: bool, again: bool, phase: Phase) -> Option<Wish>
+        ensures { option_map (wished self.now) result
+            ≡ wanted burst may_poll again self.now phase }
     {
         match (&self.link, phase) {
-            (Link::Down, Phase::Starting) => Some(Wanted {
+            (Link::Down, Phase::Starting) => Some(Wish::AskStatus),
+            (Link::Available, Phase::Starting) => Some(Wish::AskReset),
+            (Link::Next(fcb), phase) => self.next_wish(burst, may_poll, *fcb, phase),
+            (Link::Held(_, service, _), Phase::Starting) if may_poll || !poll_service(service) => {
+                Some(Wish::SendHeld(Phase::Commanding))
+            }
+            (Link::Held(_, _, _), Phase::Starting) => None,
+            (Link::Held(_, _, _), phase) if again => Some(Wish::SendHeld(phase)),
+            _ => None,
+        }
+    }
+
+    /// The request for the offered command.
+    fn offered_request(&self, fcb: bool) -> Asked
+        ensures { result ≡ offer_request fcb self.now.offered }
+    {
+        match &self.offered {
+            Some(command) => Asked::Counted(fcb, Service::Command(command.copied())),
+            None => Asked::Status,
+        }
+    }
+
+    /// The request for the held service.
+    fn held_request(&self) -> Asked
+        ensures { result ≡ held_request self.now.link }
+    {
+        match &self.link {
+            Link::Held(fcb, service, _) => Asked::Counted(*fcb, service.copied()),
+            _ => Asked::Status,
+        }
+    }
+
+    /// The request that a wish stands for, and the phase that follows.
+    pub(crate) fn wanted(&self, wish: Wish) -> Wanted
+        ensures { result ≡ wished self.now wish }
+    {
+        match wish {
+            Wish::AskStatus => Wanted {
                 request: Asked::Status,
                 following: Phase::Starting,
-            }),
-            (Link::Available, Phase::Starting) => Some(Wanted {
+            },
+            Wish::AskReset => Wanted {
                 request: Asked::Reset,
                 following: Phase::Over,
-            }),
-            (Link::Next(fcb), phase) => self.next_wanted(burst, may_poll, *fcb, phase),
-            (Link::Held(fcb, service, _), Phase::Starting) if may_poll || !poll_service(service) =>
-                { held_wanted(service, *fcb, Phase::Commanding) }
-            (Link::Held(_, _, _), Phase::Starting) => None,
-            (Link::Held(fcb, service, _), phase) if again => held_wanted(service, *fcb, phase),
-            _ => None,
+            },
+            Wish::PollClass1(fcb, sent) => Wanted {
+                request: Asked::Counted(fcb, Service::Class1),
+                following: Phase::Class1Polling(sent),
+            },
+            Wish::PollClass2(fcb) => Wanted {
+                request: Asked::Counted(fcb, Service::Class2),
+                following: Phase::Class1Polling(0),
+            },
+            Wish::SendOffered(fcb) => Wanted {
+                request: self.offered_request(fcb),
+                following: Phase::Polling,
+            },
+            Wish::SendHeld(following) => Wanted {
+                request: self.held_request(),
+                following,
+            },
         }
     }
 }
@@ -191,24 +229,26 @@ fn next_place(count: usize, place: usize) -> usize
 
 /// The first of the stations, once round from the one after this place, that has a request to begin
 /// a turn with.
+#[inline]
 pub(crate) fn first_wanted(
     stations: &[StationState],
     burst: u8,
     may_poll: bool,
     turn: usize,
-) -> Option<Chosen>
+) -> Option<Pick>
     requires { turn < length stations.now }
-    ensures first { result ≡ first_after burst may_poll stations.now (length stations.now) turn }
-    ensures in_range { IfSome result (λ c. c.station < length stations.now) }
+    ensures first { option_map (picked stations.now) result
+        ≡ first_after burst may_poll stations.now (length stations.now) turn }
+    ensures in_range { IfSome result (λ pick. pick.station < length stations.now) }
 {
     let mut place = turn;
     for _seen in 0..stations.len() {
         place = next_place(stations.len(), place);
-        let wanted = nth_station(stations, place).wants(burst, may_poll, false, Phase::Starting);
-        if let Some(wanted) = wanted {
-            return Some(Chosen {
+        let wish = nth_station(stations, place).wish(burst, may_poll, false, Phase::Starting);
+        if let Some(wish) = wish {
+            return Some(Pick {
                 station: place,
-                wanted,
+                wish,
             });
         }
     }

@@ -194,6 +194,12 @@ impl Session {
         requires { count ≤ length self.old.unacknowledged }
         ensures { self.new ≡ acknowledged count self.old }
     {
+        // As at each frame in U format.
+        if count == 0 {
+            self.acked_queue = 0;
+            self.acked_own = 0;
+            return;
+        }
         let queue = from_queue(&self.unacknowledged, count);
         self.unacknowledged
             .truncate_front(self.unacknowledged.len() - count);

@@ -1,7 +1,7 @@
 //! The line's side: its primary station, what its octets bring, and the commands that go down to
 //! it.
 ghost use Rattle.std.specs.Prelude.{◌≡◌, ℕ, ◌<◌, ◌≤◌, true, false, List, [], length};
-ghost use Rattle.std.specs.Prelude.{Some, None, option_map, take, drop, if◌then◌else◌, ◌⊎◌, IfSome, IfNone};
+ghost use Rattle.std.specs.Prelude.{Some, None, is_some, option_map, take, drop, if◌then◌else◌, ◌⊎◌, IfSome, IfNone};
 ghost use Rattle.std.specs.List.{AllByRecursion};
 ghost use Rattle.asdu.specs.Asdu.{IsAsdu};
 ghost use Rattle.asdu.specs.InformationObjects.{monitor_objects_of};
@@ -333,11 +333,14 @@ impl SerialSide {
             (is_polling self.old.line ≡ true) ⊎ (may_poll ≡ true) }
     {
         polls_wait_for_leave();
-        let request = self.line.next(moment, may_poll)?;
-        if request.kind == RequestKind::Command && !request.again {
-            self.commands.on_line(request.station);
+        // It is looked at where it stands: no request is moved.
+        let next = self.line.next(moment, may_poll);
+        if let Some(request) = &next {
+            if request.kind == RequestKind::Command && !request.again {
+                self.commands.on_line(request.station);
+            }
         }
-        Some(request)
+        next
     }
 
     /// Writes the frame of the oldest own answer, where one may be sent, and says how many octets
@@ -434,6 +437,7 @@ impl Gateway {
     }
 
     /// What came of an exchange.
+    #[inline(always)]
     fn learn(&mut self, outcome: &Outcome<'_>) -> bool
         requires room { is_report outcome.now ≡ true →
             (3 ≤ free_places self.old.centre.queue) × (is_polling self.old.serial.line ≡ false) }
@@ -462,6 +466,7 @@ impl Gateway {
 
     /// Keeps the pieces of a report that is passed on. An answer to a command is passed on as own
     /// answers while data transfer runs, and any other report is counted.
+    #[inline(always)]
     fn take_report(&mut self, report: &[u8]) -> bool
         requires short { length report.now ≤ 253 }
         requires room { 3 ≤ free_places self.old.centre.queue }
@@ -517,6 +522,13 @@ impl Gateway {
             Tells settings addresses self.new.serial.line e }
     {
         self.serial.offer_all();
+    }
+
+    /// Whether a request of the line is outstanding, so that there is no next one.
+    pub(crate) fn is_awaiting(&self) -> bool
+        ensures { result ≡ is_some self.now.serial.line.outstanding }
+    {
+        self.serial.line.is_awaiting()
     }
 
     /// The line's next request. It is a poll only where the queue has room, or where it is sent
