@@ -9,3 +9,4 @@ pub mod AuditLemmas
 pub mod Worded
 pub mod Poured
 pub mod ReplayLemmas
+pub mod Performed

@@ -73,6 +73,9 @@ at_end (Ok x) end P h is turns = let same : x ≡ end = cc in h (same ∙ turns)
 at_end (Err x) end P h is turns = cc
 
 -- what is promised of each end but that of a device
+pub at_turns : (end : End) (P : Type 0) → end ≡ Turns → UnlessDevice end P → P
+at_turns end P is promised = subst (λ (e : End). UnlessDevice e P) is promised
+
 pub at_finish : (end : End) (P : Type 0) → end ≡ Finished → UnlessDevice end P → P
 at_finish end P is promised = subst (λ (e : End). UnlessDevice e P) is promised
 

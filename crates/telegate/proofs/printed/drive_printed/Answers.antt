@@ -1,8 +1,11 @@
-use Rattle.std.proofs.Common.{rules, ◌≡◌, ℕ, List, ap, sym, subst}
+use Rattle.std.proofs.Common.{rules, ◌≡◌, ℕ, List, Some, ap, sym, subst}
+use Rattle.gateway.specs.Agrees.{Follows}
 use Rattle.gateway.specs.Log.{Log}
+use Rattle.gateway.specs.Traffic.{HasRested}
 use Rattle.traces.specs.Actions.{lines_of_actions}
 use Rattle.traces.specs.Progress.{Progress}
 use Rattle.telegate.specs.Printed.{IsPoured}
+use Rattle.telegate.proofs.RunLemmas.{at_turns}
 use Rattle.telegate.proofs.printed.drive_printed.Goals as goal
 
 pub returns-in_default-clause-poured : goal.returns-in_default-clause-poured
@@ -20,8 +23,10 @@ parts-preserved g c =
     rw c.pour-is_whole.ensures.page (record {
       within = search rules;
       more = search rules;
-      kept = search rules;
-      rests = search rules;
+      kept = λ p begins rested. at_turns c.drive_on-end.result (Follows p c.drive_on-end.new.gateway (Some c.drive_on-end.new.port.log))
+          c.in-Turns.is (c.drive_on-end.ensures.kept p (c.parts.invariant.kept p begins rested) (c.parts.invariant.rests p begins rested));
+      rests = λ p begins rested. at_turns c.drive_on-end.result (HasRested p c.drive_on-end.new.port.log)
+          c.in-Turns.is (c.drive_on-end.ensures.rests p (c.parts.invariant.kept p begins rested) (c.parts.invariant.rests p begins rested));
       script = search rules;
       healthy = search rules;
       poured = c.pour-is_whole.ensures.poured before

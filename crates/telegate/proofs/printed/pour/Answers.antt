@@ -1,4 +1,4 @@
-use Rattle.std.proofs.Common.{◌≡◌, ℕ, ◌++◌, List, Option, Bool, false, subst, sym, ◌∙◌}
+use Rattle.std.proofs.Common.{◌≡◌, ℕ, ◌++◌, List, Option, Bool, subst, sym, ◌∙◌}
 use Rattle.std.specs.Result.{is_ok}
 use Rattle.sim.specs.Runs.{IsBegun}
 use Rattle.traces.specs.Actions.{lines_of_actions}
@@ -21,7 +21,8 @@ returns-clause-poured g c = λ before poured.
           (subst (λ (b : Bool). IsPoured b before old xs) w.if-is_whole.true poured) c.page-page.ensures.lines
           w.print.ensures.all w.print.ensures.begun)
       | else-is_whole w ↦
-          poured_as g.W.Write.contents before zs c.if-is_whole.is_taken false c.if-is_whole.out c.args.out.now
-          w.is_taken-is w.out-is (subst (IsBegun before old) c.page-page.ensures.lines (begun_longer before old xs ys
-          (subst (λ (b : Bool). IsPoured b before old xs) w.if-is_whole.false poured)))
+          poured_as g.W.Write.contents before zs c.if-is_whole.is_taken c.args.is_whole c.if-is_whole.out c.args.out.now
+          w.is_taken-is w.out-is (subst (λ (b : Bool). IsPoured b before old zs) (sym w.if-is_whole.false)
+          (subst (IsBegun before old) c.page-page.ensures.lines (begun_longer before old xs ys
+          (subst (λ (b : Bool). IsPoured b before old xs) w.if-is_whole.false poured))))
     ]

@@ -1,0 +1,38 @@
+use Rattle.std.proofs.Common.{ap, sym, ◌∙◌}
+use Rattle.telegate.specs.Faults.{status_of_end}
+use Rattle.telegate.proofs.Performed.{performs_as}
+use Rattle.telegate.proofs.performing.perform.Goals as goal
+
+pub returns-in-Show101 : goal.returns-in-Show101
+returns-in-Show101 g c = performs_as c.in-Show101.is
+    (record { answer = c.show101.result; answered = c.show101.ensures; given = c.give.ensures })
+
+pub returns-in-Show104 : goal.returns-in-Show104
+returns-in-Show104 g c = performs_as c.in-Show104.is
+    (record { answer = c.show104.result; answered = c.show104.ensures; given = c.give-in-Show104.ensures })
+
+pub returns-in-Check : goal.returns-in-Check
+returns-in-Check g c = performs_as c.in-Check.is
+    (record { answer = c.check.result; answered = c.check.ensures; given = c.give-in-Check.ensures })
+
+pub returns-in-Ok : goal.returns-in-Ok
+returns-in-Ok g c = performs_as c.in-Replay.is (record {
+  result = c.replay.result;
+  replayed = c.replay.ensures.answer;
+  status = sym (ap status_of_end c.in-Ok.is);
+})
+
+pub returns-in-Err : goal.returns-in-Err
+returns-in-Err g c = performs_as c.in-Replay.is (record {
+  result = c.replay.result;
+  replayed = c.replay.ensures.answer;
+  status = c.tell.ensures ∙ sym (ap status_of_end c.in-Err.is);
+})
+
+pub returns-in-Sim : goal.returns-in-Sim
+returns-in-Sim g c = performs_as c.in-Sim.is
+    (record { answer = c.simulate.result; answered = c.simulate.ensures; given = c.give-in-Sim.ensures })
+
+pub returns-in-Audit : goal.returns-in-Audit
+returns-in-Audit g c = performs_as c.in-Audit.is
+    (record { answer = c.audit.result; answered = c.audit.ensures; given = c.give-in-Audit.ensures })
