@@ -1,10 +1,11 @@
 -- Octets in hexadecimal: when they are right, and how many they are.
-use Rattle.std.proofs.Common.{◌≡◌, ℕ, ◌+◌, ◌<◌, ◌*◌, ◌%◌, ◌≤◌, nat_le, ◌&&◌, Bool, true, false, List, length, slice_index, Option, Some, None, Result, Ok, Err, is_some, if◌then◌else◌, refl, sym, ap, ◌∙◌, arith, take, drop, ◌^◌, ◌==◌, slice_set}
+use Rattle.std.proofs.Common.{◌≡◌, ℕ, ◌+◌, ◌-◌, ◌<◌, ◌*◌, ◌%◌, ◌≤◌, nat_le, ◌&&◌, Bool, true, false, List, length, slice_index, Option, Some, None, Result, Ok, Err, is_some, if◌then◌else◌, refl, sym, ap, ◌∙◌, arith, take, drop, ◌^◌, ◌==◌, slice_set}
 use Rattle.std.specs.Prelude.{bit_or, nat_lt}
 use Rattle.std.specs.List.{list_all}
 use Rattle.std.proofs.lemmas.Bool.{and_parts, ltb-true}
-use Rattle.std.proofs.lemmas.List.{take_all}
-use Rattle.std.proofs.lemmas.List.Folds.{list_all_more}
+use Rattle.std.proofs.lemmas.List.{take_all, take-append-drop, drop-drop}
+use Rattle.std.proofs.Math.Seq.{take-add}
+use Rattle.std.proofs.lemmas.List.Folds.{list_all_more, list_all-append}
 use Rattle.std.proofs.lemmas.List.Sums.{AllPass-from_list_all, list_all-from_AllPass}
 use Rattle.std.proofs.lemmas.Nat.{le_or_l, le_or_r, or_lt}
 use Rattle.hex.specs.Hex.{decode_of, decode_pairs, hex_digit_value, is_hex_digit, pair_value}
@@ -212,3 +213,39 @@ decoding_done text out i bits twice done all = (
   all.digits ∙ ap (list_all is_hex_digit) (take_all (2 * i) text (omega (arith, twice, done))),
   λ digits. decode_done text out i done (omega (arith, twice, done)) (all.decoded digits),
 )
+
+-- Digits, a block at a time
+
+-- those of one block more
+pub all_more : (xs : List ℕ) (n m k : ℕ) (are is : Bool) → are ≡ list_all is_hex_digit (take n xs) → k ≡ m
+    → is ≡ list_all is_hex_digit (take k (drop n xs)) → (are && is) ≡ list_all is_hex_digit (take (n + m) xs)
+all_more xs n m k are is before same now = rw (before, now, same)
+    (sym (ap (list_all is_hex_digit) (take-add n m xs) ∙ list_all-append is_hex_digit (take n xs) (take m (drop n xs))))
+
+-- what was looked at twice counts once
+and_twice : (a b c : Bool) → ((a && b) && (b && c)) ≡ ((a && b) && c)
+and_twice true true c = refl
+and_twice true false c = refl
+and_twice false b c = refl
+
+-- the first octets, and the last from one of them on, are all
+pub all_covered : (xs : List ℕ) (n m : ℕ) → m ≤ n
+    → (list_all is_hex_digit (take n xs) && list_all is_hex_digit (drop m xs)) ≡ list_all is_hex_digit xs
+all_covered xs n m le =
+    let k = n - m in
+    let p = is_hex_digit in
+    let a = list_all p (take m xs) in
+    let b = list_all p (take k (drop m xs)) in
+    let c = list_all p (drop k (drop m xs)) in
+    let whole : n ≡ m + k = omega (arith, le) in
+    let front : list_all p (take n xs) ≡ (a && b) =
+    ap (λ (i : ℕ). list_all p (take i xs)) whole ∙ ap (list_all p) (take-add m k xs)
+    ∙ list_all-append p (take m xs) (take k (drop m xs)) in
+    let back : list_all p (drop m xs) ≡ (b && c) =
+    ap (list_all p) (sym (take-append-drop k (drop m xs))) ∙ list_all-append p (take k (drop m xs)) (drop k (drop m xs))
+    in
+    let all : list_all p xs ≡ (list_all p (take n xs) && c) =
+    ap (list_all p) (sym (take-append-drop n xs)) ∙ list_all-append p (take n xs) (drop n xs)
+    ∙ ap (λ (ys : List ℕ). list_all p (take n xs) && list_all p ys) (ap (λ (i : ℕ). drop i xs) whole ∙ sym (drop-drop k m xs))
+    in
+    rw (front, back) (and_twice a b c) ∙ sym (ap (λ (x : Bool). x && c) front) ∙ sym all

@@ -1,7 +1,7 @@
 -- A port over the text of a trace, call by call.
-use Rattle.std.proofs.Common.{◌≡◌, ℕ, ◌+◌, Bool, true, false, List, [], ◌∷◌, ◌++◌, take, drop, reverse, Option, Some, None, zero, suc, refl, ap, sym, ◌∙◌, subst, append_assoc}
+use Rattle.std.proofs.Common.{◌≡◌, ℕ, ◌+◌, Bool, true, false, List, [], ◌∷◌, ◌++◌, take, Option, Some, None, refl, ap, sym, ◌∙◌, subst, append_assoc}
 use Rattle.std.specs.List.{AllByRecursion}
-use Rattle.gateway.specs.Log.{Log, LogEntry, Came, Went, Input, LineIn, Opened, TcpIn, CutOff, Ticked, WallIs, Output, events_of}
+use Rattle.gateway.specs.Log.{Came, Went, Input, LineIn, Opened, TcpIn, CutOff, Ticked, WallIs, Output, events_of}
 use Rattle.gateway.specs.Ports.{told_by}
 use Rattle.gateway.specs.Entries.{event_of as entry_event}
 use Rattle.gateway.specs.declared.entries.Entry.{Entry}
@@ -11,7 +11,7 @@ use Rattle.gateway.specs.declared.ports.Next.TheVariants as answers
 use Rattle.traces.specs.Actions.{line_of, lines_of_actions}
 use Rattle.traces.specs.Event.{Event, event_of, event_in}
 use Rattle.traces.specs.Fields.{parts_after}
-use Rattle.traces.specs.Progress.{came, events_in, script_in, IsRight, Progress, events_left, coming_in, IsProgress, tells_event}
+use Rattle.traces.specs.Progress.{came, events_in, IsRight, Progress, events_left, coming_in, IsProgress, tells_event}
 use Rattle.traces.specs.Trace.{lines_of, is_skipped, told, first_wrong}
 
 -- Lines

@@ -67,9 +67,30 @@ pub(crate) fn are_octets(text: &[u8]) -> bool
     may_be_octets(text.len()) && are_digits(text)
 }
 
-/// Whether a text has digits alone. It looks at all of them, many at a time, which takes less time
-/// than an end at the first other octet.
+/// So many octets are judged at a time.
+const BLOCK: usize = 16;
+
+/// Whether a text has digits alone. It looks at all of them, a block at a time, which takes less
+/// time than an end at the first other octet.
 fn are_digits(text: &[u8]) -> bool
+    ensures { result ≡ list_all is_hex_digit text.now }
+{
+    if text.len() < BLOCK {
+        return is_each_digit(text);
+    }
+    let mut are = true;
+    let mut done = 0;
+    'blocks: while BLOCK <= text.len() - done {
+        are = are & is_each_digit(&text[done..done + BLOCK]);
+        done += BLOCK;
+    }
+    // The last block may have octets that another had too.
+    are & is_each_digit(&text[text.len() - BLOCK..])
+}
+
+/// The same, octet by octet: of a block the compiler judges all at once.
+#[inline(always)]
+fn is_each_digit(text: &[u8]) -> bool
     ensures { result ≡ list_all is_hex_digit text.now }
 {
     let mut are = true;
