@@ -1,15 +1,14 @@
 -- A text searched for an octet, and cut at its first separator.
 use Rattle.std.proofs.Common.{◌≡◌, ℕ, ◌+◌, ◌<◌, ◌≤◌, ◌==◌, Bool, true, false, List, [], ◌∷◌, ◌++◌, length, take, drop, cond, Option, Some, None, option_map, refl, sym, ap, ◌∙◌, subst, arith}
 use Rattle.std.specs.Prelude.{position, nat_lt, IfSome}
-use Rattle.std.specs.List.{slice_split, position_from, position_or_len, count_by}
+use Rattle.std.specs.List.{slice_split, position_from, position_or_len}
 use Rattle.std.proofs.lemmas.Iterator.Adapters.{position_from-zero}
 use Rattle.std.proofs.lemmas.List.{length-take-le, take-append-drop}
 use Rattle.std.proofs.lemmas.Bool.{ltb-true, lt-ltb}
 use Rattle.std.proofs.lemmas.List.Sums.{fails_before_first, position_or_len_is}
-use Rattle.std.proofs.lemmas.List.Splits.{slice_split_first, slice_split_none, length-slice_split}
+use Rattle.std.proofs.lemmas.List.Splits.{slice_split_first, slice_split_none}
 use Rattle.memchr.specs.Find.{IsFirstByte}
 use Rattle.traces.specs.Fields.{parts_after}
-use Rattle.traces.specs.Trace.{lines_of}
 
 pub cut_here : (text : List ℕ) (separator i : ℕ) → position (λ b. b == separator) text ≡ Some i
     → slice_split (λ b. b == separator) text ≡ take i text ∷ parts_after separator (Some (drop (i + 1) text))
@@ -127,7 +126,3 @@ found_far test text n found le none is =
     ∙ ap (λ m. position_from test m (drop n text)) same
     ∙ moved test n 0 (drop n text)
     ∙ ap (option_map (λ k. n + k)) (sym (position_from-zero test (drop n text)) ∙ sym is))
-
--- the lines of a text are one more than its line feeds
-pub lines_counted : (text : List ℕ) → length (lines_of text) ≡ count_by (λ b. b == 10) text + 1
-lines_counted text = length-slice_split (λ b. b == 10) text

@@ -40,7 +40,7 @@ pub use decimal::decimal as read_decimal;
 pub use examples::printed_lines_by_example;
 pub use judging::judge;
 pub use laws::printed_lines_read_back;
-pub use lines::{is_skipped, line_count, parts};
+pub use lines::{is_skipped, parts};
 pub use moments::Moment;
 pub use octets::{hex_digits, read_octets};
 pub use port::{Beginning, Trace};

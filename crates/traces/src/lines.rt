@@ -3,7 +3,7 @@ ghost use Rattle.std.specs.List.{slice_split};
 ghost use Rattle.std.specs.Option.{option_copied};
 ghost use Rattle.std.specs.Prelude.{◌≡◌, ◌==◌, ◌∷◌, ◌<◌, length, position, map, IfOk, IfSome};
 ghost use Rattle.traces.specs.Fields.{parts_after};
-ghost use Rattle.traces.specs.Trace.{lines_of, is_skipped};
+ghost use Rattle.traces.specs.Trace.{is_skipped};
 
 use memchr::memchr;
 use std::alloc::{AllocError, Global};
@@ -14,14 +14,6 @@ pub fn parts<'a>(alloc: Global, text: &'a [u8], separator: u8) -> Result<Vec<&'a
         ≡ slice_split (λ b. b == separator) text.entry.now) }
 {
     text.split(|b| *b == separator).collect(alloc)
-}
-
-/// How many lines a text has: each line feed ends one, and what follows the last is a line too.
-#[tactic(auto, using(crate::proofs::LineLemmas::lines_counted))]
-pub fn line_count(text: &[u8]) -> usize
-    ensures { result ≡ length (lines_of text.now) }
-{
-    text.iter().filter(|octet| **octet == b'\n').count() + 1
 }
 
 /// How many octets are looked at one by one: a value of one octet ends here, as most are in pieces.
