@@ -9,10 +9,10 @@
 //! host's live run ended, and words that ask for nothing end with 2, or 0 where they ask for help
 //! or the version. Proved of `perform`: what it appends to a writer that tells its octets is the
 //! text of the command's answer and nothing else, nothing where a text is refused, and a beginning
-//! of the answer's text where the writer failed; the exit status is that of the answer or of the
-//! first fault. Literal words, with what they ask for or how they end, are worked examples
-//! (`words_by_example`). What the system's files, terminals and sockets do, and the lines of
-//! faults, are tested.
+//! of the answer's text where the writer failed, or of a run's lines where memory was refused while
+//! they were printed; the exit status is that of the answer or of the first fault. Literal words,
+//! with what they ask for or how they end, are worked examples (`words_by_example`). What the
+//! system's files, terminals and sockets do, and the lines of faults, are tested.
 #![tactic(auto)]
 
 mod answer;
