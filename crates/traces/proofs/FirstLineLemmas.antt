@@ -1,5 +1,6 @@
 -- The first line of a text, cut field by field.
 use Rattle.std.proofs.Common.{◌≡◌, ◌≢◌, ℕ, ◌+◌, ◌<◌, ◌≤◌, ◌==◌, Bool, true, false, List, [], ◌∷◌, ◌++◌, length, take, drop, get_or, cond, Option, Some, None, ◌⊎◌, inl, inr, if◌then◌else◌, refl, ap, sym, ◌∙◌, subst, append_assoc, length-append, arith}
+use Rattle.std.specs.Borrow.{Bor}
 use Rattle.std.specs.Prelude.{position, nat_lt, slice_index, codes}
 use Rattle.std.specs.List.{All, slice_split, position_or_len}
 use Rattle.std.proofs.Math.Seq.{get_or-append_seam, take-append_seam}
@@ -12,9 +13,10 @@ use Rattle.std.proofs.lemmas.List.Elements.{All-append, All-cons, All-head, All-
 use Rattle.std.proofs.lemmas.List.Sums.{fails_before_first, passes_at_first, split_at_first}
 use Rattle.std.proofs.lemmas.List.Splits.{slice_split_at, slice_split_first, slice_split_none, slice_split-cons_no, length-slice_split}
 use Rattle.std.specs.Str.{bytes_eq}
+use Rattle.traces.specs.declared.event.Spelled.{Spelled}
 use Rattle.traces.specs.Event.{event_from, event_in, valued_at, wall_at, octets_at}
 use Rattle.traces.specs.Fields.{decimal_of, octets_of, parts_after}
-use Rattle.traces.specs.FirstLines.{IsFrontNumber, event_behind, first_of, first_line, first_fields, later_lines, ends_field}
+use Rattle.traces.specs.FirstLines.{IsEventBehind, IsFrontNumber, IsValued, event_behind, first_of, first_line, first_fields, later_lines, ends_field}
 use Rattle.traces.specs.Trace.{lines_of}
 use Rattle.traces.proofs.NumberLemmas.{decimal_digits, no_number}
 use Rattle.traces.proofs.OctetLemmas.{other_octet}
@@ -28,7 +30,7 @@ pub lines_first : (text : List ℕ) → lines_of text ≡ first_line text ∷ la
 lines_first text = some_parts (lines_of text) (omega (arith, length-slice_split (λ (b : ℕ). b == 10) text))
 
 -- octets that aren't line feeds stand in the first line
-lines_behind : (front rest : List ℕ) → All (λ b. (b == 10) ≡ false) front
+pub lines_behind : (front rest : List ℕ) → All (λ b. (b == 10) ≡ false) front
     → lines_of (front ++ rest) ≡ (front ++ first_line rest) ∷ later_lines rest
 lines_behind [] rest all = lines_first rest
 lines_behind (b ∷ front) rest all =
@@ -282,11 +284,11 @@ value_whole now kind value = by (nat_lt n (length value)) refl
         ap (λ parts. event_behind now (kind ∷ parts)) all
 
 -- a letter, a space and a value
-pub value_here : (now : ℕ) (text value : List ℕ) (rest : Option (List ℕ)) → 2 ≤ length text
-    → slice_index text 1 ≡ 32 → slice_split (λ b. b == 10) (drop 2 text) ≡ value ∷ parts_after 10 rest
+pub value_here : (now : ℕ) (text value : List ℕ) (rest : List (List ℕ)) → 2 ≤ length text
+    → slice_index text 1 ≡ 32 → slice_split (λ b. b == 10) (drop 2 text) ≡ value ∷ rest
     → ends_field (slice_index text 0) ≡ false
     → (event_behind now (first_fields text) ≡ valued_at (Some now) (slice_index text 0 ∷ []) value)
-    × (later_lines text ≡ parts_after 10 rest)
+    × (later_lines text ≡ rest)
 value_here now [] value rest le space lines other = absurd (omega (arith, le))
 value_here now (kind ∷ []) value rest le space lines other = absurd (omega (arith, le))
 value_here now (kind ∷ b ∷ more) value rest le space lines other =
@@ -322,11 +324,22 @@ no_letter now (kind ∷ more) some ends = by (kind == 32) refl
         let cut = field_last (kind ∷ more) [] more none (ap (λ d. d ∷ more) feed) in ap (event_behind now) cut.0
 
 -- nor where what stands behind the letter isn't one
-pub no_value_here : (now : ℕ) (text value : List ℕ) (rest : Option (List ℕ)) → 2 ≤ length text
-    → slice_index text 1 ≡ 32 → slice_split (λ b. b == 10) (drop 2 text) ≡ value ∷ parts_after 10 rest
+pub no_value_here : (now : ℕ) (text value : List ℕ) (rest : List (List ℕ)) → 2 ≤ length text
+    → slice_index text 1 ≡ 32 → slice_split (λ b. b == 10) (drop 2 text) ≡ value ∷ rest
     → valued_at (Some now) (slice_index text 0 ∷ []) value ≡ None → event_behind now (first_fields text) ≡ None
 no_value_here now text value rest le space lines none = by (ends_field (slice_index text 0)) refl
   where
     by : (b : Bool) → ends_field (slice_index text 0) ≡ b → event_behind now (first_fields text) ≡ None
     by true is = no_letter now text (omega (arith, le)) is
     by false is = (value_here now text value rest le space lines is).0 ∙ none
+
+-- what a letter, a space and a value are is what they are behind a moment
+pub valued_behind : (now : ℕ) (text : List ℕ) (result : Option (Spelled × Option (Bor (List ℕ)))) → 2 ≤ length text
+    → slice_index text 1 ≡ 32 → IsValued now (slice_index text 0) (drop 2 text) result
+    → IsEventBehind now text result
+valued_behind now text None le space is =
+    no_value_here now text (first_line (drop 2 text)) (later_lines (drop 2 text)) le space (lines_first (drop 2 text)) is
+valued_behind now text (Some found) le space is =
+    let here = value_here now text (first_line (drop 2 text)) (later_lines (drop 2 text)) le space
+    (lines_first (drop 2 text)) is.2 in
+    (here.0 ∙ is.0, is.1, here.1 ∙ is.3)

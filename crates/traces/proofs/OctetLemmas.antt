@@ -131,7 +131,7 @@ other_octet text k lt other = by (octets_of text) refl
 abbrev pub HasValue : ℕ → ℕ → Type 0
 HasValue octet value = hex_digit_value octet ≡ (if nat_lt value 16 then Some value else None)
 
-value_is_digit : (octet value : ℕ) → HasValue octet value → nat_lt value 16 ≡ is_hex_digit octet
+pub value_is_digit : (octet value : ℕ) → HasValue octet value → nat_lt value 16 ≡ is_hex_digit octet
 value_is_digit octet value has = by (nat_lt value 16) has
   where
     by : (b : Bool) → hex_digit_value octet ≡ (if b then Some value else None) → b ≡ is_hex_digit octet

@@ -1,9 +1,10 @@
 -- How a text is read from its front (texts of this gateway's own profile): its first line, field by
 -- field, with octets that are still in hexadecimal.
-use Rattle.std.specs.Prelude.{◌≡◌, ◌<◌, ◌≤◌, ℕ, ◌==◌, ◌||◌, Bool, true, false, List, [], ◌∷◌, length, take, drop, slice_index, Option, Some, None, option_map}
+use Rattle.std.specs.Prelude.{◌≡◌, ◌<◌, ◌≤◌, ℕ, ◌==◌, ◌||◌, Bool, true, false, List, [], ◌∷◌, length, take, drop, slice_index, Option, Some, None, is_some, option_map}
 use Rattle.std.specs.Borrow.{Bor}
 use Rattle.std.specs.Char.{is_ascii_digit}
-use Rattle.std.specs.List.{slice_split}
+use Rattle.std.specs.List.{slice_split, list_all}
+use Rattle.hex.specs.Hex.{is_hex_digit}
 use Rattle.std.specs.Option.{option_copied}
 use Rattle.traces.specs.declared.event.Spelled.{Spelled}
 use Rattle.traces.specs.declared.event.Spelled.TheVariants as spellings
@@ -56,6 +57,31 @@ IsMomentAt text (Some found) =
     (event_in (first_line text) ≡ event_behind found.0 (first_fields found.1.now))
     × (later_lines text ≡ later_lines found.1.now)
 
+-- so many digits stand at the front of a text
+pub record AreDigitsTo (text : List ℕ) (i : ℕ) : Type 0 where
+  pub within : i ≤ length text
+  pub digits : list_all is_hex_digit (take i text) ≡ true
+
+-- the digits at the front of a text end here
+pub record DigitsEnd (text : List ℕ) (i : ℕ) : Type 0 where
+  pub within : i ≤ length text
+  pub digits : list_all is_hex_digit (take i text) ≡ true
+  pub over : i < length text → is_hex_digit (slice_index text i) ≡ false
+
+-- the first line of a text, where it has digits alone, and the lines behind it
+abbrev pub IsDigitsLine : List ℕ → Option (Bor (List ℕ) × Option (Bor (List ℕ))) → Type 0
+IsDigitsLine text None = octets_of (first_line text) ≡ None
+IsDigitsLine text (Some found) =
+    (lines_of text ≡ found.0.now ∷ parts_after 10 (option_copied found.1))
+    × (list_all is_hex_digit found.0.now ≡ true)
+
+-- the first line of a text, where it is octets in hexadecimal, and the lines behind it
+abbrev pub IsOctetsLine : List ℕ → Option (Bor (List ℕ) × Option (Bor (List ℕ))) → Type 0
+IsOctetsLine text None = octets_of (first_line text) ≡ None
+IsOctetsLine text (Some found) =
+    (lines_of text ≡ found.0.now ∷ parts_after 10 (option_copied found.1))
+    × (is_some (octets_of found.0.now) ≡ true)
+
 -- the event that is spelled so, if its octets are in hexadecimal
 abbrev pub spelled_event : Spelled → Option Event
 spelled_event (spellings.Line now digits) = option_map (line now) (octets_of digits.now)
@@ -74,6 +100,7 @@ abbrev pub IsEventAt : List ℕ → Option (Spelled × Option (Bor (List ℕ))) 
 IsEventAt text None = event_in (first_line text) ≡ None
 IsEventAt text (Some found) =
     (event_in (first_line text) ≡ spelled_event found.0)
+    × (is_some (spelled_event found.0) ≡ true)
     × (later_lines text ≡ parts_after 10 (option_copied found.1))
 
 -- the event of the first line of a text behind its moment, if it is one, and the lines behind it
@@ -81,6 +108,15 @@ abbrev pub IsEventBehind : ℕ → List ℕ → Option (Spelled × Option (Bor (
 IsEventBehind now text None = event_behind now (first_fields text) ≡ None
 IsEventBehind now text (Some found) =
     (event_behind now (first_fields text) ≡ spelled_event found.0)
+    × (is_some (spelled_event found.0) ≡ true)
+    × (later_lines text ≡ parts_after 10 (option_copied found.1))
+
+-- the event of a letter, a space and the first line of a text, if it is one, and the lines behind it
+abbrev pub IsValued : (now kind : ℕ) → List ℕ → Option (Spelled × Option (Bor (List ℕ))) → Type 0
+IsValued now kind text None = valued_at (Some now) (kind ∷ []) (first_line text) ≡ None
+IsValued now kind text (Some found) =
+    (valued_at (Some now) (kind ∷ []) (first_line text) ≡ spelled_event found.0)
+    × (is_some (spelled_event found.0) ≡ true) × (ends_field kind ≡ false)
     × (later_lines text ≡ parts_after 10 (option_copied found.1))
 
 -- what the first line of a text is, and the lines behind it
@@ -90,6 +126,7 @@ IsFirstLine text (firsts.Skipped rest) =
     × (later_lines text ≡ parts_after 10 (option_copied rest))
 IsFirstLine text (firsts.Event event rest) =
     (is_skipped (first_line text) ≡ false) × (event_in (first_line text) ≡ spelled_event event)
+    × (is_some (spelled_event event) ≡ true)
     × (later_lines text ≡ parts_after 10 (option_copied rest))
 IsFirstLine text firsts.Wrong =
     (is_skipped (first_line text) ≡ false) × (event_in (first_line text) ≡ None)

@@ -2,19 +2,19 @@
 ghost use Rattle.std.specs.Prelude.{◌≡◌, ◌∷◌, [], true, false, Some, IfOk, IfSome, OnSome, is_some, option_map};
 ghost use Rattle.gateway.specs.Entries.{FitsPort};
 ghost use Rattle.gateway.specs.Ports.{FitsBuffer, told_by};
-ghost use Rattle.traces.specs.Event.{event_of, bare_event, valued_at};
-ghost use Rattle.traces.specs.FirstLines.{IsFirstLine, IsEventAt, IsEventBehind, IsMomentAt, ends_field, first_line, spelled_by, spelled_event};
+ghost use Rattle.traces.specs.Event.{event_of, bare_event};
+ghost use Rattle.traces.specs.FirstLines.{IsFirstLine, IsEventAt, IsEventBehind, IsMomentAt, IsValued, ends_field, first_line, spelled_by, spelled_event};
 ghost use Rattle.traces.specs.Progress.{came, tells_event};
 ghost use Rattle.traces.specs.Trace.{is_skipped};
 
 use crate::decimal::{decimal, front_number};
 use crate::lines::cut;
-use crate::octets::{are_octets, read_octets, write_octets};
+use crate::octets::{octets_line, read_octets, write_octets};
 use crate::reading::LINE_FEED;
 use gateway::{Entry, Next};
 use std::alloc::{AllocError, Global};
 
-/// An event as a line spells it: its octets are still digits, which may be wrong ones.
+/// An event as a line spells it: its octets are still digits.
 #[derive(Clone, Copy)]
 pub(crate) enum Spelled<'a> {
     Line(u64, &'a [u8]),
@@ -30,12 +30,12 @@ pub(crate) enum Spelled<'a> {
 pub(crate) enum FirstLine<'a> {
     /// Empty, or a comment.
     Skipped(Option<&'a [u8]>),
-    /// An event, if its octets are right.
     Event(Spelled<'a>, Option<&'a [u8]>),
     Wrong,
 }
 
-/// The first line of a text. Of the octets of an event only the end is looked for.
+/// The first line of a text. The digits of an event are judged, and not decoded.
+#[inline(always)]
 pub(crate) fn first_line(text: &[u8]) -> FirstLine<'_>
     ensures { IsFirstLine text.entry.now result }
 {
@@ -61,6 +61,7 @@ fn begins_skipped(text: &[u8]) -> bool
 
 /// The event that the first line of a text spells, and the lines behind it. No field's end is
 /// looked for before it is read.
+#[inline(always)]
 fn event_at(text: &[u8]) -> Option<(Spelled<'_>, Option<&[u8]>)>
     ensures { IsEventAt text.entry.now result }
 {
@@ -69,6 +70,7 @@ fn event_at(text: &[u8]) -> Option<(Spelled<'_>, Option<&[u8]>)>
 }
 
 /// The moment of the first line of a text, and what stands behind its space.
+#[inline(always)]
 fn moment(text: &[u8]) -> Option<(u64, &[u8])>
     ensures { IsMomentAt text.entry.now result }
 {
@@ -80,18 +82,15 @@ fn moment(text: &[u8]) -> Option<(u64, &[u8])>
     }
 }
 
-/// The event whose letter stands at the front of a text, and the lines behind it. Its value is the
-/// rest of the line: a space in it is no digit.
+/// The event whose letter stands at the front of a text, and the lines behind it.
+#[inline(always)]
 fn event_behind(now: u64, text: &[u8]) -> Option<(Spelled<'_>, Option<&[u8]>)>
     ensures { IsEventBehind now text.entry.now result }
 {
     match text {
         [kind] => Some((bare(now, *kind)?, None)),
         [kind, b'\n', rest @ ..] => Some((bare(now, *kind)?, Some(rest))),
-        [kind, b' ', text @ ..] => {
-            let (value, rest) = cut(text, LINE_FEED);
-            Some((valued(now, *kind, value)?, rest))
-        }
+        [kind, b' ', text @ ..] => valued(now, *kind, text),
         _ => None,
     }
 }
@@ -99,6 +98,7 @@ fn event_behind(now: u64, text: &[u8]) -> Option<(Spelled<'_>, Option<&[u8]>)>
 /// An event without octets.
 fn bare<'a>(now: u64, kind: u8) -> Option<Spelled<'a>>
     ensures event { spelled_by result ≡ bare_event (kind ∷ []) now }
+    ensures right { IfSome result (λ event. is_some (spelled_event event) ≡ true) }
     ensures letter { OnSome result (ends_field kind ≡ false) }
 {
     match kind {
@@ -109,26 +109,26 @@ fn bare<'a>(now: u64, kind: u8) -> Option<Spelled<'a>>
     }
 }
 
-/// An event with octets or a number.
-fn valued<'a>(now: u64, kind: u8, value: &'a [u8]) -> Option<Spelled<'a>>
-    ensures event { spelled_by result ≡ valued_at (Some now) (kind ∷ []) value.now }
-    ensures letter { OnSome result (ends_field kind ≡ false) }
+/// An event with octets or a number, which are the rest of the line (a space in it is no digit), and
+/// the lines behind it.
+#[inline(always)]
+fn valued(now: u64, kind: u8, text: &[u8]) -> Option<(Spelled<'_>, Option<&[u8]>)>
+    ensures { IsValued now kind text.entry.now result }
 {
     match kind {
-        b'S' => Some(Spelled::Line(now, value)),
-        b'R' => Some(Spelled::Bytes(now, value)),
-        b'W' => Some(Spelled::Wall(now, decimal(value)?)),
+        b'S' => {
+            let (digits, rest) = octets_line(text)?;
+            Some((Spelled::Line(now, digits), rest))
+        }
+        b'R' => {
+            let (digits, rest) = octets_line(text)?;
+            Some((Spelled::Bytes(now, digits), rest))
+        }
+        b'W' => {
+            let (number, rest) = cut(text, LINE_FEED);
+            Some((Spelled::Wall(now, decimal(number)?), rest))
+        }
         _ => None,
-    }
-}
-
-/// Whether the octets of an event are right.
-pub(crate) fn is_right(event: &Spelled<'_>) -> bool
-    ensures { result ≡ is_some (spelled_event event.now) }
-{
-    match event {
-        Spelled::Line(_, digits) | Spelled::Bytes(_, digits) => are_octets(*digits),
-        _ => true,
     }
 }
 

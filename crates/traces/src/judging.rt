@@ -1,7 +1,7 @@
 //! The judgement of a trace before it is run.
 ghost use Rattle.traces.specs.Progress.{IsJudgement};
 
-use crate::event::{FirstLine, first_line, is_right};
+use crate::event::{FirstLine, first_line};
 use crate::reading::TextFault;
 
 /// How many events the lines of a trace tell. The first wrong line is the fault. It takes no
@@ -17,11 +17,11 @@ pub fn judge(text: &[u8]) -> Result<u64, TextFault>
         };
         match first_line(text) {
             FirstLine::Skipped(rest) => left = rest,
-            FirstLine::Event(event, rest) if is_right(&event) => {
+            FirstLine::Event(_, rest) => {
                 count += 1;
                 left = rest;
             }
-            _ => return Err(TextFault::Line(number)),
+            FirstLine::Wrong => return Err(TextFault::Line(number)),
         }
     }
     Err(TextFault::NoMemory)

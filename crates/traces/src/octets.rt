@@ -3,7 +3,9 @@ ghost use Rattle.std.specs.Prelude.{◌≡◌, ◌==◌, ◌*◌, ◌%◌, ◌�
 ghost use Rattle.hex.specs.Hex.{IsBytes, decode_pairs, encode_upper, hex_digit_value, is_hex_digit};
 ghost use Rattle.std.specs.List.{list_all};
 ghost use Rattle.traces.specs.Fields.{octets_of};
+ghost use Rattle.traces.specs.FirstLines.{AreDigitsTo, DigitsEnd, IsDigitsLine, IsOctetsLine};
 
+use crate::reading::LINE_FEED;
 use hex::FromHexError;
 use std::alloc::{AllocError, Global};
 
@@ -60,35 +62,87 @@ fn may_be_octets(digits: usize) -> bool
     digits % 2 == 0 && 2 <= digits && digits <= 2 * MOST_OCTETS
 }
 
-/// Whether a text is 1 to 1,024 octets in hexadecimal.
-pub(crate) fn are_octets(text: &[u8]) -> bool
-    ensures { result ≡ is_some (octets_of text.now) }
+/// The octets in hexadecimal that are the whole first line of a text, and the lines behind it.
+/// `None` where the line is anything else. Its end is found where its digits end, so that each octet
+/// is looked at once.
+#[inline(always)]
+pub(crate) fn octets_line(text: &[u8]) -> Option<(&[u8], Option<&[u8]>)>
+    ensures { IsOctetsLine text.entry.now result }
 {
-    may_be_octets(text.len()) && are_digits(text)
+    let (digits, rest) = digits_line(text, digits_end(text))?;
+    if may_be_octets(digits.len()) {
+        Some((digits, rest))
+    } else {
+        None
+    }
+}
+
+/// The first line of a text whose digits end here, where these are all of it, and the lines behind
+/// it.
+#[inline(always)]
+fn digits_line(text: &[u8], end: usize) -> Option<(&[u8], Option<&[u8]>)>
+    requires { DigitsEnd text.now end }
+    ensures { IsDigitsLine text.entry.now result }
+{
+    if end == text.len() {
+        return Some((text, None));
+    }
+    if text[end] == LINE_FEED {
+        return Some((&text[..end], Some(&text[end + 1..])));
+    }
+    None
+}
+
+/// Where the digits at the front of a text end.
+#[inline(always)]
+fn digits_end(text: &[u8]) -> usize
+    ensures { DigitsEnd text.now result }
+{
+    let mut end = half_end(text, blocks_end(text));
+    'digits: while end < text.len() {
+        if value_of(text[end]) >= 16 {
+            return end;
+        }
+        end += 1;
+    }
+    end
 }
 
 /// So many octets are judged at a time.
 const BLOCK: usize = 16;
 
-/// Whether a text has digits alone. It looks at all of them, a block at a time, which takes less
-/// time than an end at the first other octet.
-fn are_digits(text: &[u8]) -> bool
-    ensures { result ≡ list_all is_hex_digit text.now }
+/// And so many of those that are left.
+const HALF: usize = 8;
+
+/// Where the whole blocks of digits at the front of a text end.
+#[inline(always)]
+fn blocks_end(text: &[u8]) -> usize
+    ensures { AreDigitsTo text.now result }
 {
-    if text.len() < BLOCK {
-        return is_each_digit(text);
+    let mut end = 0;
+    'blocks: while BLOCK <= text.len() - end {
+        if !is_each_digit(&text[end..end + BLOCK]) {
+            return end;
+        }
+        end += BLOCK;
     }
-    let mut are = true;
-    let mut done = 0;
-    'blocks: while BLOCK <= text.len() - done {
-        are = are & is_each_digit(&text[done..done + BLOCK]);
-        done += BLOCK;
-    }
-    // The last block may have octets that another had too.
-    are & is_each_digit(&text[text.len() - BLOCK..])
+    end
 }
 
-/// The same, octet by octet: of a block the compiler judges all at once.
+/// As far as there are digits, and half a block more where it is digits too.
+#[inline(always)]
+fn half_end(text: &[u8], end: usize) -> usize
+    requires { AreDigitsTo text.now end }
+    ensures { AreDigitsTo text.now result }
+{
+    if HALF <= text.len() - end && is_each_digit(&text[end..end + HALF]) {
+        end + HALF
+    } else {
+        end
+    }
+}
+
+/// Whether each octet is a digit: of a block the compiler judges all at once.
 #[inline(always)]
 fn is_each_digit(text: &[u8]) -> bool
     ensures { result ≡ list_all is_hex_digit text.now }
