@@ -1,5 +1,5 @@
 //! Octets in hexadecimal.
-ghost use Rattle.std.specs.Prelude.{◌≡◌, ◌==◌, ◌*◌, ◌%◌, ◌≤◌, ◌&&◌, nat_le, nat_lt, true, Some, None, Ok, IfOk, IfSome, if◌then◌else◌, is_some, length, option_map, string_bytes, take};
+ghost use Rattle.std.specs.Prelude.{◌≡◌, ◌<◌, false, slice_index, ◌==◌, ◌*◌, ◌%◌, ◌≤◌, ◌&&◌, nat_le, nat_lt, true, Some, None, Ok, IfOk, IfSome, if◌then◌else◌, is_some, length, option_map, string_bytes, take};
 ghost use Rattle.hex.specs.Hex.{IsBytes, decode_pairs, encode_upper, hex_digit_value, is_hex_digit};
 ghost use Rattle.std.specs.List.{list_all};
 ghost use Rattle.traces.specs.Fields.{octets_of};
@@ -93,13 +93,31 @@ fn digits_line(text: &[u8], end: usize) -> Option<(&[u8], Option<&[u8]>)>
     None
 }
 
-/// Where the digits at the front of a text end.
+/// Where the digits at the front of a text end. The first are looked at one by one, since a value of
+/// one octet ends there, as most are in pieces; the others a block at a time.
 #[inline(always)]
 fn digits_end(text: &[u8]) -> usize
     ensures { DigitsEnd text.now result }
 {
-    let mut end = half_end(text, blocks_end(text));
-    'digits: while end < text.len() {
+    let near = run_end(text, 0, text.len().min(NEAR));
+    if near < NEAR {
+        return near;
+    }
+    run_end(text, half_end(text, blocks_end(text, near)), text.len())
+}
+
+/// As far as there are digits, and on to the first other octet or to the limit.
+#[inline(always)]
+fn run_end(text: &[u8], from: usize, limit: usize) -> usize
+    requires digits { AreDigitsTo text.now from }
+    requires within { limit ≤ length text.now }
+    requires forward { from ≤ limit }
+    ensures digits { AreDigitsTo text.now result }
+    ensures within { result ≤ limit }
+    ensures over { result < limit → is_hex_digit (slice_index text.now result) ≡ false }
+{
+    let mut end = from;
+    'digits: while end < limit {
         if value_of(text[end]) >= 16 {
             return end;
         }
@@ -108,18 +126,22 @@ fn digits_end(text: &[u8]) -> usize
     end
 }
 
+/// So many octets are looked at one by one.
+const NEAR: usize = 4;
+
 /// So many octets are judged at a time.
 const BLOCK: usize = 16;
 
 /// And so many of those that are left.
 const HALF: usize = 8;
 
-/// Where the whole blocks of digits at the front of a text end.
+/// As far as there are digits, and on for as many whole blocks of them as follow.
 #[inline(always)]
-fn blocks_end(text: &[u8]) -> usize
+fn blocks_end(text: &[u8], from: usize) -> usize
+    requires { AreDigitsTo text.now from }
     ensures { AreDigitsTo text.now result }
 {
-    let mut end = 0;
+    let mut end = from;
     'blocks: while BLOCK <= text.len() - end {
         if !is_each_digit(&text[end..end + BLOCK]) {
             return end;
