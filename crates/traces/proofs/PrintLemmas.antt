@@ -1,26 +1,55 @@
 -- What is printed, octet by octet.
-use Rattle.std.proofs.Common.{◌≡◌, ℕ, zero, suc, ◌+◌, ◌*◌, ◌/◌, ◌%◌, ◌<◌, List, [], ◌∷◌, ◌++◌, length, take, drop, slice_index, refl, sym, ap, ◌∙◌, arith, append_assoc, zero-add}
+use borrow.Rule.Slice.PartMut.{put_mid, same_len_mid}
+use Rattle.std.proofs.Common.{◌≡◌, ℕ, zero, suc, ◌+◌, ◌-◌, ◌*◌, ◌/◌, ◌%◌, ◌<◌, ◌≤◌, List, [], ◌∷◌, ◌++◌, length, take, drop, slice_index, slice_set, refl, sym, ap, ◌∙◌, arith, append_assoc, length-append, length-drop, zero-add}
 use Rattle.std.specs.List.{range_with_len}
-use Rattle.std.proofs.lemmas.List.{take-append-drop}
+use Rattle.std.proofs.Math.Seq.{take-append_seam, take-append-add}
+use Rattle.std.proofs.lemmas.List.{length-take-le, take_more_set, take-append-le}
+use Rattle.std.proofs.lemmas.Slice.{take-put_mid}
 use Rattle.std.proofs.lemmas.List.FromFn.{get_or-range_with_len, length-range_with_len}
 use Rattle.hex.specs.Hex.{encode_upper, encode_with, upper_digits}
 use Rattle.traces.specs.declared.printing.TheConstants.{PAIRS}
 
--- digits of octets in two parts
-pub digits_both : (xs ys : List ℕ) → encode_upper (xs ++ ys) ≡ encode_upper xs ++ encode_upper ys
-unfolding encode_with
-digits_both [] ys = refl
-digits_both (b ∷ xs) ys =
-    ap (λ l. slice_index upper_digits (b / 16) ∷ slice_index upper_digits (b % 16) ∷ l) (digits_both xs ys)
+-- what stands in a part of a row leaves its length
+put_length : (i k : ℕ) (row part : List ℕ) → i + k ≤ length row → length part ≡ k
+    → length (put_mid i k row part) ≡ length row
+put_length i k row part within len =
+    same_len_mid i k row part
+    (len ∙ sym (length-take-le k (drop i row) (omega (arith, length-drop i row, within))))
 
--- one more block
-pub block_next : (page left octets : List ℕ) (n : ℕ) (whole : List ℕ)
-    → page ++ encode_upper left ≡ whole → octets ≡ encode_upper (take n left)
-    → (page ++ octets) ++ encode_upper (drop n left) ≡ whole
-block_next page left octets n whole is spelled =
-    append_assoc page octets (encode_upper (drop n left))
-    ∙ ap (λ l. page ++ l) (ap (λ l. l ++ encode_upper (drop n left)) spelled
-    ∙ sym (digits_both (take n left) (drop n left)) ∙ ap encode_upper (take-append-drop n left)) ∙ is
+-- a line of three parts and its end, each put where the one before ends
+pub line_put : (row digits letter octets : List ℕ) (a n : ℕ) → length digits ≡ a → length letter ≡ 5 → length octets ≡ n
+    → a + 5 + n < length row → take (a + 5 + n + 1) (slice_set (put_mid (a + 5) (a + 5 + n - (a + 5))
+    (put_mid a (a + 5 - a) (digits ++ drop a row) letter) octets) (a + 5 + n) 10)
+    ≡ digits ++ letter ++ octets ++ 10 ∷ []
+line_put row digits letter octets a n long five many room =
+    let first : List ℕ = digits ++ drop a row in
+    let first_len : length first ≡ length row =
+    omega (arith, length-append digits (drop a row), length-drop a row, long, room) in
+    let second : List ℕ = put_mid a (a + 5 - a) first letter in
+    let second_len : length second ≡ length row =
+    put_length a (a + 5 - a) first letter (omega (arith, first_len, room)) (omega (arith, five)) ∙ first_len in
+    let third : List ℕ = put_mid (a + 5) (a + 5 + n - (a + 5)) second octets in
+    let third_len : length third ≡ length row =
+    put_length (a + 5) (a + 5 + n - (a + 5)) second octets (omega (arith, second_len, room)) (omega (arith, many))
+    ∙ second_len in
+    let start : take a first ≡ digits =
+    ap (λ (i : ℕ). take i first) (sym long) ∙ take-append_seam digits (drop a row) in
+    let middle : take (a + 5) second ≡ digits ++ letter =
+    take-put_mid a (a + 5 - a) first letter (a + 5) (omega (arith, five)) (omega (arith, first_len, room))
+    ∙ ap (λ l. l ++ letter) start in
+    let most : take (a + 5 + n) third ≡ (digits ++ letter) ++ octets =
+    take-put_mid (a + 5) (a + 5 + n - (a + 5)) second octets (a + 5 + n) (omega (arith, many))
+    (omega (arith, second_len, room)) ∙ ap (λ l. l ++ octets) middle in
+    take_more_set third (a + 5 + n) 10 (omega (arith, third_len, room)) ∙ ap (λ l. l ++ 10 ∷ []) most
+
+-- what is put behind octets that were put
+pub put_behind : (room line rest more : List ℕ) (end count : ℕ) → end ≤ length room → take count line ≡ more
+    → count ≤ length line → take (end + count) (take end room ++ (line ++ rest)) ≡ take end room ++ more
+put_behind room line rest more end count within is most =
+    let len : length (take end room) ≡ end = length-take-le end room within in
+    ap (λ (i : ℕ). take (i + count) (take end room ++ (line ++ rest))) (sym len)
+    ∙ take-append-add (take end room) (line ++ rest) count
+    ∙ ap (λ l. take end room ++ l) (take-append-le count line rest most ∙ is)
 
 -- The table of pairs
 

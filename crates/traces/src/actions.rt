@@ -9,7 +9,7 @@ ghost use Rattle.traces.specs.Printed.{IsPrintable, IsPrintableTold};
 
 use crate::moments::Moment;
 use crate::octets::hex_digits;
-use crate::printing::{push_digits, push_letter, push_octets};
+use crate::page::Page;
 use gateway::{Action, Told, cause_number};
 use session::Close;
 use std::alloc::{AllocError, Global};
@@ -25,80 +25,46 @@ fn append_gap(lines: &mut String, now: u64, station: usize, session: u64) -> Res
     writeln!(lines, "{now} > G {place} {session}")
 }
 
-/// Most octets of a line of an action beside its octets in hexadecimal: a moment of 20 digits, the
-/// letter with what surrounds it, and the line's end.
-const MOST_BESIDE: usize = 26;
-
-/// The room that the line of an action with so many octets needs at most.
-fn room_for(octets: usize) -> Option<usize>
-    ensures { IfSome result (λ room. room ≡ 2 * octets + 26) }
-{
-    octets.checked_mul(2)?.checked_add(MOST_BESIDE)
-}
-
-/// Prints the line of an action with octets.
-fn print_octets(
-    page: &mut Vec<u8>,
-    moment: &Moment,
-    letter: u8,
-    octets: &[u8],
-) -> Result<(), AllocError>
-    ensures line { OnOk result (page.new.items ≡ page.old.items
-        ++ octets_line moment.now letter octets.now) }
-    ensures none { OnErr result (page.new.items ≡ page.old.items) }
-    ensures octets { OnOk result (IsBytes octets.now) }
-{
-    let Some(room) = room_for(octets.len()) else {
-        return Err(AllocError);
-    };
-    page.try_reserve(room)?;
-    push_octets(page, moment.digits());
-    push_letter(page, letter);
-    push_digits(page, octets);
-    page.push_reserved(b'\n');
-    Ok(())
-}
-
 /// Prints the line of a close.
-fn print_close(alloc: Global, page: &mut Vec<u8>, now: u64, cause: Close) -> Result<(), AllocError>
-    ensures line { OnOk result (page.new.items ≡ page.old.items
+fn print_close(alloc: Global, page: &mut Page, now: u64, cause: Close) -> Result<(), AllocError>
+    ensures line { OnOk result (page.new ≡ page.old
         ++ close_line now (number_of cause)) }
-    ensures none { OnErr result (page.new.items ≡ page.old.items) }
+    ensures none { OnErr result (page.new ≡ page.old) }
 {
     let mut line = String::new(alloc);
     let number = cause_number(cause);
     writeln!(line, "{now} > X {number}")?;
-    page.extend_from_slice(line.as_bytes())
+    page.put(line.as_bytes())
 }
 
 /// Prints the line of a gap of a station, from 0.
 fn print_gap(
     alloc: Global,
-    page: &mut Vec<u8>,
+    page: &mut Page,
     now: u64,
     station: usize,
     session: u64,
 ) -> Result<(), AllocError>
-    ensures line { OnOk result (page.new.items ≡ page.old.items
+    ensures line { OnOk result (page.new ≡ page.old
         ++ gap_line now station session) }
-    ensures none { OnErr result (page.new.items ≡ page.old.items) }
+    ensures none { OnErr result (page.new ≡ page.old) }
     ensures printable { IsPrintable (Went now (GapOut station session)) }
 {
     let mut line = String::new(alloc);
     append_gap(&mut line, now, station, session)?;
-    page.extend_from_slice(line.as_bytes())
+    page.put(line.as_bytes())
 }
 
 /// Prints the line of an action on a page. An `Err` is want of memory; then nothing was printed.
 pub fn print_action(
     alloc: Global,
-    page: &mut Vec<u8>,
+    page: &mut Page,
     now: u64,
     action: &Action<'_>,
 ) -> Result<(), AllocError>
-    ensures line { OnOk result (page.new.items ≡ page.old.items
+    ensures line { OnOk result (page.new ≡ page.old
         ++ line_of now (output_of action.now)) }
-    ensures none { OnErr result (page.new.items ≡ page.old.items) }
+    ensures none { OnErr result (page.new ≡ page.old) }
     ensures printable { OnOk result (IsPrintable (Went now (output_of action.now))) }
 {
     print_action_at(alloc, page, &Moment::new(now), action)
@@ -107,19 +73,19 @@ pub fn print_action(
 /// The same with a moment that is spelled already.
 pub fn print_action_at(
     alloc: Global,
-    page: &mut Vec<u8>,
+    page: &mut Page,
     moment: &Moment,
     action: &Action<'_>,
 ) -> Result<(), AllocError>
-    ensures line { OnOk result (page.new.items ≡ page.old.items
+    ensures line { OnOk result (page.new ≡ page.old
         ++ line_of moment.now (output_of action.now)) }
-    ensures none { OnErr result (page.new.items ≡ page.old.items) }
+    ensures none { OnErr result (page.new ≡ page.old) }
     ensures printable { OnOk result (IsPrintable (Went moment.now (output_of action.now))) }
 {
     let now = moment.number();
     match action {
-        Action::Line(octets) => print_octets(page, moment, b'S', *octets),
-        Action::Tcp(octets) => print_octets(page, moment, b'T', *octets),
+        Action::Line(octets) => page.put_line(moment, b'S', *octets),
+        Action::Tcp(octets) => page.put_line(moment, b'T', *octets),
         Action::Close(cause) => print_close(alloc, page, now, *cause),
         Action::Gap { station, session } => print_gap(alloc, page, now, *station, *session),
     }

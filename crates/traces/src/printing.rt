@@ -1,11 +1,9 @@
-//! Text put where room was made before.
-ghost use Rattle.std.specs.Prelude.{◌≡◌, ◌+◌, ◌*◌, ◌/◌, ◌%◌, ◌<◌, ◌≤◌, ◌++◌, ◌∷◌, [], length, slice_index};
-ghost use Rattle.std.specs.Vec.{vec_len, vec_capacity};
+//! The line of an action with octets, put where room was made before.
+ghost use Rattle.std.specs.Prelude.{◌≡◌, ◌+◌, ◌*◌, ◌/◌, ◌%◌, ◌≤◌, length, slice_index, take, IfSome};
 ghost use Rattle.hex.specs.Hex.{IsBytes, encode_upper, upper_digits};
+ghost use Rattle.traces.specs.Actions.{octets_line};
 
-/// How many octets are spelled before their digits are appended: most frames take one or two such
-/// pieces.
-const PIECE: usize = 16;
+use crate::moments::Moment;
 
 /// Each octet in hexadecimal, in upper case, from 0 on. A look at a table takes less time than two
 /// digits by arithmetic, where the octets are few.
@@ -27,40 +25,37 @@ D0D1D2D3D4D5D6D7D8D9DADBDCDDDEDF\
 E0E1E2E3E4E5E6E7E8E9EAEBECEDEEEF\
 F0F1F2F3F4F5F6F7F8F9FAFBFCFDFEFF";
 
-/// Appends octets.
-pub(crate) fn push_octets(page: &mut Vec<u8>, octets: &[u8])
-    requires { vec_len page.old + length octets.now ≤ vec_capacity page.old }
-    ensures text { page.new.items ≡ page.old.items ++ octets.now }
-    ensures len { vec_len page.new ≡ vec_len page.old + length octets.now }
-    ensures capacity { vec_capacity page.old ≤ vec_capacity page.new }
+/// Most octets of a line of an action beside its octets in hexadecimal: a moment of 20 digits, the
+/// letter with what surrounds it, and the line's end.
+const MOST_BESIDE: usize = 26;
+
+/// The room that the line of an action with so many octets needs at most.
+pub(crate) fn room_for(octets: usize) -> Option<usize>
+    ensures { IfSome result (λ room. room ≡ 2 * octets + 26) }
 {
-    if page.extend_from_slice(octets).is_err() {
-        unreachable!();
-    }
+    octets.checked_mul(2)?.checked_add(MOST_BESIDE)
 }
 
-/// Appends octets in hexadecimal, in upper case.
-pub(crate) fn push_digits(page: &mut Vec<u8>, octets: &[u8])
-    requires { vec_len page.old + 2 * length octets.now ≤ vec_capacity page.old }
-    ensures text { page.new.items ≡ page.old.items ++ encode_upper octets.now }
-    ensures len { vec_len page.new ≡ vec_len page.old + 2 * length octets.now }
-    ensures capacity { vec_capacity page.old ≤ vec_capacity page.new }
+/// Puts the line of an action with octets at the front of a row, and says how many octets it has.
+#[inline(always)]
+pub(crate) fn put_line(row: &mut [u8], moment: &Moment, letter: u8, octets: &[u8]) -> usize
+    requires { 2 * length octets.now + 26 ≤ length row.old }
+    ensures line { take result row.new ≡ octets_line moment.now letter octets.now }
+    ensures within { result ≤ length row.new }
     ensures octets { IsBytes octets.now }
 {
-    let mut digits = [0u8; 2 * PIECE];
-    let mut left = octets;
-    'pieces: while left.len() >= PIECE {
-        spell(&left[..PIECE], &mut digits);
-        push_octets(page, &digits);
-        left = &left[PIECE..];
-    }
-    let rest = &mut digits[..2 * left.len()];
-    spell(left, rest);
-    push_octets(page, &*rest);
+    let digits = moment.digits();
+    let letter_at = digits.len();
+    let octets_at = letter_at + 5;
+    let end = octets_at + 2 * octets.len();
+    row[..letter_at].copy_from_slice(digits);
+    row[letter_at..octets_at].copy_from_slice(&[b' ', b'>', b' ', letter, b' ']);
+    spell(octets, &mut row[octets_at..end]);
+    row[end] = b'\n';
+    end + 1
 }
 
-/// Spells octets in hexadecimal, in upper case. Inlined, so that the compiler knows how many a
-/// whole piece has.
+/// Spells octets in hexadecimal, in upper case.
 #[inline(always)]
 fn spell(octets: &[u8], out: &mut [u8])
     requires { length out.old ≡ 2 * length octets.now }
@@ -80,14 +75,4 @@ fn pair_of(octet: u8) -> (u8, u8)
 {
     let place = 2 * octet as usize;
     (PAIRS[place], PAIRS[place + 1])
-}
-
-/// Appends what stands between the moment of an action and its octets.
-pub(crate) fn push_letter(page: &mut Vec<u8>, letter: u8)
-    requires { vec_len page.old + 5 ≤ vec_capacity page.old }
-    ensures text { page.new.items ≡ page.old.items ++ 32 ∷ 62 ∷ 32 ∷ letter ∷ 32 ∷ [] }
-    ensures len { vec_len page.new ≡ vec_len page.old + 5 }
-    ensures capacity { vec_capacity page.old ≤ vec_capacity page.new }
-{
-    push_octets(page, &[b' ', b'>', b' ', letter, b' ']);
 }

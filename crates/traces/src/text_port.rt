@@ -11,6 +11,7 @@ ghost use Rattle.traces.specs.Trace.{first_wrong, lines_of};
 use crate::actions::print_action_at;
 use crate::event::{FirstLine, announce, first_line};
 use crate::moments::Moment;
+use crate::page::Page;
 use gateway::{Action, History, Next, Port};
 use std::alloc::Global;
 use std::marker::Model;
@@ -31,7 +32,7 @@ pub struct TextPort<'a> {
     history: History,
     /// The log as it was when the page was cleared.
     poured: History,
-    page: Vec<u8>,
+    page: Page,
     /// That of the latest action.
     moment: Moment,
     failures: u64,
@@ -49,7 +50,7 @@ impl<'a> Model for TextPort<'a> {
       started = a.is_started;
       log = a.history.entries;
       poured = a.poured.entries;
-      page = a.page.items;
+      page = a.page;
       failed = a.failures;
     } };
 
@@ -59,7 +60,7 @@ impl<'a> Model for TextPort<'a> {
       started = a.is_started;
       log = a.history.entries;
       poured = a.poured.entries;
-      page = a.page.items;
+      page = a.page;
       failed = a.failures;
     }) };
 }
@@ -116,7 +117,7 @@ impl<'a> TextPort<'a> {
             is_started: false,
             history: History::new(),
             poured: History::new(),
-            page: Vec::new(alloc),
+            page: Page::new(alloc),
             moment: Moment::new(0),
             failures: 0,
         }
@@ -133,7 +134,7 @@ impl<'a> TextPort<'a> {
         ensures right { is_through self.now ≡ true →
             first_wrong 1 (lines_of self.now.text) ≡ None }
     {
-        self.page.as_slice()
+        self.page.octets()
     }
 
     /// Takes all lines off the page, which keeps its room.
