@@ -13,7 +13,7 @@ use crate::sheet::Sheet;
 use gateway::{Action, Next};
 use std::alloc::Global;
 use std::marker::Model;
-use traces::{print_action, printed_lines_read_back};
+use traces::{Page, print_action, printed_lines_read_back};
 
 /// Writes lines down, and gives them to its sheet, until that takes none any more. What it has
 /// written is always the lines of a log.
@@ -22,7 +22,7 @@ pub struct Pen<W: Sheet + Drop> {
     alloc: Global,
     pub(crate) sheet: W,
     /// The lines that the sheet hasn't been given yet.
-    held: Vec<u8>,
+    held: Page,
     is_over: bool,
 }
 
@@ -33,14 +33,14 @@ impl<W: Sheet + Drop> Model for Pen<W> {
 
     ghost view = { λ p. record {
       taken = W.taken p.sheet;
-      held = p.held.items;
+      held = p.held;
       is_over = p.is_over;
       missed = W.missed p.sheet;
     } };
 
     ghost invariant = { λ p. IsKept (record {
       taken = W.taken p.sheet;
-      held = p.held.items;
+      held = p.held;
       is_over = p.is_over;
       missed = W.missed p.sheet;
     }) };
@@ -61,7 +61,7 @@ impl<W: Sheet + Drop> Pen<W> {
         Pen {
             alloc,
             sheet,
-            held: first,
+            held: Page::holding(first),
             is_over: false,
         }
     }
@@ -79,7 +79,7 @@ impl<W: Sheet + Drop> Pen<W> {
         Pen {
             alloc,
             sheet,
-            held: Vec::new(alloc),
+            held: Page::new(alloc),
             is_over: true,
         }
     }
@@ -100,7 +100,7 @@ impl<W: Sheet + Drop> Pen<W> {
         if self.is_over {
             return;
         }
-        if self.sheet.take(self.held.as_slice()) {
+        if self.sheet.take(self.held.octets()) {
             self.held.clear();
         } else {
             self.end();
@@ -121,7 +121,7 @@ impl<W: Sheet + Drop> Pen<W> {
         ensures { self.new ≡ held_or_over result lines.now self.old }
     {
         printed_lines_read_back();
-        if self.held.extend_from_slice(lines.as_bytes()).is_err() {
+        if self.held.put(lines.as_bytes()).is_err() {
             self.end();
             return false;
         }

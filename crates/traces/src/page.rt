@@ -70,6 +70,14 @@ impl Page {
         }
     }
 
+    /// A page that has these octets.
+    pub fn holding(octets: Vec<u8>) -> Page
+        ensures { result ≡ octets.items }
+    {
+        let end = octets.len();
+        Page { room: octets, end }
+    }
+
     /// What was put on the page, in its order.
     pub fn octets(&self) -> &[u8]
         ensures { result.now ≡ self.now }
@@ -85,7 +93,7 @@ impl Page {
     }
 
     /// Puts octets. An `Err` is want of memory; then nothing was put.
-    pub(crate) fn put(&mut self, octets: &[u8]) -> Result<(), AllocError>
+    pub fn put(&mut self, octets: &[u8]) -> Result<(), AllocError>
         ensures put { OnOk result (self.new ≡ self.old ++ octets.now) }
         ensures none { OnErr result (self.new ≡ self.old) }
     {
