@@ -1,10 +1,10 @@
 -- The end of a line of octets is found where its digits end.
-use Rattle.std.proofs.Common.{◌≡◌, ◌≢◌, ℕ, ◌+◌, ◌<◌, ◌≤◌, ◌==◌, Bool, true, false, List, [], ◌∷◌, ◌++◌, length, take, drop, get_or, None, refl, ap, sym, ◌∙◌, append_assoc, length-append, arith}
+use Rattle.std.proofs.Common.{◌≡◌, ◌≢◌, ℕ, ◌+◌, ◌<◌, ◌==◌, Bool, true, false, List, [], ◌∷◌, ◌++◌, length, take, drop, get_or, None, refl, ap, sym, ◌∙◌, append_assoc, length-append, arith}
 use Rattle.std.specs.Prelude.{slice_index, nat_lt}
-use Rattle.std.specs.List.{All, list_all, slice_split}
+use Rattle.std.specs.List.{All, list_all}
 use Rattle.std.proofs.Math.Seq.{get_or-append_seam}
 use Rattle.std.proofs.lemmas.Bool.{eqb-true, false≢true}
-use Rattle.std.proofs.lemmas.List.{drop_more, get_or_append_left, get_or_default, length-take-le, take_all, take-append-drop}
+use Rattle.std.proofs.lemmas.List.{drop_more, length-take-le, take_all, take-append-drop}
 use Rattle.std.proofs.lemmas.List.Elements.{All-append, All-cons, All-nil}
 use Rattle.std.proofs.lemmas.List.Folds.{list_all_more}
 use Rattle.std.proofs.lemmas.List.Sums.{AllPass-from_list_all}
@@ -24,7 +24,7 @@ no_feed b digit = by (b == 10) refl
     by false e = refl
     by true e = absurd (false≢true (ap is_hex_digit (sym (eqb-true b 10 e)) ∙ digit))
 
-no_feeds : (digits : List ℕ) → list_all is_hex_digit digits ≡ true → All (λ b. (b == 10) ≡ false) digits
+pub no_feeds : (digits : List ℕ) → list_all is_hex_digit digits ≡ true → All (λ b. (b == 10) ≡ false) digits
 no_feeds digits all k d lt = no_feed (get_or digits k d) (AllPass-from_list_all is_hex_digit digits all k d lt)
 
 -- one digit more

@@ -1,6 +1,5 @@
 -- The first line of a text, cut field by field.
 use Rattle.std.proofs.Common.{◌≡◌, ◌≢◌, ℕ, ◌+◌, ◌<◌, ◌≤◌, ◌==◌, Bool, true, false, List, [], ◌∷◌, ◌++◌, length, take, drop, get_or, cond, Option, Some, None, ◌⊎◌, inl, inr, if◌then◌else◌, refl, ap, sym, ◌∙◌, subst, append_assoc, length-append, arith}
-use Rattle.std.specs.Borrow.{Bor}
 use Rattle.std.specs.Prelude.{position, nat_lt, slice_index, codes}
 use Rattle.std.specs.List.{All, slice_split, position_or_len}
 use Rattle.std.proofs.Math.Seq.{get_or-append_seam, take-append_seam}
@@ -15,7 +14,7 @@ use Rattle.std.proofs.lemmas.List.Splits.{slice_split_at, slice_split_first, sli
 use Rattle.std.specs.Str.{bytes_eq}
 use Rattle.traces.specs.declared.event.Spelled.{Spelled}
 use Rattle.traces.specs.Event.{event_from, event_in, valued_at, wall_at, octets_at}
-use Rattle.traces.specs.Fields.{decimal_of, octets_of, parts_after}
+use Rattle.traces.specs.Fields.{decimal_of, octets_of}
 use Rattle.traces.specs.FirstLines.{IsEventBehind, IsFrontNumber, IsValued, event_behind, first_of, first_line, first_fields, later_lines, ends_field}
 use Rattle.traces.specs.Trace.{lines_of}
 use Rattle.traces.proofs.NumberLemmas.{decimal_digits, no_number}
@@ -334,12 +333,11 @@ no_value_here now text value rest le space lines none = by (ends_field (slice_in
     by false is = (value_here now text value rest le space lines is).0 ∙ none
 
 -- what a letter, a space and a value are is what they are behind a moment
-pub valued_behind : (now : ℕ) (text : List ℕ) (result : Option (Spelled × Option (Bor (List ℕ)))) → 2 ≤ length text
-    → slice_index text 1 ≡ 32 → IsValued now (slice_index text 0) (drop 2 text) result
-    → IsEventBehind now text result
+pub valued_behind : (now : ℕ) (text : List ℕ) (result : Option Spelled) → 2 ≤ length text → slice_index text 1 ≡ 32
+    → IsValued now (slice_index text 0) (drop 2 text) result → IsEventBehind now text result
 valued_behind now text None le space is =
     no_value_here now text (first_line (drop 2 text)) (later_lines (drop 2 text)) le space (lines_first (drop 2 text)) is
-valued_behind now text (Some found) le space is =
+valued_behind now text (Some event) le space is =
     let here = value_here now text (first_line (drop 2 text)) (later_lines (drop 2 text)) le space
-    (lines_first (drop 2 text)) is.2 in
-    (here.0 ∙ is.0, is.1, here.1 ∙ is.3)
+    (lines_first (drop 2 text)) is.1 in
+    (here.0 ∙ is.0, here.1 ∙ is.2)

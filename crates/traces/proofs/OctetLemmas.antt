@@ -139,7 +139,7 @@ value_is_digit octet value has = by (nat_lt value 16) has
     by false has = sym (ap is_some has)
 
 -- the bits of several octets' values are below 16 where each is
-bits_below : (bits value : ℕ) → nat_lt (bit_or bits value) 16 ≡ (nat_lt bits 16 && nat_lt value 16)
+pub bits_below : (bits value : ℕ) → nat_lt (bit_or bits value) 16 ≡ (nat_lt bits 16 && nat_lt value 16)
 bits_below bits value = by (nat_lt bits 16) (nat_lt value 16) (nat_lt (bit_or bits value) 16) refl refl refl
   where
     by : (x y z : Bool) → nat_lt bits 16 ≡ x → nat_lt value 16 ≡ y → nat_lt (bit_or bits value) 16 ≡ z → z ≡ (x && y)
@@ -179,7 +179,7 @@ pub record Decoding (text out : List ℕ) (i bits : ℕ) : Type 0 where
 pub decoding_start : (text out : List ℕ) → Decoding text out 0 0
 decoding_start text out = record { digits = refl; decoded = λ all. decode_start text out }
 
-pair_is : (a b i high low : ℕ) → hex_digit_value a ≡ Some high → hex_digit_value b ≡ Some low
+pub pair_is : (a b i high low : ℕ) → hex_digit_value a ≡ Some high → hex_digit_value b ≡ Some low
     → pair_value a b i ≡ Ok (high * 16 + low)
 pair_is a b i high low first second = rw (first, second) refl
 

@@ -1,10 +1,10 @@
 -- How a text is read from its front (texts of this gateway's own profile): its first line, field by
 -- field, with octets that are still in hexadecimal.
-use Rattle.std.specs.Prelude.{◌≡◌, ◌<◌, ◌≤◌, ℕ, ◌==◌, ◌||◌, Bool, true, false, List, [], ◌∷◌, length, take, drop, slice_index, Option, Some, None, is_some, option_map}
+use Rattle.std.specs.Prelude.{◌≡◌, ◌<◌, ◌≤◌, ◌+◌, ◌*◌, ◌&&◌, ℕ, ◌==◌, ◌||◌, Bool, true, false, List, [], ◌∷◌, length, take, drop, slice_index, Option, Some, None, is_some, option_map, Ok}
 use Rattle.std.specs.Borrow.{Bor}
 use Rattle.std.specs.Char.{is_ascii_digit}
 use Rattle.std.specs.List.{slice_split, list_all}
-use Rattle.hex.specs.Hex.{is_hex_digit}
+use Rattle.hex.specs.Hex.{decode_pairs, is_hex_digit}
 use Rattle.std.specs.Option.{option_copied}
 use Rattle.traces.specs.declared.event.Spelled.{Spelled}
 use Rattle.traces.specs.declared.event.Spelled.TheVariants as spellings
@@ -82,51 +82,66 @@ IsOctetsLine text (Some found) =
     (lines_of text ≡ found.0.now ∷ parts_after 10 (option_copied found.1))
     × (is_some (octets_of found.0.now) ≡ true)
 
+-- So many pairs of digits stand at the front of a text, and are decoded at the front of a buffer of
+-- 1,024 octets: all of them, or as many as the buffer takes.
+pub record ArePairs (text buf : List ℕ) (n : ℕ) : Type 0 where
+  pub within : 2 * n ≤ length text
+  pub most : n ≤ 1024
+  pub octets : decode_pairs 0 (take (2 * n) text) ≡ Ok (take n buf)
+  pub over : n < 1024 → 2 * n + 1 < length text
+      → (is_hex_digit (slice_index text (2 * n)) && is_hex_digit (slice_index text (2 * n + 1)))
+      ≡ false
+
 -- the event that is spelled so, if its octets are in hexadecimal
 abbrev pub spelled_event : Spelled → Option Event
-spelled_event (spellings.Line now digits) = option_map (line now) (octets_of digits.now)
-spelled_event (spellings.Open now) = Some (opening now)
-spelled_event (spellings.Bytes now digits) = option_map (received now) (octets_of digits.now)
-spelled_event (spellings.Cut now) = Some (cut now)
-spelled_event (spellings.Tick now) = Some (tick now)
-spelled_event (spellings.Wall now number) = Some (wall now number)
+spelled_event (spellings.Line now text) = option_map (line now) (octets_of (first_line text.now))
+spelled_event (spellings.Open now rest) = Some (opening now)
+spelled_event (spellings.Bytes now text) =
+    option_map (received now) (octets_of (first_line text.now))
+spelled_event (spellings.Cut now rest) = Some (cut now)
+spelled_event (spellings.Tick now rest) = Some (tick now)
+spelled_event (spellings.Wall now number rest) = Some (wall now number)
 
 abbrev pub spelled_by : Option Spelled → Option Event
 spelled_by None = None
 spelled_by (Some event) = spelled_event event
 
+-- the lines behind it
+abbrev pub rest_of : Spelled → List (List ℕ)
+rest_of (spellings.Line now text) = later_lines text.now
+rest_of (spellings.Open now rest) = parts_after 10 (option_copied rest)
+rest_of (spellings.Bytes now text) = later_lines text.now
+rest_of (spellings.Cut now rest) = parts_after 10 (option_copied rest)
+rest_of (spellings.Tick now rest) = parts_after 10 (option_copied rest)
+rest_of (spellings.Wall now number rest) = parts_after 10 (option_copied rest)
+
 -- the event of the first line of a text, if it has one, and the lines behind it
-abbrev pub IsEventAt : List ℕ → Option (Spelled × Option (Bor (List ℕ))) → Type 0
+abbrev pub IsEventAt : List ℕ → Option Spelled → Type 0
 IsEventAt text None = event_in (first_line text) ≡ None
-IsEventAt text (Some found) =
-    (event_in (first_line text) ≡ spelled_event found.0)
-    × (is_some (spelled_event found.0) ≡ true)
-    × (later_lines text ≡ parts_after 10 (option_copied found.1))
+IsEventAt text (Some event) =
+    (event_in (first_line text) ≡ spelled_event event) × (later_lines text ≡ rest_of event)
 
 -- the event of the first line of a text behind its moment, if it is one, and the lines behind it
-abbrev pub IsEventBehind : ℕ → List ℕ → Option (Spelled × Option (Bor (List ℕ))) → Type 0
+abbrev pub IsEventBehind : ℕ → List ℕ → Option Spelled → Type 0
 IsEventBehind now text None = event_behind now (first_fields text) ≡ None
-IsEventBehind now text (Some found) =
-    (event_behind now (first_fields text) ≡ spelled_event found.0)
-    × (is_some (spelled_event found.0) ≡ true)
-    × (later_lines text ≡ parts_after 10 (option_copied found.1))
+IsEventBehind now text (Some event) =
+    (event_behind now (first_fields text) ≡ spelled_event event)
+    × (later_lines text ≡ rest_of event)
 
 -- the event of a letter, a space and the first line of a text, if it is one, and the lines behind it
-abbrev pub IsValued : (now kind : ℕ) → List ℕ → Option (Spelled × Option (Bor (List ℕ))) → Type 0
+abbrev pub IsValued : (now kind : ℕ) → List ℕ → Option Spelled → Type 0
 IsValued now kind text None = valued_at (Some now) (kind ∷ []) (first_line text) ≡ None
-IsValued now kind text (Some found) =
-    (valued_at (Some now) (kind ∷ []) (first_line text) ≡ spelled_event found.0)
-    × (is_some (spelled_event found.0) ≡ true) × (ends_field kind ≡ false)
-    × (later_lines text ≡ parts_after 10 (option_copied found.1))
+IsValued now kind text (Some event) =
+    (valued_at (Some now) (kind ∷ []) (first_line text) ≡ spelled_event event)
+    × (ends_field kind ≡ false) × (later_lines text ≡ rest_of event)
 
 -- what the first line of a text is, and the lines behind it
 abbrev pub IsFirstLine : List ℕ → FirstLine → Type 0
 IsFirstLine text (firsts.Skipped rest) =
     (is_skipped (first_line text) ≡ true)
     × (later_lines text ≡ parts_after 10 (option_copied rest))
-IsFirstLine text (firsts.Event event rest) =
+IsFirstLine text (firsts.Event event) =
     (is_skipped (first_line text) ≡ false) × (event_in (first_line text) ≡ spelled_event event)
-    × (is_some (spelled_event event) ≡ true)
-    × (later_lines text ≡ parts_after 10 (option_copied rest))
+    × (later_lines text ≡ rest_of event)
 IsFirstLine text firsts.Wrong =
     (is_skipped (first_line text) ≡ false) × (event_in (first_line text) ≡ None)

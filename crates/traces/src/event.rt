@@ -1,28 +1,31 @@
 //! The first line of a text.
-ghost use Rattle.std.specs.Prelude.{◌≡◌, ◌∷◌, [], true, false, Some, IfOk, IfSome, OnSome, is_some, option_map};
+ghost use Rattle.std.specs.Prelude.{◌≡◌, ◌≤◌, ◌∷◌, [], true, false, Some, IfOk, IfSome, OnSome, is_some, length, option_map};
+ghost use Rattle.std.specs.Option.{option_copied};
 ghost use Rattle.gateway.specs.Entries.{FitsPort};
 ghost use Rattle.gateway.specs.Ports.{FitsBuffer, told_by};
 ghost use Rattle.traces.specs.Event.{event_of, bare_event};
-ghost use Rattle.traces.specs.FirstLines.{IsFirstLine, IsEventAt, IsEventBehind, IsMomentAt, IsValued, ends_field, first_line, spelled_by, spelled_event};
+ghost use Rattle.traces.specs.Fields.{octets_of, parts_after};
+ghost use Rattle.traces.specs.FirstLines.{IsFirstLine, IsEventAt, IsEventBehind, IsMomentAt, IsValued, ends_field, first_line, later_lines, rest_of, spelled_by, spelled_event};
 ghost use Rattle.traces.specs.Progress.{came, tells_event};
 ghost use Rattle.traces.specs.Trace.{is_skipped};
 
 use crate::decimal::{decimal, front_number};
 use crate::lines::cut;
-use crate::octets::{octets_line, read_octets, write_octets};
+use crate::octets::{octets_line, read_octets, write_line};
 use crate::reading::LINE_FEED;
 use gateway::{Entry, Next};
 use std::alloc::{AllocError, Global};
 
-/// An event as a line spells it: its octets are still digits.
+/// An event as a line spells it, and what follows. Where octets are spelled that is the text from
+/// them on: whether they are right, and where their line ends, is seen as they are read.
 #[derive(Clone, Copy)]
 pub(crate) enum Spelled<'a> {
     Line(u64, &'a [u8]),
-    Open(u64),
+    Open(u64, Option<&'a [u8]>),
     Bytes(u64, &'a [u8]),
-    Cut(u64),
-    Tick(u64),
-    Wall(u64, u64),
+    Cut(u64, Option<&'a [u8]>),
+    Tick(u64, Option<&'a [u8]>),
+    Wall(u64, u64, Option<&'a [u8]>),
 }
 
 /// The first line of a text, with the lines behind it.
@@ -30,11 +33,12 @@ pub(crate) enum Spelled<'a> {
 pub(crate) enum FirstLine<'a> {
     /// Empty, or a comment.
     Skipped(Option<&'a [u8]>),
-    Event(Spelled<'a>, Option<&'a [u8]>),
+    /// An event, if its octets are right.
+    Event(Spelled<'a>),
     Wrong,
 }
 
-/// The first line of a text. The digits of an event are judged, and not decoded.
+/// The first line of a text. The octets of an event aren't looked at.
 #[inline(always)]
 pub(crate) fn first_line(text: &[u8]) -> FirstLine<'_>
     ensures { IsFirstLine text.entry.now result }
@@ -44,7 +48,7 @@ pub(crate) fn first_line(text: &[u8]) -> FirstLine<'_>
         return FirstLine::Skipped(rest);
     }
     match event_at(text) {
-        Some((event, rest)) => FirstLine::Event(event, rest),
+        Some(event) => FirstLine::Event(event),
         None => FirstLine::Wrong,
     }
 }
@@ -59,10 +63,9 @@ fn begins_skipped(text: &[u8]) -> bool
     }
 }
 
-/// The event that the first line of a text spells, and the lines behind it. No field's end is
-/// looked for before it is read.
+/// The event that the first line of a text spells. No field's end is looked for before it is read.
 #[inline(always)]
-fn event_at(text: &[u8]) -> Option<(Spelled<'_>, Option<&[u8]>)>
+fn event_at(text: &[u8]) -> Option<Spelled<'_>>
     ensures { IsEventAt text.entry.now result }
 {
     let (now, behind) = moment(text)?;
@@ -82,92 +85,140 @@ fn moment(text: &[u8]) -> Option<(u64, &[u8])>
     }
 }
 
-/// The event whose letter stands at the front of a text, and the lines behind it.
+/// The event whose letter stands at the front of a text.
 #[inline(always)]
-fn event_behind(now: u64, text: &[u8]) -> Option<(Spelled<'_>, Option<&[u8]>)>
+fn event_behind(now: u64, text: &[u8]) -> Option<Spelled<'_>>
     ensures { IsEventBehind now text.entry.now result }
 {
     match text {
-        [kind] => Some((bare(now, *kind)?, None)),
-        [kind, b'\n', rest @ ..] => Some((bare(now, *kind)?, Some(rest))),
+        [kind] => bare(now, *kind, None),
+        [kind, b'\n', rest @ ..] => bare(now, *kind, Some(rest)),
         [kind, b' ', text @ ..] => valued(now, *kind, text),
         _ => None,
     }
 }
 
-/// An event without octets.
-fn bare<'a>(now: u64, kind: u8) -> Option<Spelled<'a>>
+/// An event without octets, and the lines behind it.
+fn bare<'a>(now: u64, kind: u8, rest: Option<&'a [u8]>) -> Option<Spelled<'a>>
     ensures event { spelled_by result ≡ bare_event (kind ∷ []) now }
-    ensures right { IfSome result (λ event. is_some (spelled_event event) ≡ true) }
+    ensures rest { IfSome result (λ event.
+        rest_of event ≡ parts_after 10 (option_copied rest.entry)) }
     ensures letter { OnSome result (ends_field kind ≡ false) }
 {
     match kind {
-        b'T' => Some(Spelled::Tick(now)),
-        b'O' => Some(Spelled::Open(now)),
-        b'C' => Some(Spelled::Cut(now)),
+        b'T' => Some(Spelled::Tick(now, rest)),
+        b'O' => Some(Spelled::Open(now, rest)),
+        b'C' => Some(Spelled::Cut(now, rest)),
         _ => None,
     }
 }
 
-/// An event with octets or a number, which are the rest of the line (a space in it is no digit), and
-/// the lines behind it.
+/// An event with octets or a number, which are the rest of the line: a space in it is no digit.
 #[inline(always)]
-fn valued(now: u64, kind: u8, text: &[u8]) -> Option<(Spelled<'_>, Option<&[u8]>)>
+fn valued(now: u64, kind: u8, text: &[u8]) -> Option<Spelled<'_>>
     ensures { IsValued now kind text.entry.now result }
 {
     match kind {
-        b'S' => {
-            let (digits, rest) = octets_line(text)?;
-            Some((Spelled::Line(now, digits), rest))
-        }
-        b'R' => {
-            let (digits, rest) = octets_line(text)?;
-            Some((Spelled::Bytes(now, digits), rest))
-        }
+        b'S' => Some(Spelled::Line(now, text)),
+        b'R' => Some(Spelled::Bytes(now, text)),
         b'W' => {
             let (number, rest) = cut(text, LINE_FEED);
-            Some((Spelled::Wall(now, decimal(number)?), rest))
+            Some(Spelled::Wall(now, decimal(number)?, rest))
         }
         _ => None,
     }
 }
 
-/// An event as a port gives it: its octets are put at the front of the buffer. `None` where they
-/// are wrong; then the buffer may hold anything.
-pub(crate) fn announce(event: &Spelled<'_>, buf: &mut [u8; 1024]) -> Option<Next>
+/// The lines behind an event, if its octets are right: they are judged, and not decoded.
+#[inline(always)]
+pub(crate) fn judged<'a>(event: &Spelled<'a>) -> Option<Option<&'a [u8]>>
     ensures right { is_some result ≡ is_some (spelled_event event.now) }
-    ensures told { IfSome result (λ next. IfSome (spelled_event event.now)
-        (λ e. told_by next buf.new ≡ came e ∷ [])) }
-    ensures some { IfSome result (λ next. tells_event next ≡ true) }
-    ensures fits { IfSome result FitsBuffer }
+    ensures rest { IfSome result (λ rest.
+        rest_of event.now ≡ parts_after 10 (option_copied rest)) }
 {
     match event {
-        Spelled::Line(now, digits) => Some(Next::Line(*now, write_octets(*digits, buf)?)),
-        Spelled::Open(now) => Some(Next::Open(*now)),
-        Spelled::Bytes(now, digits) => Some(Next::Bytes(*now, write_octets(*digits, buf)?)),
-        Spelled::Cut(now) => Some(Next::Cut(*now)),
-        Spelled::Tick(now) => Some(Next::Tick(*now)),
-        Spelled::Wall(now, number) => Some(Next::Wall(*now, *number)),
+        Spelled::Line(_, text) | Spelled::Bytes(_, text) => {
+            let (_, rest) = octets_line(*text)?;
+            Some(rest)
+        }
+        Spelled::Open(_, rest)
+        | Spelled::Cut(_, rest)
+        | Spelled::Tick(_, rest)
+        | Spelled::Wall(_, _, rest) => Some(*rest),
     }
 }
 
-/// The entry that is spelled so, if its octets are right.
-pub(crate) fn entry(alloc: Global, event: &Spelled<'_>) -> Result<Option<Entry>, AllocError>
-    ensures event { IfOk result (λ e. option_map event_of e ≡ spelled_event event.now) }
-    ensures fits { IfOk result (λ e. IfSome e FitsPort) }
+/// An event as a port gives it, and the lines behind it: its octets are put at the front of the
+/// buffer. `None` where they are wrong; then the buffer may hold anything.
+#[inline(always)]
+pub(crate) fn announce<'a>(
+    event: &Spelled<'a>,
+    buf: &mut [u8; 1024],
+) -> Option<(Next, Option<&'a [u8]>)>
+    ensures right { is_some result ≡ is_some (spelled_event event.now) }
+    ensures told { IfSome result (λ found. IfSome (spelled_event event.now)
+        (λ e. told_by found.0 buf.new ≡ came e ∷ [])) }
+    ensures rest { IfSome result (λ found.
+        rest_of event.now ≡ parts_after 10 (option_copied found.1)) }
+    ensures some { IfSome result (λ found. tells_event found.0 ≡ true) }
+    ensures fits { IfSome result (λ found. FitsBuffer found.0) }
 {
     match event {
-        Spelled::Line(now, digits) => match read_octets(alloc, *digits)? {
-            Some(octets) => Ok(Some(Entry::Line(*now, octets))),
+        Spelled::Line(now, text) => {
+            let (len, rest) = write_line(*text, buf)?;
+            Some((Next::Line(*now, len), rest))
+        }
+        Spelled::Open(now, rest) => Some((Next::Open(*now), *rest)),
+        Spelled::Bytes(now, text) => {
+            let (len, rest) = write_line(*text, buf)?;
+            Some((Next::Bytes(*now, len), rest))
+        }
+        Spelled::Cut(now, rest) => Some((Next::Cut(*now), *rest)),
+        Spelled::Tick(now, rest) => Some((Next::Tick(*now), *rest)),
+        Spelled::Wall(now, number, rest) => Some((Next::Wall(*now, *number), *rest)),
+    }
+}
+
+/// The octets of a text's first line, and the lines behind it, if it has octets alone.
+fn read_line(alloc: Global, text: &[u8]) -> Result<Option<(Vec<u8>, Option<&[u8]>)>, AllocError>
+    ensures octets { IfOk result (λ found. option_map (λ both. both.0.items) found
+        ≡ octets_of (first_line text.entry.now)) }
+    ensures rest { IfOk result (λ found. IfSome found (λ both.
+        later_lines text.entry.now ≡ parts_after 10 (option_copied both.1))) }
+    ensures most { IfOk result (λ found. IfSome found (λ both. length both.0.items ≤ 1024)) }
+{
+    let Some((digits, rest)) = octets_line(text) else {
+        return Ok(None);
+    };
+    match read_octets(alloc, digits)? {
+        Some(octets) => Ok(Some((octets, rest))),
+        None => Ok(None),
+    }
+}
+
+/// The entry that is spelled so, and the lines behind it, if its octets are right.
+pub(crate) fn entry<'a>(
+    alloc: Global,
+    event: &Spelled<'a>,
+) -> Result<Option<(Entry, Option<&'a [u8]>)>, AllocError>
+    ensures event { IfOk result (λ found.
+        option_map (λ both. event_of both.0) found ≡ spelled_event event.now) }
+    ensures rest { IfOk result (λ found. IfSome found (λ both.
+        rest_of event.now ≡ parts_after 10 (option_copied both.1))) }
+    ensures fits { IfOk result (λ found. IfSome found (λ both. FitsPort both.0)) }
+{
+    match event {
+        Spelled::Line(now, text) => match read_line(alloc, *text)? {
+            Some((octets, rest)) => Ok(Some((Entry::Line(*now, octets), rest))),
             None => Ok(None),
         },
-        Spelled::Open(now) => Ok(Some(Entry::Open(*now))),
-        Spelled::Bytes(now, digits) => match read_octets(alloc, *digits)? {
-            Some(octets) => Ok(Some(Entry::Bytes(*now, octets))),
+        Spelled::Open(now, rest) => Ok(Some((Entry::Open(*now), *rest))),
+        Spelled::Bytes(now, text) => match read_line(alloc, *text)? {
+            Some((octets, rest)) => Ok(Some((Entry::Bytes(*now, octets), rest))),
             None => Ok(None),
         },
-        Spelled::Cut(now) => Ok(Some(Entry::Cut(*now))),
-        Spelled::Tick(now) => Ok(Some(Entry::Tick(*now))),
-        Spelled::Wall(now, number) => Ok(Some(Entry::Wall(*now, *number))),
+        Spelled::Cut(now, rest) => Ok(Some((Entry::Cut(*now), *rest))),
+        Spelled::Tick(now, rest) => Ok(Some((Entry::Tick(*now), *rest))),
+        Spelled::Wall(now, number, rest) => Ok(Some((Entry::Wall(*now, *number), *rest))),
     }
 }

@@ -1,7 +1,7 @@
 //! The judgement of a trace before it is run.
 ghost use Rattle.traces.specs.Progress.{IsJudgement};
 
-use crate::event::{FirstLine, first_line};
+use crate::event::{FirstLine, first_line, judged};
 use crate::reading::TextFault;
 
 /// How many events the lines of a trace tell. The first wrong line is the fault. It takes no
@@ -17,7 +17,10 @@ pub fn judge(text: &[u8]) -> Result<u64, TextFault>
         };
         match first_line(text) {
             FirstLine::Skipped(rest) => left = rest,
-            FirstLine::Event(_, rest) => {
+            FirstLine::Event(event) => {
+                let Some(rest) = judged(&event) else {
+                    return Err(TextFault::Line(number));
+                };
                 count += 1;
                 left = rest;
             }

@@ -1,9 +1,10 @@
 //! Octets in hexadecimal.
 ghost use Rattle.std.specs.Prelude.{◌≡◌, ◌<◌, false, slice_index, ◌==◌, ◌*◌, ◌%◌, ◌≤◌, ◌&&◌, nat_le, nat_lt, true, Some, None, Ok, IfOk, IfSome, if◌then◌else◌, is_some, length, option_map, string_bytes, take};
-ghost use Rattle.hex.specs.Hex.{IsBytes, decode_pairs, encode_upper, hex_digit_value, is_hex_digit};
+ghost use Rattle.hex.specs.Hex.{IsBytes, encode_upper, hex_digit_value, is_hex_digit};
 ghost use Rattle.std.specs.List.{list_all};
-ghost use Rattle.traces.specs.Fields.{octets_of};
-ghost use Rattle.traces.specs.FirstLines.{AreDigitsTo, DigitsEnd, IsDigitsLine, IsOctetsLine};
+ghost use Rattle.std.specs.Option.{option_copied};
+ghost use Rattle.traces.specs.Fields.{octets_of, parts_after};
+ghost use Rattle.traces.specs.FirstLines.{AreDigitsTo, ArePairs, DigitsEnd, IsDigitsLine, IsOctetsLine, first_line, later_lines};
 
 use crate::reading::LINE_FEED;
 use hex::FromHexError;
@@ -103,7 +104,7 @@ fn digits_end(text: &[u8]) -> usize
     if near < NEAR {
         return near;
     }
-    run_end(text, half_end(text, blocks_end(text, near)), text.len())
+    run_end(text, blocks_end(text, near), text.len())
 }
 
 /// As far as there are digits, and on to the first other octet or to the limit.
@@ -132,9 +133,6 @@ const NEAR: usize = 4;
 /// So many octets are judged at a time.
 const BLOCK: usize = 16;
 
-/// And so many of those that are left.
-const HALF: usize = 8;
-
 /// As far as there are digits, and on for as many whole blocks of them as follow.
 #[inline(always)]
 fn blocks_end(text: &[u8], from: usize) -> usize
@@ -149,19 +147,6 @@ fn blocks_end(text: &[u8], from: usize) -> usize
         end += BLOCK;
     }
     end
-}
-
-/// As far as there are digits, and half a block more where it is digits too.
-#[inline(always)]
-fn half_end(text: &[u8], end: usize) -> usize
-    requires { AreDigitsTo text.now end }
-    ensures { AreDigitsTo text.now result }
-{
-    if HALF <= text.len() - end && is_each_digit(&text[end..end + HALF]) {
-        end + HALF
-    } else {
-        end
-    }
 }
 
 /// Whether each octet is a digit: of a block the compiler judges all at once.
@@ -186,38 +171,51 @@ fn is_digit(octet: u8) -> bool
         | (octet.wrapping_sub(b'a') < 6)
 }
 
-/// Puts the octets that stand in hexadecimal at the front of the buffer, and answers their number.
-/// `None` where the text isn't 1 to 1,024 octets; then the buffer may hold anything.
-pub(crate) fn write_octets(text: &[u8], buf: &mut [u8; 1024]) -> Option<usize>
-    ensures octets { option_map (λ len. take len buf.new) result ≡ octets_of text.now }
-    ensures most { IfSome result (λ len. len ≤ 1024) }
+/// Puts the octets in hexadecimal that are the whole first line of a text at the front of the
+/// buffer, and answers their number and the lines behind it. `None` where the line is anything
+/// else; then the buffer may hold anything. The line's end is found where its digits end.
+#[inline(always)]
+pub(crate) fn write_line<'a>(
+    text: &'a [u8],
+    buf: &mut [u8; 1024],
+) -> Option<(usize, Option<&'a [u8]>)>
+    ensures octets { option_map (λ found. take found.0 buf.new) result
+        ≡ octets_of (first_line text.entry.now) }
+    ensures rest { IfSome result (λ found.
+        later_lines text.entry.now ≡ parts_after 10 (option_copied found.1)) }
+    ensures most { IfSome result (λ found. found.0 ≤ 1024) }
 {
-    if !may_be_octets(text.len()) {
+    let len = write_pairs(text, buf);
+    let end = 2 * len;
+    if end == 0 {
         return None;
     }
-    let len = text.len() / 2;
-    if decode_digits(text, &mut buf[..len]) {
-        Some(len)
-    } else {
-        None
+    if end == text.len() {
+        return Some((len, None));
     }
+    if text[end] == LINE_FEED {
+        return Some((len, Some(&text[end + 1..])));
+    }
+    None
 }
 
-/// Decodes pairs of digits, and answers whether all of them are digits. Both in one pass.
-fn decode_digits(text: &[u8], out: &mut [u8]) -> bool
-    requires { length text.now ≡ 2 * length out.old }
-    ensures digits { result ≡ list_all is_hex_digit text.now }
-    ensures octets { result ≡ true → decode_pairs 0 text.now ≡ Ok out.new }
+/// Decodes the pairs of digits at the front of a text, and says how many they are. It looks at none
+/// behind the first pair that isn't of digits.
+#[inline(always)]
+fn write_pairs(text: &[u8], buf: &mut [u8; 1024]) -> usize
+    ensures { ArePairs text.now buf.new result }
 {
-    let mut bits = 0;
-    'octets: for i in 0..out.len() {
+    let most = (text.len() / 2).min(MOST_OCTETS);
+    'octets: for i in 0..most {
         let high = value_of(text[2 * i]);
         let low = value_of(text[2 * i + 1]);
-        bits = bits | high | low;
+        if high | low >= 16 {
+            return i;
+        }
         // Nothing is lost of two digits' values.
-        out[i] = high.wrapping_mul(16).wrapping_add(low);
+        buf[i] = high.wrapping_mul(16).wrapping_add(low);
     }
-    bits < 16
+    most
 }
 
 /// The value of a digit, which is below 16. Another octet has a greater one.

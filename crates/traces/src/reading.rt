@@ -58,8 +58,8 @@ pub fn read_trace(alloc: Global, text: &[u8]) -> Result<Vec<Entry>, TextFault>
         };
         match first_line(text) {
             FirstLine::Skipped(rest) => left = rest,
-            FirstLine::Event(event, rest) => match entry(alloc, &event)? {
-                Some(entry) => {
+            FirstLine::Event(event) => match entry(alloc, &event)? {
+                Some((entry, rest)) => {
                     entries.push(entry)?;
                     left = rest;
                 }

@@ -79,8 +79,8 @@ fn first_event<'a>(text: Option<&'a [u8]>, buf: &mut [u8; 1024]) -> (Next, Optio
         };
         match first_line(text) {
             FirstLine::Skipped(rest) => left = rest,
-            FirstLine::Event(event, rest) => match announce(&event, buf) {
-                Some(next) => return (next, rest),
+            FirstLine::Event(event) => match announce(&event, buf) {
+                Some((next, rest)) => return (next, rest),
                 None => return (Next::Fault, left),
             },
             FirstLine::Wrong => return (Next::Fault, left),

@@ -1,4 +1,4 @@
-use Rattle.std.proofs.Common.{◌≡◌, ◌≤◌, length, drop, slice_index, subst, sym, ℕ, List, rules}
+use Rattle.std.proofs.Common.{◌≡◌, ◌≤◌, length, slice_index, subst, ℕ, List, rules}
 use Rattle.std.proofs.lemmas.List.{take_rest}
 use Rattle.traces.specs.FirstLines.{IsValued}
 use Rattle.traces.proofs.FirstLineLemmas.{valued_behind}

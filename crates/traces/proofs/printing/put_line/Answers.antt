@@ -1,4 +1,4 @@
-use Rattle.std.proofs.Common.{◌≡◌, ◌+◌, ◌*◌, ◌++◌, ◌∷◌, [], ℕ, List, length, refl, ap, sym, ◌∙◌, append_assoc, arith}
+use Rattle.std.proofs.Common.{◌≡◌, ◌*◌, ◌++◌, ◌∷◌, [], ℕ, List, length, refl, ap, sym, ◌∙◌, append_assoc, arith}
 use Rattle.std.specs.Fmt.{decimal}
 use Rattle.hex.specs.Hex.{encode_upper}
 use Rattle.traces.proofs.PrintLemmas.{line_put}
