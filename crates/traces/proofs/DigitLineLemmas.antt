@@ -27,20 +27,6 @@ no_feed b digit = by (b == 10) refl
 pub no_feeds : (digits : List ℕ) → list_all is_hex_digit digits ≡ true → All (λ b. (b == 10) ≡ false) digits
 no_feeds digits all k d lt = no_feed (get_or digits k d) (AllPass-from_list_all is_hex_digit digits all k d lt)
 
--- one digit more
-pub digit_more : (text : List ℕ) (i value : ℕ) → i < length text → HasValue (slice_index text i) value
-    → nat_lt value 16 ≡ true → AreDigitsTo text i → AreDigitsTo text (i + 1)
-digit_more text i value lt has small so_far = record {
-  within = omega (arith, lt);
-  digits =
-      list_all_more is_hex_digit text i 0 lt
-      ∙ rw so_far.digits (sym (value_is_digit (slice_index text i) value has) ∙ small);
-}
-
--- and none more
-pub digit_over : (octet value : ℕ) → HasValue octet value → nat_lt value 16 ≡ false → is_hex_digit octet ≡ false
-digit_over octet value has great = sym (value_is_digit octet value has) ∙ great
-
 -- digits that end the text are its last line
 pub line_whole : (text : List ℕ) (i : ℕ) → DigitsEnd text i → i ≡ length text
     → (lines_of text ≡ text ∷ []) × (list_all is_hex_digit text ≡ true)

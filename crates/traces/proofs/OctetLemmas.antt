@@ -105,14 +105,6 @@ digits_right text may = by (list_all is_hex_digit text) refl
         sym (ap is_some (octets_decoded text found.0 may decoded))
     by false all = sym (none (octets_of text) refl all)
 
-pub other_digits : (text : List ℕ) → may_be_octets text ≡ true → list_all is_hex_digit text ≡ false
-    → octets_of text ≡ None
-other_digits text may all = by (octets_of text) (sym (digits_right text may) ∙ all)
-  where
-    by : (o : Option (List ℕ)) → is_some o ≡ false → o ≡ None
-    by None e = refl
-    by (Some octets) e = cc
-
 -- a text with another octet isn't octets
 pub other_octet : (text : List ℕ) (k : ℕ) → k < length text → is_hex_digit (slice_index text k) ≡ false
     → octets_of text ≡ None
@@ -158,61 +150,9 @@ bits_below bits value = by (nat_lt bits 16) (nat_lt value 16) (nat_lt (bit_or bi
         let below : bits < 16 = omega (arith, low, le_or_l bits value) in
         absurd (grind arith)
 
--- one octet more
-pub bits_more : (text : List ℕ) (i bits value : ℕ) → i < length text → HasValue (slice_index text i) value
-    → nat_lt bits 16 ≡ list_all is_hex_digit (take i text)
-    → nat_lt (bit_or bits value) 16 ≡ list_all is_hex_digit (take (i + 1) text)
-bits_more text i bits value lt has so_far =
-    bits_below bits value
-    ∙ ap (λ b. b && nat_lt value 16) so_far
-    ∙ ap (λ b. list_all is_hex_digit (take i text) && b) (value_is_digit (slice_index text i) value has)
-    ∙ sym (list_all_more is_hex_digit text i 0 lt)
-
--- Decoding in one pass: the bits so far tell whether all were digits, and if so, what is decoded, and the pairs that
--- are left, are all of them.
-
-pub record Decoding (text out : List ℕ) (i bits : ℕ) : Type 0 where
-  pub digits : nat_lt bits 16 ≡ list_all is_hex_digit (take (2 * i) text)
-  pub decoded : nat_lt bits 16 ≡ true
-      → decode_pairs 0 text ≡ prepend (take i out) (decode_pairs (2 * i) (drop (2 * i) text))
-
-pub decoding_start : (text out : List ℕ) → Decoding text out 0 0
-decoding_start text out = record { digits = refl; decoded = λ all. decode_start text out }
-
 pub pair_is : (a b i high low : ℕ) → hex_digit_value a ≡ Some high → hex_digit_value b ≡ Some low
     → pair_value a b i ≡ Ok (high * 16 + low)
 pair_is a b i high low first second = rw (first, second) refl
-
-pub decoding_more : (text out : List ℕ) (i bits high low octet : ℕ) → 2 * i + 1 < length text → i < length out
-    → HasValue (slice_index text (2 * i)) high → HasValue (slice_index text (2 * i + 1)) low
-    → (high < 16 → low < 16 → octet ≡ high * 16 + low) → Decoding text out i bits
-    → Decoding text (slice_set out i octet) (i + 1) (bit_or (bit_or bits high) low)
-decoding_more text out i bits high low octet lt room first second is so_far = record {
-  digits =
-      let two : 2 * i + 1 + 1 ≡ 2 * (i + 1) = omega arith in
-      bits_more text (2 * i + 1) (bit_or bits high) low lt second
-      (bits_more text (2 * i) bits high (omega (arith, lt)) first so_far.digits)
-      ∙ ap (λ n. list_all is_hex_digit (take n text)) two;
-  decoded = λ all.
-      let both = and_parts (nat_lt (bit_or bits high) 16) (nat_lt low 16)
-      (sym (bits_below (bit_or bits high) low) ∙ all) in
-      let front = and_parts (nat_lt bits 16) (nat_lt high 16) (sym (bits_below bits high) ∙ both.0) in
-      let one : hex_digit_value (slice_index text (2 * i)) ≡ Some high =
-      first ∙ ap (λ (b : Bool). if b then Some high else None) front.1 in
-      let other : hex_digit_value (slice_index text (2 * i + 1)) ≡ Some low =
-      second ∙ ap (λ (b : Bool). if b then Some low else None) both.1 in
-      let pair = pair_is (slice_index text (2 * i)) (slice_index text (2 * i + 1)) (2 * i) high low one other in
-      let same = is (ltb-true high 16 front.1) (ltb-true low 16 both.1) in
-      decode_step text out i octet lt room (pair ∙ ap Ok (sym same)) (so_far.decoded front.0);
-}
-
-pub decoding_done : (text out : List ℕ) (i bits : ℕ) → length text ≡ 2 * length out → length out ≤ i
-    → Decoding text out i bits
-    → (nat_lt bits 16 ≡ list_all is_hex_digit text) × (nat_lt bits 16 ≡ true → decode_pairs 0 text ≡ Ok out)
-decoding_done text out i bits twice done all = (
-  all.digits ∙ ap (list_all is_hex_digit) (take_all (2 * i) text (omega (arith, twice, done))),
-  λ digits. decode_done text out i done (omega (arith, twice, done)) (all.decoded digits),
-)
 
 -- Digits, a block at a time
 
@@ -221,31 +161,3 @@ pub all_more : (xs : List ℕ) (n m k : ℕ) (are is : Bool) → are ≡ list_al
     → is ≡ list_all is_hex_digit (take k (drop n xs)) → (are && is) ≡ list_all is_hex_digit (take (n + m) xs)
 all_more xs n m k are is before same now = rw (before, now, same)
     (sym (ap (list_all is_hex_digit) (take-add n m xs) ∙ list_all-append is_hex_digit (take n xs) (take m (drop n xs))))
-
--- what was looked at twice counts once
-and_twice : (a b c : Bool) → ((a && b) && (b && c)) ≡ ((a && b) && c)
-and_twice true true c = refl
-and_twice true false c = refl
-and_twice false b c = refl
-
--- the first octets, and the last from one of them on, are all
-pub all_covered : (xs : List ℕ) (n m : ℕ) → m ≤ n
-    → (list_all is_hex_digit (take n xs) && list_all is_hex_digit (drop m xs)) ≡ list_all is_hex_digit xs
-all_covered xs n m le =
-    let k = n - m in
-    let p = is_hex_digit in
-    let a = list_all p (take m xs) in
-    let b = list_all p (take k (drop m xs)) in
-    let c = list_all p (drop k (drop m xs)) in
-    let whole : n ≡ m + k = omega (arith, le) in
-    let front : list_all p (take n xs) ≡ (a && b) =
-    ap (λ (i : ℕ). list_all p (take i xs)) whole ∙ ap (list_all p) (take-add m k xs)
-    ∙ list_all-append p (take m xs) (take k (drop m xs)) in
-    let back : list_all p (drop m xs) ≡ (b && c) =
-    ap (list_all p) (sym (take-append-drop k (drop m xs))) ∙ list_all-append p (take k (drop m xs)) (drop k (drop m xs))
-    in
-    let all : list_all p xs ≡ (list_all p (take n xs) && c) =
-    ap (list_all p) (sym (take-append-drop n xs)) ∙ list_all-append p (take n xs) (drop n xs)
-    ∙ ap (λ (ys : List ℕ). list_all p (take n xs) && list_all p ys) (ap (λ (i : ℕ). drop i xs) whole ∙ sym (drop-drop k m xs))
-    in
-    rw (front, back) (and_twice a b c) ∙ sym (ap (λ (x : Bool). x && c) front) ∙ sym all
