@@ -17,7 +17,7 @@ use gateway::Station;
 use std::alloc::Global;
 use toml::{Table, Value};
 
-const SELECT: Flag = Flag {
+const SELECT: &Flag = &Flag {
     key: "select",
     path: "station.select",
 };
