@@ -1,12 +1,12 @@
 //! The audit of a recorded run.
 ghost use Rattle.audit.specs.Audit.{IsAudited};
 
-use crate::compare::first_difference;
-use crate::record::{trace_of, whole_lines};
-use crate::run::run_over;
-use gateway::{Config, Gateway};
+use crate::compare::differs_from;
+use crate::record::{Record, read_record};
+use crate::run::run_new;
+use gateway::Config;
 use std::alloc::Global;
-use traces::{TextFault, read_trace};
+use traces::TextFault;
 
 /// What an audit finds.
 #[derive(Clone, Copy, Debug, PartialEq, Eq)]
@@ -28,16 +28,14 @@ pub enum Verdict {
 pub fn audit_record(alloc: Global, config: &Config, text: &[u8]) -> Result<Verdict, TextFault>
     ensures { IsAudited config.now text.now result }
 {
-    let lines = whole_lines(alloc, text)?;
-    let (trace, actions) = trace_of(alloc, lines.as_slice())?;
-    let entries = read_trace(alloc, trace.as_slice())?;
+    let Record {
+        lines,
+        entries,
+        actions,
+    } = read_record(alloc, text)?;
     let events = entries.len() as u64;
-    let Ok(mut gateway) = Gateway::new(alloc, config) else {
-        return Err(TextFault::NoMemory);
-    };
-    let run = run_over(alloc, &mut gateway, entries)?;
-    let told = whole_lines(alloc, run.as_bytes())?;
-    match first_difference(lines.as_slice(), told.as_slice())? {
+    let run = run_new(alloc, config, entries)?;
+    match differs_from(alloc, lines.as_slice(), run.as_bytes())? {
         Some(line) => Ok(Verdict::Differs(line)),
         None => Ok(Verdict::Same { events, actions }),
     }

@@ -1,10 +1,25 @@
 //! The comparison of two lists of lines.
 ghost use Rattle.std.specs.Prelude.{◌≡◌, MatchResult, map};
 ghost use Rattle.audit.specs.Audit.{IsMemory};
-ghost use Rattle.audit.specs.Record.{first_difference, rest_behind};
+ghost use Rattle.audit.specs.Record.{first_difference, rest_behind, whole_lines};
 
-use crate::record::is_cut;
+use crate::record::{is_cut, whole_lines};
+use std::alloc::Global;
 use traces::TextFault;
+
+/// The number, from 1, of the first of these lines that isn't that of a run with this text, if
+/// there is one.
+pub(crate) fn differs_from(
+    alloc: Global,
+    lines: &[&[u8]],
+    run: &[u8],
+) -> Result<Option<u64>, TextFault>
+    ensures { MatchResult result (λ place. place ≡ first_difference 1
+        (map (λ line. line.now) lines.now) (whole_lines run.now)) IsMemory }
+{
+    let told = whole_lines(alloc, run)?;
+    first_difference(lines, told.as_slice())
+}
 
 /// The number, from 1, of the first of these lines that isn't that of the run, if there is one.
 pub(crate) fn first_difference(lines: &[&[u8]], run: &[&[u8]]) -> Result<Option<u64>, TextFault>

@@ -1,10 +1,46 @@
 //! The lines of a record.
-ghost use Rattle.std.specs.Prelude.{◌≡◌, ◌++◌, IfOk, OnOk, map, count_by};
-ghost use Rattle.std.specs.List.{flat_map};
-ghost use Rattle.audit.specs.Record.{whole_lines, is_cut, is_action, event_line, mark_behind};
+ghost use Rattle.std.specs.Prelude.{◌≡◌, ◌++◌, IfOk, OnOk, Ok, MatchResult, map, count_by};
+ghost use Rattle.std.specs.List.{AllByRecursion, flat_map};
+ghost use Rattle.gateway.specs.Entries.{FitsPort};
+ghost use Rattle.traces.specs.Trace.{IsTraceOf};
+ghost use Rattle.audit.specs.Audit.{IsAuditFault};
+ghost use Rattle.audit.specs.Record.{whole_lines, is_cut, is_action, event_line, mark_behind, trace_of};
 
+use gateway::Entry;
 use std::alloc::{AllocError, Global};
-use traces::parts;
+use traces::{TextFault, parts, read_trace};
+
+/// What is read of a record.
+#[derive(Drop)]
+pub(crate) struct Record<'t> {
+    /// Its whole lines.
+    pub lines: Vec<&'t [u8]>,
+    /// Its events.
+    pub entries: Vec<Entry>,
+    /// How many of the lines tell an action.
+    pub actions: u64,
+}
+
+/// Reads a record. A line that is neither an event nor an action is a fault, with its number from
+/// 1.
+pub(crate) fn read_record<'t>(alloc: Global, text: &'t [u8]) -> Result<Record<'t>, TextFault>
+    ensures read { MatchResult result
+        (λ r. IsTraceOf (trace_of text.entry.now) (Ok r.entries)) (IsAuditFault text.entry.now) }
+    ensures fits { IfOk result (λ r. AllByRecursion FitsPort r.entries.items) }
+    ensures lines { IfOk result
+        (λ r. map (λ line. line.now) r.lines.items ≡ whole_lines text.entry.now) }
+    ensures counted { IfOk result
+        (λ r. r.actions ≡ count_by is_action (whole_lines text.entry.now)) }
+{
+    let lines = whole_lines(alloc, text)?;
+    let (trace, actions) = trace_of(alloc, lines.as_slice())?;
+    let entries = read_trace(alloc, trace.as_slice())?;
+    Ok(Record {
+        lines,
+        entries,
+        actions,
+    })
+}
 
 /// The whole lines of a text; what stands behind the last line feed is none.
 #[tactic(auto, using(crate::proofs::LineLemmas::cut_lines))]

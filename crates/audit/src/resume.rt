@@ -1,19 +1,20 @@
 //! A recorded run that goes on.
-ghost use Rattle.std.specs.Prelude.{◌≡◌, ◌++◌, OnOk, Some, [], map};
+ghost use Rattle.std.specs.Prelude.{◌≡◌, ◌++◌, OnOk, MatchResult, Some, None, [], map};
 ghost use Rattle.std.specs.List.{flat_map};
 ghost use Rattle.gateway.specs.Agrees.{Follows};
 ghost use Rattle.gateway.specs.Config.{Settings};
 ghost use Rattle.gateway.specs.Setups.{setup_of};
-ghost use Rattle.audit.specs.Record.{ended};
+ghost use Rattle.audit.specs.Audit.{IsMemory};
+ghost use Rattle.audit.specs.Record.{ended, first_difference, rest_of, whole_lines};
 ghost use Rattle.audit.specs.Resume.{IsResumed, last_moment, moment_of};
 
 use crate::compare::{first_difference, rest_behind};
 use crate::laws::a_record_is_made_whole;
-use crate::record::{mark_behind, trace_of, whole_lines};
+use crate::record::{Record, mark_behind, read_record, whole_lines};
 use crate::run::run_over;
 use gateway::{Entry, Gateway};
 use std::alloc::{AllocError, Global};
-use traces::{TextFault, read_trace};
+use traces::TextFault;
 
 /// A run that goes on where its record ends.
 #[derive(Drop)]
@@ -72,6 +73,29 @@ fn append_lines(lines: &[&[u8]], text: &mut Vec<u8>) -> Result<(), AllocError>
     Ok(())
 }
 
+/// What makes the record with these lines that of a run with this text, or the first line, from 1,
+/// that isn't the run's.
+fn rest_or_difference(
+    alloc: Global,
+    text: &[u8],
+    lines: &[&[u8]],
+    run: &[u8],
+) -> Result<Result<Vec<u8>, u64>, TextFault>
+    requires { map (λ line. line.now) lines.now ≡ whole_lines text.now }
+    ensures { MatchResult result (λ found. MatchResult found
+        (λ rest. (first_difference 1 (whole_lines text.now) (whole_lines run.now) ≡ None)
+        × (rest.items ≡ rest_of text.now (whole_lines run.now)))
+        (λ n. first_difference 1 (whole_lines text.now) (whole_lines run.now) ≡ Some n)) IsMemory }
+{
+    let told = whole_lines(alloc, run)?;
+    if let Some(line) = first_difference(lines, told.as_slice())? {
+        return Ok(Err(line));
+    }
+    let mut rest = Vec::from_slice(alloc, mark_behind(text))?;
+    append_lines(rest_behind(lines, told.as_slice()), &mut rest)?;
+    Ok(Ok(rest))
+}
+
 /// Runs a new gateway over the events of a record, with nothing sent, so that the run can go on
 /// with it. Where the record isn't that of this run, or is refused, the gateway is given up. A line
 /// that is neither an event nor an action is a fault, with its number from 1.
@@ -84,16 +108,11 @@ pub fn resume_record(
         IsResumed settings text.now gateway.new result }
 {
     a_record_is_made_whole();
-    let lines = whole_lines(alloc, text)?;
-    let (trace, _actions) = trace_of(alloc, lines.as_slice())?;
-    let entries = read_trace(alloc, trace.as_slice())?;
+    let Record { lines, entries, .. } = read_record(alloc, text)?;
     let moment = last_moment(entries.as_slice());
     let run = run_over(alloc, gateway, entries)?;
-    let told = whole_lines(alloc, run.as_bytes())?;
-    if let Some(line) = first_difference(lines.as_slice(), told.as_slice())? {
-        return Ok(Resumption::Differs(line));
+    match rest_or_difference(alloc, text, lines.as_slice(), run.as_bytes())? {
+        Ok(rest) => Ok(Resumption::Goes(Resumed { moment, rest })),
+        Err(line) => Ok(Resumption::Differs(line)),
     }
-    let mut rest = Vec::from_slice(alloc, mark_behind(text))?;
-    append_lines(rest_behind(lines.as_slice(), told.as_slice()), &mut rest)?;
-    Ok(Resumption::Goes(Resumed { moment, rest }))
 }

@@ -11,7 +11,7 @@ ghost use Rattle.audit.specs.Audit.{IsRunOver, IsMemory};
 
 use crate::lines::lines_of;
 use delivery::nothing_is_lost;
-use gateway::{End, Entry, Gateway, drive_on, steps_keep_their_order};
+use gateway::{Config, End, Entry, Gateway, drive_on, steps_keep_their_order};
 use std::alloc::Global;
 use traces::{Beginning, TextFault, Trace};
 
@@ -54,4 +54,22 @@ pub(crate) fn run_over(
         End::Device => Err(TextFault::NoMemory),
         End::Turns => unreachable!(),
     }
+}
+
+/// Runs a gateway with these settings over these entries, and answers the lines of the run.
+pub(crate) fn run_new(
+    alloc: Global,
+    config: &Config,
+    entries: Vec<Entry>,
+) -> Result<String, TextFault>
+    requires { AllByRecursion FitsPort entries.items }
+    ensures { MatchResult result (λ lines. (log : Log)
+        × IsRunOver config.now entries.items log
+        × (string_bytes lines ≡ lines_of_log log)) IsMemory }
+{
+    let Ok(mut gateway) = Gateway::new(alloc, config) else {
+        return Err(TextFault::NoMemory);
+    };
+    let lines = run_over(alloc, &mut gateway, entries)?;
+    Ok(lines)
 }

@@ -1,5 +1,5 @@
 //! Lists of what is kept: waiting commands, lines and selections.
-ghost use Rattle.std.specs.Prelude.{◌≡◌, ◌≤◌, ◌<◌, ◌+◌, ◌++◌, length, map, remove, get_or, count_by, slice_index, slice_index_or, IfOk, IfSome, IfNone, Some, None, option_map, vec_len, vec_capacity};
+ghost use Rattle.std.specs.Prelude.{◌≡◌, ◌≤◌, ◌<◌, ◌+◌, ◌++◌, [], ◌∷◌, length, map, remove, get_or, count_by, slice_index, slice_index_or, IfOk, IfSome, IfNone, Some, None, option_map, vec_len, vec_capacity};
 ghost use Rattle.std.specs.List.{filter_map};
 ghost use Rattle.arrayvec.specs.ArrayVec.{array_vec_len};
 ghost use Rattle.command.specs.Command.{command_len, command_at};
@@ -169,16 +169,37 @@ pub(crate) fn push_copies(
         waiting.old.items ++ copies sizes octets.now 0 stations.now }
     ensures capacity { vec_capacity waiting.new ≡ vec_capacity waiting.old }
 {
-    let command = read_command(octets);
     for i in 0..stations.len() {
-        let station = stations[i];
-        if is_for(command, station) {
-            waiting.push_reserved(Waiting {
-                station: i,
-                // As it came: the answer mirrors it, and its tag is wanted when it goes out.
-                received: Received::copied(octets),
-                octets: LineOctets::new(write_command(sizes, station.ca, command)),
-            });
-        }
+        push_copy(waiting, i, stations[i], sizes, octets);
+    }
+}
+
+/// The command waits for the station with this number, if it is for it.
+fn push_copy(
+    waiting: &mut Vec<Waiting>,
+    number: usize,
+    station: StationInfo,
+    sizes: Sizes,
+    octets: &[u8],
+)
+    requires long { 9 ≤ length octets.now }
+    requires whole { length octets.now ≡ command_len (slice_index octets.now 0) }
+    requires room { vec_len waiting.old
+        + count_by (is_addressed (command_at octets.now)) (station ∷ [])
+        ≤ vec_capacity waiting.old }
+    ensures items { waiting.new.items ≡
+        waiting.old.items ++ copies sizes octets.now number (station ∷ []) }
+    ensures count { vec_len waiting.new ≡ vec_len waiting.old
+        + count_by (is_addressed (command_at octets.now)) (station ∷ []) }
+    ensures capacity { vec_capacity waiting.new ≡ vec_capacity waiting.old }
+{
+    let command = read_command(octets);
+    if is_for(command, station) {
+        waiting.push_reserved(Waiting {
+            station: number,
+            // As it came: the answer mirrors it, and its tag is wanted when it goes out.
+            received: Received::copied(octets),
+            octets: LineOctets::new(write_command(sizes, station.ca, command)),
+        });
     }
 }

@@ -12,7 +12,7 @@ use ft12::LinkSize;
 use gateway::{LineSettings, Silence};
 use toml::Table;
 
-const LINK: Whole = Whole {
+const LINK: &Whole = &Whole {
     key: "link",
     path: "line.link",
     low: 1,
@@ -20,7 +20,7 @@ const LINK: Whole = Whole {
     default: None,
 };
 
-const CAUSE: Whole = Whole {
+const CAUSE: &Whole = &Whole {
     key: "cause",
     path: "line.cause",
     low: 1,
@@ -28,7 +28,7 @@ const CAUSE: Whole = Whole {
     default: None,
 };
 
-const CA: Whole = Whole {
+const CA: &Whole = &Whole {
     key: "ca",
     path: "line.ca",
     low: 1,
@@ -36,7 +36,7 @@ const CA: Whole = Whole {
     default: None,
 };
 
-const IOA: Whole = Whole {
+const IOA: &Whole = &Whole {
     key: "ioa",
     path: "line.ioa",
     low: 1,
@@ -44,7 +44,7 @@ const IOA: Whole = Whole {
     default: None,
 };
 
-const ANSWER_MS: Whole = Whole {
+const ANSWER_MS: &Whole = &Whole {
     key: "answer_ms",
     path: "line.answer_ms",
     low: 1,
@@ -52,7 +52,7 @@ const ANSWER_MS: Whole = Whole {
     default: Some(200),
 };
 
-const RETRIES: Whole = Whole {
+const RETRIES: &Whole = &Whole {
     key: "retries",
     path: "line.retries",
     low: 0,
@@ -60,7 +60,7 @@ const RETRIES: Whole = Whole {
     default: Some(3),
 };
 
-const BURST: Whole = Whole {
+const BURST: &Whole = &Whole {
     key: "burst",
     path: "line.burst",
     low: 1,
@@ -68,7 +68,7 @@ const BURST: Whole = Whole {
     default: Some(8),
 };
 
-const QUEUE: Whole = Whole {
+const QUEUE: &Whole = &Whole {
     key: "queue",
     path: "line.queue",
     low: 3,

@@ -1,12 +1,12 @@
 //! The list of stations.
 ghost use Rattle.std.specs.List.{list_any};
-ghost use Rattle.std.specs.Prelude.{◌==◌, ◌≡◌, ◌≤◌, false, Some, IfOk, option_map};
-ghost use Rattle.toml.specs.View.{view, table_view};
+ghost use Rattle.std.specs.Prelude.{◌==◌, ◌≡◌, ◌≤◌, false, [], length, Some, IfOk, option_map};
+ghost use Rattle.toml.specs.View.{view, items_view, table_view};
 ghost use Rattle.settings.specs.Faults.{seen};
 ghost use Rattle.settings.specs.Keys.{whole_of};
 ghost use Rattle.gateway.specs.Config.{AreStations};
 ghost use Rattle.gateway.specs.Settings.{IsLinkAddress, IsCommonAddress};
-ghost use Rattle.settings.specs.Stations.{greatest_address, greatest_ca, address_row, ca_row, address_of, ca_of, distinct_number, station_of, stations_of, IsAsExpected, IsNext};
+ghost use Rattle.settings.specs.Stations.{greatest_address, greatest_ca, address_row, ca_row, address_of, ca_of, distinct_number, station_of, stations_from, stations_of, IsAsExpected, IsNext};
 
 use crate::ConfigFault;
 use crate::fault::WrongKey;
@@ -17,7 +17,7 @@ use gateway::Station;
 use std::alloc::Global;
 use toml::{Table, Value};
 
-const SELECT: Flag = Flag {
+const SELECT: &Flag = &Flag {
     key: "select",
     path: "station.select",
 };
@@ -47,8 +47,8 @@ fn greatest_common_address(size: CaSize) -> u32
     }
 }
 
-/// Reads the array of stations, one after the other.
-#[tactic(auto, using(crate::proofs::StationLemmas::count_of_view, crate::proofs::StationLemmas::stations_from_wrong, crate::proofs::StationLemmas::stations_from_next, crate::proofs::StationLemmas::stations_from_end, crate::proofs::StationLemmas::none_good, crate::proofs::StationLemmas::good_more))]
+/// Reads the array of stations.
+#[tactic(auto, using(crate::proofs::StationLemmas::count_of_view))]
 pub(crate) fn read_stations(
     alloc: Global,
     value: Option<&Value>,
@@ -65,12 +65,27 @@ pub(crate) fn read_stations(
     let Some(tables) = value.as_array() else {
         return Err(ConfigFault::Key("station"));
     };
-    let count = tables.len();
     // Looked at before memory is asked for: a file can name any number of them.
-    if count == 0 || count > MOST_STATIONS {
+    if tables.is_empty() || tables.len() > MOST_STATIONS {
         return Err(ConfigFault::Key("station"));
     }
-    let mut stations = Vec::with_capacity(alloc, count)?;
+    read_each(alloc, tables.as_slice(), link, ca)
+}
+
+/// Reads the stations, one after the other.
+#[tactic(auto, using(crate::proofs::StationLemmas::stations_from_wrong, crate::proofs::StationLemmas::stations_from_next, crate::proofs::StationLemmas::stations_from_end, crate::proofs::StationLemmas::none_good, crate::proofs::StationLemmas::good_more))]
+fn read_each(
+    alloc: Global,
+    tables: &[Value],
+    link: LinkSize,
+    ca: CaSize,
+) -> Result<Vec<Station>, ConfigFault>
+    requires some { 1 ≤ length tables.now }
+    requires most { length tables.now ≤ 32 }
+    ensures value { IsAsExpected (stations_from link ca [] (items_view tables.now)) result }
+    ensures limits { IfOk result (λ stations. AreStations link ca stations.items) }
+{
+    let mut stations = Vec::with_capacity(alloc, tables.len())?;
     for table in tables {
         // Each is compared with those before it, so the fault is at the second of two alike.
         let station = read_station(table, link, ca, stations.as_slice())?;

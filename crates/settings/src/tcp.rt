@@ -9,7 +9,7 @@ use crate::keys::Whole;
 use gateway::TcpSettings;
 use toml::Table;
 
-const K: Whole = Whole {
+const K: &Whole = &Whole {
     key: "k",
     path: "tcp.k",
     low: 1,
@@ -17,7 +17,7 @@ const K: Whole = Whole {
     default: Some(12),
 };
 
-const W: Whole = Whole {
+const W: &Whole = &Whole {
     key: "w",
     path: "tcp.w",
     low: 1,
@@ -25,7 +25,7 @@ const W: Whole = Whole {
     default: Some(8),
 };
 
-const T1_MS: Whole = Whole {
+const T1_MS: &Whole = &Whole {
     key: "t1_ms",
     path: "tcp.t1_ms",
     low: 2,
@@ -34,7 +34,7 @@ const T1_MS: Whole = Whole {
 };
 
 /// Its greatest value is one less than `tcp.t1_ms`.
-const T2_MS: Whole = Whole {
+const T2_MS: &Whole = &Whole {
     key: "t2_ms",
     path: "tcp.t2_ms",
     low: 1,
@@ -42,7 +42,7 @@ const T2_MS: Whole = Whole {
     default: Some(10000),
 };
 
-const T3_MS: Whole = Whole {
+const T3_MS: &Whole = &Whole {
     key: "t3_ms",
     path: "tcp.t3_ms",
     low: 1,
@@ -50,7 +50,7 @@ const T3_MS: Whole = Whole {
     default: Some(20000),
 };
 
-const SELECT_MS: Whole = Whole {
+const SELECT_MS: &Whole = &Whole {
     key: "select_ms",
     path: "tcp.select_ms",
     low: 1,
@@ -58,7 +58,7 @@ const SELECT_MS: Whole = Whole {
     default: Some(30000),
 };
 
-const MAX_AGE_MS: Whole = Whole {
+const MAX_AGE_MS: &Whole = &Whole {
     key: "max_age_ms",
     path: "tcp.max_age_ms",
     low: 1,
@@ -75,7 +75,7 @@ pub(crate) fn read_tcp(table: Option<&Table>) -> Result<TcpSettings, WrongKey>
     let t1_ms = T1_MS.read(table)?;
     let t2_ms = Whole {
         high: t1_ms - 1,
-        ..T2_MS
+        ..*T2_MS
     }
     .read(table)?;
     let t3_ms = T3_MS.read(table)?;

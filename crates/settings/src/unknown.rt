@@ -1,9 +1,11 @@
 //! Keys that the settings don't know.
-ghost use Rattle.std.specs.Prelude.{◌≡◌, ◌++◌, map, option_map, OnOk, IfOk, MatchOption, Contains, All, [], false, string_bytes};
+ghost use Rattle.std.specs.Prelude.{◌≡◌, ◌++◌, ◌||◌, codes, map, option_map, OnOk, IfOk, MatchOption, Contains, All, [], false, string_bytes};
+ghost use Rattle.std.specs.Str.{bytes_eq};
 ghost use Rattle.std.specs.Ordering.{is_lt};
 ghost use Rattle.std.specs.String.{string_cmp};
 ghost use Rattle.toml.specs.View.{view, table_view, items_view};
 ghost use Rattle.settings.specs.Unknown.{knows, knows_line, knows_size, prefix, member_keys, unknown_in, unknown_of, unknown_under, unknown_stations, unknown_items, unknown_paths, IsRefusedFor};
+ghost use Rattle.settings.specs.declared.unknown.Section.TheVariants.{Root, Tcp, Station, Live};
 
 use crate::ConfigFault;
 use crate::keys::given;
@@ -25,19 +27,11 @@ impl Section {
         ensures { result ≡ knows self key.now }
     {
         match self {
-            Section::Root => key == "line" || key == "tcp" || key == "station" || key == "live",
+            Section::Root => knows_root(key),
             Section::Line => knows_line(key),
-            Section::Tcp => {
-                key == "k"
-                    || key == "w"
-                    || key == "t1_ms"
-                    || key == "t2_ms"
-                    || key == "t3_ms"
-                    || key == "select_ms"
-                    || key == "max_age_ms"
-            }
-            Section::Station => key == "address" || key == "ca" || key == "select",
-            Section::Live => key == "line" || key == "listen",
+            Section::Tcp => knows_tcp(key),
+            Section::Station => knows_station(key),
+            Section::Live => knows_live(key),
         }
     }
 
@@ -53,6 +47,38 @@ impl Section {
             Section::Live => "live.",
         }
     }
+}
+
+fn knows_root(key: &str) -> bool
+    ensures { result ≡ knows Root key.now }
+{
+    key == "line" || key == "tcp" || key == "station" || key == "live"
+}
+
+fn knows_tcp(key: &str) -> bool
+    ensures { result ≡ knows Tcp key.now }
+{
+    knows_window_or_wait(key) || key == "t3_ms" || key == "select_ms" || key == "max_age_ms"
+}
+
+// A function of its own, since a long chain costs the proof more than its parts do.
+fn knows_window_or_wait(key: &str) -> bool
+    ensures { result ≡ (bytes_eq key.now (codes "k") || bytes_eq key.now (codes "w")
+        || bytes_eq key.now (codes "t1_ms") || bytes_eq key.now (codes "t2_ms")) }
+{
+    key == "k" || key == "w" || key == "t1_ms" || key == "t2_ms"
+}
+
+fn knows_station(key: &str) -> bool
+    ensures { result ≡ knows Station key.now }
+{
+    key == "address" || key == "ca" || key == "select"
+}
+
+fn knows_live(key: &str) -> bool
+    ensures { result ≡ knows Live key.now }
+{
+    key == "line" || key == "listen"
 }
 
 fn knows_line(key: &str) -> bool
