@@ -1,10 +1,8 @@
 -- Whole runs.
-use Rattle.std.proofs.Common.{◌≡◌, ℕ, ◌+◌, ◌≤◌, ◌<◌, ◌^◌, true, nat_le, List, [], ◌∷◌, length, Option, Some, refl, ap, subst, ◌∙◌, arith}
-use Rattle.std.proofs.lemmas.List.{length-append}
+use Rattle.std.proofs.Common.{◌≡◌, ℕ, ◌<◌, ◌^◌, List, Option, ap, subst, ◌∙◌}
 use Rattle.ft12.specs.declared.frame.Frame.{Frame}
 use Rattle.link.specs.Secondary.{Secondary}
-use Rattle.gateway.specs.Log.{Log, Came, Went, events_of}
-use Rattle.gateway.specs.Runs.{MoreEvents}
+use Rattle.gateway.specs.Log.{Log}
 use Rattle.gateway.specs.Order.{KeepsOrder}
 use Rattle.gateway.specs.Config.{Settings}
 use Rattle.gateway.specs.Setups.{setup_of}
@@ -17,41 +15,11 @@ use Rattle.sim.specs.Tallies.{tallies_of}
 use Rattle.sim.specs.Losses.{turns_of}
 use Rattle.sim.specs.Lives.{Plan, plan_of, requests_in}
 use Rattle.sim.specs.Calls.{calls_in}
-use Rattle.sim.specs.Played.{IsPlayed, Stands, Simulated, has_ended}
+use Rattle.sim.specs.Played.{IsPlayed, Stands, Simulated}
 use Rattle.sim.specs.Closing.{connections_in, lines_of_connections}
 use Rattle.sim.specs.Texts.{connection_lines, closing_lines}
 use Rattle.sim.specs.Outstations.{HaveServed}
 use Rattle.sim.specs.Runs.{IsRun}
-
-length-events : (log : Log) → length (events_of log) ≡ calls_in log
-length-events [] = refl
-length-events (Came now event ∷ log) = let so_far : length (events_of log) ≡ calls_in log = length-events log in
-    omega (arith, length-append (events_of log) (Came now event ∷ []))
-length-events (Went now action ∷ log) = length-events log
-
--- after so many more events than none there were so many calls
-turns_calls : (n : ℕ) (log : Log) → MoreEvents n (Some []) (Some log) → calls_in log ≡ n
-turns_calls n log more =
-    let told : Some (length (events_of log)) ≡ Some (0 + n) = more in
-    let same : length (events_of log) ≡ 0 + n = cc in
-    omega (arith, length-events log)
-
-pub run_turns : (n m : ℕ) (old log : Log) → n ≡ m → old ≡ [] → MoreEvents n (Some old) (Some log) → calls_in log ≡ m
-run_turns n m old log e none more = turns_calls n log (subst (λ (l : Log). MoreEvents n (Some l) (Some log)) none more)
-    ∙ e
-
-le_of : (a b : ℕ) → nat_le a b ≡ true → a ≤ b
-le_of a b e = grind arith
-
--- a run that has ended has had all its calls
-pub ended_calls : (s : Simulated) → has_ended s ≡ true → Stands s.plan s.log s.stations s.standing
-    → calls_in s.log ≡ turns_of s.plan.directives
-ended_calls s ended k =
-    let most : s.standing.call ≤ turns_of s.plan.directives = k.in_turns in
-    let least : turns_of s.plan.directives ≤ s.standing.call =
-    le_of (turns_of s.plan.directives) s.standing.call ended in
-    let calls : s.standing.call ≡ calls_in s.log = k.call in
-    omega arith
 
 -- a run of the plan, with what is counted of it
 record IsTold (plan : Plan) (log : Log) (stations : List Secondary) (answers : List (Option Frame))

@@ -25,9 +25,7 @@ use Rattle.gateway.specs.Config.{Settings}
 use Rattle.gateway.specs.declared.runs.End.{End}
 use Rattle.gateway.specs.declared.runs.End.TheVariants.{Turns, Finished}
 use Rattle.settings.specs.Settings.{IsReadOfText}
-use Rattle.sim.specs.Scripts.{IsScriptOf}
-use Rattle.sim.specs.declared.directive.Directive.{Directive}
-use Rattle.telegate.specs.Answers.{IsMemory, IsGood, IsChecked, IsSimulationOf, IsSimulatedBy}
+use Rattle.telegate.specs.Answers.{IsMemory, IsGood, IsChecked}
 use Rattle.telegate.specs.declared.answer.Answer.{Answer}
 use Rattle.telegate.specs.declared.closing.Closing.{Closing}
 use Rattle.telegate.specs.declared.fault.Fault.{Fault}
@@ -89,23 +87,6 @@ all_came t trace over whole = sym (append-nil (events_of t.log))
     by true None over = refl
     by true (Some text) over = cc
     by false left over = cc
-
--- the answer to the command over a simulated line, where its files were read
-pub simulated : (config text : List ℕ) (settings : Settings) (script : List Directive) (r : Result Answer Fault)
-    → IsReadOfText config (Ok settings) → IsScriptOf settings text (Ok script) → IsSimulationOf settings script r
-    → IsSimulatedBy config text r
-simulated config text settings script (Ok answer) read said run =
-    record { settings = settings; script = script; read_config = read; read_script = said; simulation = run }
-simulated config text settings script (Err NoMemory) read said run = tt
-simulated config text settings script (Err (Config why)) read said run = absurd run
-simulated config text settings script (Err (Trace n)) read said run = absurd run
-simulated config text settings script (Err (Script n)) read said run = absurd run
-simulated config text settings script (Err (Record n)) read said run = absurd run
-simulated config text settings script (Err (Differs n)) read said run = absurd run
-simulated config text settings script (Err Sizes) read said run = absurd run
-simulated config text settings script (Err Octets) read said run = absurd run
-simulated config text settings script (Err Address) read said run = absurd run
-simulated config text settings script (Err Device) read said run = absurd run
 
 -- the answer to settings that were read
 pub checked : (config : List ℕ) (settings : Settings) (r : Result Answer Fault) → IsReadOfText config (Ok settings)

@@ -1,9 +1,16 @@
 //! The command that runs the gateway over simulated stations and a simulated control centre.
-ghost use Rattle.std.specs.Prelude.{◌≡◌, List, Option, false, Ok};
+ghost use Rattle.std.specs.Prelude.{◌≡◌, ℕ, List, Option, false};
 ghost use Rattle.gateway.specs.Config.{Settings, AreDistinct};
-ghost use Rattle.settings.specs.Settings.{IsReadOfText};
-ghost use Rattle.sim.specs.Scripts.{FitsSettings, IsScriptOf};
+ghost use Rattle.gateway.specs.Setups.{setup_of};
+ghost use Rattle.gateway.specs.Traffic.{IsFaithful, HasRested};
+ghost use Rattle.sim.specs.declared.directive.Directive.{Directive};
+ghost use Rattle.sim.specs.Calls.{calls_in};
+ghost use Rattle.sim.specs.Lives.{plan_of};
+ghost use Rattle.sim.specs.Losses.{turns_of};
+ghost use Rattle.sim.specs.Scripts.{FitsSettings};
+ghost use Rattle.traces.specs.Actions.{lines_of_actions};
 ghost use Rattle.telegate.specs.Answers.{IsSimulatedBy, IsSimulationOf};
+ghost use Rattle.telegate.specs.Printed.{IsPoured};
 
 use crate::check::read_config;
 use crate::fault::Fault;
@@ -62,11 +69,25 @@ fn run<W: Write, E: Write>(
     let (end, is_whole) = drive_printed(&mut gateway, &mut sim, turns, is_watched, out, err);
     let _page_is_clear = sim.page();
     match end {
-        End::Turns | End::Finished => {
-            let lines = sim.closing(alloc)?;
-            print_closing(lines.as_bytes(), is_whole, out)
-        }
+        End::Turns => close(alloc, &sim, is_whole, out),
+        End::Finished => close(alloc, &sim, is_whole, out),
         // The page wanted memory.
         End::Device => Err(Fault::NoMemory),
+    }
+}
+
+/// Prints the closing lines of a run, where all others were printed.
+fn close<W: Write>(alloc: Global, sim: &Sim<'_>, is_whole: bool, out: &mut W) -> Result<(), Fault>
+    ensures { (c : Settings) (ds : List Directive) (before : Option (List ℕ)) →
+        sim.now.plan ≡ plan_of c ds → AreDistinct c.stations →
+        calls_in sim.now.log ≡ turns_of ds → IsFaithful (setup_of c) sim.now.log →
+        HasRested (setup_of c) sim.now.log →
+        IsPoured is_whole before (W.contents out.old) (lines_of_actions sim.now.log) →
+        IsSimulationOf c ds before (W.contents out.new) result }
+{
+    let _page_is_clear = sim.page();
+    match sim.closing(alloc) {
+        Ok(lines) => print_closing(lines.as_bytes(), is_whole, out),
+        Err(_) => Err(Fault::NoMemory),
     }
 }
