@@ -1,33 +1,21 @@
 -- The end of a run over a trace.
-use Rattle.std.proofs.Common.{◌≡◌, ℕ, ◌+◌, Bool, true, false, ◌&&◌, List, [], ◌∷◌, ◌++◌, length, Option, Some, None, IfOk, refl, subst, ◌∙◌, ap, sym, arith, length-append, suc, ◌≤◌, ◌==◌}
-use Rattle.std.proofs.lemmas.List.{append-nil, length-map}
-use Rattle.std.proofs.lemmas.List.Splits.{length-slice_split}
-use Rattle.std.proofs.lemmas.List.Sums.{count_by-le-length}
+use Rattle.std.proofs.Common.{◌≡◌, ℕ, ◌+◌, Bool, true, false, ◌&&◌, List, [], ◌++◌, length, Option, Some, None, IfOk, refl, subst, ◌∙◌, ap, sym, arith, length-append}
+use Rattle.std.proofs.lemmas.List.{append-nil}
 use Rattle.gateway.specs.Log.{Log, LogEntry, events_of}
 use Rattle.gateway.specs.Runs.{MoreEvents, UnlessDevice}
 use Rattle.std.specs.Option.{is_none}
-use Rattle.std.specs.List.{filter_map, cons_option}
-use Rattle.traces.specs.Event.{Event}
-use Rattle.traces.specs.Progress.{Progress, came, events_in, script_in, events_left, coming_in, is_through}
-use Rattle.traces.specs.Trace.{lines_of, told, first_wrong}
-use Rattle.std.specs.Prelude.{Result, Ok, Err, MatchResult}
-use Rattle.traces.specs.Actions.{lines_of_actions}
-use Rattle.gateway.specs.Accounts.{IsAccounted}
+use Rattle.traces.specs.Progress.{Progress, events_in, script_in, events_left, coming_in, is_through}
+use Rattle.traces.specs.Trace.{lines_of, told}
+use Rattle.std.specs.Prelude.{Result, Ok, Err}
 use Rattle.gateway.specs.Agrees.{Follows, Rests}
-use Rattle.gateway.specs.Order.{KeepsOrder}
 use Rattle.gateway.specs.Reports.{Setup}
-use Rattle.gateway.specs.Setups.{setup_of}
 use Rattle.gateway.specs.State.{State}
-use Rattle.gateway.specs.Traffic.{IsFaithful, HasRested}
-use Rattle.delivery.specs.Delivery.{Delivers}
-use Rattle.telegate.specs.Closing.{closing_lines}
 use Rattle.gateway.specs.Config.{Settings}
 use Rattle.gateway.specs.declared.runs.End.{End}
 use Rattle.gateway.specs.declared.runs.End.TheVariants.{Turns, Finished}
 use Rattle.settings.specs.Settings.{IsReadOfText}
-use Rattle.telegate.specs.Answers.{IsMemory, IsGood, IsChecked}
+use Rattle.telegate.specs.Answers.{IsGood, IsChecked}
 use Rattle.telegate.specs.declared.answer.Answer.{Answer}
-use Rattle.telegate.specs.declared.closing.Closing.{Closing}
 use Rattle.telegate.specs.declared.fault.Fault.{Fault}
 use Rattle.telegate.specs.declared.fault.Fault.TheVariants.{Config, Trace, Script, Record, Differs, Sizes, Octets, Address, Device, NoMemory}
 

@@ -1,5 +1,5 @@
 -- Runs over a simulated line: what their ends say of the whole command.
-use Rattle.std.proofs.Common.{◌≡◌, ℕ, ◌+◌, ◌≤◌, ◌++◌, List, [], ◌∷◌, length, nat_le, true, Option, Some, inl, inr, refl, subst, sym, ap, ◌∙◌, arith}
+use Rattle.std.proofs.Common.{◌≡◌, ℕ, ◌+◌, ◌≤◌, List, [], ◌∷◌, length, nat_le, true, Option, Some, inl, inr, refl, subst, sym, ◌∙◌, arith}
 use Rattle.std.proofs.lemmas.List.{length-append}
 use Rattle.std.specs.Prelude.{Result, Ok, Err, IfOk}
 use Rattle.gateway.specs.Agrees.{Follows, Rests}

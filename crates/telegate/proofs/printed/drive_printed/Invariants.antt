@@ -1,6 +1,6 @@
 -- So many turns are done, and what the run has left is as `drive_on` leaves it; of its lines all
 -- were printed, or a beginning.
-use Rattle.std.proofs.Common.{◌≡◌, ◌≤◌, ◌-◌, Some, false}
+use Rattle.std.proofs.Common.{◌≡◌, ◌≤◌, ◌-◌, false}
 use Rattle.gateway.specs.Agrees.{Follows, Rests}
 use Rattle.gateway.specs.Reports.{Setup}
 use Rattle.gateway.specs.Runs.{MoreEvents}

@@ -1,5 +1,4 @@
 use Rattle.std.proofs.Common.{Bool, subst}
-use Rattle.sim.specs.Runs.{IsBegun}
 use Rattle.telegate.specs.Printed.{IsPoured}
 use Rattle.telegate.proofs.Poured.{begun_longer, begun_behind}
 use Rattle.telegate.proofs.printed.print_closing.Goals as goal

@@ -1,4 +1,4 @@
-use Rattle.std.proofs.Common.{◌≡◌, ℕ, ◌++◌, List, true, Some, subst, ap, ◌∙◌}
+use Rattle.std.proofs.Common.{◌≡◌, ◌++◌, true, Some, ap, ◌∙◌}
 use Rattle.gateway.specs.Accounts.{IsAccounted}
 use Rattle.gateway.specs.Agrees.{Follows}
 use Rattle.gateway.specs.Log.{events_of}

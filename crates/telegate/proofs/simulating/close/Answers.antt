@@ -1,4 +1,4 @@
-use Rattle.std.proofs.Common.{ℕ, List, inr, sym, subst}
+use Rattle.std.proofs.Common.{ℕ, List, inr, subst}
 use Rattle.std.specs.Prelude.{string_bytes}
 use Rattle.sim.specs.Runs.{IsRun}
 use Rattle.traces.specs.Actions.{lines_of_actions}

@@ -1,4 +1,4 @@
-use Rattle.std.proofs.Common.{◌≡◌, ℕ, ap, ◌∙◌, inr}
+use Rattle.std.proofs.Common.{◌≡◌, ap, ◌∙◌, inr}
 use Rattle.gateway.specs.Setups.{setup_of}
 use Rattle.gateway.specs.Traffic.{HasRested}
 use Rattle.sim.specs.Calls.{calls_in}
