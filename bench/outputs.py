@@ -43,9 +43,19 @@ COMMANDS = [
 TESTS = 6000
 LONG = "0 O\n" + "0 R 680443000000\n" * TESTS
 LONG_LINES = "0 > S 1049014A16\n" + "0 > T 680483000000\n" * TESTS
+# The same of a simulated run: each of so many calls brings an answer of a station without reports, and the next poll.
+CALLS = 6000
+POLLS = ("107B017C16", "105B015C16")
+SIMULATED_LINES = (
+    "1 > S 1049014A16\n2 > T 68040B000000\n3 > S 1040014116\n"
+    + "".join(f"{call} > S {POLLS[call % 2]}\n" for call in range(4, CALLS + 1))
+    + "station 1 reports 0 given 0 accepted 0\nconnection 1 objects 0\n"
+)
 FILES = {
     "config.toml": CONFIG,
     "long.trace": LONG,
+    "long.script": f"turns {CALLS}\n",
+    "wrong.script": f"turns {CALLS}\nlose\n",
     # Its last line is wrong: nothing is printed.
     "wrong.trace": LONG + "0 R 6\n",
     "one.trace": TRACE,
@@ -129,12 +139,13 @@ def cases(program, folder, library):
         came = ran(program, words, folder, writer, preexec_fn=lambda: signal.signal(signal.SIGPIPE, signal.SIG_IGN))
         yield f"{words}, a pipe without a reader", came, (3, "", "device failed\n")
         os.close(writer)
-    words = "replay config.toml long.trace"
-    for octets in (0, 1, 1000, 30_000, 60_000, 100_000, len(LONG_LINES) - 1, len(LONG_LINES)):
-        came = ran(program, words, folder, None, preexec_fn=limited(octets))
-        yield f"{words}, a file of {octets} octets", came, wanted(LONG_LINES, octets)
+    for words, lines in (("replay config.toml long.trace", LONG_LINES), ("sim config.toml long.script", SIMULATED_LINES)):
+        for octets in (0, 1, 1000, 30_000, 60_000, 100_000, len(lines) - 1, len(lines)):
+            came = ran(program, words, folder, None, preexec_fn=limited(octets))
+            yield f"{words}, a file of {octets} octets", came, wanted(lines, octets)
     wrong = (1, "", f"trace: line {TESTS + 2}\n")
     yield "a trace whose last line is wrong", ran(program, "replay config.toml wrong.trace", folder, None), wrong
+    yield "a script whose last line is wrong", ran(program, "sim config.toml wrong.script", folder, None), (1, "", "script: line 2\n")
     # A fault that can't be told keeps its status; the text of wrong words is an output that fails.
     for words, status in (("check empty", 1), ("check nowhere", 3), ("check", 3)):
         with open("/dev/full", "wb") as full:

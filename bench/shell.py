@@ -4,8 +4,8 @@
     bench/shell.py [--program FILE]
 
 Every exit status, with what stands on standard output and on standard error; words that are no
-text; files that can't be read; outputs that fail; how far a long replay has come, which a terminal
-is told and nothing else; a live run that asks its line for its status, and ends with 3 where the
+text; files that can't be read; outputs that fail; how far a long run has come, which a terminal is
+told and nothing else; a live run that asks its line for its status, and ends with 3 where the
 line ends, or with --redial reaches it again; the script ./telegate, also through a link and where
 nothing is built; and the man page and the completions of packaging/, which name what `--help`
 names.
@@ -239,7 +239,7 @@ def looked_at(program, words, folder, **more):
 
 
 def looks(count, program, folder):
-    """A long replay tells a terminal after each 2^19 turns how far it has come, and leaves a blank line. Else nothing is told, as
+    """A long run tells a terminal after each 2^19 turns how far it has come, and leaves a blank line. Else nothing is told, as
     where standard output is a terminal too."""
     part = 1 << 19
     # A run has a few turns more than events: the tick at moment 0, the one in which there is no more.
@@ -260,6 +260,14 @@ def looks(count, program, folder):
         seen, done = looked_at(program, "replay good.toml long.trace", folder, ends=["stdout"])
         is_right = (seen, done.returncode) == (b"0 > S 1049014A16\r\n", 0)
         count.judge(f"{events} events to a terminal", is_right, (seen, done))
+    # A simulated run tells the same of its calls.
+    with open(os.path.join(folder, "long.script"), "w") as file:
+        file.write(f"turns {part + 9}\n")
+    seen, done = looked_at(program, "sim good.toml long.script", folder)
+    is_right = (done.returncode, seen) == (0, b"\r99 %\r    \r") and text(done.stdout).startswith("1 > S 1049014A16\n")
+    count.judge(f"{part + 9} calls looked at", is_right, (done.returncode, seen))
+    done = ran([program, *"sim good.toml long.script".split()], folder)
+    count.judge(f"{part + 9} calls, nobody looks", (done.returncode, done.stderr) == (0, b""), (done.returncode, done.stderr))
     for words, told, status in (("replay good.toml none.script", b"trace: line 1\r\n", 1), ("check good.toml", b"", 0)):
         seen, done = looked_at(program, words, folder)
         count.judge(f"{words} looked at", (seen, done.returncode) == (told, status), (seen, done))

@@ -10,8 +10,6 @@
 #[cfg(test)]
 mod runs;
 #[cfg(test)]
-mod scripts;
-#[cfg(test)]
 mod setting_texts;
 #[cfg(test)]
 mod trace_texts;

@@ -7,13 +7,9 @@ use Rattle.apci.specs.declared.apdu.Apdu.{Apdu}
 use Rattle.apci.specs.declared.apdu.Apdu.TheVariants.{I, S, U}
 use Rattle.apci.specs.declared.apdu.Uf.TheVariants.{StartAct, StartCon, StopAct, StopCon, TestAct, TestCon}
 use Rattle.apci.specs.Spelling.{spelling}
-use Rattle.gateway.specs.declared.entries.Entry.TheVariants as entries
-use Rattle.gateway.specs.declared.entries.Told.{Told}
-use Rattle.gateway.specs.declared.entries.Told.TheVariants as told
 use Rattle.session.specs.declared.kinds.Close.{Close}
 use Rattle.session.specs.declared.kinds.Close.TheVariants.{Grammar, SendNumber, ReceiveNumber, Stopped, Timeout, OwnAnswers, Replaced}
 use Rattle.gateway.specs.Connections.{closed_by, Channel, no_channel, receiving, sending, ends, present, past, over, AreConnections, IsBegun}
-use Rattle.gateway.specs.Entries.{stored_log, log_of, told_of}
 use Rattle.gateway.specs.Frames.{Connection, Sent, data_frames, objects_of_frames, monitor_objects_sent}
 use Rattle.gateway.specs.Log.{Log, Came, Went, LineIn, Opened, TcpIn, CutOff, Ticked, WallIs, LineOut, TcpOut, Closed, GapOut}
 use Rattle.gateway.specs.Objects.{objects}
@@ -22,7 +18,8 @@ use Rattle.gateway.specs.Streams.{spelled, AreFrames, IsOneFrame}
 use Rattle.gateway.specs.Traffic.{ActsRightly, IsFaithful}
 use Rattle.delivery.specs.Delivery.{Delivers}
 use Rattle.sim.specs.Centres.{is_data}
-use Rattle.sim.specs.Texts.{objects_in_apdu, opens, objects_until_next, connection_line, connection_lines}
+use Rattle.sim.specs.Connections.{objects_in_apdu, add_latest, counted_in}
+use Rattle.sim.specs.Texts.{connection_line, connection_lines}
 use Rattle.sim.specs.Closing.{connections_in, lines_of_connections}
 
 -- The numbers in the text
@@ -38,103 +35,67 @@ sent_counts (Came now Opened ∷ log) = 0 ∷ sent_counts log
 sent_counts (Went now (TcpOut octets) ∷ log) = add_first (objects_in_apdu octets) (sent_counts log)
 sent_counts (entry ∷ log) = sent_counts log
 
--- the same of what is stored, the oldest first
-abbrev told_counts : List Told → List ℕ
-told_counts [] = []
-told_counts (t ∷ ts) = if opens t then objects_until_next ts ∷ told_counts ts else told_counts ts
-
-abbrev turned_onto : List ℕ → List ℕ → List ℕ
-turned_onto [] ns = ns
-turned_onto (m ∷ ms) ns = turned_onto ms (m ∷ ns)
-
 abbrev line_of : (number count : ℕ) → List ℕ
 line_of number count = connection_line number (min count (2 ^ 64 - 1))
-
-abbrev lines_from : ℕ → List ℕ → List ℕ
-lines_from k [] = []
-lines_from k (n ∷ ns) = line_of k n ++ lines_from (k + 1) ns
 
 abbrev lines_of_counts : List ℕ → List ℕ
 lines_of_counts [] = []
 lines_of_counts (n ∷ ns) = lines_of_counts ns ++ line_of (length ns + 1) n
 
-lines_told : (k : ℕ) (ts : List Told) → connection_lines k ts ≡ lines_from k (told_counts ts)
-lines_told k [] = refl
-lines_told k (t ∷ ts) = go (opens t) (lines_told (k + 1) ts) (lines_told k ts)
-  where
-    go : (b : Bool) → connection_lines (k + 1) ts ≡ lines_from (k + 1) (told_counts ts)
-        → connection_lines k ts ≡ lines_from k (told_counts ts) →
-        (if b then line_of k (objects_until_next ts) ++ connection_lines (k + 1) ts else connection_lines k ts)
-        ≡ lines_from k (if b then objects_until_next ts ∷ told_counts ts else told_counts ts)
-    go true later same = ap (λ (l : List ℕ). line_of k (objects_until_next ts) ++ l) later
-    go false later same = same
+-- the counts that are kept, the oldest first
+abbrev kept : List ℕ → List ℕ
+kept [] = []
+kept (n ∷ ns) = kept ns ++ min n (2 ^ 64 - 1) ∷ []
 
-lines_turned : (ms ns : List ℕ) → lines_of_counts (turned_onto ms ns) ≡ lines_of_counts ns
-    ++ lines_from (length ns + 1) ms
-lines_turned [] ns = sym (append-nil (lines_of_counts ns))
-lines_turned (m ∷ ms) ns =
-    let next : length (m ∷ ns) + 1 ≡ (length ns + 1) + 1 = omega arith in
-    lines_turned ms (m ∷ ns) ∙ ap (λ (k : ℕ). (lines_of_counts ns ++ line_of (length ns + 1) m) ++ lines_from k ms) next
-    ∙ append_assoc (lines_of_counts ns) (line_of (length ns + 1) m) (lines_from ((length ns + 1) + 1) ms)
+kept_length : (ns : List ℕ) → length (kept ns) ≡ length ns
+kept_length [] = refl
+kept_length (n ∷ ns) = omega (arith, kept_length ns, length-append (kept ns) (min n (2 ^ 64 - 1) ∷ []))
 
-add_none : (ns : List ℕ) → ns ≡ add_first 0 ns
-add_none [] = refl
-add_none (n ∷ ns) = let same : n ≡ n + 0 = omega arith in ap (λ (m : ℕ). m ∷ ns) same
+add_at_end : (more n : ℕ) (ns : List ℕ) → add_latest more (ns ++ n ∷ []) ≡ ns ++ min (n + more) (2 ^ 64 - 1) ∷ []
+add_at_end more n [] = refl
+add_at_end more n (m ∷ []) = refl
+add_at_end more n (m ∷ k ∷ ns) = ap (λ (l : List ℕ). m ∷ l) (add_at_end more n (k ∷ ns))
 
-add_twice : (a b c : ℕ) (ns : List ℕ) → c ≡ a + b → add_first b (add_first a ns) ≡ add_first c ns
-add_twice a b c [] e = refl
-add_twice a b c (n ∷ ns) e = let same : (n + a) + b ≡ n + c = omega arith in ap (λ (m : ℕ). m ∷ ns) same
+kept_more : (more : ℕ) (ns : List ℕ) → add_latest more (kept ns) ≡ kept (add_first more ns)
+kept_more more [] = refl
+kept_more more (n ∷ ns) =
+    let once : min (min n (2 ^ 64 - 1) + more) (2 ^ 64 - 1) ≡ min (n + more) (2 ^ 64 - 1) = omega arith in
+    add_at_end more (min n (2 ^ 64 - 1)) (kept ns) ∙ ap (λ (k : ℕ). kept ns ++ k ∷ []) once
 
--- one that is stored
-counts_opened : (ts : List Told) (log : Log) (now : ℕ)
-    → sent_counts (stored_log ts (Came now Opened ∷ log))
-    ≡ turned_onto (told_counts ts) (add_first (objects_until_next ts) (0 ∷ sent_counts log)) →
-    sent_counts (stored_log ts (Came now Opened ∷ log))
-    ≡ turned_onto (told_counts ts) (objects_until_next ts ∷ add_first 0 (sent_counts log))
-counts_opened ts log now e =
-    let same : 0 + objects_until_next ts ≡ objects_until_next ts = omega arith in
-    e ∙ ap (λ (n : ℕ). turned_onto (told_counts ts) (n ∷ sent_counts log)) same
-    ∙ ap (λ (l : List ℕ). turned_onto (told_counts ts) (objects_until_next ts ∷ l)) (add_none (sent_counts log))
+-- what is counted entry by entry
+counted_so : (log : Log) → counted_in log ≡ kept (sent_counts log)
+counted_so [] = refl
+counted_so (Came now Opened ∷ log) =
+    let none : 0 ≡ min 0 (2 ^ 64 - 1) = omega arith in
+    ap (λ (l : List ℕ). l ++ 0 ∷ []) (counted_so log) ∙ ap (λ (k : ℕ). kept (sent_counts log) ++ k ∷ []) none
+counted_so (Came now (LineIn octets) ∷ log) = counted_so log
+counted_so (Came now (TcpIn octets) ∷ log) = counted_so log
+counted_so (Came now CutOff ∷ log) = counted_so log
+counted_so (Came now Ticked ∷ log) = counted_so log
+counted_so (Came now (WallIs number) ∷ log) = counted_so log
+counted_so (Went now (LineOut octets) ∷ log) = counted_so log
+counted_so (Went now (TcpOut octets) ∷ log) = ap (add_latest (objects_in_apdu octets)) (counted_so log)
+    ∙ kept_more (objects_in_apdu octets) (sent_counts log)
+counted_so (Went now (Closed cause) ∷ log) = counted_so log
+counted_so (Went now (GapOut station session) ∷ log) = counted_so log
 
-counts_other : (ts : List Told) (whole ns : List ℕ) → whole
-    ≡ turned_onto (told_counts ts) (add_first (objects_until_next ts) ns)
-    → whole ≡ turned_onto (told_counts ts) (add_first (0 + objects_until_next ts) ns)
-counts_other ts whole ns e = let same : objects_until_next ts ≡ 0 + objects_until_next ts = omega arith in e
-    ∙ ap (λ (n : ℕ). turned_onto (told_counts ts) (add_first n ns)) same
+-- the line of one more connection
+lines_more : (k j : ℕ) (ns : List ℕ) (n : ℕ) → j ≡ length ns + k
+    → connection_lines k (ns ++ n ∷ []) ≡ connection_lines k ns ++ connection_line j n
+lines_more k j [] n e = let same : k ≡ j = omega arith in
+    append-nil (connection_line k n) ∙ ap (λ (i : ℕ). connection_line i n) same
+lines_more k j (m ∷ ns) n e =
+    ap (λ (l : List ℕ). connection_line k m ++ l) (lines_more (k + 1) j ns n (omega arith))
+    ∙ sym (append_assoc (connection_line k m) (connection_lines (k + 1) ns) (connection_line j n))
 
-counts_told : (ts : List Told) (log : Log) → sent_counts (stored_log ts log)
-    ≡ turned_onto (told_counts ts) (add_first (objects_until_next ts) (sent_counts log))
-counts_told [] log = add_none (sent_counts log)
-counts_told (told.Came (entries.Open now) ∷ ts) log = counts_opened ts log now (counts_told ts (Came now Opened ∷ log))
-counts_told (told.Came (entries.Line now octets) ∷ ts) log =
-    counts_other ts (sent_counts (stored_log ts (Came now (LineIn octets.items) ∷ log))) (sent_counts log)
-    (counts_told ts (Came now (LineIn octets.items) ∷ log))
-counts_told (told.Came (entries.Bytes now octets) ∷ ts) log =
-    counts_other ts (sent_counts (stored_log ts (Came now (TcpIn octets.items) ∷ log))) (sent_counts log)
-    (counts_told ts (Came now (TcpIn octets.items) ∷ log))
-counts_told (told.Came (entries.Cut now) ∷ ts) log = counts_other ts
-    (sent_counts (stored_log ts (Came now CutOff ∷ log))) (sent_counts log) (counts_told ts (Came now CutOff ∷ log))
-counts_told (told.Came (entries.Tick now) ∷ ts) log = counts_other ts
-    (sent_counts (stored_log ts (Came now Ticked ∷ log))) (sent_counts log) (counts_told ts (Came now Ticked ∷ log))
-counts_told (told.Came (entries.Wall now number) ∷ ts) log =
-    counts_other ts (sent_counts (stored_log ts (Came now (WallIs number) ∷ log))) (sent_counts log)
-    (counts_told ts (Came now (WallIs number) ∷ log))
-counts_told (told.Line now octets ∷ ts) log = counts_other ts
-    (sent_counts (stored_log ts (told_of (told.Line now octets) ∷ log))) (sent_counts log)
-    (counts_told ts (told_of (told.Line now octets) ∷ log))
-counts_told (told.Tcp now octets ∷ ts) log =
-    counts_told ts (told_of (told.Tcp now octets) ∷ log)
-    ∙ ap (turned_onto (told_counts ts)) (add_twice (objects_in_apdu octets.items) (objects_until_next ts)
-    (objects_in_apdu octets.items + objects_until_next ts) (sent_counts log) refl)
-counts_told (told.Close now number ∷ ts) log = counts_other ts
-    (sent_counts (stored_log ts (told_of (told.Close now number) ∷ log))) (sent_counts log)
-    (counts_told ts (told_of (told.Close now number) ∷ log))
-counts_told (told.Gap now station session ∷ ts) log = counts_other ts
-    (sent_counts (stored_log ts (told_of (told.Gap now station session) ∷ log))) (sent_counts log)
-    (counts_told ts (told_of (told.Gap now station session) ∷ log))
+lines_kept : (ns : List ℕ) → connection_lines 1 (kept ns) ≡ lines_of_counts ns
+lines_kept [] = refl
+lines_kept (n ∷ ns) =
+    lines_more 1 (length ns + 1) (kept ns) (min n (2 ^ 64 - 1)) (omega (arith, kept_length ns))
+    ∙ ap (λ (l : List ℕ). l ++ line_of (length ns + 1) n) (lines_kept ns)
 
-text_lines : (ts : List Told) → connection_lines 1 ts ≡ lines_of_counts (sent_counts (log_of ts))
-text_lines ts = lines_told 1 ts ∙ sym (ap lines_of_counts (counts_told ts []) ∙ lines_turned (told_counts ts) [])
+text_lines : (log : Log) → connection_lines 1 (counted_in log) ≡ lines_of_counts (sent_counts log)
+text_lines log = ap (connection_lines 1) (counted_so log) ∙ lines_kept (sent_counts log)
 
 -- The numbers of the frames
 
@@ -361,10 +322,10 @@ lines_counted (c ∷ cs) =
     ∙ ap (λ (l : List ℕ). l ++ line_of (length cs + 1) (number_sent c)) (lines_counted cs)
 
 -- The lines of the text are those of the connections.
-pub lines_are : Cancels → (p : Setup) (ts : List Told) → IsFaithful p (log_of ts) → (d : Delivers p (log_of ts))
-    → connection_lines 1 ts ≡ lines_of_connections (connections_in (log_of ts) d.here d.earlier)
-lines_are cancel p ts f d =
-    text_lines ts
-    ∙ ap lines_of_counts (counts_all cancel (present (log_of ts)) (past (log_of ts))
-    (sent_counts (log_of ts)) d.here d.earlier (counted_log p (log_of ts) f.acts) d.begun d.are)
-    ∙ lines_counted (connections_in (log_of ts) d.here d.earlier)
+pub lines_are : Cancels → (p : Setup) (log : Log) → IsFaithful p log → (d : Delivers p log)
+    → connection_lines 1 (counted_in log) ≡ lines_of_connections (connections_in log d.here d.earlier)
+lines_are cancel p log f d =
+    text_lines log
+    ∙ ap lines_of_counts (counts_all cancel (present log) (past log)
+    (sent_counts log) d.here d.earlier (counted_log p log f.acts) d.begun d.are)
+    ∙ lines_counted (connections_in log d.here d.earlier)

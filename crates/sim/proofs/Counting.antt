@@ -13,9 +13,9 @@ use Rattle.link.specs.Delivery.{Session, with_first, before_reset, sessions, is_
 use Rattle.link.specs.Exchanges.{Exchange, answer_to}
 use Rattle.link.specs.Outstation.{Turn, effects_of, all_done}
 use Rattle.link.specs.Turns.{is_poll}
-use Rattle.delivery.specs.Sessions.{ended, gaps_in, given_in, taken_in, SessionCounts, counts_of}
+use Rattle.delivery.specs.Sessions.{ended, gaps_in, given_in, taken_in, counts_of}
 use Rattle.sim.specs.declared.tally.Tally.{Tally}
-use Rattle.sim.specs.Tallies.{fresh_tally, tally_asked, tally_reset, tally_served, tally_answered, tally_after}
+use Rattle.sim.specs.Tallies.{fresh_tally, tally_asked, tally_reset, tally_served, tally_after}
 use Rattle.sim.specs.Outstations.{IsCounted}
 use Rattle.sim.proofs.Turns.{length_more}
 

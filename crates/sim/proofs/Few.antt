@@ -1,5 +1,5 @@
--- A station's requests and reports are few: at most as many as the log has entries.
-use Rattle.std.proofs.Common.{◌≡◌, ℕ, ◌+◌, ◌≤◌, Bool, true, false, List, [], ◌∷◌, ◌++◌, length, map, Option, Some, None, refl, sym, ap, subst, ◌∙◌, inl, inr, arith, if◌then◌else◌}
+-- A station's requests and reports are few: at most as many as the log has requests.
+use Rattle.std.proofs.Common.{◌≡◌, ℕ, ◌+◌, ◌≤◌, Bool, true, false, List, [], ◌∷◌, length, Option, Some, None, refl, sym, ap, subst, inl, inr, arith, if◌then◌else◌}
 use Rattle.std.specs.Prelude.{◌==◌}
 use Rattle.std.proofs.lemmas.List.{length-append, length-map}
 use Rattle.link.specs.declared.service.Service.{Service}
@@ -29,7 +29,7 @@ one_request i heard_it (Some s) = go (s.station == i)
     go true = omega arith
     go false = omega arith
 
-requests_few : (p : Setup) (ds : List Directive) (i : ℕ) (log : Log) → length (requests_to p ds i log) ≤ length log
+requests_few : (p : Setup) (ds : List Directive) (i : ℕ) (log : Log) → length (requests_to p ds i log) ≤ requests_in log
 requests_few p ds i [] = omega arith
 requests_few p ds i (Came now event ∷ log) = omega (arith, requests_few p ds i log)
 requests_few p ds i (Went now (LineOut octets) ∷ log) =
@@ -48,7 +48,7 @@ length-requests : (xs : List Exchange) → length (requests_of xs) ≡ length xs
 length-requests [] = refl
 length-requests (x ∷ xs) = omega (arith, length-requests xs)
 
-pub exchanges_few : (p : Setup) (ds : List Directive) (i : ℕ) (log : Log) → length (exchanges_with p i log) ≤ length log
+pub exchanges_few : (p : Setup) (ds : List Directive) (i : ℕ) (log : Log) → length (exchanges_with p i log) ≤ requests_in log
 exchanges_few p ds i log =
     let same : length (requests_of (exchanges_with p i log)) ≡ length (asked_of (requests_to p ds i log)) =
     ap length (same_asked p ds i log) in

@@ -1,7 +1,7 @@
 pub mod ScriptLemmas
 pub mod Finding
 pub mod Places
-pub mod Steps
+pub mod Counts
 pub mod Standing
 pub mod Spoils
 pub mod HearingLemmas

@@ -32,7 +32,7 @@ use Rattle.sim.specs.declared.directive.Class.TheVariants.{One, Two}
 use Rattle.sim.specs.declared.directive.Directive.{Directive}
 use Rattle.sim.specs.declared.directive.Directive.TheVariants.{Turns, Ack, Wall, Report, LoseRequest, LoseAnswer, SpoilAnswer, Cut, Send}
 use Rattle.sim.specs.Losses.{report_said}
-use Rattle.sim.specs.Lives.{begun_from, plan_of, waiting_in}
+use Rattle.sim.specs.Lives.{begun_from, plan_of, requests_in, waiting_in}
 use Rattle.sim.specs.Outstations.{requests_to, first_station, HasSessions, IsCounted, HasServed, HaveServed}
 use Rattle.sim.specs.Texts.{reports_for}
 use Rattle.sim.specs.Played.{IsPlayed}
@@ -167,7 +167,7 @@ reported_all index (d ∷ ds) =
 
 served_so : (laws : Laws) → Delivered → Steadied → SessionsKnown → Idle → LossesKnown
     → (c : Settings) (ds : List Directive) (log : Log) (waiting : Option (List ℕ)) (i : ℕ) (s : Secondary) (t : Tally)
-    → IsFaithful (setup_of c) log → length log < 2 ^ 64 → i < length (setup_of c).addresses →
+    → IsFaithful (setup_of c) log → requests_in log < 2 ^ 64 → i < length (setup_of c).addresses →
     Serves (setup_of c) (requests_to (setup_of c) ds i log) (exchanges_of (setup_of c) log) waiting i
     (first_station c ds i) s t → HasServed c ds log i s t
 served_so laws delivers steadies known idle losses c ds log waiting i s t faithful small lt h =
@@ -238,7 +238,7 @@ pub all_served : (laws : Laws) → Delivered → Steadied → SessionsKnown → 
     → (c : Settings) (ds : List Directive) (log : Log) (answers : List (Option Frame)) (stations : List Secondary)
     (tallies : List Tally) → AreDistinct c.stations →
     (played : IsPlayed (plan_of c ds) log answers stations)
-    → tallies ≡ tallies_of (plan_of c ds) log answers stations played.lived → length log < 2 ^ 64
+    → tallies ≡ tallies_of (plan_of c ds) log answers stations played.lived → requests_in log < 2 ^ 64
     → IsFaithful (setup_of c) log → HaveServed c ds log 0 stations tallies
 all_served laws delivers steadies known idle losses c ds log answers stations tallies apart played are small faithful =
     let p : Setup = setup_of c in

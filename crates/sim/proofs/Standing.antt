@@ -1,6 +1,6 @@
 -- A run goes on by one event or one action.
-use Rattle.std.proofs.Common.{◌≡◌, ℕ, ◌+◌, ◌<◌, ◌≤◌, ◌||◌, min, Bool, true, false, List, [], ◌∷◌, ◌++◌, length, replicate, Option, Some, None, IfSome, nat_le, refl, sym, ap, subst, ◌∙◌, arith, if◌then◌else◌}
-use Rattle.std.specs.Prelude.{◌==◌, not}
+use Rattle.std.proofs.Common.{◌≡◌, ℕ, ◌+◌, ◌<◌, ◌≤◌, ◌^◌, ◌||◌, min, Bool, true, false, List, [], ◌∷◌, ◌++◌, length, replicate, Option, Some, None, IfSome, nat_le, refl, sym, ap, subst, ◌∙◌, arith, if◌then◌else◌}
+use Rattle.std.specs.Prelude.{◌==◌}
 use Rattle.std.specs.List.{AllByRecursion}
 use Rattle.ft12.specs.declared.frame.Frame.{Frame}
 use Rattle.ft12.specs.Spelling.{Fits}
@@ -16,6 +16,7 @@ use Rattle.sim.specs.declared.centre.Centre.{Centre}
 use Rattle.sim.specs.Centres.{shut, is_data, first_control, after_sending, after_receiving, after_event, centre_of}
 use Rattle.sim.specs.Losses.{fate_of, turns_of}
 use Rattle.sim.specs.Lives.{Plan, AreLived, IsPutOut, arriving, waiting_in}
+use Rattle.sim.specs.Connections.{objects_in_apdu, add_latest, counted_after}
 use Rattle.sim.specs.Calls.{event_at, lasting, calls_in}
 use Rattle.sim.specs.Played.{Standing, Stands, coming, standing_after}
 
@@ -27,15 +28,6 @@ sent_by octets c n le = go (first_control octets == 0x07) (is_data octets) refl 
     go false true e f = rw (e, f) (omega arith)
     go false false e f = rw (e, f) (omega arith)
 
-received_by : (octets : List ℕ) (c : Centre) (n : ℕ) → c.received ≤ n → (after_sending octets c).received ≤ n + 1
-received_by octets c n le = go (first_control octets == 0x07) (is_data octets) refl refl
-  where
-    go : (a b : Bool) → (first_control octets == 0x07) ≡ a → is_data octets ≡ b
-        → (after_sending octets c).received ≤ n + 1
-    go true b e f = rw e (omega arith)
-    go false true e f = rw (e, f) (omega arith)
-    go false false e f = rw (e, f) (omega arith)
-
 sent_after : (event : Input) (c : Centre) (n : ℕ) → c.sent ≤ n → (after_event event c).sent ≤ n + 1
 sent_after (LineIn octets) c n le = omega arith
 sent_after Opened c n le = omega arith
@@ -43,14 +35,6 @@ sent_after (TcpIn octets) c n le = sent_by octets c n le
 sent_after CutOff c n le = omega arith
 sent_after Ticked c n le = omega arith
 sent_after (WallIs number) c n le = omega arith
-
-received_after : (event : Input) (c : Centre) (n : ℕ) → c.received ≤ n → (after_event event c).received ≤ n + 1
-received_after (LineIn octets) c n le = omega arith
-received_after Opened c n le = omega arith
-received_after (TcpIn octets) c n le = received_by octets c n le
-received_after CutOff c n le = omega arith
-received_after Ticked c n le = omega arith
-received_after (WallIs number) c n le = omega arith
 
 waiting_after : (plan : Plan) (log : Log) (answers : List (Option Frame)) (now : ℕ) (event : Input) (at : Standing)
     → at.waiting ≡ waiting_in plan log answers →
@@ -171,17 +155,13 @@ came_with plan log stations at now event e f few k = record {
   call = ap (λ (n : ℕ). n + 1) k.call;
   moment = refl;
   requests = k.requests;
+  counts = ap (counted_after (Came now event)) k.counts;
   latest = moment_is;
   awaited = awaits_came plan.setup log now event at.tallied moment_is k.awaited;
   each = counts_came plan log k.answers stations k.played.lived now event at.tallied k.awaited k.each;
   in_time = let le : now ≤ last_moment = omega arith in le;
-  sent = let le : (after_event event at.centre).sent ≤ length log + 1 = sent_after event at.centre (length log) k.sent
-      in omega arith;
-  received =
-      let le : (after_event event at.centre).received ≤ length log + 1 =
-      received_after event at.centre (length log) k.received in
-      omega arith;
-  few = let le : at.requests ≤ length log = k.few in omega arith;
+  sent = sent_after event at.centre at.call k.sent;
+  few = k.few;
   in_turns = let le : at.call + 1 ≤ turns_of plan.directives = omega arith in le;
   sizes = k.sizes;
 }
@@ -203,7 +183,8 @@ stands_came plan log stations at entry e few k =
 pub stands_asked : (plan : Plan) (log : Log) (stations new : List Secondary) (at : Standing) (now : ℕ)
     (octets : List ℕ) (answer : Option Frame) →
     IsPutOut (fate_of plan.directives (at.requests + 1)) octets stations answer new
-    → AllByRecursion (λ s. s.size ≡ plan.size) new → IfSome answer (Fits plan.size) → Stands plan log stations at →
+    → AllByRecursion (λ s. s.size ≡ plan.size) new → IfSome answer (Fits plan.size) → at.requests + 1 < 2 ^ 64
+    → Stands plan log stations at →
     Stands plan (Went now (LineOut octets) ∷ log) new
     (record {
       waiting = arriving plan.size (fate_of plan.directives (at.requests + 1)) answer;
@@ -212,10 +193,11 @@ pub stands_asked : (plan : Plan) (log : Log) (stations new : List Secondary) (at
       call = at.call;
       moment = at.moment;
       requests = at.requests + 1;
+      counts = at.counts;
       tallied =
           tallied_asked plan.setup now octets stations at.tallied;
     })
-stands_asked plan log stations new at now octets answer out sizes fits k = record {
+stands_asked plan log stations new at now octets answer out sizes fits small k = record {
   answers = answer ∷ k.answers;
   played = record {
     lived = (
@@ -232,23 +214,16 @@ stands_asked plan log stations new at now octets answer out sizes fits k = recor
   call = k.call;
   moment = k.moment;
   requests = ap (λ (n : ℕ). n + 1) k.requests;
+  counts = k.counts;
   latest = k.latest;
   awaited = awaits_begun now (sending_in plan.setup octets) (exchanges_of plan.setup log) at.tallied.awaited k.awaited;
   each = ap (λ (ts : List Tally). each_asked (sending_in plan.setup octets) stations ts) k.each;
   in_time = k.in_time;
-  sent = let le : at.centre.sent ≤ length log = k.sent in omega arith;
-  received = let le : at.centre.received ≤ length log = k.received in omega arith;
-  few = let le : at.requests ≤ length log = k.few in omega arith;
+  sent = k.sent;
+  few = small;
   in_turns = k.in_turns;
   sizes = sizes;
 }
-
-received_more : (octets : List ℕ) (c : Centre) (n : ℕ) → c.received ≤ n → (after_receiving octets c).received ≤ n + 1
-received_more octets c n le = go (is_data octets) refl
-  where
-    go : (b : Bool) → is_data octets ≡ b → (after_receiving octets c).received ≤ n + 1
-    go true e = rw e (omega arith)
-    go false e = rw e (omega arith)
 
 sent_same : (octets : List ℕ) (c : Centre) → (after_receiving octets c).sent ≡ c.sent
 sent_same octets c = go (is_data octets) refl
@@ -260,7 +235,10 @@ sent_same octets c = go (is_data octets) refl
 -- an APDU
 pub stands_handed : (plan : Plan) (log : Log) (stations : List Secondary) (at : Standing) (now : ℕ) (octets : List ℕ)
     → Stands plan log stations at →
-    Stands plan (Went now (TcpOut octets) ∷ log) stations (record at { centre = after_receiving octets at.centre })
+    Stands plan (Went now (TcpOut octets) ∷ log) stations (record at {
+      centre = after_receiving octets at.centre;
+      counts = add_latest (objects_in_apdu octets) at.counts;
+    })
 stands_handed plan log stations at now octets k = record {
   answers = k.answers;
   played = record { lived = k.played.lived; fit = k.played.fit; follows = k.played.follows };
@@ -269,16 +247,13 @@ stands_handed plan log stations at now octets k = record {
   call = k.call;
   moment = k.moment;
   requests = k.requests;
+  counts = ap (add_latest (objects_in_apdu octets)) k.counts;
   latest = k.latest;
   awaited = k.awaited;
   each = k.each;
   in_time = k.in_time;
-  sent = let le : at.centre.sent ≤ length log = k.sent in omega (arith, sent_same octets at.centre);
-  received =
-      let le : (after_receiving octets at.centre).received ≤ length log + 1 =
-      received_more octets at.centre (length log) k.received in
-      omega arith;
-  few = let le : at.requests ≤ length log = k.few in omega arith;
+  sent = let le : at.centre.sent ≤ at.call = k.sent in omega (arith, sent_same octets at.centre);
+  few = k.few;
   in_turns = k.in_turns;
   sizes = k.sizes;
 }
@@ -295,13 +270,13 @@ stands_closed plan log stations at now cause k = record {
   call = k.call;
   moment = k.moment;
   requests = k.requests;
+  counts = k.counts;
   latest = k.latest;
   awaited = k.awaited;
   each = k.each;
   in_time = k.in_time;
   sent = omega arith;
-  received = omega arith;
-  few = let le : at.requests ≤ length log = k.few in omega arith;
+  few = k.few;
   in_turns = k.in_turns;
   sizes = k.sizes;
 }
@@ -318,13 +293,13 @@ stands_told plan log stations at now station session k = record {
   call = k.call;
   moment = k.moment;
   requests = k.requests;
+  counts = k.counts;
   latest = k.latest;
   awaited = k.awaited;
   each = k.each;
   in_time = k.in_time;
-  sent = let le : at.centre.sent ≤ length log = k.sent in omega arith;
-  received = let le : at.centre.received ≤ length log = k.received in omega arith;
-  few = let le : at.requests ≤ length log = k.few in omega arith;
+  sent = k.sent;
+  few = k.few;
   in_turns = k.in_turns;
   sizes = k.sizes;
 }
@@ -338,6 +313,7 @@ pub stands_fresh : (plan : Plan) (stations : List Secondary) (centre : Centre) �
       call = 0;
       moment = 0;
       requests = 0;
+      counts = [];
       tallied =
           record { awaited = None; each = replicate (length plan.stations) fresh_tally };
     })
@@ -349,6 +325,7 @@ stands_fresh plan stations centre c e sizes =
       moment =
           0;
       requests = 0;
+      counts = [];
       tallied = record { awaited = None; each = replicate (length plan.stations) fresh_tally };
     }))
     (sym c) (record {
@@ -359,12 +336,12 @@ stands_fresh plan stations centre c e sizes =
       call = refl;
       moment = refl;
       requests = refl;
+      counts = refl;
       latest = refl;
       awaited = refl;
       each = refl;
       in_time = omega arith;
       sent = omega arith;
-      received = omega arith;
       few = omega arith;
       in_turns = omega arith;
       sizes = subst (λ (ss : List Secondary). AllByRecursion (λ s. s.size ≡ plan.size) ss) (sym e) sizes;

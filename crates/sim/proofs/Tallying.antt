@@ -1,9 +1,8 @@
 -- What is counted of a station at each step of a run is what its exchanges and turns so far make.
-use Rattle.std.proofs.Common.{◌≡◌, ℕ, zero, suc, ◌+◌, ◌<◌, Bool, true, false, List, [], ◌∷◌, ◌++◌, length, get_or, map, replicate, Option, Some, None, refl, sym, ap, subst, ◌∙◌, inl, inr, arith, if◌then◌else◌}
-use Rattle.std.specs.Prelude.{◌==◌, ◌||◌, not, slice_set, option_and_then}
+use Rattle.std.proofs.Common.{◌≡◌, ℕ, zero, suc, ◌+◌, ◌<◌, Bool, true, false, List, [], ◌∷◌, ◌++◌, length, get_or, replicate, Option, Some, None, refl, sym, ap, subst, ◌∙◌, inl, inr, arith, if◌then◌else◌}
+use Rattle.std.specs.Prelude.{◌==◌, slice_set, option_and_then}
 use Rattle.std.proofs.lemmas.List.{append-nil, length-replicate, length-set, get_or-set_same, get_or-set_other}
-use Rattle.std.proofs.lemmas.Bool.{eqb-true, eqb-false, eq-eqb}
-use Rattle.ft12.specs.declared.frame.LinkSize.{LinkSize}
+use Rattle.std.proofs.lemmas.Bool.{eqb-true, eqb-false}
 use Rattle.ft12.specs.declared.frame.Frame.{Frame}
 use Rattle.ft12.specs.declared.frame.Front.{Front}
 use Rattle.ft12.specs.declared.frame.Front.TheVariants.{Whole}
@@ -12,7 +11,7 @@ use Rattle.link.specs.declared.service.Asked.{Asked}
 use Rattle.link.specs.Answers.{answer_of}
 use Rattle.link.specs.Counts.{saturated}
 use Rattle.link.specs.Delivery.{reports}
-use Rattle.link.specs.Exchanges.{OpenExchange, Exchanges, Sending, as_list, all_of, heard_octets, heard_current, timed, timed_current, whole_of, view}
+use Rattle.link.specs.Exchanges.{OpenExchange, Exchanges, Sending, as_list, all_of, heard_octets, heard_current, timed_current, whole_of, view}
 use Rattle.link.specs.Outstation.{Turn, all_done}
 use Rattle.link.specs.Secondary.{Secondary}
 use Rattle.gateway.specs.Log.{Log, Came, Went, LineIn, Opened, TcpIn, CutOff, Ticked, WallIs, LineOut, TcpOut, Closed, GapOut}
@@ -23,7 +22,7 @@ use Rattle.sim.specs.Lives.{Plan, AreLived}
 use Rattle.sim.specs.Tallies.{fresh_tally, tally_asked, tally_after, tally_at, given_at, each_asked, each_heard, awaited_with, awaited_in, tallies_of}
 use Rattle.sim.proofs.Below.{Laws}
 use Rattle.sim.proofs.Counting.{tally_step, tally_over, over_snoc}
-use Rattle.sim.proofs.Fronts.{IsSettled, MayCome, IsLatestOf, IsLatest, its, its-append, AreFronts, begun}
+use Rattle.sim.proofs.Fronts.{MayCome, IsLatestOf, IsLatest, its, its-append, AreFronts, begun}
 
 -- after the latest exchange, of a station that had given so many reports before it
 abbrev pub tally_latest : Setup → (i given : ℕ) → Option OpenExchange → Tally → Tally

@@ -1,6 +1,6 @@
 -- What the worked examples of a simulated line speak of: the control centre on an open connection,
 -- two stations and what they hear, and the texts of scripts.
-use Rattle.std.specs.Prelude.{◌≡◌, ℕ, true, false, List, [], ◌∷◌, ◌++◌, codes, Option, Some}
+use Rattle.std.specs.Prelude.{◌≡◌, ℕ, true, false, List, [], ◌∷◌, ◌++◌, Option, Some}
 use Rattle.ft12.specs.declared.frame.Frame.{Frame}
 use Rattle.ft12.specs.declared.frame.LinkSize.TheVariants.{One}
 use Rattle.gateway.specs.Log.{Log, Came, Went, Opened, TcpIn, TcpOut}

@@ -4,6 +4,8 @@ pub mod Centres
 pub mod Losses
 pub mod Lives
 pub mod Tallies
+pub mod Connections
+pub mod Pages
 pub mod Calls
 pub mod Dues
 pub mod Played

@@ -1,5 +1,5 @@
 -- Runs of a simulated line.
-use Rattle.std.specs.Prelude.{◌≡◌, ℕ, ◌+◌, ◌≤◌, min, nat_le, Bool, true, false, if◌then◌else◌, List, [], Option, None, IfSome, length, replicate}
+use Rattle.std.specs.Prelude.{◌≡◌, ℕ, ◌+◌, ◌≤◌, ◌<◌, ◌^◌, min, nat_le, Bool, true, false, if◌then◌else◌, List, [], Option, None, IfSome, length, replicate}
 use Rattle.std.specs.List.{AllByRecursion}
 use Rattle.ft12.specs.declared.frame.Frame.{Frame}
 use Rattle.ft12.specs.Spelling.{Fits}
@@ -11,6 +11,7 @@ use Rattle.sim.specs.Centres.{shut, centre_of, after_event}
 use Rattle.sim.specs.Losses.{turns_of}
 use Rattle.sim.specs.Lives.{Plan, AreLived, waiting_in, requests_in}
 use Rattle.sim.specs.Tallies.{Tallied, tallied_after, awaited_in, tallies_of, fresh_tally}
+use Rattle.sim.specs.Connections.{counted_after, counted_in}
 use Rattle.sim.specs.Calls.{calls_in, moment_of, event_at, lasting, FollowsPlan}
 
 -- The log is a run of the plan, in which the stations answered the requests so, the newest first,
@@ -22,13 +23,14 @@ pub record IsPlayed (plan : Plan) (log : Log) (answers : List (Option Frame))
   pub follows : FollowsPlan plan log answers
 
 -- where a run stands: what waits, what the control centre knows, how many calls and requests there
--- were, and what is counted of the stations' links
+-- were, and what is counted of the connections and of the stations' links
 pub record Standing : Type 0 where
   pub waiting : Option (List ℕ)
   pub centre : Centre
   pub call : ℕ
   pub moment : ℕ
   pub requests : ℕ
+  pub counts : List ℕ
   pub tallied : Tallied
 
 -- The log is a run of the plan, and stands so.
@@ -41,13 +43,13 @@ pub record Stands (plan : Plan) (log : Log) (stations : List Secondary)
   pub call : at.call ≡ calls_in log
   pub moment : at.moment ≡ moment_of log
   pub requests : at.requests ≡ requests_in log
+  pub counts : at.counts ≡ counted_in log
   pub latest : latest log ≡ at.moment
   pub awaited : at.tallied.awaited ≡ awaited_in (exchanges_of plan.setup log).current
   pub each : at.tallied.each ≡ tallies_of plan log answers stations played.lived
   pub in_time : at.moment ≤ last_moment
-  pub sent : at.centre.sent ≤ length log
-  pub received : at.centre.received ≤ length log
-  pub few : at.requests ≤ length log
+  pub sent : at.centre.sent ≤ at.call
+  pub few : at.requests < 2 ^ 64
   pub in_turns : at.call ≤ turns_of plan.directives
   pub sizes : AllByRecursion (λ s. s.size ≡ plan.size) stations
 
@@ -55,6 +57,9 @@ pub record Stands (plan : Plan) (log : Log) (stations : List Secondary)
 pub record Simulated : Type 0 where
   pub plan : Plan
   pub log : Log
+  -- the log as it was when the page was cleared, and the lines that stand on the page
+  pub poured : Log
+  pub page : List ℕ
   pub failed : ℕ
   pub stations : List Secondary
   pub standing : Standing
@@ -89,6 +94,7 @@ standing_after plan entry at = record {
   call = at.call + 1;
   moment = moment_at entry;
   requests = at.requests;
+  counts = counted_after entry at.counts;
   tallied = tallied_after plan.setup entry at.tallied;
 }
 
@@ -97,6 +103,8 @@ abbrev pub fresh_run : Plan → Simulated
 fresh_run plan = record {
   plan = plan;
   log = [];
+  poured = [];
+  page = [];
   failed = 0;
   stations = plan.stations;
   standing = record {
@@ -105,6 +113,7 @@ fresh_run plan = record {
     call = 0;
     moment = 0;
     requests = 0;
+    counts = [];
     tallied = record { awaited = None; each = replicate (length plan.stations) fresh_tally };
   };
 }

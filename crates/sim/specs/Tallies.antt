@@ -1,7 +1,7 @@
 -- What a simulated line counts of the sessions of each station's link, event by event (this
 -- gateway's own profile). That the counts are those of the log's exchanges, and of what the
 -- stations did, is the promise of `stations_are_honest`.
-use Rattle.std.specs.Prelude.{◌≡◌, ℕ, ◌+◌, ◌-◌, ◌==◌, nat_le, ◌&&◌, not, Bool, true, false, if◌then◌else◌}
+use Rattle.std.specs.Prelude.{ℕ, ◌+◌, ◌-◌, ◌==◌, nat_le, ◌&&◌, not, false, if◌then◌else◌}
 use Rattle.std.specs.Prelude.{List, [], ◌∷◌, length, map, replicate, slice_index_or, slice_index, slice_set, Option, Some, None, option_and_then}
 use Rattle.ft12.specs.declared.frame.Frame.{Frame}
 use Rattle.ft12.specs.Fronts.{front_of}
@@ -9,7 +9,7 @@ use Rattle.link.specs.declared.service.Service.{Service}
 use Rattle.link.specs.declared.service.Asked.{Asked}
 use Rattle.link.specs.declared.service.Asked.TheVariants.{Status, Reset, Counted}
 use Rattle.link.specs.declared.answer.Answer.{Answer}
-use Rattle.link.specs.declared.answer.Answer.TheVariants.{Ready, Confirmed, Busy, Report, NoData, Unable}
+use Rattle.link.specs.declared.answer.Answer.TheVariants.{Confirmed, Report, Unable}
 use Rattle.link.specs.Answers.{answer_of}
 use Rattle.link.specs.Counts.{saturated}
 use Rattle.link.specs.Exchanges.{OpenExchange, Sending, whole_of}

@@ -1,5 +1,5 @@
 //! The control centre's end of the connection.
-ghost use Rattle.std.specs.Prelude.{◌≡◌, ◌+◌, ◌<◌, ◌≤◌, ◌^◌, length};
+ghost use Rattle.std.specs.Prelude.{◌≡◌, ◌+◌, ◌<◌, ◌≤◌, ◌^◌, length, IfSome};
 ghost use Rattle.apci.specs.Spelling.{spelling};
 ghost use Rattle.gateway.specs.Entries.{event_of};
 ghost use Rattle.sim.specs.Centres.{shut, opened, first_control, is_data, after_sending, after_receiving, start_apdu, acknowledging_apdu, data_apdu};
@@ -89,18 +89,17 @@ impl Centre {
         }
     }
 
-    /// After an APDU has come from the gateway.
-    pub(crate) fn after_receiving(self, octets: &[u8]) -> Centre
-        requires { self.received + 1 < 2 ^ 64 }
-        ensures { result ≡ after_receiving octets.now self }
+    /// After an APDU has come from the gateway, unless more frames came than can be counted.
+    pub(crate) fn after_receiving(self, octets: &[u8]) -> Option<Centre>
+        ensures { IfSome result (λ centre. centre ≡ after_receiving octets.now self) }
     {
         if is_data(octets) {
-            Centre {
-                received: self.received + 1,
+            Some(Centre {
+                received: self.received.checked_add(1)?,
                 ..self
-            }
+            })
         } else {
-            self
+            Some(self)
         }
     }
 

@@ -4,8 +4,6 @@ ghost use Rattle.ft12.specs.declared.frame.Frame.{Frame};
 ghost use Rattle.ft12.specs.declared.frame.Frame.TheVariants.{Single, Fixed};
 ghost use Rattle.ft12.specs.declared.frame.LinkSize.TheVariants.{One, Two};
 ghost use Rattle.gateway.specs.Log.{Input, LineIn, Opened, TcpIn, CutOff, Ticked, WallIs, LineOut, TcpOut, Closed, GapOut, Came, Went};
-ghost use Rattle.gateway.specs.declared.entries.Entry.TheVariants as entry;
-ghost use Rattle.gateway.specs.declared.entries.Told.TheVariants as told;
 ghost use Rattle.link.specs.Secondary.{Secondary};
 ghost use Rattle.session.specs.declared.kinds.Close.TheVariants.{Grammar};
 ghost use Rattle.sim.specs.declared.directive.Class.TheVariants as class;
@@ -13,6 +11,7 @@ ghost use Rattle.sim.specs.declared.directive.Directive.TheVariants.{Turns, Ack,
 ghost use Rattle.sim.specs.declared.directive.Fate.TheVariants.{Unheard, AnswerLost, AnswerSpoilt, Answered};
 ghost use Rattle.sim.specs.Calls.{calls_in, moment_of, event_at, lasting, next_moment};
 ghost use Rattle.sim.specs.Centres.{shut, opened, centre_of, data_apdu};
+ghost use Rattle.sim.specs.Connections.{add_latest, counted_in};
 ghost use Rattle.sim.specs.Directives.{of_three, of_four, reporting_by, sending_by};
 ghost use Rattle.sim.specs.Examples.{started, busy, command, with_script, says, line, wrong_line, unreset, was_reset, two_stations, with_two_stations, reset_of_1, reset_of_2, spoilt_reset, Leaves};
 ghost use Rattle.sim.specs.Lives.{Plan, AreLived, arriving, later, requests_in, waiting_in};
@@ -200,9 +199,13 @@ pub fn closing_lines_by_example()
         ≡ line (codes "station 1 reports 4 given 3 accepted 2") }
     ensures connections { (connection_line 2 3 ≡ line (codes "connection 2 objects 3"))
         × (connection_lines 1 [] ≡ [])
-        × (connection_lines 1
-        (told.Came (entry.Tick 0) ∷ told.Came (entry.Open 1) ∷ told.Came (entry.Open 4) ∷ [])
-        ≡ line (codes "connection 1 objects 0") ++ line (codes "connection 2 objects 0")) }
+        × (connection_lines 1 (7 ∷ 0 ∷ [])
+        ≡ line (codes "connection 1 objects 7") ++ line (codes "connection 2 objects 0")) }
+    // A connection counts what goes out on it: S and U frames bear nothing.
+    ensures counts { (counted_in (Came 4 Opened ∷ Went 3 (TcpOut (0x68 ∷ 0x04 ∷ 0x0B ∷ []))
+        ∷ Came 1 Opened ∷ Came 0 Ticked ∷ []) ≡ 0 ∷ 0 ∷ [])
+        × (add_latest 2 (3 ∷ 4 ∷ []) ≡ 3 ∷ 6 ∷ []) × (add_latest 2 [] ≡ [])
+        × (add_latest 2 (18446744073709551614 ∷ []) ≡ 18446744073709551615 ∷ []) }
     ensures sessions { (line_of_sessions 0 (record {
       sessions = 3;
       gaps = 2;

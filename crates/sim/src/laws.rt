@@ -1,10 +1,8 @@
 //! What holds of every run over a simulated line.
-ghost use Rattle.std.specs.Prelude.{◌≡◌, ◌<◌, ◌^◌, List, Option, length};
+ghost use Rattle.std.specs.Prelude.{◌≡◌, ◌<◌, ◌^◌, List, Option};
 ghost use Rattle.ft12.specs.declared.frame.Frame.{Frame};
 ghost use Rattle.link.specs.Secondary.{Secondary};
-ghost use Rattle.gateway.specs.declared.entries.Told.{Told};
 ghost use Rattle.gateway.specs.Config.{Settings, AreDistinct};
-ghost use Rattle.gateway.specs.Entries.{log_of};
 ghost use Rattle.gateway.specs.Log.{Log};
 ghost use Rattle.gateway.specs.Reports.{Setup};
 ghost use Rattle.gateway.specs.Setups.{setup_of};
@@ -13,7 +11,8 @@ ghost use Rattle.delivery.specs.Delivery.{Delivers};
 ghost use Rattle.sim.specs.declared.directive.Directive.{Directive};
 ghost use Rattle.sim.specs.declared.tally.Tally.{Tally};
 ghost use Rattle.sim.specs.Tallies.{tallies_of};
-ghost use Rattle.sim.specs.Lives.{plan_of};
+ghost use Rattle.sim.specs.Connections.{counted_in};
+ghost use Rattle.sim.specs.Lives.{plan_of, requests_in};
 ghost use Rattle.sim.specs.Played.{IsPlayed};
 ghost use Rattle.sim.specs.Outstations.{HaveServed};
 ghost use Rattle.sim.specs.Texts.{connection_lines};
@@ -37,7 +36,8 @@ pub fn stations_are_honest()
         (stations : List Secondary) (tallies : List Tally) →
         AreDistinct c.stations → (played : IsPlayed (plan_of c ds) log answers stations) →
         tallies ≡ tallies_of (plan_of c ds) log answers stations played.lived →
-        length log < 2 ^ 64 → IsFaithful (setup_of c) log → HaveServed c ds log 0 stations tallies }
+        requests_in log < 2 ^ 64 → IsFaithful (setup_of c) log →
+        HaveServed c ds log 0 stations tallies }
 {
     front_is_computed();
     spoilt_lines_are_no_lines();
@@ -48,12 +48,12 @@ pub fn stations_are_honest()
     silence_is_no_reset();
 }
 
-/// The closing lines of a run's connections, which the text counts from its actions, have the
-/// numbers of the monitor objects that the frames of the connections bear.
+/// The closing lines of a run's connections, which are counted action by action, have the numbers
+/// of the monitor objects that the frames of the connections bear.
 pub fn connections_are_counted()
-    ensures { (p : Setup) (told : List Told) → IsFaithful p (log_of told) →
-        (d : Delivers p (log_of told)) → connection_lines 1 told
-        ≡ lines_of_connections (connections_in (log_of told) d.here d.earlier) }
+    ensures { (p : Setup) (log : Log) → IsFaithful p log → (d : Delivers p log) →
+        connection_lines 1 (counted_in log)
+        ≡ lines_of_connections (connections_in log d.here d.earlier) }
 {
     spellings_cancel();
 }

@@ -3,8 +3,10 @@
 //!
 //! [`read_script`] reads a whole [`Script`], or names its first wrong line. [`Sim`] is the port of
 //! a gateway over it: stations (`link::Station`) that hear what isn't lost, and a control centre
-//! that acknowledges and sends. [`simulate`] runs a gateway over it and writes the text of the run.
-//! What the gateway does is no matter of this crate, and no clock is read.
+//! that acknowledges and sends. The lines of actions stand on its page ([`Sim::page`]), from which
+//! the program takes them to print them while the run goes on, and at the end of a whole run there
+//! are closing lines ([`Sim::closing`]). What the gateway does is no matter of this crate, no clock
+//! is read, and no log is stored.
 //!
 //! Proved: a script read is what the lines of its text say, in their order, and a line that is
 //! refused is the first that says nothing, or what no script can have beside the lines before it.
@@ -19,33 +21,35 @@
 //! gives the script's reports of each class in order, each once, and what is taken from it is what
 //! it gave, or all but the last: in each session of its link, and where unanswered services are
 //! held in the whole run. What is counted of the sessions of each link ([`Tally`]) is what its
-//! exchanges and turns say. The closing lines have the numbers of that run
-//! ([`connections_are_counted`], `specs/Closing.antt`). What [`simulate`] writes is the text of
-//! such a run, of as many calls as the script says, in which the gateway keeps every promise of a
-//! gateway and the order of actions in each step, and delivers what was taken; where a write fails
-//! it is the beginning of that text (`specs/Runs.antt`).
+//! exchanges and turns say, and what is counted of each connection is what its frames bear
+//! ([`connections_are_counted`], `specs/Closing.antt`). [`Sim::closing`] promises that a run of as
+//! many calls as the script says, in which the gateway keeps every promise of a gateway, keeps the
+//! order of actions in each step and delivers what was taken, and that its lines have the numbers
+//! of that run (`specs/Runs.antt`).
 //!
 //! Worked examples have literal texts and octets: of scripts ([`scripts_by_example`]), of what they
 //! do to requests and answers ([`losses_by_example`]), of what stations hear
 //! ([`hearings_by_example`]), of calls ([`calls_by_example`]) and of closing lines
 //! ([`closing_lines_by_example`]).
 //!
-//! Not proved: that a report is ever asked for, or that want of memory is the only cause of
-//! `NoMemory`.
+//! Not proved: that a report is ever asked for, or that a port whose device fails wanted memory (it
+//! fails too where more than 2^64 requests or frames would be counted).
 #![tactic(auto)]
 
 mod beginning;
 mod centre;
+mod connections;
 mod directive;
 mod due;
+mod ending;
 mod examples;
 mod hearing;
 mod laws;
 mod line;
+mod page;
 mod reading;
 mod script;
 mod sim;
-mod simulation;
 mod tallies;
 mod tally;
 mod text;
@@ -59,6 +63,5 @@ pub use laws::{connections_are_counted, stations_are_honest};
 pub use reading::read_script;
 pub use script::Script;
 pub use sim::Sim;
-pub use simulation::{SimFault, simulate};
 pub use tally::Tally;
 pub use traces::TextFault;

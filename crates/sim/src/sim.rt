@@ -1,8 +1,9 @@
 //! The port of a simulated line.
-ghost use Rattle.std.specs.Prelude.{◌≡◌, ℕ, ◌+◌, ◌<◌, ◌≤◌, ◌^◌, min, Bool, true, false, List, [], ◌∷◌, ◌++◌, length, IfOk, OnOk, OnErr, Option, Some, None, if◌then◌else◌, option_map, nat_le};
-ghost use Rattle.gateway.specs.Log.{LogEntry, Came, Went, LineOut, TcpOut, Closed, GapOut, Input, tell, last_moment};
+ghost use Rattle.std.specs.Prelude.{◌≡◌, ℕ, ◌+◌, ◌<◌, ◌≤◌, ◌^◌, min, Bool, true, false, List, [], ◌∷◌, ◌++◌, IfOk, IfSome, OnOk, OnErr, Option, Some, None, if◌then◌else◌, option_map, nat_le};
+ghost use Rattle.gateway.specs.Log.{Log, LogEntry, Came, Went, LineOut, TcpOut, Closed, GapOut, Input, tell, last_moment};
 ghost use Rattle.gateway.specs.Ports.{told_by, output_of, FitsBuffer, faults_of};
-ghost use Rattle.gateway.specs.Entries.{FitsPort, event_of, log_of, told_of};
+ghost use Rattle.gateway.specs.Entries.{FitsPort, event_of};
+ghost use Rattle.traces.specs.Actions.{lines_of_actions};
 ghost use Rattle.sim.specs.Lives.{Plan, plan_of};
 ghost use Rattle.sim.specs.Losses.{turns_of};
 ghost use Rattle.sim.specs.Scripts.{FitsSettings};
@@ -11,20 +12,23 @@ ghost use Rattle.sim.specs.declared.tally.Tally.{Tally};
 
 use crate::beginning::begin;
 use crate::centre::Centre;
+use crate::connections::Connections;
+use crate::directive::Directive;
 use crate::due::Due;
 use crate::hearing::{arriving, put_out};
+use crate::page::Page;
 use crate::script::Script;
 use crate::tallies::Tallies;
 use crate::tally::Tally;
 use arrayvec::ArrayVec;
-use gateway::{Action, Config, Entry, LAST_MOMENT, Next, Port, Told, announce, keep};
+use gateway::{Action, Config, Entry, LAST_MOMENT, Next, Port, announce};
 use link::{NoMemory, Station, station_is_an_outstation};
 use session::Close;
 use std::alloc::{AllocError, Global};
 use std::marker::Model;
 
-/// A line whose stations and control centre do as a script says, as the port of a gateway. It
-/// stores its log.
+/// A line whose stations and control centre do as a script says, as the port of a gateway. The
+/// lines of actions stand on a page, until they are taken off it; its log is stored nowhere.
 #[derive(Drop)]
 pub struct Sim<'a> {
     alloc: Global,
@@ -37,14 +41,14 @@ pub struct Sim<'a> {
     call: u64,
     moment: u64,
     requests: u64,
+    connections: Connections,
     tallies: Tallies,
-    log: Vec<Told>,
+    page: Page,
     failures: u64,
 }
 
 impl<'a> Model for Sim<'a> {
     ghost use Rattle.std.specs.Prelude.{◌≡◌, option_map};
-    ghost use Rattle.gateway.specs.Entries.{log_of};
     ghost use Rattle.sim.specs.Lives.{plan_of};
     ghost use Rattle.sim.specs.Losses.{turns_of};
     ghost use Rattle.sim.specs.Played.{Simulated, Stands};
@@ -53,7 +57,9 @@ impl<'a> Model for Sim<'a> {
 
     ghost view = { λ a. record {
       plan = plan_of a.config.now a.script.now;
-      log = log_of a.log.items;
+      log = a.page.log;
+      poured = a.page.poured;
+      page = a.page.lines;
       failed = a.failures;
       stations = a.stations.items;
       standing = record {
@@ -62,19 +68,21 @@ impl<'a> Model for Sim<'a> {
         call = a.call;
         moment = a.moment;
         requests = a.requests;
+        counts = a.connections;
         tallied = a.tallies;
       };
     } };
 
     // The log is a run of the plan, and the rest is as it stands after the log.
     ghost invariant = { λ a. (a.turns ≡ turns_of a.script.now)
-        × Stands (plan_of a.config.now a.script.now) (log_of a.log.items) a.stations.items
+        × Stands (plan_of a.config.now a.script.now) a.page.log a.stations.items
         (record {
           waiting = option_map (λ v. v.items) a.waiting;
           centre = a.centre;
           call = a.call;
           moment = a.moment;
           requests = a.requests;
+          counts = a.connections;
           tallied = a.tallies;
         }) };
 }
@@ -112,6 +120,14 @@ fn is_given(entry: &Entry) -> bool
     matches!(entry, Entry::Line(_, _))
 }
 
+/// One more than so many, where that is a number.
+fn one_more(count: u64) -> Option<u64>
+    ensures next { IfSome result (λ next. next ≡ count + 1) }
+    ensures small { IfSome result (λ next. next < 2 ^ 64) }
+{
+    count.checked_add(1)
+}
+
 /// Takes away what waits, where it is given.
 fn forget(waiting: &mut Option<ArrayVec<u8, 261>>, is_given: bool)
     ensures { option_map (λ v. v.items) waiting.new
@@ -144,19 +160,35 @@ impl<'a> Sim<'a> {
             call: 0,
             moment: 0,
             requests: 0,
+            connections: Connections::new(alloc),
             tallies,
-            log: Vec::new(alloc),
+            page: Page::new(alloc),
             failures: 0,
         })
     }
 
-    /// What is stored of the run, the oldest first.
-    pub fn told(&self) -> &[Told]
-        ensures log { log_of result.now ≡ self.now.log }
-        ensures small { length result.now < 2 ^ 63 }
+    /// The page: lines of the log's actions, behind those that were taken off it.
+    pub fn page(&self) -> &[u8]
+        ensures page { result.now ≡ self.now.page }
+        ensures lines { lines_of_actions self.now.poured ++ result.now
+            ≡ lines_of_actions self.now.log }
         ensures stands { Stands self.now.plan self.now.log self.now.stations self.now.standing }
     {
-        &self.log
+        self.page.lines()
+    }
+
+    /// Takes all lines off the page, which keeps its room.
+    pub fn clear_page(&mut self)
+        ensures { self.new ≡ record self.old { poured = self.old.log; page = [] } }
+    {
+        self.page.clear();
+    }
+
+    /// What its script says.
+    pub fn directives(&self) -> &[Directive]
+        ensures { result.now ≡ self.now.plan.directives }
+    {
+        self.script.directives()
     }
 
     /// The stations, as they stand.
@@ -164,6 +196,13 @@ impl<'a> Sim<'a> {
         ensures { result.now ≡ self.now.stations }
     {
         &self.stations
+    }
+
+    /// How many monitor objects went to the control centre on each connection.
+    pub fn counts(&self) -> &[u64]
+        ensures { result.now ≡ self.now.standing.counts }
+    {
+        self.connections.counts()
     }
 
     /// What is counted of the sessions of each station's link.
@@ -208,88 +247,93 @@ impl<'a> Sim<'a> {
         }
     }
 
-    /// The next event comes.
-    #[tactic(auto, using(crate::proofs::Steps::stored_push))]
-    fn come(&mut self, entry: Entry) -> Result<(), AllocError>
+    /// The next event comes, which an answer tells.
+    fn come(&mut self, entry: &Entry, next: &Next, buf: &[u8; 1024]) -> Result<(), AllocError>
         requires open { self.old.standing.call < turns_of self.old.plan.directives }
         requires few { self.old.standing.call < u64.MAX }
-        requires event { event_of entry ≡ coming self.old.plan self.old.standing }
-        ensures ok { OnOk result (self.new.log ≡ event_of entry ∷ self.old.log) }
+        requires event { event_of entry.now ≡ coming self.old.plan self.old.standing }
+        requires told { told_by next.now buf.now ≡ event_of entry.now ∷ [] }
+        ensures ok { OnOk result (self.new.log ≡ told_by next.now buf.now ++ self.old.log) }
         ensures err { OnErr result (self.new.log ≡ self.old.log) }
         ensures plan { self.new.plan ≡ self.old.plan }
+        ensures poured { self.new.poured ≡ self.old.poured }
         ensures failed { self.new.failed ≡ self.old.failed }
     {
-        // Room first: an event that finds none has changed nothing.
-        self.log.try_reserve(1)?;
-        let centre = centre_after(&entry, self.centre);
-        let moment = moment_at(&entry);
-        let is_given = is_given(&entry);
-        self.tallies.come(self.config, &entry);
-        self.log.push_reserved(Told::Came(entry));
-        forget(&mut self.waiting, is_given);
-        self.centre = centre;
-        self.moment = moment;
+        // First: an event that finds no memory has changed nothing.
+        self.connections.come(entry)?;
+        self.tallies.come(self.config, entry);
+        self.page.came(next, buf);
+        forget(&mut self.waiting, is_given(entry));
+        self.centre = centre_after(entry, self.centre);
+        self.moment = moment_at(entry);
         self.call += 1;
         Ok(())
     }
 
     /// A request goes out: the stations hear it, or it is lost. What waits is gone.
-    #[tactic(auto, using(crate::proofs::Steps::stored_push))]
     fn ask(&mut self, now: u64, octets: &[u8]) -> Result<(), AllocError>
         ensures ok { OnOk result (self.new.log ≡ Went now (LineOut octets.now) ∷ self.old.log) }
         ensures err { OnErr result (self.new.log ≡ self.old.log) }
         ensures plan { self.new.plan ≡ self.old.plan }
+        ensures poured { self.new.poured ≡ self.old.poured }
         ensures failed { self.new.failed ≡ self.old.failed }
     {
         station_is_an_outstation();
-        // Stored first: where memory is refused no station has heard the request.
-        let copy = Vec::from_slice(self.alloc, octets)?;
-        keep(&mut self.log, Told::Line(now, copy))?;
-        self.requests += 1;
+        let Some(requests) = one_more(self.requests) else {
+            // No run is as long.
+            return Err(AllocError);
+        };
+        // Printed first: where memory is refused no station has heard the request.
+        self.page.went(now, &Action::Line(octets))?;
+        self.requests = requests;
         self.tallies
             .ask(self.config, self.stations.as_slice(), now, octets);
-        let fate = self.script.fate(self.requests);
+        let fate = self.script.fate(requests);
         let answer = put_out(self.stations.as_mut_slice(), fate, octets);
         self.waiting = arriving(self.config.line().link, fate, answer);
         Ok(())
     }
 
     /// An APDU goes to the control centre.
-    #[tactic(auto, using(crate::proofs::Steps::stored_push))]
     fn hand(&mut self, now: u64, octets: &[u8]) -> Result<(), AllocError>
         ensures ok { OnOk result (self.new.log ≡ Went now (TcpOut octets.now) ∷ self.old.log) }
         ensures err { OnErr result (self.new.log ≡ self.old.log) }
         ensures plan { self.new.plan ≡ self.old.plan }
+        ensures poured { self.new.poured ≡ self.old.poured }
         ensures failed { self.new.failed ≡ self.old.failed }
     {
-        let copy = Vec::from_slice(self.alloc, octets)?;
-        keep(&mut self.log, Told::Tcp(now, copy))?;
-        self.centre = self.centre.after_receiving(octets);
+        let Some(centre) = self.centre.after_receiving(octets) else {
+            // No run is as long.
+            return Err(AllocError);
+        };
+        self.page.went(now, &Action::Tcp(octets))?;
+        self.connections.hand(octets);
+        self.centre = centre;
         Ok(())
     }
 
     /// The gateway closes the connection.
-    #[tactic(auto, using(crate::proofs::Steps::stored_push))]
     fn close(&mut self, now: u64, cause: Close) -> Result<(), AllocError>
         ensures ok { OnOk result (self.new.log ≡ Went now (Closed cause) ∷ self.old.log) }
         ensures err { OnErr result (self.new.log ≡ self.old.log) }
         ensures plan { self.new.plan ≡ self.old.plan }
+        ensures poured { self.new.poured ≡ self.old.poured }
         ensures failed { self.new.failed ≡ self.old.failed }
     {
-        keep(&mut self.log, Told::Close(now, cause))?;
+        self.page.went(now, &Action::Close(cause))?;
         self.centre = Centre::shut();
         Ok(())
     }
 
     /// A gap is told: nobody on the line or at the control centre hears of it.
-    #[tactic(auto, using(crate::proofs::Steps::stored_push))]
     fn tell(&mut self, now: u64, station: usize, session: u64) -> Result<(), AllocError>
         ensures ok { OnOk result (self.new.log ≡ Went now (GapOut station session) ∷ self.old.log) }
         ensures err { OnErr result (self.new.log ≡ self.old.log) }
         ensures plan { self.new.plan ≡ self.old.plan }
+        ensures poured { self.new.poured ≡ self.old.poured }
         ensures failed { self.new.failed ≡ self.old.failed }
     {
-        keep(&mut self.log, Told::Gap(now, station, session))?;
+        self.page.went(now, &Action::Gap { station, session })?;
         Ok(())
     }
 
@@ -303,12 +347,12 @@ impl<'a> Sim<'a> {
         ensures some { IfOk result (λ next. next ≡ Next.Done → ⊥) }
         ensures err { OnErr result (self.new.log ≡ self.old.log) }
         ensures plan { self.new.plan ≡ self.old.plan }
+        ensures poured { self.new.poured ≡ self.old.poured }
         ensures failed { self.new.failed ≡ self.old.failed }
     {
-        // Announced while it is borrowed: the log takes it with its octets.
         let entry = self.next_entry()?;
         let next = announce(&entry, buf);
-        self.come(entry)?;
+        self.come(&entry, &next, buf)?;
         Ok(next)
     }
 
@@ -323,7 +367,8 @@ impl<'a> Sim<'a> {
 impl<'a> Port for Sim<'a> {
     ghost use Rattle.sim.specs.Played.{has_ended};
 
-    ghost Fixed = { Plan };
+    /// The plan, and what was taken off the page.
+    ghost Fixed = { Plan × Log };
 
     ghost log = { λ s. Some s.log };
 
@@ -331,7 +376,7 @@ impl<'a> Port for Sim<'a> {
 
     ghost ended = { has_ended };
 
-    ghost script = { λ s. s.plan };
+    ghost script = { λ s. (s.plan, s.poured) };
 
     fn next(&mut self, buf: &mut [u8; 1024]) -> Next {
         if self.call >= self.turns {

@@ -1,31 +1,12 @@
-//! The text of a run.
-ghost use Rattle.std.specs.Prelude.{◌≡◌, ◌+◌, ◌++◌, ◌≤◌, ◌<◌, ◌^◌, ◌-◌, min, IfOk, OnOk, length, drop, string_bytes, count_by};
-ghost use Rattle.std.specs.List.{flat_map};
-ghost use Rattle.gateway.specs.Objects.{objects};
-ghost use Rattle.traces.specs.Actions.{stored_line};
-ghost use Rattle.sim.specs.Texts.{reports_for, station_line, line_of_station, station_lines, objects_in_apdu, objects_sent, opens, objects_until_next, connection_line, connection_lines};
-ghost use Rattle.sim.specs.Texts.{line_of_sessions, session_lines, run_text};
+//! The closing lines of a run.
+ghost use Rattle.std.specs.Prelude.{◌≡◌, ◌+◌, ◌++◌, ◌<◌, ◌^◌, IfOk, OnOk, string_bytes, count_by};
+ghost use Rattle.sim.specs.Texts.{reports_for, line_of_station, station_lines, connection_line, connection_lines};
+ghost use Rattle.sim.specs.Texts.{line_of_sessions, session_lines, closing_lines};
 
-use crate::centre::is_data;
 use crate::directive::Directive;
 use crate::tally::Tally;
-use asdu::{Sizes, objects_are_those_of_the_asdu, read};
-use gateway::{Entry, Told};
 use link::Station;
 use std::alloc::{AllocError, Global};
-use traces::append_line;
-
-#[tactic(auto, using(crate::proofs::TextLemmas::text_more, crate::proofs::TextLemmas::text_end))]
-/// Appends the lines of a log's actions, in their order.
-fn push_actions(alloc: Global, lines: &mut String, log: &[Told]) -> Result<(), AllocError>
-    ensures { OnOk result (string_bytes lines.new ≡ string_bytes lines.old
-        ++ flat_map stored_line log.now) }
-{
-    for told in log {
-        append_line(alloc, lines, told)?;
-    }
-    Ok(())
-}
 
 /// How many reports the script gives the station with this index.
 fn reports(directives: &[Directive], index: usize) -> usize
@@ -74,79 +55,24 @@ fn push_stations(
     Ok(())
 }
 
-/// The monitor objects of an ASDU on the connection.
-fn objects_in_asdu(asdu: &[u8]) -> u64
-    ensures { result ≡ length (objects asdu.now) }
-{
-    objects_are_those_of_the_asdu();
-    match read(Sizes::TCP, asdu) {
-        Ok(asdu) if asdu.is_passed_on() => asdu.number() as u64,
-        _ => 0,
-    }
-}
-
-/// What follows the control octets.
-fn after_control(apdu: &[u8]) -> &[u8]
-    ensures { result.now ≡ drop 6 apdu.entry.now }
-{
-    if apdu.len() > 6 { &apdu[6..] } else { &[] }
-}
-
-fn opens(told: &Told) -> bool
-    ensures { result ≡ opens told.now }
-{
-    match told {
-        Told::Came(Entry::Open(_)) => true,
-        _ => false,
-    }
-}
-
-/// The monitor objects that go to the control centre.
-fn objects_sent(told: &Told) -> u64
-    ensures { result ≡ objects_sent told.now }
-{
-    match told {
-        Told::Tcp(_, octets) if is_data(octets) => objects_in_asdu(after_control(octets)),
-        _ => 0,
-    }
-}
-
-/// The monitor objects that are sent until the next connection opens, at most `u64::MAX`.
-#[tactic(auto, using(crate::proofs::TextLemmas::until_more, crate::proofs::TextLemmas::until_open, crate::proofs::TextLemmas::until_end))]
-fn objects_until_next(log: &[Told]) -> u64
-    ensures { result ≡ min (objects_until_next log.now) (2 ^ 64 - 1) }
-{
-    let mut objects = 0u64;
-    for told in log {
-        if opens(told) {
-            return objects;
-        }
-        objects = objects.saturating_add(objects_sent(told));
-    }
-    objects
-}
-
-/// Appends the closing line of the connection with this number.
-fn push_connection(lines: &mut String, number: u64, count: u64) -> Result<(), AllocError>
+/// Appends the closing line of the connection with this index.
+fn push_connection(lines: &mut String, index: usize, count: u64) -> Result<(), AllocError>
+    requires { index + 1 < 2 ^ 64 }
     ensures { OnOk result (string_bytes lines.new ≡ string_bytes lines.old
-        ++ connection_line number count) }
+        ++ connection_line (index + 1) count) }
 {
+    let number = index + 1;
     writeln!(lines, "connection {number} objects {count}")
 }
 
-/// Appends the closing lines of the connections.
-#[tactic(auto, using(crate::proofs::TextLemmas::connection_more, crate::proofs::TextLemmas::connection_skip, crate::proofs::TextLemmas::connection_end))]
-fn push_connections(lines: &mut String, log: &[Told]) -> Result<(), AllocError>
-    requires { length log.now < 2 ^ 63 }
+/// Appends the closing lines of the connections, of which so much is counted.
+#[tactic(auto, using(crate::proofs::TextLemmas::connection_more, crate::proofs::TextLemmas::connection_end))]
+fn push_connections(lines: &mut String, counts: &[u64]) -> Result<(), AllocError>
     ensures { OnOk result (string_bytes lines.new ≡ string_bytes lines.old
-        ++ connection_lines 1 log.now) }
+        ++ connection_lines 1 counts.now) }
 {
-    let mut number = 1u64;
-    for (i, told) in log.iter().enumerate() {
-        if opens(told) {
-            push_connection(lines, number, objects_until_next(&log[i + 1..]))?;
-            number += 1;
-        }
+    for (index, count) in counts.iter().enumerate() {
+        push_connection(lines, index, *count)?;
     }
     Ok(())
 }
@@ -183,23 +109,21 @@ fn push_tallies(lines: &mut String, tallies: &[Tally]) -> Result<(), AllocError>
     Ok(())
 }
 
-/// The text of a run: a line for each action of its log, one for each station, one for each
-/// connection, and one for each station whose link had more than one session.
-pub(crate) fn text(
+/// The closing lines of a run: one for each station, one for each connection, and one for each
+/// station whose link had more than one session.
+pub(crate) fn closing_lines(
     alloc: Global,
     directives: &[Directive],
-    log: &[Told],
     stations: &[Station],
+    counts: &[u64],
     tallies: &[Tally],
 ) -> Result<String, AllocError>
-    requires { length log.now < 2 ^ 63 }
     ensures { IfOk result (λ text. string_bytes text
-        ≡ run_text directives.now log.now stations.now tallies.now) }
+        ≡ closing_lines directives.now stations.now (connection_lines 1 counts.now) tallies.now) }
 {
     let mut lines = String::new(alloc);
-    push_actions(alloc, &mut lines, log)?;
     push_stations(&mut lines, directives, stations)?;
-    push_connections(&mut lines, log)?;
+    push_connections(&mut lines, counts)?;
     push_tallies(&mut lines, tallies)?;
     Ok(lines)
 }

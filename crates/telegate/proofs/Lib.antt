@@ -2,11 +2,12 @@ pub mod RunLemmas
 pub mod Commands
 pub mod Kept
 pub mod Files
-pub mod Printing
 pub mod Addresses
 pub mod Turning
 pub mod AuditLemmas
 pub mod Worded
 pub mod Poured
+pub mod Printing
 pub mod ReplayLemmas
+pub mod SimLemmas
 pub mod Performed

@@ -1,10 +1,12 @@
 -- Texts that are printed part by part.
-use Rattle.std.proofs.Common.{◌≡◌, ℕ, Bool, true, false, List, [], ◌∷◌, ◌++◌, Option, Some, None, refl, sym, ap, subst, ◌∙◌, append_assoc}
+use Rattle.std.proofs.Common.{◌≡◌, ℕ, Bool, true, false, List, [], ◌++◌, Option, Some, None, refl, sym, ap, subst, ◌∙◌, append_assoc}
 use Rattle.std.proofs.lemmas.List.{append-nil}
 use Rattle.std.specs.Prelude.{Result, Ok, Err, OnOk, OnErr}
 use Rattle.std.specs.Result.{is_ok}
 use Rattle.std.specs.Io.KnownBytes.{Appends, Keeps}
+use Rattle.gateway.specs.Log.{Log}
 use Rattle.sim.specs.Runs.{IsBegun}
+use Rattle.traces.specs.Actions.{lines_of_actions}
 use Rattle.telegate.specs.Printed.{IsPoured}
 
 -- nothing was printed
@@ -64,3 +66,10 @@ pub poured_as : {W : Type 0} (contents : W → Option (List ℕ)) (before : Opti
 poured_as contents before text taken is out w e f p =
     subst (λ (b : Bool). IsPoured b before (contents out) text) (sym e)
     (subst (λ (x : _). IsPoured is before (contents x) text) (sym f) p)
+
+-- all lines of the log
+pub poured_all : (is_whole : Bool) (before after : Option (List ℕ)) (log poured : Log) → Some log ≡ Some poured
+    → IsPoured is_whole before after (lines_of_actions poured) → IsPoured is_whole before after (lines_of_actions log)
+poured_all is_whole before after log poured all p =
+    let same : poured ≡ log = cc in
+    subst (λ (l : Log). IsPoured is_whole before after (lines_of_actions l)) same p

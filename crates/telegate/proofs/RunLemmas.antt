@@ -1,35 +1,21 @@
 -- The end of a run over a trace.
-use Rattle.std.proofs.Common.{◌≡◌, ℕ, ◌+◌, Bool, true, false, ◌&&◌, List, [], ◌∷◌, ◌++◌, length, Option, Some, None, IfOk, refl, subst, ◌∙◌, ap, sym, arith, length-append, suc, ◌≤◌, ◌==◌}
-use Rattle.std.proofs.lemmas.List.{append-nil, length-map}
-use Rattle.std.proofs.lemmas.List.Splits.{length-slice_split}
-use Rattle.std.proofs.lemmas.List.Sums.{count_by-le-length}
+use Rattle.std.proofs.Common.{◌≡◌, ℕ, ◌+◌, Bool, true, false, ◌&&◌, List, [], ◌++◌, length, Option, Some, None, IfOk, refl, subst, ◌∙◌, ap, sym, arith, length-append}
+use Rattle.std.proofs.lemmas.List.{append-nil}
 use Rattle.gateway.specs.Log.{Log, LogEntry, events_of}
 use Rattle.gateway.specs.Runs.{MoreEvents, UnlessDevice}
 use Rattle.std.specs.Option.{is_none}
-use Rattle.std.specs.List.{filter_map, cons_option}
-use Rattle.traces.specs.Event.{Event}
-use Rattle.traces.specs.Progress.{Progress, came, events_in, script_in, events_left, coming_in, is_through}
-use Rattle.traces.specs.Trace.{lines_of, told, first_wrong}
-use Rattle.std.specs.Prelude.{Result, Ok, Err, MatchResult}
-use Rattle.traces.specs.Actions.{lines_of_actions}
-use Rattle.gateway.specs.Accounts.{IsAccounted}
+use Rattle.traces.specs.Progress.{Progress, events_in, script_in, events_left, coming_in, is_through}
+use Rattle.traces.specs.Trace.{lines_of, told}
+use Rattle.std.specs.Prelude.{Result, Ok, Err}
 use Rattle.gateway.specs.Agrees.{Follows, Rests}
-use Rattle.gateway.specs.Order.{KeepsOrder}
 use Rattle.gateway.specs.Reports.{Setup}
-use Rattle.gateway.specs.Setups.{setup_of}
 use Rattle.gateway.specs.State.{State}
-use Rattle.gateway.specs.Traffic.{IsFaithful, HasRested}
-use Rattle.delivery.specs.Delivery.{Delivers}
-use Rattle.telegate.specs.Closing.{closing_lines}
 use Rattle.gateway.specs.Config.{Settings}
 use Rattle.gateway.specs.declared.runs.End.{End}
 use Rattle.gateway.specs.declared.runs.End.TheVariants.{Turns, Finished}
 use Rattle.settings.specs.Settings.{IsReadOfText}
-use Rattle.sim.specs.Scripts.{IsScriptOf}
-use Rattle.sim.specs.declared.directive.Directive.{Directive}
-use Rattle.telegate.specs.Answers.{IsMemory, IsGood, IsChecked, IsSimulationOf, IsSimulatedBy}
+use Rattle.telegate.specs.Answers.{IsGood, IsChecked}
 use Rattle.telegate.specs.declared.answer.Answer.{Answer}
-use Rattle.telegate.specs.declared.closing.Closing.{Closing}
 use Rattle.telegate.specs.declared.fault.Fault.{Fault}
 use Rattle.telegate.specs.declared.fault.Fault.TheVariants.{Config, Trace, Script, Record, Differs, Sizes, Octets, Address, Device, NoMemory}
 
@@ -89,23 +75,6 @@ all_came t trace over whole = sym (append-nil (events_of t.log))
     by true None over = refl
     by true (Some text) over = cc
     by false left over = cc
-
--- the answer to the command over a simulated line, where its files were read
-pub simulated : (config text : List ℕ) (settings : Settings) (script : List Directive) (r : Result Answer Fault)
-    → IsReadOfText config (Ok settings) → IsScriptOf settings text (Ok script) → IsSimulationOf settings script r
-    → IsSimulatedBy config text r
-simulated config text settings script (Ok answer) read said run =
-    record { settings = settings; script = script; read_config = read; read_script = said; simulation = run }
-simulated config text settings script (Err NoMemory) read said run = tt
-simulated config text settings script (Err (Config why)) read said run = absurd run
-simulated config text settings script (Err (Trace n)) read said run = absurd run
-simulated config text settings script (Err (Script n)) read said run = absurd run
-simulated config text settings script (Err (Record n)) read said run = absurd run
-simulated config text settings script (Err (Differs n)) read said run = absurd run
-simulated config text settings script (Err Sizes) read said run = absurd run
-simulated config text settings script (Err Octets) read said run = absurd run
-simulated config text settings script (Err Address) read said run = absurd run
-simulated config text settings script (Err Device) read said run = absurd run
 
 -- the answer to settings that were read
 pub checked : (config : List ℕ) (settings : Settings) (r : Result Answer Fault) → IsReadOfText config (Ok settings)

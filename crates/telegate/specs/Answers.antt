@@ -19,7 +19,7 @@ use Rattle.gateway.specs.Setups.{setup_of}
 use Rattle.gateway.specs.Traffic.{IsFaithful, HasRested}
 use Rattle.delivery.specs.Delivery.{Delivers}
 use Rattle.sim.specs.Scripts.{IsScriptOf}
-use Rattle.sim.specs.Runs.{IsBegun, IsSimulated}
+use Rattle.sim.specs.Runs.{IsBegun, IsSimulated, IsCutShort, IsStopped}
 use Rattle.sim.specs.declared.directive.Directive.{Directive}
 use Rattle.settings.specs.Settings.{IsReadOfText}
 use Rattle.gateway.specs.Accounts.{IsAccounted}
@@ -176,33 +176,48 @@ IsReplayed config trace closing old new result =
     MatchResult result (λ done. IsRunPrinted config trace closing (Appends old new))
     (IsReplayFault config trace closing old new)
 
--- the text of a run of the script over a simulated line, whatever it loses
-pub record IsSimulation (settings : Settings) (script : List Directive)
-    (answer : Answer) : Type 0 where
-  pub run : IsSimulated settings script (Some []) (Some answer.text.items)
-  pub status : answer.status ≡ 0
-
-pub record IsSimulationAnswer (config text : List ℕ) (answer : Answer) : Type 0 where
+-- settings and script are free of faults, and this holds of a run of the script
+pub record IsScripted (config text : List ℕ)
+    (IsSo : Settings → List Directive → Type 0) : Type 0 where
   pub settings : Settings
   pub script : List Directive
   pub read_config : IsReadOfText config (Ok settings)
   pub read_script : IsScriptOf settings text (Ok script)
-  pub simulation : IsSimulation settings script answer
+  pub so : IsSo settings script
 
-abbrev pub IsSimulationOf : Settings → List Directive → Result Answer Fault → Type 0
-IsSimulationOf settings script result = MatchResult result (IsSimulation settings script) IsMemory
+-- The run of the script ended, and its whole text was printed, or, where the output failed, a
+-- beginning of that; or memory was refused: before anything was printed, or in mid-run, and then a
+-- beginning of the lines of its actions was.
+abbrev pub IsSimulationFault : Settings → List Directive → (old new : Option (List ℕ)) → Fault
+    → Type 0
+IsSimulationFault settings script old new Device = IsCutShort settings script old new
+IsSimulationFault settings script old new NoMemory =
+    Keeps old new ⊎ IsStopped settings script old new
+IsSimulationFault settings script old new _ = ⊥
 
--- settings are judged before the script
-abbrev pub IsSimulationFault : List ℕ → List ℕ → Fault → Type 0
-IsSimulationFault config text (Config why) = IsReadOfText config (Err why)
-IsSimulationFault config text (Script n) =
-    (s : Settings) × (IsReadOfText config (Ok s) × IsScriptOf s text (Err (WrongLine n)))
-IsSimulationFault config text NoMemory = Unit {0}
-IsSimulationFault config text _ = ⊥
+abbrev pub IsSimulationOf : Settings → List Directive → (old new : Option (List ℕ))
+    → Result (Unit {0}) Fault → Type 0
+IsSimulationOf settings script old new result =
+    MatchResult result (λ done. IsSimulated settings script old new)
+    (IsSimulationFault settings script old new)
 
-abbrev pub IsSimulatedBy : List ℕ → List ℕ → Result Answer Fault → Type 0
-IsSimulatedBy config text result =
-    MatchResult result (IsSimulationAnswer config text) (IsSimulationFault config text)
+-- Settings are judged before the script, and both before anything is printed.
+abbrev pub IsScriptFault : List ℕ → List ℕ → (old new : Option (List ℕ)) → Fault → Type 0
+IsScriptFault config text old new (Config why) =
+    IsReadOfText config (Err why) × Keeps old new
+IsScriptFault config text old new (Script n) =
+    ((s : Settings) × (IsReadOfText config (Ok s) × IsScriptOf s text (Err (WrongLine n))))
+    × Keeps old new
+IsScriptFault config text old new Device = IsScripted config text (λ c ds. IsCutShort c ds old new)
+IsScriptFault config text old new NoMemory =
+    Keeps old new ⊎ IsScripted config text (λ c ds. IsStopped c ds old new)
+IsScriptFault config text old new _ = ⊥
+
+abbrev pub IsSimulatedBy : List ℕ → List ℕ → (old new : Option (List ℕ))
+    → Result (Unit {0}) Fault → Type 0
+IsSimulatedBy config text old new result =
+    MatchResult result (λ done. IsScripted config text (λ c ds. IsSimulated c ds old new))
+    (IsScriptFault config text old new)
 
 -- A command's answer was appended to the output, and the exit status is the answer's; or the output
 -- failed, and a beginning of it was. A fault (which may be want of memory) was told before anything
@@ -220,11 +235,11 @@ pub record Gives (IsAnswer : Result Answer Fault → Type 0) (old new : Option (
   pub answered : IsAnswer answer
   pub given : IsGiven answer old new exit
 
--- a run over a trace prints its text while it goes on
-pub record Replays (config trace : List ℕ) (closing : Closing) (old new : Option (List ℕ))
-    (exit : ℕ) : Type 0 where
+-- a run prints its text while it goes on, and ends so
+pub record Runs (IsRunning : (old new : Option (List ℕ)) → Result (Unit {0}) Fault → Type 0)
+    (old new : Option (List ℕ)) (exit : ℕ) : Type 0 where
   pub result : Result (Unit {0}) Fault
-  pub replayed : IsReplayed config trace closing old new result
+  pub ran : IsRunning old new result
   pub status : exit ≡ status_of_end result
 
 -- what a command does to the output
@@ -233,8 +248,8 @@ DoesJob (Show101 sizes hex) = Gives (IsShown101 sizes.now hex.now)
 DoesJob (Show104 hex) = Gives (IsShown104 hex.now)
 DoesJob (Check config) = Gives (IsChecked config.now)
 DoesJob (Replay config trace left counts) =
-    Replays config.now trace.now (record { left = left; counts = counts })
-DoesJob (Sim config script) = Gives (IsSimulatedBy config.now script.now)
+    Runs (IsReplayed config.now trace.now (record { left = left; counts = counts }))
+DoesJob (Sim config script) = Runs (IsSimulatedBy config.now script.now)
 DoesJob (Audit config text) = Gives (IsAuditedBy config.now text.now)
 
 -- the same, of an output whose octets are these before and after, and with this exit status

@@ -26,6 +26,7 @@ mod guests;
 mod help;
 mod host;
 mod job;
+mod paged;
 mod performing;
 mod printed;
 mod replay;

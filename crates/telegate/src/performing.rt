@@ -21,9 +21,9 @@ use std::io::{ErrorKind, Write};
 /// Does a command: its answer goes to `out`, or the line of a fault to `err`. Answers the exit
 /// status: 0 done, 1 a bad frame or a file with wrong content, 3 where the output can't be written
 /// (what was written is then a beginning of the answer's text), 4 where memory was refused. A run
-/// over a trace prints while it goes on, so that after 4 a beginning of its lines may have been
-/// written, and where it is watched it tells `err` how far it has come; the others print when all
-/// is there.
+/// over a trace or a script prints while it goes on, so that after 4 a beginning of its lines may
+/// have been written, and where it is watched it tells `err` how far it has come; the others print
+/// when all is there.
 pub fn perform<W: Write, E: Write>(
     alloc: Global,
     job: &Job<'_>,
@@ -52,7 +52,12 @@ pub fn perform<W: Write, E: Write>(
                 Err(fault) => tell(&fault, err),
             }
         }
-        Job::Sim(config, script) => give(&simulate(alloc, *config, *script), out, err),
+        Job::Sim(config, script) => {
+            match simulate(alloc, *config, *script, is_watched, out, err) {
+                Ok(()) => DONE,
+                Err(fault) => tell(&fault, err),
+            }
+        }
         Job::Audit(config, record) => give(&audit(alloc, *config, *record), out, err),
     }
 }

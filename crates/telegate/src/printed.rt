@@ -1,5 +1,5 @@
-//! Runs over a trace that print while they go on, and tell on a terminal how far they have come.
-ghost use Rattle.std.specs.Prelude.{◌≡◌, ℕ, List, [], Option, ◌+◌, ◌++◌, ◌<◌, ◌≤◌, false, true, OnOk, Some};
+//! Runs that print while they go on, and tell on a terminal how far they have come.
+ghost use Rattle.std.specs.Prelude.{◌≡◌, ℕ, List, [], Option, ◌<◌, ◌≤◌, false, true, IfSome, OnOk, Some};
 ghost use Rattle.std.specs.Io.KnownBytes.{Appends};
 ghost use Rattle.gateway.specs.Accounts.{IsAccounted};
 ghost use Rattle.gateway.specs.Agrees.{Follows, Rests};
@@ -7,15 +7,15 @@ ghost use Rattle.gateway.specs.Reports.{Setup};
 ghost use Rattle.gateway.specs.Runs.{UnlessDevice, MoreEvents};
 ghost use Rattle.gateway.specs.Traffic.{IsFaithful, HasRested};
 ghost use Rattle.traces.specs.Actions.{lines_of_actions};
-ghost use Rattle.traces.specs.Progress.{is_through};
 ghost use Rattle.telegate.specs.Percent.{percent_of, percent_text, blank_text};
-ghost use Rattle.telegate.specs.Printed.{IsPoured};
+ghost use Rattle.telegate.specs.Printed.{IsPoured, IsClosedBy};
 
+use crate::fault::Fault;
+use crate::paged::Paged;
 use crate::performing::print;
 use gateway::{End, Gateway, drive_on};
 use std::io;
 use std::io::Write;
-use traces::TextPort;
 
 /// So many turns pass before their lines are printed: some 100 KB, where each event has an action.
 const PART: u64 = 2_048;
@@ -23,39 +23,38 @@ const PART: u64 = 2_048;
 /// So many turns pass before it is told how far a run has come: 2^19, about half a second.
 const STRIDE: u64 = 524_288;
 
-/// Takes the events of a trace one after another, at most so many, as `drive_on` does, and prints
+/// Takes the events of a port one after another, at most so many, as `drive_on` does, and prints
 /// the lines of the actions as they are made. Where the output fails, nothing more is printed, and
 /// the run goes on to its end: the second answer is whether all was printed. Where a run of more
 /// than one stride is watched, standard error tells after each how far it has come, and is blank
 /// again at the end; whether it takes that changes nothing.
-pub(crate) fn drive_printed<W: Write, E: Write>(
+pub(crate) fn drive_printed<P: Paged, W: Write, E: Write>(
     gateway: &mut Gateway,
-    port: &mut TextPort<'_>,
+    port: &mut P,
     turns: u64,
     is_watched: bool,
     out: &mut W,
     err: &mut E,
 ) -> (End, bool)
-    requires healthy { port.old.failed ≡ 0 }
-    requires blank { (port.old.poured ≡ []) × (port.old.page ≡ []) }
+    requires healthy { P.failed port.old ≡ 0 }
+    requires blank { P.poured port.old ≡ [] }
     // As of `drive_on`.
-    ensures faithful { (p : Setup) → Follows p gateway.old (Some port.old.log) →
-        Rests p (Some port.old.log) → IsFaithful p port.new.log }
-    ensures rests { (p : Setup) → Follows p gateway.old (Some port.old.log) →
-        Rests p (Some port.old.log) → UnlessDevice result.0 (HasRested p port.new.log) }
-    ensures kept { (p : Setup) → Follows p gateway.old (Some port.old.log) →
-        Rests p (Some port.old.log) →
-        UnlessDevice result.0 (Follows p gateway.new (Some port.new.log)) }
-    ensures accounts { (p : Setup) → Follows p gateway.old (Some port.old.log) →
-        Rests p (Some port.old.log) →
-        UnlessDevice result.0 (IsAccounted p gateway.new port.new.log) }
-    ensures turns { result.0 ≡ End.Turns →
-        MoreEvents turns (Some port.old.log) (Some port.new.log) }
-    ensures finished { result.0 ≡ End.Finished → is_through port.new ≡ true }
-    ensures script { port.new.text ≡ port.old.text }
+    ensures faithful { (p : Setup) → Follows p gateway.old (P.log port.old) →
+        Rests p (P.log port.old) → IfSome (P.log port.new) (IsFaithful p) }
+    ensures rests { (p : Setup) → Follows p gateway.old (P.log port.old) →
+        Rests p (P.log port.old) → UnlessDevice result.0 (IfSome (P.log port.new) (HasRested p)) }
+    ensures kept { (p : Setup) → Follows p gateway.old (P.log port.old) →
+        Rests p (P.log port.old) → UnlessDevice result.0 (Follows p gateway.new (P.log port.new)) }
+    ensures accounts { (p : Setup) → Follows p gateway.old (P.log port.old) →
+        Rests p (P.log port.old) →
+        UnlessDevice result.0 (IfSome (P.log port.new) (IsAccounted p gateway.new)) }
+    ensures turns { result.0 ≡ End.Turns → MoreEvents turns (P.log port.old) (P.log port.new) }
+    ensures finished { result.0 ≡ End.Finished → P.ended port.new ≡ true }
+    ensures course { P.course port.new ≡ P.course port.old }
     // All lines of the log were printed, or a beginning of them.
+    ensures all { P.log port.new ≡ Some (P.poured port.new) }
     ensures poured { IsPoured result.1 (W.contents out.old) (W.contents out.new)
-        (lines_of_actions port.new.log) }
+        (lines_of_actions (P.poured port.new)) }
     // Where nobody looks on, nothing is told.
     ensures unwatched { is_watched ≡ false → err.new ≡ err.old }
 {
@@ -82,16 +81,39 @@ pub(crate) fn drive_printed<W: Write, E: Write>(
 
 /// Prints the lines that are on the page, unless the output failed before, and takes them off it.
 /// Answers whether the output has taken all.
-fn pour<W: Write>(port: &mut TextPort<'_>, is_whole: bool, out: &mut W) -> bool
-    ensures page { port.new ≡ record port.old { poured = port.old.log; page = [] } }
+fn pour<P: Paged, W: Write>(port: &mut P, is_whole: bool, out: &mut W) -> bool
+    ensures all { P.log port.old ≡ Some (P.poured port.new) }
+    ensures log { P.log port.new ≡ P.log port.old }
+    ensures failed { P.failed port.new ≡ P.failed port.old }
+    ensures ended { P.ended port.new ≡ P.ended port.old }
+    ensures course { P.course port.new ≡ P.course port.old }
     ensures poured { (before : Option (List ℕ)) →
-        IsPoured is_whole before (W.contents out.old) (lines_of_actions port.old.poured) →
-        IsPoured result before (W.contents out.new) (lines_of_actions port.old.log) }
+        IsPoured is_whole before (W.contents out.old) (lines_of_actions (P.poured port.old)) →
+        IsPoured result before (W.contents out.new) (lines_of_actions (P.poured port.new)) }
 {
     let page = port.page();
     let is_taken = is_whole && print(page, out).is_ok();
     port.clear_page();
     is_taken
+}
+
+/// Prints the lines with which a run ends, where all others were printed.
+pub(crate) fn print_closing<W: Write>(
+    lines: &[u8],
+    is_whole: bool,
+    out: &mut W,
+) -> Result<(), Fault>
+    ensures { (before : Option (List ℕ)) (text : List ℕ) →
+        IsPoured is_whole before (W.contents out.old) text →
+        IsClosedBy before (W.contents out.new) text lines.now result }
+{
+    if !is_whole {
+        return Err(Fault::Device);
+    }
+    match print(lines, out) {
+        Ok(()) => Ok(()),
+        Err(_) => Err(Fault::Device),
+    }
 }
 
 /// Tells how far a run has come after each stride, where that is to be told.

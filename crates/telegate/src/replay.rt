@@ -10,8 +10,7 @@ ghost use Rattle.telegate.specs.Printed.{IsPoured, IsClosedBy};
 use crate::check::read_config;
 use crate::closing::{Closing, push_closing};
 use crate::fault::Fault;
-use crate::performing::print;
-use crate::printed::drive_printed;
+use crate::printed::{drive_printed, print_closing};
 use delivery::nothing_is_lost;
 use gateway::{Config, End, Gateway, steps_keep_their_order};
 use std::alloc::Global;
@@ -121,11 +120,5 @@ fn close<W: Write>(
 {
     let mut lines = String::new(alloc);
     push_closing(alloc, &mut lines, gateway, closing)?;
-    if !is_whole {
-        return Err(Fault::Device);
-    }
-    match print(lines.as_bytes(), out) {
-        Ok(()) => Ok(()),
-        Err(_) => Err(Fault::Device),
-    }
+    print_closing(lines.as_bytes(), is_whole, out)
 }

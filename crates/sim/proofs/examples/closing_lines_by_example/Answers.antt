@@ -10,6 +10,9 @@ pub returns-clause-connections : goal.returns-clause-connections
 unfolding digits
 returns-clause-connections c = (refl, refl, refl)
 
+pub returns-clause-counts : goal.returns-clause-counts
+returns-clause-counts c = (refl, refl, refl, refl)
+
 pub returns-clause-sessions : goal.returns-clause-sessions
 unfolding digits
 returns-clause-sessions c = (refl, refl)

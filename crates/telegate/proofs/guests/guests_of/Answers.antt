@@ -1,4 +1,4 @@
-use Rattle.std.proofs.Common.{rules, ◌≡◌, List, [], ◌∷◌, ◌++◌}
+use Rattle.std.proofs.Common.{rules, ◌≡◌, [], ◌∷◌, ◌++◌}
 use Rattle.telegate.proofs.Addresses.{more, refused}
 use Rattle.telegate.proofs.guests.guests_of.Goals as goal
 

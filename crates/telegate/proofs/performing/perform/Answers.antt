@@ -18,20 +18,30 @@ returns-in-Check g c = performs_as c.in-Check.is
 pub returns-in-Ok : goal.returns-in-Ok
 returns-in-Ok g c = performs_as c.in-Replay.is (record {
   result = c.replay.result;
-  replayed = c.replay.ensures.answer;
+  ran = c.replay.ensures.answer;
   status = sym (ap status_of_end c.in-Ok.is);
 })
 
 pub returns-in-Err : goal.returns-in-Err
 returns-in-Err g c = performs_as c.in-Replay.is (record {
   result = c.replay.result;
-  replayed = c.replay.ensures.answer;
+  ran = c.replay.ensures.answer;
   status = c.tell.ensures ∙ sym (ap status_of_end c.in-Err.is);
 })
 
-pub returns-in-Sim : goal.returns-in-Sim
-returns-in-Sim g c = performs_as c.in-Sim.is
-    (record { answer = c.simulate.result; answered = c.simulate.ensures; given = c.give-in-Sim.ensures })
+pub returns-in-Ok-simulate : goal.returns-in-Ok-simulate
+returns-in-Ok-simulate g c = performs_as c.in-Sim.is (record {
+  result = c.simulate.result;
+  ran = c.simulate.ensures.answer;
+  status = sym (ap status_of_end c.in-Ok-simulate.is);
+})
+
+pub returns-in-Err-simulate : goal.returns-in-Err-simulate
+returns-in-Err-simulate g c = performs_as c.in-Sim.is (record {
+  result = c.simulate.result;
+  ran = c.simulate.ensures.answer;
+  status = c.tell-in-Err-simulate.ensures ∙ sym (ap status_of_end c.in-Err-simulate.is);
+})
 
 pub returns-in-Audit : goal.returns-in-Audit
 returns-in-Audit g c = performs_as c.in-Audit.is

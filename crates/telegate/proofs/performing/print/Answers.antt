@@ -1,7 +1,6 @@
 use Rattle.std.proofs.Common.{◌+◌, ℕ, refl, arith}
 use Rattle.std.proofs.lemmas.List.{length-take, length-drop}
-use Rattle.sim.proofs.RunLemmas.{begun_so_far}
-use Rattle.telegate.proofs.Printing.{taken, not_taken}
+use Rattle.telegate.proofs.Printing.{begun_so_far, taken, not_taken}
 use Rattle.telegate.proofs.performing.print.Goals as goal
 use Rattle.telegate.proofs.performing.print.Goals.{in-Ok, in-Err}
 

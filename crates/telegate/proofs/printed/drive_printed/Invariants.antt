@@ -1,6 +1,6 @@
 -- So many turns are done, and what the run has left is as `drive_on` leaves it; of its lines all
 -- were printed, or a beginning.
-use Rattle.std.proofs.Common.{◌≡◌, ◌≤◌, ◌-◌, Some, false}
+use Rattle.std.proofs.Common.{◌≡◌, ◌≤◌, ◌-◌, false}
 use Rattle.gateway.specs.Agrees.{Follows, Rests}
 use Rattle.gateway.specs.Reports.{Setup}
 use Rattle.gateway.specs.Runs.{MoreEvents}
@@ -11,15 +11,15 @@ use Rattle.telegate.proofs.printed.drive_printed.Given as goal
 abbrev pub invariant-parts : goal.invariant-parts
 invariant-parts g l = record {
   within : l.done ≤ l.turns;
-  more : MoreEvents l.done (Some l.fn.port.log) (Some l.port.log);
-  kept : (p : Setup) → Follows p l.fn.gateway (Some l.fn.port.log) → Rests p (Some l.fn.port.log)
-      → Follows p l.gateway (Some l.port.log);
-  rests : (p : Setup) → Follows p l.fn.gateway (Some l.fn.port.log) → Rests p (Some l.fn.port.log)
-      → Rests p (Some l.port.log);
-  script : l.port.text ≡ l.fn.port.text;
-  healthy : l.port.failed ≡ 0;
+  more : MoreEvents l.done (g.P.Port.log l.fn.port) (g.P.Port.log l.port);
+  kept : (p : Setup) → Follows p l.fn.gateway (g.P.Port.log l.fn.port) → Rests p (g.P.Port.log l.fn.port)
+      → Follows p l.gateway (g.P.Port.log l.port);
+  rests : (p : Setup) → Follows p l.fn.gateway (g.P.Port.log l.fn.port) → Rests p (g.P.Port.log l.fn.port)
+      → Rests p (g.P.Port.log l.port);
+  course : g.P.Paged.course l.port ≡ g.P.Paged.course l.fn.port;
+  healthy : g.P.Port.failed l.port ≡ 0;
   poured : IsPoured l.is_whole (g.W.Write.contents l.fn.out) (g.W.Write.contents l.out)
-      (lines_of_actions l.port.poured);
+      (lines_of_actions (g.P.Paged.poured l.port));
   unwatched : l.is_told ≡ false → l.err ≡ l.fn.err;
 }
 

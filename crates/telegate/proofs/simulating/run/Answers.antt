@@ -1,5 +1,74 @@
-use Rattle.std.proofs.Common.{refl}
+use Rattle.std.proofs.Common.{◌≡◌, ap, ◌∙◌, inr}
+use Rattle.gateway.specs.Setups.{setup_of}
+use Rattle.gateway.specs.Traffic.{HasRested}
+use Rattle.sim.specs.Calls.{calls_in}
+use Rattle.sim.specs.Lives.{Plan, plan_of}
+use Rattle.sim.specs.Losses.{turns_of}
+use Rattle.sim.specs.Played.{Simulated}
+use Rattle.traces.specs.Actions.{lines_of_actions}
+use Rattle.telegate.proofs.Poured.{poured_all, poured_begun}
+use Rattle.telegate.proofs.RunLemmas.{at_turns, at_finish}
+use Rattle.telegate.proofs.SimLemmas.{at_first_call, run_turns, ended_calls, stopped}
 use Rattle.telegate.proofs.simulating.run.Goals as goal
 
-pub returns-in-Ok : goal.returns-in-Ok
-returns-in-Ok c = record { run = rw c.new-text.ensures.items at c.in-Ok.ensures.run; status = refl }
+pub returns-in-Turns-clause-answer : goal.returns-in-Turns-clause-answer
+returns-in-Turns-clause-answer g c =
+    let settings = c.args.config.now in
+    let ds = c.args.script.now in
+    let p = setup_of settings in
+    let port = c.drive_printed-end.new.port in
+    let end = c.drive_printed-end.result.0 in
+    let before = g.W.Write.contents c.args.out.now in
+    let after = g.W.Write.contents c.drive_printed-end.new.out in
+    let begun = at_first_call p c.in_ok-gateway.gateway (plan_of settings ds) c.in-Ok.sim c.in-Ok.ensures
+    c.in_ok-gateway.ensures.begins in
+    let plan : port.plan ≡ plan_of settings ds = c.drive_printed-end.ensures.course
+    ∙ ap (λ (s : Simulated). s.plan) c.in-Ok.ensures in
+    let calls : calls_in port.log ≡ turns_of ds =
+    run_turns c.turns-turns.result (turns_of ds) c.in-Ok.sim.log port.log c.turns-turns.ensures
+    (ap (λ (s : Simulated). s.log) c.in-Ok.ensures) (c.drive_printed-end.ensures.turns c.in-Turns.is) in
+    c.close.ensures settings ds before plan c.stations-stations.ensures.rules.distinct calls
+    (c.drive_printed-end.ensures.faithful p begun.0 begun.1)
+    (at_turns end (HasRested p port.log) c.in-Turns.is (c.drive_printed-end.ensures.rests p begun.0 begun.1))
+    (poured_all c.drive_printed-end.result.1 before after port.log port.poured c.drive_printed-end.ensures.all
+    c.drive_printed-end.ensures.poured)
+
+pub returns-in-Finished-clause-answer : goal.returns-in-Finished-clause-answer
+returns-in-Finished-clause-answer g c =
+    let settings = c.args.config.now in
+    let ds = c.args.script.now in
+    let p = setup_of settings in
+    let port = c.drive_printed-end.new.port in
+    let end = c.drive_printed-end.result.0 in
+    let before = g.W.Write.contents c.args.out.now in
+    let after = g.W.Write.contents c.drive_printed-end.new.out in
+    let begun = at_first_call p c.in_ok-gateway.gateway (plan_of settings ds) c.in-Ok.sim c.in-Ok.ensures
+    c.in_ok-gateway.ensures.begins in
+    let plan : port.plan ≡ plan_of settings ds = c.drive_printed-end.ensures.course
+    ∙ ap (λ (s : Simulated). s.plan) c.in-Ok.ensures in
+    let calls : calls_in port.log ≡ turns_of ds =
+    ended_calls port (c.drive_printed-end.ensures.finished c.in-Finished.is) c.page-page_is_clear.ensures.stands
+    ∙ ap (λ (q : Plan). turns_of q.directives) plan in
+    c.close-in-Finished.ensures settings ds before plan c.stations-stations.ensures.rules.distinct calls
+    (c.drive_printed-end.ensures.faithful p begun.0 begun.1)
+    (at_finish end (HasRested p port.log) c.in-Finished.is (c.drive_printed-end.ensures.rests p begun.0 begun.1))
+    (poured_all c.drive_printed-end.result.1 before after port.log port.poured c.drive_printed-end.ensures.all
+    c.drive_printed-end.ensures.poured)
+
+pub returns-clause-answer : goal.returns-clause-answer
+returns-clause-answer g c =
+    let settings = c.args.config.now in
+    let ds = c.args.script.now in
+    let p = setup_of settings in
+    let port = c.drive_printed-end.new.port in
+    let before = g.W.Write.contents c.args.out.now in
+    let after = g.W.Write.contents c.drive_printed-end.new.out in
+    let begun = at_first_call p c.in_ok-gateway.gateway (plan_of settings ds) c.in-Ok.sim c.in-Ok.ensures
+    c.in_ok-gateway.ensures.begins in
+    let plan : port.plan ≡ plan_of settings ds = c.drive_printed-end.ensures.course
+    ∙ ap (λ (s : Simulated). s.plan) c.in-Ok.ensures in
+    inr (stopped settings ds port before after plan c.page-page_is_clear.ensures.stands
+    (c.drive_printed-end.ensures.faithful p begun.0 begun.1)
+    (poured_begun c.drive_printed-end.result.1 before after (lines_of_actions port.log)
+    (poured_all c.drive_printed-end.result.1 before after port.log port.poured c.drive_printed-end.ensures.all
+    c.drive_printed-end.ensures.poured)))

@@ -1,28 +1,16 @@
-use Rattle.std.proofs.Common.{◌≡◌, ◌+◌, ◌≤◌, List, length, sym, ap, subst, ◌∙◌, arith}
+use Rattle.std.proofs.Common.{◌≡◌, ◌+◌, List, length, sym, ap, subst, ◌∙◌, arith}
 use Rattle.std.specs.List.{AllByRecursion}
 use Rattle.link.specs.Secondary.{Secondary}
 use Rattle.gateway.specs.declared.settings.LineSettings.{LineSettings}
-use Rattle.gateway.specs.Entries.{log_of}
+use Rattle.gateway.specs.Setups.{setup_of}
 use Rattle.sim.specs.declared.directive.Fate.{Fate}
 use Rattle.sim.specs.Losses.{fate_of}
 use Rattle.sim.specs.Lives.{IsPutOut, arriving, plan_of}
-use Rattle.gateway.specs.Setups.{setup_of}
+use Rattle.sim.specs.Pages.{Printed}
 use Rattle.sim.specs.Tallies.{tallied_asked}
-use Rattle.sim.proofs.Steps.{length-log}
 use Rattle.sim.proofs.HearingLemmas.{length_out}
 use Rattle.sim.proofs.Keeping.{ask_kept, written}
 use Rattle.sim.proofs.sim.Sim.ask.Goals as goal
-
-pub overflow_add-self : goal.overflow_add-self
-overflow_add-self c =
-    let few : c.self.inside.requests ≤ length (log_of c.self.inside.log.items) = c.self.invariant.1.few in
-    omega (
-      arith,
-      length-log c.self.inside.log.items,
-      c.self.inside.log.ok.0,
-      c.self.inside.log.ok.1,
-      c.self.inside.log.small,
-    )
 
 pub arriving-self-inside-requires : goal.arriving-self-inside-requires
 arriving-self-inside-requires c =
@@ -33,8 +21,9 @@ arriving-self-inside-requires c =
 
 pub invariant_of-self-2 : goal.invariant_of-self-2
 invariant_of-self-2 c =
+    let more : c.in-Some.requests ≡ c.self.inside.requests + 1 = c.in-Some.ensures.next in
     let fate : c.fate-fate.result ≡ fate_of c.self.inside.script.now (c.self.inside.requests + 1) =
-    c.fate-fate.ensures in
+    c.fate-fate.ensures ∙ ap (fate_of c.self.inside.script.now) more in
     let out : IsPutOut c.fate-fate.result c.args.octets.now c.self.inside.stations.items c.put_out-answer.result
     c.put_out-answer.new.stations =
     subst (λ (ss : List Secondary). IsPutOut c.fate-fate.result c.args.octets.now ss c.put_out-answer.result
@@ -44,10 +33,10 @@ invariant_of-self-2 c =
     c.put_out-answer.result out in (
       c.self.invariant.0,
       ask_kept c.station_is_an_outstation.ensures.size
-          (plan_of c.self.inside.config.now c.self.inside.script.now) c.self.inside.log.items _
-          c.self.inside.stations.items c.put_out-answer.new.stations _ _ c.args.now c.in_ok-copy.copy c.args.octets.now
-          c.put_out-answer.result _ _
-          c.in_ok-keep.ensures.ok c.in_ok-copy.ensures.items
+          (plan_of c.self.inside.config.now c.self.inside.script.now) c.self.inside.page.log _
+          c.self.inside.stations.items c.put_out-answer.new.stations _ _ c.args.now c.args.octets.now
+          c.put_out-answer.result _ _ _
+          (ap (λ (p : Printed). p.log) c.in_ok-went.ensures.ok) more c.in-Some.ensures.small
           (subst (λ (f : Fate). IsPutOut f c.args.octets.now c.self.inside.stations.items c.put_out-answer.result
           c.put_out-answer.new.stations) fate out)
           (written c.self.inside.stations.items c.put_out-answer.new.stations c.self.inside.stations.len

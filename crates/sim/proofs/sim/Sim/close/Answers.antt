@@ -1,9 +1,11 @@
+use Rattle.std.proofs.Common.{ap}
+use Rattle.sim.specs.Pages.{Printed}
 use Rattle.sim.proofs.Keeping.{close_kept}
 use Rattle.sim.proofs.sim.Sim.close.Goals as goal
 
 pub invariant_of-self-2 : goal.invariant_of-self-2
 invariant_of-self-2 c = (
   c.self.invariant.0,
-  close_kept _ c.self.inside.log.items _ _ _ c.args.now c.args.cause _ c.in_ok-keep.ensures.ok
-      c.shut-self-inside.ensures c.self.invariant.1,
+  close_kept _ c.self.inside.page.log _ _ _ c.args.now c.args.cause _
+      (ap (λ (p : Printed). p.log) c.in_ok-went.ensures.ok) c.shut-self-inside.ensures c.self.invariant.1,
 )
