@@ -46,7 +46,7 @@ mod examples;
 mod hearing;
 mod laws;
 mod line;
-mod page;
+mod printout;
 mod reading;
 mod script;
 mod sim;

@@ -16,7 +16,7 @@ use crate::connections::Connections;
 use crate::directive::Directive;
 use crate::due::Due;
 use crate::hearing::{arriving, put_out};
-use crate::page::Page;
+use crate::printout::Printout;
 use crate::script::Script;
 use crate::tallies::Tallies;
 use crate::tally::Tally;
@@ -43,7 +43,7 @@ pub struct Sim<'a> {
     requests: u64,
     connections: Connections,
     tallies: Tallies,
-    page: Page,
+    page: Printout,
     failures: u64,
 }
 
@@ -162,7 +162,7 @@ impl<'a> Sim<'a> {
             requests: 0,
             connections: Connections::new(alloc),
             tallies,
-            page: Page::new(alloc),
+            page: Printout::new(alloc),
             failures: 0,
         })
     }

@@ -336,7 +336,8 @@ no_value_here now text value rest le space lines none = by (ends_field (slice_in
 pub valued_behind : (now : ℕ) (text : List ℕ) (result : Option Spelled) → 2 ≤ length text → slice_index text 1 ≡ 32
     → IsValued now (slice_index text 0) (drop 2 text) result → IsEventBehind now text result
 valued_behind now text None le space is =
-    no_value_here now text (first_line (drop 2 text)) (later_lines (drop 2 text)) le space (lines_first (drop 2 text)) is
+    no_value_here now text (first_line (drop 2 text)) (later_lines (drop 2 text)) le space
+    (lines_first (drop 2 text)) is
 valued_behind now text (Some event) le space is =
     let here = value_here now text (first_line (drop 2 text)) (later_lines (drop 2 text)) le space
     (lines_first (drop 2 text)) is.1 in

@@ -84,7 +84,8 @@ pairs_done text buf n all =
 
 are_digits : (text buf : List ℕ) (n : ℕ) → ArePairs text buf n → list_all is_hex_digit (take (2 * n) text) ≡ true
 are_digits text buf n are =
-    list_all-from_AllPass is_hex_digit (take (2 * n) text) (decode_pairs-ok 0 (take (2 * n) text) (take n buf) are.octets).0
+    list_all-from_AllPass is_hex_digit (take (2 * n) text)
+    (decode_pairs-ok 0 (take (2 * n) text) (take n buf) are.octets).0
 
 -- digits behind which the line ends are its octets
 pub line_octets : (text buf : List ℕ) (n : ℕ) → ArePairs text buf n → 1 ≤ n → first_line text ≡ take (2 * n) text
@@ -156,7 +157,8 @@ line_goes_on text buf n are lt other = by (is_hex_digit (slice_index text (2 * n
         let front : List ℕ = take (e + 1) text in
         let rest : List ℕ = drop (e + 1) text in
         let line : first_line text ≡ front ++ first_line rest =
-        ap first_of (ap lines_of (sym (take-append-drop (e + 1) text)) ∙ lines_behind front rest (no_feeds front all)) in
+        ap first_of (ap lines_of (sym (take-append-drop (e + 1) text))
+        ∙ lines_behind front rest (no_feeds front all)) in
         let len : length front ≡ e + 1 = length-take-le (e + 1) text (omega (arith, lt)) in
         ap octets_of line
         ∙ long_digits (front ++ first_line rest) (omega (arith, length-append front (first_line rest), len, many))
@@ -180,7 +182,8 @@ line_goes_on text buf n are lt other = by (is_hex_digit (slice_index text (2 * n
     by false none =
         line_other text (2 * n) (record { within = are.within; digits = digits; over = λ l. none }) lt other
     by true digit =
-        odd (list_all_more is_hex_digit text e 0 lt ∙ rw digits digit) digit (cases_lt (e + 1) (length text)) (cases_lt n 1024)
+        odd (list_all_more is_hex_digit text e 0 lt ∙ rw digits digit) digit (cases_lt (e + 1) (length text))
+        (cases_lt n 1024)
 
 -- nor is it where there is no pair
 pub no_pair : (text buf : List ℕ) → ArePairs text buf 0 → octets_of (first_line text) ≡ None

@@ -128,7 +128,7 @@ IsEventBehind now text (Some event) =
     (event_behind now (first_fields text) ≡ spelled_event event)
     × (later_lines text ≡ rest_of event)
 
--- the event of a letter, a space and the first line of a text, if it is one, and the lines behind it
+-- the event of a letter, a space and the first line of a text, if it is one, and what is behind it
 abbrev pub IsValued : (now kind : ℕ) → List ℕ → Option Spelled → Type 0
 IsValued now kind text None = valued_at (Some now) (kind ∷ []) (first_line text) ≡ None
 IsValued now kind text (Some event) =

@@ -64,8 +64,8 @@ fn may_be_octets(digits: usize) -> bool
 }
 
 /// The octets in hexadecimal that are the whole first line of a text, and the lines behind it.
-/// `None` where the line is anything else. Its end is found where its digits end, so that each octet
-/// is looked at once.
+/// `None` where the line is anything else. Its end is found where its digits end, so that each
+/// octet is looked at once.
 #[inline(always)]
 pub(crate) fn octets_line(text: &[u8]) -> Option<(&[u8], Option<&[u8]>)>
     ensures { IsOctetsLine text.entry.now result }
@@ -94,8 +94,8 @@ fn digits_line(text: &[u8], end: usize) -> Option<(&[u8], Option<&[u8]>)>
     None
 }
 
-/// Where the digits at the front of a text end. The first are looked at one by one, since a value of
-/// one octet ends there, as most are in pieces; the others a block at a time.
+/// Where the digits at the front of a text end. The first are looked at one by one, since a value
+/// of one octet ends there, as most are in pieces; the others a block at a time.
 #[inline(always)]
 fn digits_end(text: &[u8]) -> usize
     ensures { DigitsEnd text.now result }

@@ -1,4 +1,4 @@
-//! The page on which a run's actions are printed.
+//! What a run prints of its actions.
 ghost use Rattle.std.specs.Prelude.{◌≡◌, ◌++◌, ◌∷◌, [], OnOk, OnErr};
 ghost use Rattle.gateway.specs.Log.{Went};
 ghost use Rattle.gateway.specs.Ports.{told_by, output_of};
@@ -7,22 +7,22 @@ ghost use Rattle.traces.specs.Actions.{line_of, lines_of_actions};
 use gateway::{Action, History, Next};
 use std::alloc::{AllocError, Global};
 use std::marker::Model;
-use traces::{Moment, print_action_at};
+use traces::{Moment, Page, print_action_at};
 
 /// The lines of a run's actions, as `traces` prints them, of which those alone are stored that
 /// weren't taken off. The log of the run is stored nowhere: only proofs know it.
 #[derive(Drop)]
-pub(crate) struct Page {
+pub(crate) struct Printout {
     alloc: Global,
     history: History,
     /// The log as it was when the lines were taken off.
     poured: History,
-    lines: Vec<u8>,
+    lines: Page,
     /// That of the latest action.
     moment: Moment,
 }
 
-impl Model for Page {
+impl Model for Printout {
     ghost use Rattle.std.specs.Prelude.{◌≡◌, ◌++◌};
     ghost use Rattle.traces.specs.Actions.{lines_of_actions};
     ghost use Rattle.sim.specs.Pages.{Printed};
@@ -32,23 +32,23 @@ impl Model for Page {
     ghost view = { λ p. record {
       log = p.history.entries;
       poured = p.poured.entries;
-      lines = p.lines.items;
+      lines = p.lines;
     } };
 
-    ghost invariant = { λ p. lines_of_actions p.poured.entries ++ p.lines.items
+    ghost invariant = { λ p. lines_of_actions p.poured.entries ++ p.lines
         ≡ lines_of_actions p.history.entries };
 }
 
-impl Page {
+impl Printout {
     /// An empty one, of a run in which nothing came yet.
-    pub(crate) fn new(alloc: Global) -> Page
+    pub(crate) fn new(alloc: Global) -> Printout
         ensures { result ≡ record { log = []; poured = []; lines = [] } }
     {
-        Page {
+        Printout {
             alloc,
             history: History::new(),
             poured: History::new(),
-            lines: Vec::new(alloc),
+            lines: Page::new(alloc),
             moment: Moment::new(0),
         }
     }
@@ -81,7 +81,7 @@ impl Page {
         ensures lines { lines_of_actions self.now.poured ++ self.now.lines
             ≡ lines_of_actions self.now.log }
     {
-        self.lines.as_slice()
+        self.lines.octets()
     }
 
     /// Takes all lines off, and keeps their room.
