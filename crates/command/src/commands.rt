@@ -1,5 +1,5 @@
 //! What is kept of commands, and the calls.
-ghost use Rattle.std.specs.Prelude.{◌≡◌, false, ◌≤◌, ◌<◌, ◌+◌, length, IfOk, IfSome, IfNone, Some, None, option_map, if◌then◌else◌, slice_index, vec_len};
+ghost use Rattle.std.specs.Prelude.{◌≡◌, false, ◌≤◌, ◌<◌, ◌+◌, length, count_by, IfOk, IfSome, IfNone, Some, None, option_map, if◌then◌else◌, slice_index, vec_len};
 ghost use Rattle.arrayvec.specs.ArrayVec.{array_vec_len};
 ghost use Rattle.elements.specs.Types.{row};
 ghost use Rattle.asdu.specs.Reading.{value_of};
@@ -77,7 +77,8 @@ impl Model for Commands {
 
 impl Commands {
     ghost use Rattle.command.specs.State.{new_state, told, has_answer_place, offered, first_answer, answered, closed, timed, octets_waiting, with_line, sent as after_sending, noted, accepted as after_acceptance, given_up, line_of, is_used, refusal_of};
-    ghost use Rattle.command.specs.Judging.{answer_of, judged, admitted, placed, ends_selection, without_selection, fault as fault_of, cause_fault as fault_of_cause, address_fault as fault_of_addresses, lacks_selection, lacks_place, makes_selection, forwarded, selected, others};
+    ghost use Rattle.command.specs.Judging.{answer_of, judged, admitted, placed, ends_selection, without_selection, fault as fault_of, cause_fault as fault_of_cause, address_fault as fault_of_addresses, lacks_selection, lacks_place, makes_selection, forwarded, queued, selected, others};
+    ghost use Rattle.command.specs.Stations.{is_addressed};
 
     /// No command, no selection and no own answer. This alone takes memory.
     ///
@@ -291,6 +292,17 @@ impl Commands {
         if self.makes_selection(command) {
             self.select(command, now);
         }
+        self.queue(octets);
+    }
+
+    /// The command waits for the line of each station that it is for.
+    fn queue(&mut self, octets: &[u8])
+        requires long { 9 ≤ length octets.now }
+        requires whole { length octets.now ≡ command_len (slice_index octets.now 0) }
+        requires room { length self.old.waiting
+            + count_by (is_addressed (command_at octets.now)) self.old.stations ≤ 64 }
+        ensures { self.new ≡ queued octets.now self.old }
+    {
         push_copies(
             &mut self.waiting,
             self.stations.as_slice(),

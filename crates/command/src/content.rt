@@ -13,7 +13,7 @@ use arrayvec::ArrayVec;
 use asdu::{CaSize, CauseSize, IoaSize, Sizes, head};
 
 /// The element of a command (IEC 60870-5-101, 7.2.6). S/E is bit 7 of its last octet.
-#[derive(Clone, Copy, Debug, PartialEq, Eq)]
+#[derive(Clone, Copy)]
 pub(crate) enum Element {
     /// SCO, DCO, RCO or QOI.
     Octet(u8),
@@ -22,7 +22,7 @@ pub(crate) enum Element {
 }
 
 /// What a selection is of: type on the line, common address, and address of the object.
-#[derive(Clone, Copy, Debug, PartialEq, Eq)]
+#[derive(Clone, Copy)]
 pub(crate) struct Target {
     pub kind: u8,
     pub ca: u16,
@@ -30,7 +30,7 @@ pub(crate) struct Target {
 }
 
 /// A command with one object.
-#[derive(Clone, Copy, Debug, Default, PartialEq, Eq)]
+#[derive(Clone, Copy, Default)]
 pub(crate) struct Command {
     /// The type on the line, which has no time tag.
     pub kind: u8,

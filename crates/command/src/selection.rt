@@ -6,7 +6,7 @@ ghost use Rattle.command.specs.declared.selection.Sign.TheVariants.{Con as ConSi
 use crate::content::{Command, Element, Target};
 
 /// How far the select of a selection has come.
-#[derive(Clone, Copy, Debug, PartialEq, Eq)]
+#[derive(Clone, Copy)]
 pub(crate) enum Stage {
     /// It waits behind so many commands of its station.
     Queued(usize),
@@ -19,7 +19,7 @@ pub(crate) enum Stage {
 }
 
 /// A selection: its select, that select's station and the moment at which it came.
-#[derive(Clone, Copy, Debug, Default, PartialEq, Eq)]
+#[derive(Clone, Copy, Default)]
 pub(crate) struct Selection {
     pub station: usize,
     pub command: Command,
@@ -28,7 +28,7 @@ pub(crate) struct Selection {
 }
 
 /// What selections hear of.
-#[derive(Clone, Copy, Debug, PartialEq, Eq)]
+#[derive(Clone, Copy)]
 pub(crate) enum Sign {
     /// A command goes out to the station for the first time.
     Sending(usize),

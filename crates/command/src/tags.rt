@@ -20,7 +20,7 @@ pub(crate) const TAG_OCTETS: usize = 7;
 
 /// A command of types 45 to 49 that went out for the first time: what it is of, and the tag that it
 /// came with, if it had one.
-#[derive(Clone, Copy, Debug)]
+#[derive(Clone, Copy)]
 pub(crate) struct Sending {
     pub target: Target,
     pub tag: Option<Cp56>,
