@@ -48,7 +48,8 @@ length-requests : (xs : List Exchange) → length (requests_of xs) ≡ length xs
 length-requests [] = refl
 length-requests (x ∷ xs) = omega (arith, length-requests xs)
 
-pub exchanges_few : (p : Setup) (ds : List Directive) (i : ℕ) (log : Log) → length (exchanges_with p i log) ≤ requests_in log
+pub exchanges_few : (p : Setup) (ds : List Directive) (i : ℕ) (log : Log)
+    → length (exchanges_with p i log) ≤ requests_in log
 exchanges_few p ds i log =
     let same : length (requests_of (exchanges_with p i log)) ≡ length (asked_of (requests_to p ds i log)) =
     ap length (same_asked p ds i log) in

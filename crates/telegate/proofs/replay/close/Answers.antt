@@ -8,5 +8,6 @@ returns g c = λ before text poured.
     let closing : List ℕ = closing_lines c.args.closing.left c.args.closing.counts c.args.gateway.now in
     let lines : c.as_bytes.result.now ≡ closing = c.as_bytes.ensures.value ∙ c.in_ok-push_closing.ensures
     ∙ ap (λ (xs : List ℕ). xs ++ closing) c.new-lines.ensures.bytes in
-    subst (λ (xs : List ℕ). IsClosedBy before (g.W.Write.contents c.print_closing.new.out) text xs c.print_closing.result)
+    subst (λ (xs : List ℕ). IsClosedBy before
+    (g.W.Write.contents c.print_closing.new.out) text xs c.print_closing.result)
     lines (c.print_closing.ensures before text poured)

@@ -38,7 +38,8 @@ returns-in-Finished-clause-answer g c = λ text read right.
     (at_finish end (IsAccounted p state port.log) c.in-Finished.is
     (c.drive_printed-end.ensures.accounts p begun.0 begun.1))
     c.close.result (c.close.ensures before (lines_of_actions port.log)
-    (poured_all c.drive_printed-end.result.1 before (g.W.Write.contents c.drive_printed-end.new.out) port.log port.poured
+    (poured_all c.drive_printed-end.result.1 before
+    (g.W.Write.contents c.drive_printed-end.new.out) port.log port.poured
     c.drive_printed-end.ensures.all c.drive_printed-end.ensures.poured))
 
 pub returns-in-Device-clause-answer : goal.returns-in-Device-clause-answer
