@@ -85,6 +85,13 @@ fn is_refused(octets: &[u8], place: usize, why: Why) -> bool {
     Assembler::new().feed(octets) == (octets.len(), Heard::Never(place, why))
 }
 
+/// Whether all of them are refused so.
+fn are_refused() -> bool {
+    REFUSED
+        .iter()
+        .all(|(octets, place, why)| is_refused(octets, *place, *why))
+}
+
 #[test]
 fn apdus_of_each_format_and_refusals(rt: HostRuntime) {
     for (function, control) in FUNCTIONS {
@@ -104,9 +111,7 @@ fn apdus_of_each_format_and_refusals(rt: HostRuntime) {
     let mut octets = [0; 255];
     assert!(rt; write_information(&mut octets, 32767, 0, &LAST_NUMBER[6..]) == 15);
     assert!(rt; octets[..15] == LAST_NUMBER[..]);
-    for (octets, place, why) in REFUSED {
-        assert!(rt; is_refused(octets, place, why));
-    }
+    assert!(rt; are_refused());
     // A length from 5 to 12 is judged with the octet after it.
     for len in 4u8..=253 {
         assert!(rt; front(&[0x68, len]) == Front::More);
@@ -308,11 +313,16 @@ fn is_heard_with_each_octet_at(place: usize) -> bool
     true
 }
 
+/// Whether each of the APDUs is heard alike at each cut.
+fn are_heard_alike() -> bool {
+    APDUS
+        .iter()
+        .all(|octets| is_heard_alike_at_each_cut(octets))
+}
+
 #[test]
 fn every_cut_is_heard_alike(rt: HostRuntime) {
-    for octets in APDUS {
-        assert!(rt; is_heard_alike_at_each_cut(octets));
-    }
+    assert!(rt; are_heard_alike());
     for (_, control) in FUNCTIONS {
         assert!(rt; is_heard_alike_at_each_cut(&[0x68, 0x04, control, 0x00, 0x00, 0x00]));
     }

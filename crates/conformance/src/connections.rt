@@ -160,7 +160,10 @@ fn started(alloc: Global, k: u16) -> Result<Session, NoMemory>
 
 /// What happens on a connection, in the order of its calls: by whether its k is 32767 or 12, what
 /// leads up to it, and what it is about.
-const CONNECTIONS: [(&str, bool, &[Step], &[Step]); 14] = [
+type Course = (&'static str, bool, &'static [Step], &'static [Step]);
+
+/// Starts, stops, timers and cuts.
+const COURSES: [Course; 4] = [
     (
         "a frame waits for t1",
         false,
@@ -258,6 +261,10 @@ const CONNECTIONS: [(&str, bool, &[Step], &[Step]); 14] = [
             Step::Send(Kind::Queue, 100002, 0, 0),
         ],
     ),
+];
+
+/// Frames that close the connection.
+const FAULTS: [Course; 6] = [
     (
         "a report before data transfer is started",
         false,
@@ -310,6 +317,10 @@ const CONNECTIONS: [(&str, bool, &[Step], &[Step]); 14] = [
             Step::Report(0, 1, 10, Taken::Close(Close::Stopped)),
         ],
     ),
+];
+
+/// Numbers that run over.
+const ROUNDS: [Course; 4] = [
     (
         "numbers of frames that go out run over",
         false,
@@ -364,13 +375,50 @@ const CONNECTIONS: [(&str, bool, &[Step], &[Step]); 14] = [
     ),
 ];
 
+/// Whether the calls of a new session answer what they are to: those that lead up to others, and
+/// these.
+fn answers_of(
+    alloc: Global,
+    is_wide: bool,
+    before: &[Step],
+    steps: &[Step],
+) -> Result<(bool, bool), NoMemory> {
+    let mut session = session(alloc, if is_wide { 32767 } else { 12 })?;
+    let led = all_answer(&mut session, before);
+    let answered = all_answer(&mut session, steps);
+    Ok((led, answered))
+}
+
+/// The first of these whose calls aren't all answered as they are to be.
+fn first_wrong_of(alloc: Global, courses: &[Course]) -> Result<Option<&'static str>, NoMemory> {
+    for (name, is_wide, before, steps) in courses {
+        let (led, answered) = answers_of(alloc, *is_wide, before, steps)?;
+        if !led || !answered {
+            return Ok(Some(*name));
+        }
+    }
+    Ok(None)
+}
+
+fn first_wrong_course(alloc: Global) -> Result<Option<&'static str>, NoMemory> {
+    first_wrong_of(alloc, &COURSES)
+}
+
+fn first_wrong_fault(alloc: Global) -> Result<Option<&'static str>, NoMemory> {
+    first_wrong_of(alloc, &FAULTS)
+}
+
+fn first_wrong_round(alloc: Global) -> Result<Option<&'static str>, NoMemory> {
+    first_wrong_of(alloc, &ROUNDS)
+}
+
+// Each list is gone through by a function of its own: what a function costs the proof grows faster
+// than the constants that it names.
 #[test]
 fn calls_answer_in_their_order(rt: HostRuntime) -> Result<(), Fail> {
-    for (name, is_wide, before, steps) in CONNECTIONS {
-        let mut session = session(rt.alloc(), if is_wide { 32767 } else { 12 })?;
-        assert!(rt; all_answer(&mut session, before), "before {name}");
-        assert!(rt; all_answer(&mut session, steps), "{name}");
-    }
+    assert_eq!(rt; first_wrong_course(rt.alloc())?, None);
+    assert_eq!(rt; first_wrong_fault(rt.alloc())?, None);
+    assert_eq!(rt; first_wrong_round(rt.alloc())?, None);
     Ok(())
 }
 
@@ -477,15 +525,27 @@ fn are_alike(lent: &mut Session, kept: &mut Session) -> bool {
         && lent.pull(10007) == kept.pull(10007)
 }
 
+/// How many of the frames, in their order, lead to the same whether they are lent or copied.
+fn count_alike(lent: &mut Session, kept: &mut Session) -> usize {
+    let mut count: usize = 0;
+    let send = Step::Send(Kind::Queue, 6, 0, 0);
+    if !answers(lent, &send) || !answers(kept, &send) {
+        return count;
+    }
+    for (octets, taken) in FRAMES {
+        if !leads_to(lent, kept, octets, taken) {
+            return count;
+        }
+        count = count.wrapping_add(1);
+    }
+    count
+}
+
 #[test]
 fn lent_frames_lead_to_the_same(rt: HostRuntime) -> Result<(), Fail> {
     let mut lent = started(rt.alloc(), 12)?;
     let mut kept = started(rt.alloc(), 12)?;
-    let send = Step::Send(Kind::Queue, 6, 0, 0);
-    assert!(rt; answers(&mut lent, &send));
-    assert!(rt; answers(&mut kept, &send));
-    for (octets, taken) in FRAMES {
-        assert!(rt; leads_to(&mut lent, &mut kept, octets, taken));
-    }
+    let count = count_alike(&mut lent, &mut kept);
+    assert!(rt; count == FRAMES.len(), "{count}");
     Ok(())
 }

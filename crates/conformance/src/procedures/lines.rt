@@ -1,7 +1,9 @@
 //! One station, with its polls and commands.
 
 use super::bench::{Bench, Script, Step, Told};
+use super::first_wrong_of;
 use link::{NoMemory, RequestKind};
+use std::alloc::Global;
 
 /// One single point, spontaneous, at 100.
 pub(super) const REPORT: [u8; 15] = [
@@ -44,7 +46,7 @@ const INTERROGATES: [u8; 15] = [
     0x68, 0x09, 0x09, 0x68, 0x53, 0x01, 0x64, 0x01, 0x06, 0x01, 0x00, 0x00, 0x14, 0xD4, 0x16,
 ];
 
-pub(super) const SCRIPTS: &[Script<'static>] = &[
+const SCRIPTS: &[Script<'static>] = &[
     (
         "a report is taken once",
         (3, true, 8),
@@ -217,6 +219,11 @@ pub(super) const SCRIPTS: &[Script<'static>] = &[
         ],
     ),
 ];
+
+/// The first of them whose calls aren't all answered as they are to be.
+pub(super) fn first_wrong(alloc: Global) -> Result<Option<&'static str>, NoMemory> {
+    first_wrong_of(alloc, SCRIPTS)
+}
 
 #[test]
 fn a_report_comes_in_two_pieces(rt: HostRuntime) -> Result<(), NoMemory> {

@@ -1,8 +1,12 @@
 //! A primary and a secondary station over a line that loses one request or answer.
 
+ghost use Rattle.std.specs.Prelude.{◌≡◌};
+ghost use Rattle.ft12.specs.declared.frame.LinkSize.TheVariants.{One};
+
 use super::bench::settings;
 use ft12::{LinkSize, encode};
 use link::{Master, NoMemory, Outcome, Station};
+use std::alloc::Global;
 
 /// What is lost of the exchange with this number.
 #[derive(Clone, Copy)]
@@ -61,23 +65,41 @@ fn taken(master: &mut Master, station: &mut Station, loss: Loss) -> u64 {
     taken
 }
 
+/// A station with five reports.
+fn station(alloc: Global) -> Result<Station, NoMemory> {
+    let mut station = Station::new(alloc, LinkSize::One, 1);
+    report_five(&mut station)?;
+    Ok(station)
+}
+
+/// Five reports wait from now on.
+fn report_five(station: &mut Station) -> Result<(), NoMemory>
+    requires { station.old.size ≡ One }
+{
+    station.report2(&[1])?;
+    station.report2(&[2])?;
+    station.report2(&[3])?;
+    station.report2(&[4])?;
+    station.report2(&[5])
+}
+
+/// The reports that a master takes of that station, as one number, and how many the station gave.
+fn taken_and_given(alloc: Global, loss: Loss) -> Result<(u64, u64), NoMemory> {
+    let mut station = station(alloc)?;
+    let mut master = Master::new(alloc, settings((0, true, 8)), &[1])?;
+    let taken = taken(&mut master, &mut station, loss);
+    Ok((taken, station.given()))
+}
+
 #[test]
 fn each_report_comes_once(rt: HostRuntime) -> Result<(), NoMemory> {
     for exchange in 0..16 {
         for request in [true, false] {
-            let mut station = Station::new(rt.alloc(), LinkSize::One, 1);
-            station.report2(&[1])?;
-            station.report2(&[2])?;
-            station.report2(&[3])?;
-            station.report2(&[4])?;
-            station.report2(&[5])?;
-            let mut master = Master::new(rt.alloc(), settings((0, true, 8)), &[1])?;
             let loss = Loss { exchange, request };
             assert!(rt;
-                taken(&mut master, &mut station, loss) == 0x12345,
+                taken_and_given(rt.alloc(), loss)? == (0x12345, 5),
                 "at {exchange}"
             );
-            assert!(rt; station.given() == 5);
         }
     }
     Ok(())

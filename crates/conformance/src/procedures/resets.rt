@@ -2,6 +2,9 @@
 //! that wasn't answered by 8, 9 or E5.
 
 use super::bench::{Script, Step, Told};
+use super::first_wrong_of;
+use link::NoMemory;
+use std::alloc::Global;
 
 const POLL: [u8; 5] = [0x10, 0x7B, 0x01, 0x7C, 0x16];
 
@@ -22,7 +25,7 @@ const COMMAND: [u8; 9] = [0x68, 0x03, 0x03, 0x68, 0x53, 0x01, 0x07, 0x5B, 0x16];
 
 const NEXT_COMMAND: [u8; 9] = [0x68, 0x03, 0x03, 0x68, 0x73, 0x01, 0x07, 0x7B, 0x16];
 
-pub(super) const SCRIPTS: &[Script<'static>] = &[
+const SCRIPTS: &[Script<'static>] = &[
     (
         "an unanswered poll leaves a gap",
         (0, false, 8),
@@ -110,3 +113,8 @@ pub(super) const SCRIPTS: &[Script<'static>] = &[
         ],
     ),
 ];
+
+/// The first of them whose calls aren't all answered as they are to be.
+pub(super) fn first_wrong(alloc: Global) -> Result<Option<&'static str>, NoMemory> {
+    first_wrong_of(alloc, SCRIPTS)
+}

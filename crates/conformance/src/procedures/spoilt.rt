@@ -1,9 +1,12 @@
 //! Which exchanges count as spoilt.
 
 use super::bench::{Script, Step, Told};
+use super::first_wrong_of;
 use super::lines::{CLASS2, NEXT_CLASS2, POINT, REPORT, SPOILT};
+use link::NoMemory;
+use std::alloc::Global;
 
-pub(super) const SCRIPTS: &[Script<'static>] = &[
+const SCRIPTS: &[Script<'static>] = &[
     (
         "a wrong sum is spoilt once the time is over",
         (3, true, 8),
@@ -71,3 +74,8 @@ pub(super) const SCRIPTS: &[Script<'static>] = &[
         ],
     ),
 ];
+
+/// The first of them whose calls aren't all answered as they are to be.
+pub(super) fn first_wrong(alloc: Global) -> Result<Option<&'static str>, NoMemory> {
+    first_wrong_of(alloc, SCRIPTS)
+}

@@ -1,7 +1,9 @@
 //! Two stations: how they are started, and take turns.
 
 use super::bench::{Script, Step, Told};
-use link::RequestKind;
+use super::first_wrong_of;
+use link::{NoMemory, RequestKind};
+use std::alloc::Global;
 
 const STATUS: [u8; 5] = [0x10, 0x49, 0x01, 0x4A, 0x16];
 
@@ -14,7 +16,7 @@ const OTHER_RESET: [u8; 5] = [0x10, 0x40, 0x02, 0x42, 0x16];
 
 const POLL: [u8; 5] = [0x10, 0x7B, 0x01, 0x7C, 0x16];
 
-pub(super) const SCRIPTS: &[Script<'static>] = &[
+const SCRIPTS: &[Script<'static>] = &[
     (
         "a silent station loses its turn",
         (0, true, 8),
@@ -70,3 +72,8 @@ pub(super) const SCRIPTS: &[Script<'static>] = &[
         ],
     ),
 ];
+
+/// The first of them whose calls aren't all answered as they are to be.
+pub(super) fn first_wrong(alloc: Global) -> Result<Option<&'static str>, NoMemory> {
+    first_wrong_of(alloc, SCRIPTS)
+}

@@ -5,6 +5,7 @@ ghost use Rattle.link.specs.Requests.{FitsFrame};
 
 use ft12::{Frame, LinkSize};
 use link::{NoMemory, Station};
+use std::alloc::Global;
 
 const STATUS: [u8; 5] = [0x10, 0x49, 0x01, 0x4A, 0x16];
 
@@ -115,13 +116,27 @@ const SCRIPTS: [(&str, &[Step<'static>]); 3] = [
     ),
 ];
 
+/// How many of the calls of a new station, in their order, answer what they are to.
+fn count_of_answers(alloc: Global, steps: &[Step]) -> Result<usize, NoMemory> {
+    let mut station = Station::new(alloc, LinkSize::One, 1);
+    count_right(&mut station, steps)
+}
+
+fn count_right(station: &mut Station, steps: &[Step]) -> Result<usize, NoMemory> {
+    let mut count: usize = 0;
+    for step in steps {
+        if !is_right(station, step)? {
+            return Ok(count);
+        }
+        count = count.wrapping_add(1);
+    }
+    Ok(count)
+}
+
 #[test]
 fn calls_answer_in_their_order(rt: HostRuntime) -> Result<(), NoMemory> {
     for (name, steps) in SCRIPTS {
-        let mut station = Station::new(rt.alloc(), LinkSize::One, 1);
-        for (place, step) in steps.iter().enumerate() {
-            assert!(rt; is_right(&mut station, step)?, "{name}, call {place}");
-        }
+        assert_eq!(rt; count_of_answers(rt.alloc(), steps)?, steps.len(), "{name}");
     }
     Ok(())
 }
@@ -131,26 +146,50 @@ const COMMAND: [u8; 15] = [
     0x68, 0x09, 0x09, 0x68, 0x73, 0x01, 0x2D, 0x01, 0x06, 0x01, 0x0A, 0x00, 0x01, 0xB4, 0x16,
 ];
 
+/// Whether a new station that is reset accepts the command.
+fn is_accepted(alloc: Global) -> Result<bool, NoMemory> {
+    let mut station = Station::new(alloc, LinkSize::One, 1);
+    accepts(&mut station)
+}
+
+fn accepts(station: &mut Station) -> Result<bool, NoMemory> {
+    if !is_answer(&station.hear(&RESET), Answer::Single) {
+        return Ok(false);
+    }
+    let answer = station.hear(&COMMAND);
+    if is_answer(&answer, Answer::Single) {
+        return Ok(has_command(station));
+    }
+    if is_answer(&answer, Answer::Fixed(0x01)) && station.accepted().is_empty() {
+        return Err(NoMemory);
+    }
+    Ok(false)
+}
+
+/// Whether the command, and no other, was accepted.
+fn has_command(station: &Station) -> bool {
+    match station.accepted() {
+        [asdu] => asdu.as_slice() == &COMMAND[6..13],
+        _ => false,
+    }
+}
+
+/// A report comes to a new station: whether its status tells of it where there was memory.
+fn report(alloc: Global) -> (bool, Result<(), NoMemory>) {
+    let mut station = Station::new(alloc, LinkSize::One, 1);
+    let reported = station.report1(&[7]);
+    let control = if reported.is_ok() { 0x2B } else { 0x0B };
+    let is_told = is_answer(&station.hear(&STATUS), Answer::Fixed(control));
+    (is_told, reported)
+}
+
 /// A command is accepted. Where memory is refused it is answered that the station is busy, and the
 /// test fails. A report waits, and ACD says so. Where memory is refused nothing changes, and the
 /// test fails.
 #[test]
 fn commands_and_reports_need_memory(rt: HostRuntime) -> Result<(), NoMemory> {
-    let mut station = Station::new(rt.alloc(), LinkSize::One, 1);
-    assert!(rt; is_answer(&station.hear(&RESET), Answer::Single));
-    let answer = station.hear(&COMMAND);
-    if !is_answer(&answer, Answer::Single) {
-        assert!(rt; is_answer(&answer, Answer::Fixed(0x01)));
-        assert!(rt; station.accepted().is_empty());
-        return Err(NoMemory);
-    }
-    assert!(rt; station.accepted().len() == 1);
-    for asdu in station.accepted() {
-        assert!(rt; asdu.as_slice() == &COMMAND[6..13]);
-    }
-    let mut station = Station::new(rt.alloc(), LinkSize::One, 1);
-    let reported = station.report1(&[7]);
-    let control = if reported.is_ok() { 0x2B } else { 0x0B };
-    assert!(rt; is_answer(&station.hear(&STATUS), Answer::Fixed(control)));
+    assert!(rt; is_accepted(rt.alloc())?);
+    let (is_told, reported) = report(rt.alloc());
+    assert!(rt; is_told);
     reported
 }
