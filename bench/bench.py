@@ -223,16 +223,16 @@ def replay(program, settings, trace, output=os.devnull):
 
 
 def most_memory(program, settings, trace):
-    """The peak of the resident memory of one replay in octets, as it stands when the program prints: the run is over then, and waits
-    for its output to be taken. (What the system tells at the end begins with the memory of this process.)"""
+    """The peak of the resident memory of one replay in octets, as it stands whenever the program prints: it may print while it goes
+    on, and waits for its output to be taken. (What the system tells at the end begins with the memory of this process.)"""
+    peak = 0
     with subprocess.Popen([program, "replay", settings, trace], stdout=subprocess.PIPE) as child:
-        os.read(child.stdout.fileno(), 1)
-        with open(f"/proc/{child.pid}/status") as status:
-            peaks = [line.split()[1] for line in status if line.startswith("VmHWM:")]
-        while os.read(child.stdout.fileno(), 1 << 20):
-            pass
-    # What prints less than a pipe holds is gone already.
-    return int(peaks[0]) * 1024 if peaks else 0
+        while os.read(child.stdout.fileno(), 4096):
+            with open(f"/proc/{child.pid}/status") as status:
+                peaks = [line.split()[1] for line in status if line.startswith("VmHWM:")]
+            # One that has ended tells none.
+            peak = max([peak, *(int(octets) * 1024 for octets in peaks)])
+    return peak
 
 
 def made(folder, name, events):

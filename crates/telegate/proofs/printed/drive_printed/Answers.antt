@@ -60,8 +60,8 @@ parts-preserved g c =
     let old = g.P.Port.log c.args.port.now in
     record {
       within = search rules;
-      more = subst (λ (told : Option Log). MoreEvents (c.parts.done + 2048) old told) (sym c.pour-is_whole.ensures.log)
-          (turns_joined c.parts.done 2048 (c.parts.done + 2048) old (g.P.Port.log c.parts.port) (g.P.Port.log port) refl
+      more = subst (λ (told : Option Log). MoreEvents (c.parts.done + 256) old told) (sym c.pour-is_whole.ensures.log)
+          (turns_joined c.parts.done 256 (c.parts.done + 256) old (g.P.Port.log c.parts.port) (g.P.Port.log port) refl
           c.parts.invariant.more (c.drive_on-end.ensures.turns c.in-Turns.is));
       kept = λ p begins rested. subst (λ (told : Option Log). Follows p c.drive_on-end.new.gateway told)
           (sym c.pour-is_whole.ensures.log)
