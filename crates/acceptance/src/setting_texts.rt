@@ -170,12 +170,23 @@ static PLACES: [(&'static str, &'static str); 26] = [
     ),
 ];
 
+/// Whether the text is read as these settings.
+fn reads(
+    alloc: Global,
+    text: &str,
+    line: &LineSettings,
+    tcp: &TcpSettings,
+    stations: &[Station],
+) -> Result<bool, Fail> {
+    let config = read_config(alloc, text.as_bytes())?;
+    let is_line = *config.line() == *line && *config.tcp() == *tcp;
+    Ok(is_line && config.stations() == stations)
+}
+
 #[test]
 fn settings_are_read(rt: HostRuntime) -> Result<(), Fail> {
     for (text, line, tcp, stations) in VALUES {
-        let config = read_config(rt.alloc(), text.as_bytes())?;
-        assert!(rt; *config.line() == line && *config.tcp() == tcp);
-        assert!(rt; config.stations() == stations);
+        assert!(rt; reads(rt.alloc(), text, &line, &tcp, stations)?);
     }
     for (live, want) in &PLACES {
         assert!(rt; verdict(rt.alloc(), *live)?.as_str() == *want, "{live}");

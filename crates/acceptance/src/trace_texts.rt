@@ -162,23 +162,37 @@ const TEXTS: [(&[u8], usize, &[Step], &[u8]); 5] = [
     ),
 ];
 
+/// Whether a trace of the text gives so many events, answers these calls, and writes this page.
+fn trace_answers(
+    alloc: Global,
+    text: &[u8],
+    count: usize,
+    steps: &[Step],
+    page: &[u8],
+) -> Result<bool, Fail> {
+    let entries = read_trace(alloc, text)?;
+    let has_all = entries.len() == count;
+    let mut port = Trace::<Vec<u8>>::new(alloc, entries, Vec::new(alloc));
+    let answered = all_answer(&mut port, steps) && port.failures() == 0 && !port.refused();
+    let written = port.into_writer();
+    Ok(has_all && answered && written.as_slice() == page)
+}
+
+/// Whether a port over the text answers these calls, and has this page until it is cleared.
+fn text_answers(alloc: Global, text: &[u8], steps: &[Step], page: &[u8]) -> bool {
+    let mut port = TextPort::new(alloc, text);
+    let answered = all_answer(&mut port, steps) && port.failures() == 0 && port.page() == page;
+    port.clear_page();
+    answered && port.page().is_empty()
+}
+
 #[test]
 fn texts_give_events_and_get_actions(rt: HostRuntime) -> Result<(), Fail> {
     let alloc = rt.alloc();
     for (text, count, steps, page) in TEXTS {
-        let entries = read_trace(alloc, text)?;
-        assert!(rt; entries.len() == count);
-        let mut port = Trace::<Vec<u8>>::new(alloc, entries, Vec::new(alloc));
-        assert!(rt; all_answer(&mut port, steps));
-        assert!(rt; port.failures() == 0 && !port.refused());
-        assert!(rt; port.into_writer().as_slice() == page);
+        assert!(rt; trace_answers(alloc, text, count, steps, page)?);
         assert!(rt; judge(text)? == count as u64);
-        let mut port = TextPort::new(alloc, text);
-        assert!(rt; all_answer(&mut port, steps));
-        assert!(rt; port.failures() == 0);
-        assert!(rt; port.page() == page);
-        port.clear_page();
-        assert!(rt; port.page().is_empty());
+        assert!(rt; text_answers(alloc, text, steps, page));
     }
     Ok(())
 }
@@ -192,25 +206,26 @@ fn long_line(alloc: Global, octets: usize) -> Result<String, Fail> {
     Ok(text)
 }
 
-/// Octets are 1 to 1,024; a fault is printed; an action of the log has a line, and so has an event
-/// of a port.
-#[test]
-fn the_longest_line_and_lines_one_by_one(rt: HostRuntime) -> Result<(), Fail> {
-    let alloc = rt.alloc();
+/// Whether a line has 1,024 octets at most.
+fn is_longest_line_read(alloc: Global) -> Result<bool, Fail> {
     let entries = read_trace(alloc, long_line(alloc, 1024)?.as_bytes())?;
-    match entries.as_slice() {
+    Ok(match entries.as_slice() {
         [Entry::Line(_, octets)] => {
-            assert!(rt; octets.len() == 1024 && octets.iter().all(|octet| *octet == 0xAB));
+            octets.len() == 1024 && octets.iter().all(|octet| *octet == 0xAB)
         }
-        _ => assert!(rt; false),
-    }
+        _ => false,
+    })
+}
+
+fn is_longer_line_refused(alloc: Global) -> Result<bool, Fail> {
     let refused = read_trace(alloc, long_line(alloc, 1025)?.as_bytes()).err();
-    assert!(rt; refused == Some(TextFault::Line(1)));
-    let (wrong, memory) = (TextFault::Line(12), TextFault::NoMemory);
-    assert!(rt; format!(in alloc; "{wrong}, {memory}")?.as_str() == "line 12, no memory");
-    let mut lines = String::new(alloc);
-    append_line(alloc, &mut lines, &Told::Came(Entry::Tick(5)))?;
-    append_line(alloc, &mut lines, &Told::Close(70, Close::Timeout))?;
+    Ok(refused == Some(TextFault::Line(1)))
+}
+
+/// The lines of actions of a log, and of events of a port.
+fn append_each(alloc: Global, lines: &mut String) -> Result<(), Fail> {
+    append_line(alloc, lines, &Told::Came(Entry::Tick(5)))?;
+    append_line(alloc, lines, &Told::Close(70, Close::Timeout))?;
     let mut buf = [0; 1024];
     buf[0] = 0xE5;
     buf[1] = 0x6A;
@@ -224,13 +239,27 @@ fn the_longest_line_and_lines_one_by_one(rt: HostRuntime) -> Result<(), Fail> {
         Next::Done,
         Next::Fault,
     ] {
-        append_event(alloc, &mut lines, next, &buf)?;
+        append_event(alloc, lines, next, &buf)?;
     }
+    Ok(())
+}
+
+/// Octets are 1 to 1,024; a fault is printed; an action of the log has a line, and so has an event
+/// of a port.
+#[test]
+fn the_longest_line_and_lines_one_by_one(rt: HostRuntime) -> Result<(), Fail> {
+    let alloc = rt.alloc();
+    assert!(rt; is_longest_line_read(alloc)? && is_longer_line_refused(alloc)?);
+    let (wrong, memory) = (TextFault::Line(12), TextFault::NoMemory);
+    assert!(rt; format!(in alloc; "{wrong}, {memory}")?.as_str() == "line 12, no memory");
+    let mut lines = String::new(alloc);
+    append_each(alloc, &mut lines)?;
     assert!(rt;
         lines.as_str() == "70 > X 5\n0 T\n7 S E56A\n9 O\n10 R E5\n11 C\n12 W 1709210100000\n"
     );
     Ok(())
 }
+
 /// Takes so many octets, one a write, and then fails.
 #[derive(Drop)]
 struct Failing {
@@ -254,32 +283,30 @@ impl Write for Failing {
     }
 }
 
+/// Whether a port fails where its writer takes fewer octets than a line has, which are 9.
+fn fails_where_full(alloc: Global, octets: u64) -> Result<bool, Fail> {
+    let entries = read_trace(alloc, b"7 T\n")?;
+    let mut port = Trace::<Failing>::new(alloc, entries, Failing { octets });
+    let mut buf = [0; 1024];
+    let fits = octets >= 9;
+    let is_put = matches!(port.next(&mut buf), Next::Tick(0))
+        && port.put(7, &Action::Line(&[0xE5])) == fits
+        && port.failures() == if fits { 0 } else { 1 };
+    // A port that failed gives nothing more.
+    let is_told = is_put
+        && (fits
+            || matches!(port.next(&mut buf), Next::Fault)
+                && !port.put(7, &Action::Tcp(&[0x68]))
+                && port.failures() == 3);
+    let is_refused = port.refused();
+    let _ = port.into_writer();
+    Ok(is_told && !is_refused)
+}
+
 #[test]
 fn a_write_that_fails_is_a_fault_of_the_port(rt: HostRuntime) -> Result<(), Fail> {
-    let alloc = rt.alloc();
-    // A line is 9 octets long.
     for octets in 0..20u64 {
-        let mut port = Trace::<Failing>::new(
-            alloc,
-            read_trace(alloc, b"7 T\n")?,
-            Failing { octets },
-        );
-        let mut buf = [0; 1024];
-        assert!(rt; matches!(port.next(&mut buf), Next::Tick(0)));
-        assert_eq!(rt;
-            port.put(7, &Action::Line(&[0xE5])),
-            octets >= 9,
-            "{octets}"
-        );
-        assert_eq!(rt; port.failures(), if octets >= 9 { 0 } else { 1 });
-        // A port that failed gives nothing more.
-        if octets < 9 {
-            assert!(rt; matches!(port.next(&mut buf), Next::Fault));
-            assert!(rt; !port.put(7, &Action::Tcp(&[0x68])));
-            assert_eq!(rt; port.failures(), 3);
-        }
-        assert!(rt; !port.refused());
-        let _ = port.into_writer();
+        assert!(rt; fails_where_full(rt.alloc(), octets)?, "{octets}");
     }
     Ok(())
 }
