@@ -17,8 +17,8 @@ use gateway::{End, Gateway, drive_on};
 use std::io;
 use std::io::Write;
 
-/// So many turns pass before their lines are printed: some 12 KB, where each event has an action, and
-/// 1.3 MB at most, where each has as many APDUs to answer as it can bring.
+/// So many turns pass before their lines are printed: some 12 KB, where each event has an action,
+/// and 1.3 MB at most, where each has as many APDUs to answer as it can bring.
 const PART: u64 = 256;
 
 /// So many turns pass before it is told how far a run has come: 2^19, about half a second.
