@@ -37,6 +37,7 @@ pub fn head(sizes: Sizes, octets: &[u8]) -> Option<Head>
 
 /// Reads an ASDU, which takes all of the octets, in the sizes given (IEC 60870-5-101, 7.1 and 7.2).
 /// The types are those of `TypeId`, each with SQ 0 or 1; `Refused` says why octets are none.
+#[inline(always)]
 pub fn read(sizes: Sizes, octets: &[u8]) -> Result<Asdu<'_>, Refused>
     ensures source { IfOk result (λ asdu. (asdu.sizes ≡ sizes) × (asdu.octets.now ≡ octets.now)) }
     // What is read is the ASDU that the octets are.
@@ -55,6 +56,7 @@ pub fn read(sizes: Sizes, octets: &[u8]) -> Result<Asdu<'_>, Refused>
     check(sizes, octets)
 }
 
+#[inline(always)]
 fn check(sizes: Sizes, octets: &[u8]) -> Result<Asdu<'_>, Refused>
     ensures source { IfOk result (λ asdu. (asdu.sizes ≡ sizes) × (asdu.octets.now ≡ octets.now)) }
     ensures refused { IfErr result (λ why. refusal sizes octets.now ≡ Some why.0) }

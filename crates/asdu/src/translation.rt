@@ -48,6 +48,7 @@ impl<'a> Translation<'a> {
 
     /// All pieces of a report are still to be written. Each has 9 to 249 octets, and there are at
     /// most three of a report of at most 253 octets.
+    #[inline(always)]
     pub fn new(asdu: &'a Asdu<'a>) -> Translation<'a>
         ensures pieces { result ≡ report_pieces (value_of asdu.now) }
         ensures lengths { AllByRecursion (λ p. (9 ≤ length p) × (length p ≤ 249)) result }
@@ -61,6 +62,7 @@ impl<'a> Translation<'a> {
     }
 
     /// Whether all pieces are written.
+    #[inline(always)]
     pub fn is_over(&self) -> bool
         ensures { result ≡ (length self.now == 0) }
     {
@@ -68,6 +70,7 @@ impl<'a> Translation<'a> {
     }
 
     /// Writes the next piece in place of what `piece` held.
+    #[inline(always)]
     pub fn write_next(&mut self, piece: &mut Piece)
         requires { 1 ≤ length self.old }
         ensures { self.old ≡ piece.new.items ∷ self.new }

@@ -87,6 +87,7 @@ pub(crate) fn spell<const N: usize>(sizes: Sizes, asdu: &Asdu, chunk: Objects) -
 }
 
 /// Writes the ASDU with these of its objects.
+#[inline(always)]
 pub(crate) fn spell_into<const N: usize>(
     out: &mut ArrayVec<u8, N>,
     sizes: Sizes,
@@ -171,6 +172,7 @@ fn append_lead<const N: usize>(out: &mut ArrayVec<u8, N>, size: IoaSize, address
 }
 
 /// Appends objects, in a sequence without their addresses.
+#[inline(always)]
 fn append_objects<const N: usize>(out: &mut ArrayVec<u8, N>, size: IoaSize, objects: Objects)
     requires { array_vec_len out.old
         + length (spelled_infos (ioa_len size) (is_some objects.next_address) (infos_left objects))
@@ -187,6 +189,7 @@ fn append_objects<const N: usize>(out: &mut ArrayVec<u8, N>, size: IoaSize, obje
 }
 
 /// Appends objects with their addresses. Where these keep their size the octets stay as they are.
+#[inline(always)]
 fn append_located<const N: usize>(out: &mut ArrayVec<u8, N>, size: IoaSize, objects: Objects)
     requires mode { objects.next_address ≡ None }
     requires room { array_vec_len out.old
@@ -196,12 +199,45 @@ fn append_located<const N: usize>(out: &mut ArrayVec<u8, N>, size: IoaSize, obje
 {
     if objects.ioa == size {
         append(out, objects.text());
+    } else if objects.left == 1 {
+        append_one(out, size, objects);
     } else {
         append_resized(out, size, objects);
     }
 }
 
+/// Appends one object whose address changes its size, as most reports have it.
+#[inline(always)]
+fn append_one<const N: usize>(out: &mut ArrayVec<u8, N>, size: IoaSize, objects: Objects)
+    requires mode { objects.next_address ≡ None }
+    requires one { objects.left ≡ 1 }
+    requires room { array_vec_len out.old
+        + length (spelled_infos (ioa_len size) false (infos_left objects)) ≤ N }
+    ensures { out.new.items ≡ out.old.items
+        ++ spelled_infos (ioa_len size) false (infos_left objects.entry) }
+{
+    let address = objects.ioa.octets();
+    let both = address + content_octets(objects.kind);
+    let octets = objects.octets;
+    append_address(out, size, objects.ioa.read(octets));
+    append_content(out, &octets[address..both]);
+}
+
+/// Appends octets that fit. Most often it is one, which is stored and not copied by a call.
+#[inline(always)]
+fn append_content<const N: usize>(out: &mut ArrayVec<u8, N>, octets: &[u8])
+    requires { array_vec_len out.old + length octets.now ≤ N }
+    ensures { out.new.items ≡ out.old.items ++ octets.now }
+{
+    if octets.len() == 1 {
+        out.push(octets[0]);
+    } else {
+        append(out, octets);
+    }
+}
+
 /// Appends objects whose addresses change their size.
+#[inline(never)]
 fn append_resized<const N: usize>(out: &mut ArrayVec<u8, N>, size: IoaSize, objects: Objects)
     requires mode { objects.next_address ≡ None }
     requires room { array_vec_len out.old

@@ -86,13 +86,34 @@ fn keeps_two_marks(events: &mut Events) -> bool {
     are_sent && has_left && is_rewound && is_full && keeps(events, &[2, 3, 4, 5, 6, 7])
 }
 
+/// Whether the oldest unsent piece is this one, is sent and leaves.
+fn leaves(events: &mut Events, octet: u8) -> bool {
+    if !sends(events, octet) {
+        return false;
+    }
+    events.mark_sent();
+    events.acknowledge(1);
+    true
+}
+
+/// Whether what is kept is the same once more has left than that: behind the first piece three
+/// leave, and three stay.
+fn keeps_what_moves(events: &mut Events) -> bool {
+    leaves(events, 2)
+        && leaves(events, 3)
+        && leaves(events, 4)
+        && keeps(events, &[5, 6, 7])
+        && sends(events, 5)
+}
+
 #[test]
 fn a_list_with_two_marks(rt: HostRuntime) -> Result<(), Fail> {
     let mut events = Events::new(rt.alloc(), 7)?;
     let are_right = keeps_two_marks(&mut events);
-    let ring = events.into_ring();
     assert!(rt; are_right);
-    assert_eq!(rt; (ring.len(), ring.capacity()), (6, 7));
+    assert_eq!(rt; events.free(), 1);
+    assert!(rt; keeps_what_moves(&mut events));
+    assert_eq!(rt; events.free(), 4);
     Ok(())
 }
 
