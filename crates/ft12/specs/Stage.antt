@@ -55,6 +55,14 @@ pub record IsSumming (size : LinkSize) (s : Summing) (kept : List ℕ) : Type 0 
   pub short : length (fields_octets size s.fields kept) < s.len
   pub sum_is : s.sum ≡ sum (fields_octets size s.fields kept) % 256
 
+-- one of the octets of data is due, and not the last one
+abbrev pub IsDataDue : LinkSize → Fields → (len : ℕ) → List ℕ → Type 0
+IsDataDue size (fields.Address c a) len kept = 2 + address_len size + length kept < len
+IsDataDue size f len kept = ⊥
+
+abbrev pub IsInData : LinkSize → Summing → List ℕ → Type 0
+IsInData size s kept = IsDataDue size s.fields s.len kept
+
 -- all of them
 pub record IsSummed (size : LinkSize) (s : Summed) (kept : List ℕ) : Type 0 where
   pub len_fits : IsLen size s.kind s.len

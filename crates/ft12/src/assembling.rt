@@ -1,6 +1,6 @@
 //! Frames out of pieces of a stream.
 
-ghost use Rattle.std.specs.Prelude.{◌≡◌, ◌+◌, ◌-◌, ◌^◌, ◌≤◌, ◌<◌, ◌↔◌, [], length, min, slice_index, Some, None, IfSome, IfNone, IsTrue};
+ghost use Rattle.std.specs.Prelude.{◌≡◌, ◌+◌, ◌-◌, ◌^◌, ◌≤◌, ◌<◌, ◌↔◌, [], length, min, slice_index, Some, None, IfSome, IfNone, IsTrue, true, false};
 ghost use Rattle.ft12.specs.declared.assembling.Heard.TheVariants.{Deaf};
 ghost use Rattle.ft12.specs.Assembly.{Hears, HearsInner, looked_at};
 
@@ -56,6 +56,7 @@ impl Model for Assembler {
 }
 
 /// The octet, counted. No octet of a piece is read but here.
+#[inline(always)]
 fn look(looked: &mut u64, octet: &u8) -> u8
     ensures value { result ≡ octet.now }
     ensures counted { looked.new ≡ min (looked.old + 1) (2 ^ 64 - 1) }
@@ -139,6 +140,51 @@ impl Assembler {
     ///
     /// Asks that the single character isn't next: `feed` hears that.
     pub fn feed_inner(&mut self, piece: &[u8]) -> usize
+        requires { self.old.so_far ≡ Some [] → slice_index piece.now 0 ≡ 0xE5 → ⊥ }
+        ensures listening { IfSome self.old.so_far (λ so_far. HearsInner self.old.size so_far
+            piece.now result self.old.looked self.new.looked self.new.so_far) }
+        ensures deaf { IfNone self.old.so_far
+            ((result ≡ length piece.now) × (self.new.so_far ≡ None)
+            × (self.new.looked ≡ self.old.looked)) }
+        ensures size { self.new.size ≡ self.old.size }
+        ensures within { result ≤ length piece.now }
+    {
+        if self.take_data(piece) {
+            return 1;
+        }
+        self.feed_stages(piece)
+    }
+
+    /// Takes a piece of one octet where one of data is due that isn't the last one: the commonest
+    /// piece of a line that is read octet by octet. Else nothing changes.
+    #[inline(always)]
+    fn take_data(&mut self, piece: &[u8]) -> bool
+        ensures taken { result ≡ true → IfSome self.old.so_far (λ so_far. HearsInner self.old.size
+            so_far piece.now 1 self.old.looked self.new.looked self.new.so_far) }
+        ensures one { result ≡ true → length piece.now ≡ 1 }
+        ensures listens { result ≡ true → self.old.so_far ≡ None → ⊥ }
+        ensures size { self.new.size ≡ self.old.size }
+        ensures left { result ≡ false → self.new ≡ self.old }
+    {
+        if piece.len() != 1 {
+            return false;
+        }
+        match &mut self.stage {
+            Some(Stage::User(summing)) => {
+                if !summing.has_more_data(self.size, &self.kept) {
+                    return false;
+                }
+                let octet = look(&mut self.looked, &piece[0]);
+                summing.push_data(self.size, &mut self.kept, octet);
+                true
+            }
+            _ => false,
+        }
+    }
+
+    /// As `feed_inner`, by the stage after each octet.
+    #[inline(always)]
+    fn feed_stages(&mut self, piece: &[u8]) -> usize
         requires { self.old.so_far ≡ Some [] → slice_index piece.now 0 ≡ 0xE5 → ⊥ }
         ensures listening { IfSome self.old.so_far (λ so_far. HearsInner self.old.size so_far
             piece.now result self.old.looked self.new.looked self.new.so_far) }

@@ -87,6 +87,7 @@ fn after_header(size: LinkSize, len: u8, rest: &[u8]) -> FrontRef<'_>
 }
 
 /// The front of octets that begin with the start octet of a variable frame.
+#[inline(always)]
 fn variable(size: LinkSize, rest: &[u8]) -> FrontRef<'_>
     ensures { IsFront size (0x68 ∷ rest.now) (owned_front result) }
 {
@@ -113,6 +114,7 @@ fn variable(size: LinkSize, rest: &[u8]) -> FrontRef<'_>
 
 /// What stands at the front of the octets, with the data where they stand. The answer of `front`,
 /// with nothing copied.
+#[inline(always)]
 pub fn front_ref(size: LinkSize, octets: &[u8]) -> FrontRef<'_>
     ensures { IsFront size octets.now (owned_front result) }
 {

@@ -123,6 +123,7 @@ impl Kind {
 
 impl Fields {
     /// The fields with one more octet, which is one of data where all fields came.
+    #[inline(always)]
     fn with_octet(self, size: LinkSize, kept: &mut Data, octet: u8) -> Fields
         requires fields { IsFields size self kept.old.items }
         requires room { length (fields_octets size self kept.old.items) < 255 }
@@ -165,9 +166,36 @@ impl Fields {
 }
 
 impl Summing {
-    ghost use Rattle.ft12.specs.Stage.{IsSumming};
+    ghost use Rattle.std.specs.Prelude.{true};
+    ghost use Rattle.ft12.specs.declared.stage.Stage.TheVariants.{User};
+    ghost use Rattle.ft12.specs.Stage.{IsSumming, IsInData};
+
+    /// Whether an octet of data is due that isn't the last one.
+    #[inline(always)]
+    pub(crate) fn has_more_data(&self, size: LinkSize, kept: &Data) -> bool
+        ensures { result ≡ true → IsInData size self.now kept.now.items }
+    {
+        match self.fields {
+            Fields::Address { .. } => 2 + size.octets() + kept.len() < usize::from(self.len),
+            _ => false,
+        }
+    }
+
+    /// Takes an octet of data that isn't the last one.
+    #[inline(always)]
+    pub(crate) fn push_data(&mut self, size: LinkSize, kept: &mut Data, octet: u8)
+        requires summing { IsSumming size self.old kept.old.items }
+        requires data { IsInData size self.old kept.old.items }
+        ensures summing { IsSumming size self.new kept.new.items }
+        ensures octets { so_far size (User self.new) kept.new.items
+            ≡ so_far size (User self.old) kept.old.items ++ octet ∷ [] }
+    {
+        kept.push(octet);
+        self.sum = self.sum.wrapping_add(octet);
+    }
 
     /// The stage after one more octet.
+    #[inline(always)]
     fn with_octet(self, size: LinkSize, kept: &mut Data, octet: u8) -> Stage
         requires { IsSumming size self kept.old.items }
         ensures stage { IsStage size result kept.new.items }
@@ -241,6 +269,7 @@ impl Stage {
     }
 
     /// What one more octet gives.
+    #[inline(always)]
     pub(crate) fn with_octet(self, size: LinkSize, kept: &mut Data, octet: u8) -> Step
         requires { IsStage size self kept.old.items }
         ensures steps { Steps size (so_far size self kept.old.items ++ octet ∷ [])

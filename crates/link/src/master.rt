@@ -322,23 +322,18 @@ impl Master {
             self.again = false;
             return None;
         };
-        match wish {
-            Wish::PollClass1(fcb, sent) => {
-                let wanted = Wanted {
-                    request: Asked::Counted(fcb, Service::Class1),
-                    following: Phase::Class1Polling(sent),
-                };
-                Some(self.begin(now, Chosen { station, wanted }))
-            }
-            Wish::PollClass2(fcb) => {
-                let wanted = Wanted {
-                    request: Asked::Counted(fcb, Service::Class2),
-                    following: Phase::Class1Polling(0),
-                };
-                Some(self.begin(now, Chosen { station, wanted }))
-            }
-            _ => Some(self.begin_other(now, station, wish)),
-        }
+        let wanted = match wish {
+            Wish::PollClass1(fcb, sent) => Wanted {
+                request: Asked::Counted(fcb, Service::Class1),
+                following: Phase::Class1Polling(sent),
+            },
+            Wish::PollClass2(fcb) => Wanted {
+                request: Asked::Counted(fcb, Service::Class2),
+                following: Phase::Class1Polling(0),
+            },
+            _ => return Some(self.begin_other(now, station, wish)),
+        };
+        Some(self.begin(now, Chosen { station, wanted }))
     }
 
     /// As `begin`, for any wish. It stands apart, so that a poll makes no place for a command.
@@ -532,6 +527,7 @@ impl Master {
     /// Ends, as unanswered, an exchange that is outstanding where this moment, in milliseconds, is
     /// at least `answer_ms` past its request. `Down` where the station's link is given up: with
     /// `hold` false, after one sending and its repeats.
+    #[inline]
     pub fn due(&mut self, now: u64) -> Outcome<'static>
         ensures state { self.new ≡ timed_out self.old now }
         ensures outcome { result ≡ due_outcome self.old now }
@@ -544,16 +540,25 @@ impl Master {
         }
         match self.outstanding.take() {
             None => Outcome::None,
-            Some(awaited) => self.miss(&awaited),
+            Some(awaited) => {
+                if self.miss(&awaited) {
+                    Outcome::Down(self.turn)
+                } else {
+                    Outcome::None
+                }
+            }
         }
     }
 
-    /// The request has no answer in time.
-    fn miss(&mut self, awaited: &Awaited) -> Outcome<'static>
+    /// The request has no answer in time. Whether the station's link is given up. It stands apart,
+    /// so that a look at the clock makes no place for it.
+    #[inline(never)]
+    fn miss(&mut self, awaited: &Awaited) -> bool
         requires none { self.old.outstanding ≡ None }
         requires fits { FitsAsked self.old.settings.size awaited.now.request }
         ensures state { self.new ≡ unanswered self.old (outstanding_of awaited.now None) }
-        ensures outcome { result ≡ miss_outcome self.old awaited.now.request }
+        ensures outcome { miss_outcome self.old awaited.now.request
+            ≡ if result then outcome.Down self.new.turn else outcome.None }
     {
         let place = self.turn;
         let settings = self.settings;
@@ -564,11 +569,7 @@ impl Master {
         self.spoilt = spoilt_after(self.spoilt, awaited);
         self.phase = phase_missed(again, self.phase);
         self.again = again;
-        if down {
-            Outcome::Down(place)
-        } else {
-            Outcome::None
-        }
+        down
     }
 
     /// Whether the station has no command that isn't done.

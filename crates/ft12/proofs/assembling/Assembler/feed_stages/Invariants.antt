@@ -1,6 +1,6 @@
 use Rattle.std.proofs.Common.{◌≡◌, ◌++◌, ◌+◌, ◌-◌, ◌^◌, min, take}
 use Rattle.ft12.specs.Stage.{IsStage, so_far}
-use Rattle.ft12.proofs.assembling.Assembler.feed_inner.Given as goal
+use Rattle.ft12.proofs.assembling.Assembler.feed_stages.Given as goal
 
 -- what is kept stands for the octets before the piece and those of it that were looked at
 abbrev pub invariant-loop-i : goal.invariant-loop-i
