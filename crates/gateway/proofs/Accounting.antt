@@ -60,3 +60,12 @@ ends_accounted Finished p s old new news h told none =
 ends_accounted Turns p s old new news h told none = accounted p s new
     (subst (Follows p s) (sym (told ∙ ap (tell old) none ∙ untold old)) h)
 ends_accounted Device p s old new news h told none = tt
+
+-- at the end of a run the log is the one of the last step
+pub told_same : (old new : Option Log) (news : Log) → new ≡ tell old news → news ≡ [] → new ≡ old
+told_same old new news told none = told ∙ ap (tell old) none ∙ untold old
+
+pub unless_device : (e : End) (P : Type 0) → P → UnlessDevice e P
+unless_device Finished P h = h
+unless_device Turns P h = h
+unless_device Device P h = tt

@@ -18,6 +18,9 @@ pub mod Learning
 pub mod Come
 pub mod Connecting
 pub mod Put
+pub mod Putting
+pub mod Onward
+pub mod Gathering
 pub mod Judgements
 pub mod Events
 pub mod Sound

@@ -499,6 +499,17 @@ pub pull_confirmed : ((now : ℕ) (s : Session) → IsConfirmed s → IsConfirme
 pull_confirmed law s t is h = subst (λ (x : State). IsConfirmed x.centre.session) (sym is)
     (law s.moment s.centre.session h)
 
+-- three calls of confirm are the most that answer a frame
+pub confirms_end : ((s : Session) → IsConfirmed (after_confirm (after_confirm (after_confirm s))))
+    → (s t u v : State) → t ≡ with_session (after_confirm s.centre.session) s
+    → u ≡ with_session (after_confirm t.centre.session) t → v ≡ with_session (after_confirm u.centre.session) u
+    → IsConfirmed v.centre.session
+confirms_end law s t u v first second third =
+    subst (λ (x : State). IsConfirmed x.centre.session) (sym third)
+    (subst (λ (x : State). IsConfirmed (after_confirm x.centre.session)) (sym second)
+    (subst (λ (x : State). IsConfirmed (after_confirm (after_confirm x.centre.session))) (sym first)
+    (law s.centre.session)))
+
 -- two calls of pull are the most that answer a frame
 pub pull_ends : ((now : ℕ) (s : Session) → (session.pulled now (after_pull now (after_pull now s))).0 ≡ None)
     → (s t u : State) → t ≡ with_session (after_pull s.moment s.centre.session) s

@@ -17,7 +17,7 @@ pub struct Counts {
 }
 
 /// The numbers that a step counts.
-#[derive(Clone, Copy, Debug, PartialEq, Eq)]
+#[derive(Clone, Copy)]
 pub(crate) struct Tally {
     pub(crate) skipped: u64,
     pub(crate) mirrors: u64,

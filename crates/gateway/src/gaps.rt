@@ -1,7 +1,7 @@
 //! A gap in what an outstation reported.
 
 /// A session of a station's link that ended so that its last report may be lost.
-#[derive(Clone, Copy, Debug, PartialEq, Eq)]
+#[derive(Clone, Copy)]
 pub(crate) struct Gap {
     /// The station, by its place among the settings, from 0.
     pub(crate) station: usize,

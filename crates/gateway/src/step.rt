@@ -25,7 +25,7 @@ use link::line_keeps_the_procedures;
 use session::{Close, calls_come_to_an_end};
 
 /// What an APDU leads to.
-#[derive(Clone, Copy, Debug, PartialEq, Eq)]
+#[derive(Clone, Copy)]
 pub enum Outcome {
     /// It is taken, and the octets after it are next.
     On,
@@ -78,6 +78,7 @@ impl Gateway {
     }
 
     /// Sends the confirmations that are due: an S frame, STARTDT con or TESTFR con, and STOPDT con.
+    #[inline(always)]
     fn send_confirmations<P: Port>(&mut self, port: &mut P) -> bool
         requires { P.failed port.old < u64.MAX }
         ensures kept { (p : Setup) (unjudged : List ℕ) (phase : Phase) → IsFlushing phase →
@@ -356,6 +357,7 @@ impl Gateway {
     }
 
     /// Takes what an event means for the line. `false` says that an own answer found no place.
+    #[inline(always)]
     fn hear_event(&mut self, event: Event<'_>) -> bool
         ensures { HearsEvent self.old (input_of event.entry) result self.new }
     {

@@ -254,6 +254,7 @@ impl SerialSide {
     }
 
     /// Ends the line's exchange where its time is over.
+    #[inline(always)]
     fn time(&mut self, moment: u64)
         ensures state { self.new ≡ timed moment self.old }
         ensures polls { is_polling self.new.line ≡ true → is_polling self.old.line ≡ true }
@@ -493,6 +494,7 @@ impl Gateway {
     }
 
     /// Ends the line's exchange where its time is over.
+    #[inline(always)]
     pub(crate) fn time(&mut self)
         ensures { self.new ≡ line_timed self.old }
     {

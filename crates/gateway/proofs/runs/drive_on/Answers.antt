@@ -1,5 +1,6 @@
-use Rattle.std.proofs.Common.{◌∙◌, rules}
-use Rattle.gateway.proofs.Accounting.{accounted, ends_accounted}
+use Rattle.std.proofs.Common.{◌∙◌, sym, subst, arith}
+use Rattle.gateway.specs.Agrees.{Follows, Rests}
+use Rattle.gateway.proofs.Accounting.{accounted, ends_accounted, told_same, unless_device}
 use Rattle.gateway.proofs.Events.{come, more_events}
 use Rattle.gateway.proofs.runs.drive_on.Goals as goal
 
@@ -12,7 +13,13 @@ loop-preserved g c = record {
   events = more_events c.loop.counter _ _ _ _ _ _ _ c.loop.invariant.events c.next-next.ensures.told
       c.in-Ok.ensures.came c.if-not-step.ensures.puts.events;
   script = c.if-not-step.ensures.puts.script ∙ c.next-next.ensures.script ∙ c.loop.invariant.script;
-  ready = search rules;
+  ready = omega (
+    arith,
+    c.if-not-step.ensures.puts.cause,
+    c.next-next.ensures.cause,
+    c.in-Ok.ensures.healthy,
+    c.loop.invariant.ready,
+  );
 }
 
 pub returns-in-Err-clause-accounts : goal.returns-in-Err-clause-accounts
@@ -21,3 +28,39 @@ returns-in-Err-clause-accounts g c = λ p t r. ends_accounted c.in-Err.end p _ _
 
 pub returns-clause-accounts : goal.returns-clause-accounts
 returns-clause-accounts g c = λ p t r. accounted p _ _ (c.loop.invariant.kept p t r)
+
+pub returns-then-not-step-clause-faithful : goal.returns-then-not-step-clause-faithful
+returns-then-not-step-clause-faithful g c = λ p t r. c.if-not-step.ensures.faithful p
+    (come p _ _ c.loop.gateway _ _ _ c.next-next.ensures.told c.in-Ok.ensures.came (c.loop.invariant.kept p t r)
+    (c.loop.invariant.rests p t r))
+
+pub returns-then-not-step-clause-device : goal.returns-then-not-step-clause-device
+returns-then-not-step-clause-device g c =
+    omega (
+      arith,
+      c.if-not-step.ensures.puts.cause,
+      c.next-next.ensures.cause,
+      c.in-Ok.ensures.healthy,
+      c.loop.invariant.ready,
+    )
+
+pub returns-then-not-step-clause-script : goal.returns-then-not-step-clause-script
+returns-then-not-step-clause-script g c =
+    c.if-not-step.ensures.puts.script ∙ c.next-next.ensures.script ∙ c.loop.invariant.script
+
+pub returns-in-Err-clause-rests : goal.returns-in-Err-clause-rests
+returns-in-Err-clause-rests g c = λ p t r. unless_device c.in-Err.end _
+    (subst (Rests p) (sym (told_same _ _ _ c.next-next.ensures.told c.in-Err.ensures.none))
+    (c.loop.invariant.rests p t r))
+
+pub returns-in-Err-clause-kept : goal.returns-in-Err-clause-kept
+returns-in-Err-clause-kept g c = λ p t r. unless_device c.in-Err.end _
+    (subst (Follows p c.loop.gateway) (sym (told_same _ _ _ c.next-next.ensures.told c.in-Err.ensures.none))
+    (c.loop.invariant.kept p t r))
+
+pub returns-in-Err-clause-script : goal.returns-in-Err-clause-script
+returns-in-Err-clause-script g c = c.next-next.ensures.script ∙ c.loop.invariant.script
+
+pub returns-in-Err-clause-device : goal.returns-in-Err-clause-device
+returns-in-Err-clause-device g c =
+    omega (arith, c.next-next.ensures.cause, c.in-Err.ensures.end.0, c.loop.invariant.ready)

@@ -1,8 +1,9 @@
-use Rattle.std.proofs.Common.{ap, sym, subst, true, false, None}
+use Rattle.std.proofs.Common.{ap, sym, subst, ◌∙◌, true, false, None}
 use Rattle.apci.specs.Short.{apdu_of}
 use Rattle.gateway.specs.State.{State}
 use Rattle.gateway.specs.Agrees.{Tracks}
-use Rattle.gateway.proofs.Put.{told_put, sends_pulled, pulled_open, pulled_next, pulled_spent, none_pulled, none_left, on_map, pull_in_time, pull_confirmed, pull_ends, pull_clear, stays_after}
+use Rattle.gateway.proofs.Put.{told_put, sends_pulled, pulled_open, pulled_next, pulled_spent, none_pulled, none_left, on_map, pull_in_time, pull_confirmed, pull_ends, pull_clear, pull_spent, stays_after}
+use Rattle.gateway.proofs.Putting.{puts_none, puts_then, puts_ready}
 use Rattle.gateway.proofs.engine.Gateway.send_dues.Goals as goal
 
 pub returns-in-None-clause-kept : goal.returns-in-None-clause-kept
@@ -77,3 +78,41 @@ returns-else-hand_short-clause-kept g c = λ p unjudged phase flushing clear h.
     (sends_pulled c.args.self.now c.pull.new.self (apdu_of c.in-Some.apdu) clear c.in-Some.ensures.fits
     c.in-Some.ensures.due
     c.pull.ensures.rest p unjudged phase flushing) h
+
+pub returns-in-None-clause-puts : goal.returns-in-None-clause-puts
+returns-in-None-clause-puts g c = puts_none
+
+pub send_due-requires : goal.send_due-requires
+send_due-requires g c = puts_ready c.if-hand_short.ensures.puts c.requires
+
+pub returns-then-hand_short-clause-open : goal.returns-then-hand_short-clause-open
+returns-then-hand_short-clause-open g c = c.send_due.ensures.open ∙ pulled_open _ _ _ _ c.pull.ensures.due
+
+pub returns-then-hand_short-clause-spent : goal.returns-then-hand_short-clause-spent
+returns-then-hand_short-clause-spent g c =
+    on_map c.send_due.result _ _
+    (λ last spent. pull_spent c.pull.new.self c.send_due.new.self last
+    (pull_spent c.args.self.now c.pull.new.self
+    (pulled_next c.args.self.now c.pull.new.self _ c.pull.ensures.due c.pull.ensures.rest) spent))
+    c.send_due.ensures.next
+
+pub returns-then-hand_short-clause-puts : goal.returns-then-hand_short-clause-puts
+returns-then-hand_short-clause-puts g c = puts_then c.if-hand_short.ensures.puts c.send_due.ensures.puts
+
+pub returns-else-hand_short-clause-open : goal.returns-else-hand_short-clause-open
+returns-else-hand_short-clause-open g c = pulled_open _ _ _ _ c.pull.ensures.due
+
+pub returns-else-hand_short-clause-spent : goal.returns-else-hand_short-clause-spent
+returns-else-hand_short-clause-spent g c = tt
+
+pub returns-else-hand_short-clause-confirmed : goal.returns-else-hand_short-clause-confirmed
+returns-else-hand_short-clause-confirmed g c = tt
+
+pub returns-else-hand_short-clause-pulled : goal.returns-else-hand_short-clause-pulled
+returns-else-hand_short-clause-pulled g c = tt
+
+pub returns-else-hand_short-clause-in_time : goal.returns-else-hand_short-clause-in_time
+returns-else-hand_short-clause-in_time g c = tt
+
+pub returns-else-hand_short-clause-puts : goal.returns-else-hand_short-clause-puts
+returns-else-hand_short-clause-puts g c = c.if-hand_short.ensures.puts
