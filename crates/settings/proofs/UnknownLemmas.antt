@@ -1,5 +1,5 @@
 -- The unknown keys, key by key and table by table.
-use Rattle.std.proofs.Common.{◌≡◌, ℕ, ◌+◌, ◌<◌, ◌≤◌, List, [], ◌∷◌, ◌++◌, length, drop, get_or, true, false, String, Global, string_bytes, map, refl, ap, ◌∙◌, append_assoc}
+use Rattle.std.proofs.Common.{◌≡◌, ℕ, ◌+◌, ◌<◌, ◌≤◌, List, [], ◌∷◌, ◌++◌, length, drop, get_or, true, false, String, Global, string_bytes, map, refl, ap, sym, ◌∙◌, append_assoc}
 use Rattle.std.proofs.lemmas.List.{map-append, drop_all, get_or-map, length-map}
 use Rattle.std.specs.BTreeMap.{BTreeMap, keys}
 use Rattle.std.specs.Map.{keys_of}
@@ -32,10 +32,23 @@ keys_of_view (e ∷ es) = ap (λ ks. string_bytes e.0 ∷ ks) (keys_of_view es)
 pub keys_of_table : (m : BTreeMap (String Global) Value) → member_keys (table_view m) ≡ map string_bytes (keys m)
 keys_of_table m = keys_of_view m.entries
 
-pub items_next : (vs : List Value) (i : ℕ) (d : Value) → i < length vs
+items_next : (vs : List Value) (i : ℕ) (d : Value) → i < length vs
     → unknown_items (items_view (drop i vs)) ≡ unknown_of Station (view (get_or vs i d))
     ++ unknown_items (items_view (drop (i + 1) vs))
 items_next vs i d lt = rw (items_view-drop vs i d lt)
+
+-- what one more table's unknown keys, put behind those so far, leave to be put there
+pub step_items : (before after : List (String Global)) (vs : List Value) (i : ℕ) (d : Value) (all : List (List ℕ))
+    → i < length vs → d ≡ get_or vs i d
+    → map string_bytes after ≡ map string_bytes before ++ unknown_of Station (view d)
+    → map string_bytes before ++ unknown_items (items_view (drop i vs)) ≡ all
+    → map string_bytes after ++ unknown_items (items_view (drop (i + 1) vs)) ≡ all
+step_items before after vs i d all lt here pushed h =
+    let next : unknown_items (items_view (drop i vs)) ≡ unknown_of Station (view d)
+    ++ unknown_items (items_view (drop (i + 1) vs)) = items_next vs i d lt
+    ∙ ap (λ v. unknown_of Station (view v) ++ unknown_items (items_view (drop (i + 1) vs))) (sym here) in
+    let g = rw next at h in
+    rw (pushed, append_assoc) g
 
 pub items_end : (vs : List Value) (i : ℕ) → length vs ≤ i → unknown_items (items_view (drop i vs)) ≡ []
 items_end vs i le = rw (drop_all i vs le)

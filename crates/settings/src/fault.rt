@@ -24,7 +24,7 @@ pub enum ConfigFault {
 }
 
 /// A key that is missing, or whose value is wrong, by its dotted path.
-#[derive(Clone, Copy, Debug)]
+#[derive(Clone, Copy)]
 pub(crate) struct WrongKey {
     pub(crate) path: &'static str,
 }

@@ -10,7 +10,7 @@ use toml::{Table, Value};
 
 /// A setting that is a whole number from `low` to `high`. A missing one has the default, which is
 /// judged likewise.
-#[derive(Clone, Copy, Debug)]
+#[derive(Clone, Copy)]
 pub(crate) struct Whole {
     pub(crate) key: &'static str,
     /// What a fault names.
@@ -77,7 +77,6 @@ impl Whole {
 }
 
 /// A setting that is true or false, with the default `false`.
-#[derive(Clone, Copy, Debug)]
 pub(crate) struct Flag {
     pub(crate) key: &'static str,
     /// What a fault names.

@@ -138,8 +138,8 @@ fn read_silence(table: Option<&Table>) -> Result<Silence, WrongKey>
         return Ok(Silence::Hold);
     };
     match value.as_str() {
-        Some(text) if text == "hold" => Ok(Silence::Hold),
-        Some(text) if text == "reset" => Ok(Silence::Reset),
+        Some("hold") => Ok(Silence::Hold),
+        Some("reset") => Ok(Silence::Reset),
         _ => Err(WrongKey {
             path: "line.silence",
         }),

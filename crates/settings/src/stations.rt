@@ -1,12 +1,12 @@
 //! The list of stations.
 ghost use Rattle.std.specs.List.{list_any};
-ghost use Rattle.std.specs.Prelude.{◌==◌, ◌≡◌, ◌≤◌, false, [], length, Some, IfOk, option_map};
+ghost use Rattle.std.specs.Prelude.{◌==◌, ◌≡◌, ◌≤◌, false, [], length, None, Some, IfOk, option_map};
 ghost use Rattle.toml.specs.View.{view, items_view, table_view};
 ghost use Rattle.settings.specs.Faults.{seen};
-ghost use Rattle.settings.specs.Keys.{whole_of};
+ghost use Rattle.settings.specs.Keys.{row, whole_of};
 ghost use Rattle.gateway.specs.Config.{AreStations};
 ghost use Rattle.gateway.specs.Settings.{IsLinkAddress, IsCommonAddress};
-ghost use Rattle.settings.specs.Stations.{greatest_address, greatest_ca, address_row, ca_row, address_of, ca_of, distinct_number, station_of, stations_from, stations_of, IsAsExpected, IsNext};
+ghost use Rattle.settings.specs.Stations.{greatest_address, greatest_ca, address_of, ca_of, distinct_number, station_of, stations_from, stations_of, IsAsExpected, IsNext};
 
 use crate::ConfigFault;
 use crate::fault::WrongKey;
@@ -26,7 +26,7 @@ const SELECT: &Flag = &Flag {
 const MOST_STATIONS: usize = 32;
 
 /// The greatest link address: the broadcast address is none.
-fn greatest_link_address(size: LinkSize) -> u32
+fn greatest_link_address(size: LinkSize) -> u16
     ensures value { result ≡ greatest_address size }
     ensures range { result ≤ 65534 }
 {
@@ -37,7 +37,7 @@ fn greatest_link_address(size: LinkSize) -> u32
 }
 
 /// The greatest common address: the global address is none.
-fn greatest_common_address(size: CaSize) -> u32
+fn greatest_common_address(size: CaSize) -> u16
     ensures value { result ≡ greatest_ca size }
     ensures range { result ≤ 65534 }
 {
@@ -73,7 +73,7 @@ pub(crate) fn read_stations(
 }
 
 /// Reads the stations, one after the other.
-#[tactic(auto, using(crate::proofs::StationLemmas::stations_from_wrong, crate::proofs::StationLemmas::stations_from_next, crate::proofs::StationLemmas::stations_from_end, crate::proofs::StationLemmas::none_good, crate::proofs::StationLemmas::good_more))]
+#[tactic(auto, using(crate::proofs::StationLemmas::stations_from_wrong, crate::proofs::StationLemmas::stations_from_end, crate::proofs::StationLemmas::none_good))]
 fn read_each(
     alloc: Global,
     tables: &[Value],
@@ -149,22 +149,13 @@ fn read_address(table: &Table, size: LinkSize, others: &[Station]) -> Result<u16
     ensures range { IfOk result (IsLinkAddress size) }
     ensures new { IfOk result (λ a. list_any (λ s. s.address == a) others.now ≡ false) }
 {
-    let address = link_address(table, size)?;
+    let address = number_to(
+        table,
+        "address",
+        "station.address",
+        greatest_link_address(size),
+    )?;
     distinct(address, has_address(others, address), "station.address")
-}
-
-fn link_address(table: &Table, size: LinkSize) -> Result<u16, WrongKey>
-    ensures value { seen result ≡ whole_of (address_row size) (Some (table_view table.now)) }
-    ensures range { IfOk result (IsLinkAddress size) }
-{
-    let row = Whole {
-        key: "address",
-        path: "station.address",
-        low: 1,
-        high: greatest_link_address(size),
-        default: None,
-    };
-    Ok(row.read(Some(table))? as u16)
 }
 
 /// A common address that none of the others has.
@@ -173,19 +164,26 @@ fn read_common_address(table: &Table, size: CaSize, others: &[Station]) -> Resul
     ensures range { IfOk result (IsCommonAddress size) }
     ensures new { IfOk result (λ c. list_any (λ s. s.ca == c) others.now ≡ false) }
 {
-    let ca = common_address(table, size)?;
+    let ca = number_to(table, "ca", "station.ca", greatest_common_address(size))?;
     distinct(ca, has_common_address(others, ca), "station.ca")
 }
 
-fn common_address(table: &Table, size: CaSize) -> Result<u16, WrongKey>
-    ensures value { seen result ≡ whole_of (ca_row size) (Some (table_view table.now)) }
-    ensures range { IfOk result (IsCommonAddress size) }
+/// A number from 1 to `high`, which has to be there.
+fn number_to(
+    table: &Table,
+    key: &'static str,
+    path: &'static str,
+    high: u16,
+) -> Result<u16, WrongKey>
+    ensures value { seen result
+        ≡ whole_of (row key.entry.now path.entry.now 1 high None) (Some (table_view table.now)) }
+    ensures range { IfOk result (λ n. (1 ≤ n) × (n ≤ high)) }
 {
     let row = Whole {
-        key: "ca",
-        path: "station.ca",
+        key,
+        path,
         low: 1,
-        high: greatest_common_address(size),
+        high: u32::from(high),
         default: None,
     };
     Ok(row.read(Some(table))? as u16)

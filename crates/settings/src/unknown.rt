@@ -1,6 +1,5 @@
 //! Keys that the settings don't know.
-ghost use Rattle.std.specs.Prelude.{◌≡◌, ◌++◌, ◌||◌, codes, map, option_map, OnOk, IfOk, MatchOption, Contains, All, [], false, string_bytes};
-ghost use Rattle.std.specs.Str.{bytes_eq};
+ghost use Rattle.std.specs.Prelude.{◌≡◌, ◌++◌, map, option_map, OnOk, IfOk, MatchOption, Contains, All, [], false, string_bytes};
 ghost use Rattle.std.specs.Ordering.{is_lt};
 ghost use Rattle.std.specs.String.{string_cmp};
 ghost use Rattle.toml.specs.View.{view, table_view, items_view};
@@ -13,7 +12,7 @@ use std::alloc::{AllocError, Global};
 use toml::{Table, Value};
 
 /// A table of the settings: the file itself, or one in it.
-#[derive(Clone, Copy, Debug)]
+#[derive(Clone, Copy)]
 enum Section {
     Root,
     Line,
@@ -52,50 +51,40 @@ impl Section {
 fn knows_root(key: &str) -> bool
     ensures { result ≡ knows Root key.now }
 {
-    key == "line" || key == "tcp" || key == "station" || key == "live"
-}
-
-fn knows_tcp(key: &str) -> bool
-    ensures { result ≡ knows Tcp key.now }
-{
-    knows_window_or_wait(key) || key == "t3_ms" || key == "select_ms" || key == "max_age_ms"
-}
-
-// A function of its own, since a long chain costs the proof more than its parts do.
-fn knows_window_or_wait(key: &str) -> bool
-    ensures { result ≡ (bytes_eq key.now (codes "k") || bytes_eq key.now (codes "w")
-        || bytes_eq key.now (codes "t1_ms") || bytes_eq key.now (codes "t2_ms")) }
-{
-    key == "k" || key == "w" || key == "t1_ms" || key == "t2_ms"
-}
-
-fn knows_station(key: &str) -> bool
-    ensures { result ≡ knows Station key.now }
-{
-    key == "address" || key == "ca" || key == "select"
-}
-
-fn knows_live(key: &str) -> bool
-    ensures { result ≡ knows Live key.now }
-{
-    key == "line" || key == "listen"
+    matches!(key, "line" | "tcp" | "station" | "live")
 }
 
 fn knows_line(key: &str) -> bool
     ensures { result ≡ knows_line key.now }
 {
-    knows_size(key)
-        || key == "answer_ms"
-        || key == "retries"
-        || key == "silence"
-        || key == "burst"
-        || key == "queue"
+    knows_size(key) || matches!(key, "answer_ms" | "retries" | "silence" | "burst" | "queue")
 }
 
 fn knows_size(key: &str) -> bool
     ensures { result ≡ knows_size key.now }
 {
-    key == "link" || key == "cause" || key == "ca" || key == "ioa"
+    matches!(key, "link" | "cause" | "ca" | "ioa")
+}
+
+fn knows_tcp(key: &str) -> bool
+    ensures { result ≡ knows Tcp key.now }
+{
+    matches!(
+        key,
+        "k" | "w" | "t1_ms" | "t2_ms" | "t3_ms" | "select_ms" | "max_age_ms"
+    )
+}
+
+fn knows_station(key: &str) -> bool
+    ensures { result ≡ knows Station key.now }
+{
+    matches!(key, "address" | "ca" | "select")
+}
+
+fn knows_live(key: &str) -> bool
+    ensures { result ≡ knows Live key.now }
+{
+    matches!(key, "line" | "listen")
 }
 
 /// Refuses a file with an unknown key, and names the one whose dotted path is the least in the
@@ -202,7 +191,7 @@ fn push_stations(alloc: Global, paths: &mut Vec<String>, root: &Table) -> Result
     }
 }
 
-#[tactic(auto, using(crate::proofs::UnknownLemmas::items_next, crate::proofs::UnknownLemmas::items_end))]
+#[tactic(auto, using(crate::proofs::UnknownLemmas::items_end))]
 fn push_items(alloc: Global, paths: &mut Vec<String>, tables: &[Value]) -> Result<(), AllocError>
     ensures { OnOk result (map string_bytes paths.new.items
         ≡ map string_bytes paths.old.items ++ unknown_items (items_view tables.now)) }
