@@ -1,20 +1,19 @@
 -- The end of a line of octets is found where its digits end.
 use Rattle.std.proofs.Common.{◌≡◌, ◌≢◌, ℕ, ◌+◌, ◌<◌, ◌==◌, Bool, true, false, List, [], ◌∷◌, ◌++◌, length, take, drop, get_or, None, refl, ap, sym, ◌∙◌, append_assoc, length-append, arith}
-use Rattle.std.specs.Prelude.{slice_index, nat_lt}
+use Rattle.std.specs.Prelude.{slice_index}
 use Rattle.std.specs.List.{All, list_all}
 use Rattle.std.proofs.Math.Seq.{get_or-append_seam}
 use Rattle.std.proofs.lemmas.Bool.{eqb-true, false≢true}
 use Rattle.std.proofs.lemmas.List.{drop_more, length-take-le, take_all, take-append-drop}
 use Rattle.std.proofs.lemmas.List.Elements.{All-append, All-cons, All-nil}
-use Rattle.std.proofs.lemmas.List.Folds.{list_all_more}
 use Rattle.std.proofs.lemmas.List.Sums.{AllPass-from_list_all}
 use Rattle.std.proofs.lemmas.List.Splits.{slice_split_at, slice_split_none}
 use Rattle.hex.specs.Hex.{is_hex_digit}
 use Rattle.traces.specs.Fields.{octets_of}
-use Rattle.traces.specs.FirstLines.{AreDigitsTo, DigitsEnd, first_line, first_of}
+use Rattle.traces.specs.FirstLines.{DigitsEnd, first_line, first_of}
 use Rattle.traces.specs.Trace.{lines_of}
 use Rattle.traces.proofs.FirstLineLemmas.{lines_behind}
-use Rattle.traces.proofs.OctetLemmas.{HasValue, other_octet, value_is_digit}
+use Rattle.traces.proofs.OctetLemmas.{other_octet}
 
 -- a digit is no line feed
 no_feed : (b : ℕ) → is_hex_digit b ≡ true → (b == 10) ≡ false

@@ -1,16 +1,14 @@
 -- Octets in hexadecimal: when they are right, and how many they are.
-use Rattle.std.proofs.Common.{◌≡◌, ℕ, ◌+◌, ◌-◌, ◌<◌, ◌*◌, ◌%◌, ◌≤◌, nat_le, ◌&&◌, Bool, true, false, List, length, slice_index, Option, Some, None, Result, Ok, Err, is_some, if◌then◌else◌, refl, sym, ap, ◌∙◌, arith, take, drop, ◌^◌, ◌==◌, slice_set}
-use Rattle.std.specs.Prelude.{bit_or, nat_lt}
+use Rattle.std.proofs.Common.{◌≡◌, ℕ, zero, suc, nat_eq, get_or, min, unwrap_or, inl, inr, ◌+◌, ◌<◌, ◌*◌, ◌%◌, ◌≤◌, nat_le, ◌&&◌, Bool, true, false, List, length, slice_index, Option, Some, None, Result, Ok, Err, is_some, if◌then◌else◌, refl, sym, ap, ◌∙◌, arith, take, drop, ◌^◌, ◌==◌}
+use Rattle.std.specs.Prelude.{bit_or, nat_lt, option_map}
 use Rattle.std.specs.List.{list_all}
-use Rattle.std.proofs.lemmas.Bool.{and_parts, ltb-true}
-use Rattle.std.proofs.lemmas.List.{take_all, take-append-drop, drop-drop}
+use Rattle.std.proofs.lemmas.Bool.{and_parts, cases_eq, eqb-true, lt-ltb, ltb-true}
 use Rattle.std.proofs.Math.Seq.{take-add}
-use Rattle.std.proofs.lemmas.List.Folds.{list_all_more, list_all-append}
+use Rattle.std.proofs.lemmas.List.Folds.{list_all-append}
 use Rattle.std.proofs.lemmas.List.Sums.{AllPass-from_list_all, list_all-from_AllPass}
 use Rattle.std.proofs.lemmas.Nat.{le_or_l, le_or_r, or_lt}
 use Rattle.hex.specs.Hex.{decode_of, decode_pairs, hex_digit_value, is_hex_digit, pair_value}
 use Rattle.hex.specs.declared.error.FromHexError.{FromHexError}
-use Rattle.hex.proofs.Pairs.{prepend, decode_start, decode_step, decode_done}
 use Rattle.hex.proofs.HexLemmas.{decode_of-even, decode_of-ok, decode_of-digits}
 use Rattle.traces.specs.Fields.{some_octets, octets_of}
 
@@ -118,36 +116,24 @@ other_octet text k lt other = by (octets_of text) refl
         let odd : true ≡ false = sym pass ∙ other in
         absurd (cc)
 
--- Values of octets: those of digits are below 16, and others aren't.
-
-abbrev pub HasValue : ℕ → ℕ → Type 0
-HasValue octet value = hex_digit_value octet ≡ (if nat_lt value 16 then Some value else None)
-
-pub value_is_digit : (octet value : ℕ) → HasValue octet value → nat_lt value 16 ≡ is_hex_digit octet
-value_is_digit octet value has = by (nat_lt value 16) has
+-- the bits of several numbers are those of an octet where each is one
+pub bits_below : (bits value : ℕ) → nat_lt (bit_or bits value) 256 ≡ (nat_lt bits 256 && nat_lt value 256)
+bits_below bits value = by (nat_lt bits 256) (nat_lt value 256) (nat_lt (bit_or bits value) 256) refl refl refl
   where
-    by : (b : Bool) → hex_digit_value octet ≡ (if b then Some value else None) → b ≡ is_hex_digit octet
-    by true has = sym (ap is_some has)
-    by false has = sym (ap is_some has)
-
--- the bits of several octets' values are below 16 where each is
-pub bits_below : (bits value : ℕ) → nat_lt (bit_or bits value) 16 ≡ (nat_lt bits 16 && nat_lt value 16)
-bits_below bits value = by (nat_lt bits 16) (nat_lt value 16) (nat_lt (bit_or bits value) 16) refl refl refl
-  where
-    by : (x y z : Bool) → nat_lt bits 16 ≡ x → nat_lt value 16 ≡ y → nat_lt (bit_or bits value) 16 ≡ z → z ≡ (x && y)
+    by : (x y z : Bool) → nat_lt bits 256 ≡ x → nat_lt value 256 ≡ y → nat_lt (bit_or bits value) 256 ≡ z → z ≡ (x && y)
     by true true true e f g = refl
     by true true false e f g =
-        let low : bit_or bits value < 2 ^ 4 = or_lt 4 bits value (ltb-true bits 16 e) (ltb-true value 16 f) in
+        let low : bit_or bits value < 2 ^ 8 = or_lt 8 bits value (ltb-true bits 256 e) (ltb-true value 256 f) in
         absurd (grind arith)
     by true false false e f g = refl
     by true false true e f g =
-        let low = ltb-true (bit_or bits value) 16 g in
-        let below : value < 16 = omega (arith, low, le_or_r bits value) in
+        let low = ltb-true (bit_or bits value) 256 g in
+        let below : value < 256 = omega (arith, low, le_or_r bits value) in
         absurd (grind arith)
     by false y false e f g = refl
     by false y true e f g =
-        let low = ltb-true (bit_or bits value) 16 g in
-        let below : bits < 16 = omega (arith, low, le_or_l bits value) in
+        let low = ltb-true (bit_or bits value) 256 g in
+        let below : bits < 256 = omega (arith, low, le_or_l bits value) in
         absurd (grind arith)
 
 pub pair_is : (a b i high low : ℕ) → hex_digit_value a ≡ Some high → hex_digit_value b ≡ Some low
@@ -161,3 +147,60 @@ pub all_more : (xs : List ℕ) (n m k : ℕ) (are is : Bool) → are ≡ list_al
     → is ≡ list_all is_hex_digit (take k (drop n xs)) → (are && is) ≡ list_all is_hex_digit (take (n + m) xs)
 all_more xs n m k are is before same now = rw (before, now, same)
     (sym (ap (list_all is_hex_digit) (take-add n m xs) ∙ list_all-append is_hex_digit (take n xs) (take m (drop n xs))))
+
+-- Tables
+
+-- Below a place a table has a function's values. All that are no octets count for one.
+abbrev pub agrees_below : List ℕ → (ℕ → ℕ) → ℕ → Bool
+agrees_below table f zero = true
+agrees_below table f (suc n) = nat_eq (min (get_or table n 0) 256) (f n) && agrees_below table f n
+
+pub agrees_at : (table : List ℕ) (f : ℕ → ℕ) (n : ℕ) → agrees_below table f n ≡ true → (i : ℕ) → i < n
+    → min (get_or table i 0) 256 ≡ f i
+agrees_at table f zero h i lt = absurd (omega (arith, lt))
+agrees_at table f (suc n) h i lt =
+    let both = and_parts (nat_eq (min (get_or table n 0) 256) (f n)) (agrees_below table f n) h in
+    elim (cases_eq i n) [
+      | inl same ↦ rw same (eqb-true _ _ both.0)
+      | inr other ↦ agrees_at table f n both.1 i (omega (arith, lt, other))
+    ]
+
+pub value_small : (octet v : ℕ) → hex_digit_value octet ≡ Some v → v < 16
+value_small octet v is = grind (arith)
+
+-- a number that stands for an octet, or for none
+abbrev octet_or_none : ℕ → Option ℕ
+octet_or_none value = if nat_lt value 256 then Some value else None
+
+given_by : (value : ℕ) (o : Option ℕ) → min value 256 ≡ unwrap_or o 256 → ((v : ℕ) → o ≡ Some v → v < 256)
+    → o ≡ octet_or_none value
+given_by value None same small =
+    let great : nat_lt value 256 ≡ false = grind (arith, same) in
+    sym (ap (λ (b : Bool). if b then Some value else None) great)
+given_by value (Some v) same small =
+    let lt : v < 256 = small v refl in
+    let is : v ≡ value = grind (arith, same, lt) in
+    let octet : nat_lt value 256 ≡ true = lt-ltb value 256 (omega (arith, is, lt)) in
+    ap Some is ∙ sym (ap (λ (b : Bool). if b then Some value else None) octet)
+
+abbrev pub value_or_none : ℕ → ℕ
+value_or_none octet = unwrap_or (hex_digit_value octet) 256
+
+pub value_is : (octet value : ℕ) → min value 256 ≡ value_or_none octet
+    → hex_digit_value octet ≡ (if nat_lt value 256 then Some value else None)
+value_is octet value is =
+    given_by value (hex_digit_value octet) is (λ v e. let small = value_small octet v e in omega (arith, small))
+
+abbrev pub high_or_none : ℕ → ℕ
+high_or_none octet = unwrap_or (option_map (λ v. 16 * v) (hex_digit_value octet)) 256
+
+pub high_is : (octet value : ℕ) → min value 256 ≡ high_or_none octet
+    → option_map (λ v. 16 * v) (hex_digit_value octet) ≡ (if nat_lt value 256 then Some value else None)
+high_is octet value is = given_by value (option_map (λ v. 16 * v) (hex_digit_value octet)) is (below _ refl)
+  where
+    below : (o : Option ℕ) → hex_digit_value octet ≡ o → (v : ℕ) → option_map (λ w. 16 * w) o ≡ Some v → v < 256
+    below None e v some = cc some
+    below (Some w) e v some =
+        let small = value_small octet w e in
+        let same : 16 * w ≡ v = ap (λ (o : Option ℕ). unwrap_or o 0) some in
+        omega (arith, small, same)

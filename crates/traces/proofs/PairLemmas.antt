@@ -1,26 +1,22 @@
 -- Pairs of digits, decoded as far as they go, and the line that ends behind them or doesn't.
-use Rattle.std.proofs.Common.{◌≡◌, ◌≢◌, ℕ, ◌+◌, ◌*◌, ◌%◌, ◌<◌, ◌≤◌, ◌==◌, ◌&&◌, nat_le, Bool, true, false, List, [], ◌∷◌, ◌++◌, length, take, drop, Some, None, Result, Ok, Err, ◌⊎◌, inl, inr, if◌then◌else◌, refl, ap, sym, ◌∙◌, append_assoc, length-append, arith}
-use Rattle.std.specs.Prelude.{bit_or, nat_lt, slice_index, slice_set}
+use Rattle.std.proofs.Common.{◌≡◌, ◌≢◌, ℕ, ◌+◌, ◌*◌, ◌%◌, ◌^◌, ◌<◌, ◌≤◌, ◌==◌, ◌&&◌, nat_le, Bool, true, false, List, [], ◌∷◌, ◌++◌, length, take, drop, Option, Some, None, is_some, unwrap_or, Result, Ok, Err, ◌⊎◌, inl, inr, if◌then◌else◌, refl, ap, sym, ◌∙◌, append_assoc, length-append, arith}
+use Rattle.std.specs.Prelude.{bit_or, nat_lt, option_map, slice_index, slice_set}
 use Rattle.std.specs.List.{list_all}
 use Rattle.std.proofs.lemmas.Bool.{and_parts, cases_lt, eqb-true, lt-ltb, ltb-true}
 use Rattle.std.proofs.lemmas.List.{append-nil, length-take-le, take_more, take_more_set, take-append-drop}
+use Rattle.std.proofs.lemmas.Nat.{or_shifted}
 use Rattle.std.proofs.lemmas.List.Folds.{list_all_more}
 use Rattle.std.proofs.lemmas.List.Sums.{list_all-from_AllPass}
-use Rattle.hex.specs.Hex.{decode_pairs, hex_digit_value, is_hex_digit, pair_value}
+use Rattle.hex.specs.Hex.{decode_pairs, hex_digit_value, is_hex_digit}
 use Rattle.hex.specs.declared.error.FromHexError.{FromHexError}
 use Rattle.hex.proofs.HexLemmas.{decode_pairs-ok}
 use Rattle.hex.proofs.Pairs.{prepend, prepend-cons_byte, decode_pairs-ok_pair}
 use Rattle.traces.specs.Fields.{octets_of}
-use Rattle.traces.specs.FirstLines.{ArePairs, DigitsEnd, first_line, first_of}
+use Rattle.traces.specs.FirstLines.{ArePairs, DigitsEnd, IsPair, Paired, first_line, first_of}
 use Rattle.traces.specs.Trace.{lines_of}
 use Rattle.traces.proofs.DigitLineLemmas.{line_whole, line_ended, line_other, no_feeds}
 use Rattle.traces.proofs.FirstLineLemmas.{lines_behind}
-use Rattle.traces.proofs.OctetLemmas.{HasValue, bits_below, octets_decoded, pair_is, value_is_digit, wrong_length}
-
--- so many pairs are decoded, whatever follows them
-abbrev pub Paired : (text buf : List ℕ) (i : ℕ) → Type 0
-Paired text buf i = (rest : List ℕ)
-    → decode_pairs 0 (take (2 * i) text ++ rest) ≡ prepend (take i buf) (decode_pairs (2 * i) rest)
+use Rattle.traces.proofs.OctetLemmas.{bits_below, octets_decoded, pair_is, value_small, wrong_length}
 
 pub pairs_start : (text buf : List ℕ) → Paired text buf 0
 pairs_start text buf rest = by (decode_pairs 0 rest)
@@ -29,34 +25,49 @@ pairs_start text buf rest = by (decode_pairs 0 rest)
     by (Ok octets) = refl
     by (Err e) = refl
 
--- both are digits
-digit_values : (a b high low : ℕ) → HasValue a high → HasValue b low
-    → (is_hex_digit a && is_hex_digit b) ≡ nat_lt (bit_or high low) 16
-digit_values a b high low first second =
-    rw (← value_is_digit a high first, ← value_is_digit b low second) (sym (bits_below high low))
+-- the number of two digits' values
+pub pair_of_values : (a b high low : ℕ)
+    → option_map (λ v. 16 * v) (hex_digit_value a) ≡ (if nat_lt high 256 then Some high else None)
+    → hex_digit_value b ≡ (if nat_lt low 256 then Some low else None) → IsPair a b (bit_or high low)
+pair_of_values a b high low first second =
+    by (hex_digit_value a) (hex_digit_value b) (nat_lt high 256) (nat_lt low 256) refl refl refl refl first second
+  where
+    none : nat_lt (bit_or high low) 256 ≡ false → (is_hex_digit a && is_hex_digit b) ≡ false
+        → IsPair a b (bit_or high low)
+    none great other = record {
+      both = great ∙ sym other;
+      octet = λ lt. let odd : true ≡ false = sym (lt-ltb (bit_or high low) 256 lt) ∙ great in absurd (cc);
+    }
 
-pub pairs_over : (a b high low : ℕ) → HasValue a high → HasValue b low → nat_lt (bit_or high low) 16 ≡ false
-    → (is_hex_digit a && is_hex_digit b) ≡ false
-pairs_over a b high low first second great = digit_values a b high low first second ∙ great
-
--- their values
-pub pair_values : (a b high low : ℕ) → HasValue a high → HasValue b low → bit_or high low < 16
-    → (hex_digit_value a ≡ Some high) × (hex_digit_value b ≡ Some low) × (high < 16) × (low < 16)
-pair_values a b high low first second small =
-    let both = and_parts (nat_lt high 16) (nat_lt low 16)
-    (sym (bits_below high low) ∙ lt-ltb (bit_or high low) 16 small) in (
-      first ∙ ap (λ (d : Bool). if d then Some high else None) both.0,
-      second ∙ ap (λ (d : Bool). if d then Some low else None) both.1,
-      ltb-true high 16 both.0,
-      ltb-true low 16 both.1,
-    )
+    by : (x y : Option ℕ) (m n : Bool) → hex_digit_value a ≡ x → hex_digit_value b ≡ y → nat_lt high 256 ≡ m
+        → nat_lt low 256 ≡ n → option_map (λ v. 16 * v) x ≡ (if m then Some high else None)
+        → y ≡ (if n then Some low else None) → IsPair a b (bit_or high low)
+    by None y true n e f g h first second = cc first
+    by (Some v) y false n e f g h first second = cc first
+    by x None m true e f g h first second = cc second
+    by x (Some w) m false e f g h first second = cc second
+    by None y false n e f g h first second =
+        none (bits_below high low ∙ ap (λ m. m && nat_lt low 256) g) (ap (λ o. is_some o && is_hex_digit b) e)
+    by (Some v) None true false e f g h first second =
+        none (bits_below high low ∙ ap (λ m. m && nat_lt low 256) g ∙ h)
+        (ap (λ o. is_some o && is_hex_digit b) e ∙ ap is_some f)
+    by (Some v) (Some w) true true e f g h first second =
+        let high_is : v * 16 ≡ high =
+        omega (arith, ap (λ (o : Option ℕ). unwrap_or o 0) first) in
+        let low_is : w ≡ low = ap (λ (o : Option ℕ). unwrap_or o 0) second in
+        let small : w < 2 ^ 4 = value_small b w f in
+        let is : v * 16 + w ≡ bit_or high low = rw (← high_is, ← low_is) (sym (or_shifted v 4 w small)) in
+        record {
+          both = bits_below high low ∙ ap (λ m. m && nat_lt low 256) g ∙ h
+              ∙ sym (ap (λ o. is_some o && is_hex_digit b) e ∙ ap is_some f);
+          octet = λ lt i. pair_is a b i v w e f ∙ ap Ok is;
+        }
 
 -- one pair more
-pub pairs_more : (text buf : List ℕ) (i high low octet : ℕ) → 2 * i + 1 < length text → i < length buf
-    → hex_digit_value (slice_index text (2 * i)) ≡ Some high
-    → hex_digit_value (slice_index text (2 * i + 1)) ≡ Some low → octet ≡ high * 16 + low
+pub pairs_more : (text buf : List ℕ) (i octet : ℕ) → 2 * i + 1 < length text → i < length buf
+    → IsPair (slice_index text (2 * i)) (slice_index text (2 * i + 1)) octet → octet < 256
     → Paired text buf i → Paired text (slice_set buf i octet) (i + 1)
-pairs_more text buf i high low octet lt room first second is so_far rest =
+pairs_more text buf i octet lt room is small so_far rest =
     let a : ℕ = slice_index text (2 * i) in
     let b : ℕ = slice_index text (2 * i + 1) in
     let two : 2 * (i + 1) ≡ 2 * i + 1 + 1 = omega arith in
@@ -67,18 +78,44 @@ pairs_more text buf i high low octet lt room first second is so_far rest =
     ∙ ap (λ l. l ++ b ∷ []) (take_more text (2 * i) 0 (omega (arith, lt))))
     ∙ append_assoc (take (2 * i) text ++ a ∷ []) (b ∷ []) rest
     ∙ append_assoc (take (2 * i) text) (a ∷ []) (b ∷ rest) in
-    let pair : pair_value a b (2 * i) ≡ Ok octet = pair_is a b (2 * i) high low first second ∙ ap Ok (sym is) in
     ap (decode_pairs 0) taken ∙ so_far (a ∷ b ∷ rest)
-    ∙ ap (prepend (take i buf)) (decode_pairs-ok_pair (2 * i) a b octet rest pair)
+    ∙ ap (prepend (take i buf)) (decode_pairs-ok_pair (2 * i) a b octet rest (is.octet small (2 * i)))
     ∙ prepend-cons_byte (take i buf) octet (decode_pairs (2 * i + 2) rest)
     ∙ ap (λ l. prepend l (decode_pairs (2 * i + 2) rest)) (sym (take_more_set buf i octet room))
     ∙ ap (λ (n : ℕ). prepend (take (i + 1) (slice_set buf i octet)) (decode_pairs n rest)) next
+
+-- what stands behind them in the buffer is nothing to them
+pub pairs_same : (text buf other : List ℕ) (n : ℕ) → take n other ≡ take n buf → Paired text buf n
+    → Paired text other n
+pairs_same text buf other n same so_far rest =
+    so_far rest ∙ ap (λ l. prepend l (decode_pairs (2 * n) rest)) (sym same)
+
+-- one more in a block, whose octets mean something where all were of digits
+pub block_more : (text buf : List ℕ) (from i n bits : ℕ) → 2 * (from + i) + 1 < length text → from + i < length buf
+    → IsPair (slice_index text (2 * (from + i))) (slice_index text (2 * (from + i) + 1)) n → bit_or bits n < 256
+    → (bits < 256 → Paired text buf (from + i)) → Paired text (slice_set buf (from + i) (n % 256)) (from + (i + 1))
+block_more text buf from i n bits lt room is small so_far =
+    let all : (nat_lt bits 256 && nat_lt n 256) ≡ true =
+    sym (bits_below bits n) ∙ lt-ltb (bit_or bits n) 256 small in
+    let both = and_parts (nat_lt bits 256) (nat_lt n 256) all in
+    let octet : n < 256 = ltb-true n 256 both.1 in
+    let same : n % 256 ≡ n = omega (arith, octet) in
+    let place : from + (i + 1) ≡ from + i + 1 = omega arith in
+    rw (same, place) (pairs_more text buf (from + i) n lt room is octet (so_far (ltb-true bits 256 both.0)))
 
 pub pairs_done : (text buf : List ℕ) (n : ℕ) → Paired text buf n
     → decode_pairs 0 (take (2 * n) text) ≡ Ok (take n buf)
 unfolding decode_pairs
 pairs_done text buf n all =
     ap (decode_pairs 0) (sym (append-nil (take (2 * n) text))) ∙ all [] ∙ ap Ok (append-nil (take n buf))
+
+-- where no pair behind these is of digits, or there is no room, these are all
+pub pairs_are : (text buf : List ℕ) (n : ℕ) → 2 * n ≤ length text → n ≤ 1024
+    → (n < 1024 → 2 * n + 1 < length text
+    → (is_hex_digit (slice_index text (2 * n)) && is_hex_digit (slice_index text (2 * n + 1))) ≡ false)
+    → Paired text buf n → ArePairs text buf n
+pairs_are text buf n within most over pairs =
+    record { within = within; most = most; octets = pairs_done text buf n pairs; over = over }
 
 -- The line
 

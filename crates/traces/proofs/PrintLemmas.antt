@@ -2,7 +2,7 @@
 use borrow.Rule.Slice.PartMut.{put_mid, same_len_mid}
 use Rattle.std.proofs.Common.{◌≡◌, ℕ, zero, suc, ◌+◌, ◌-◌, ◌*◌, ◌/◌, ◌%◌, ◌<◌, ◌≤◌, List, [], ◌∷◌, ◌++◌, length, take, drop, slice_index, slice_set, refl, sym, ap, ◌∙◌, arith, length-append, length-drop, zero-add}
 use Rattle.std.specs.List.{range_with_len}
-use Rattle.std.proofs.Math.Seq.{take-append_seam, take-append-add}
+use Rattle.std.proofs.Math.Seq.{take-append-add}
 use Rattle.std.proofs.lemmas.List.{length-take-le, take_more_set, take-append-le}
 use Rattle.std.proofs.lemmas.Slice.{take-put_mid}
 use Rattle.std.proofs.lemmas.List.FromFn.{get_or-range_with_len, length-range_with_len}
@@ -16,15 +16,18 @@ put_length i k row part within len =
     same_len_mid i k row part
     (len ∙ sym (length-take-le k (drop i row) (omega (arith, length-drop i row, within))))
 
--- a line of three parts and its end, each put where the one before ends
-pub line_put : (row digits letter octets : List ℕ) (a n : ℕ) → length digits ≡ a → length letter ≡ 5 → length octets ≡ n
-    → a + 5 + n < length row → take (a + 5 + n + 1) (slice_set (put_mid (a + 5) (a + 5 + n - (a + 5))
-    (put_mid a (a + 5 - a) (digits ++ drop a row) letter) octets) (a + 5 + n) 10)
-    ≡ digits ++ letter ++ octets ++ 10 ∷ []
-line_put row digits letter octets a n long five many room =
-    let first : List ℕ = digits ++ drop a row in
+-- a line of three parts and its end, each put where the one before ends; so many octets of the
+-- first are of the line
+pub line_put : (row first_part letter octets : List ℕ) (a n : ℕ) → length first_part ≡ 20 → a ≤ 20
+    → length letter ≡ 5 → length octets ≡ n → a + 5 + n < length row → 20 ≤ length row
+    → take (a + 5 + n + 1) (slice_set (put_mid (a + 5) (a + 5 + n - (a + 5))
+    (put_mid a (a + 5 - a) (first_part ++ drop 20 row) letter) octets) (a + 5 + n) 10)
+    ≡ take a first_part ++ letter ++ octets ++ 10 ∷ []
+line_put row first_part letter octets a n long short five many room whole =
+    let digits : List ℕ = take a first_part in
+    let first : List ℕ = first_part ++ drop 20 row in
     let first_len : length first ≡ length row =
-    omega (arith, length-append digits (drop a row), length-drop a row, long, room) in
+    omega (arith, length-append first_part (drop 20 row), length-drop 20 row, long, whole) in
     let second : List ℕ = put_mid a (a + 5 - a) first letter in
     let second_len : length second ≡ length row =
     put_length a (a + 5 - a) first letter (omega (arith, first_len, room)) (omega (arith, five)) ∙ first_len in
@@ -33,7 +36,7 @@ line_put row digits letter octets a n long five many room =
     put_length (a + 5) (a + 5 + n - (a + 5)) second octets (omega (arith, second_len, room)) (omega (arith, many))
     ∙ second_len in
     let start : take a first ≡ digits =
-    ap (λ (i : ℕ). take i first) (sym long) ∙ take-append_seam digits (drop a row) in
+    take-append-le a first_part (drop 20 row) (omega (arith, long, short)) in
     let middle : take (a + 5) second ≡ digits ++ letter =
     take-put_mid a (a + 5 - a) first letter (a + 5) (omega (arith, five)) (omega (arith, first_len, room))
     ∙ ap (λ l. l ++ letter) start in

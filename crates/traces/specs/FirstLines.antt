@@ -1,10 +1,11 @@
 -- How a text is read from its front (texts of this gateway's own profile): its first line, field by
 -- field, with octets that are still in hexadecimal.
-use Rattle.std.specs.Prelude.{◌≡◌, ◌<◌, ◌≤◌, ◌+◌, ◌*◌, ◌&&◌, ℕ, ◌==◌, ◌||◌, Bool, true, false, List, [], ◌∷◌, length, take, drop, slice_index, Option, Some, None, is_some, option_map, Ok}
+use Rattle.std.specs.Prelude.{◌≡◌, ◌<◌, ◌≤◌, ◌+◌, ◌*◌, ◌&&◌, nat_lt, ℕ, ◌==◌, ◌||◌, Bool, true, false, List, [], ◌∷◌, ◌++◌, length, take, drop, slice_index, Option, Some, None, is_some, option_map, Ok}
 use Rattle.std.specs.Borrow.{Bor}
 use Rattle.std.specs.Char.{is_ascii_digit}
 use Rattle.std.specs.List.{slice_split, list_all}
-use Rattle.hex.specs.Hex.{decode_pairs, is_hex_digit}
+use Rattle.hex.specs.Hex.{decode_pairs, is_hex_digit, pair_value}
+use Rattle.hex.proofs.Pairs.{prepend}
 use Rattle.std.specs.Option.{option_copied}
 use Rattle.traces.specs.declared.event.Spelled.{Spelled}
 use Rattle.traces.specs.declared.event.Spelled.TheVariants as spellings
@@ -82,6 +83,16 @@ IsOctetsLine text (Some found) =
     (lines_of text ≡ found.0.now ∷ parts_after 10 (option_copied found.1))
     × (is_some (octets_of found.0.now) ≡ true)
 
+-- Two octets are the digits of a third; or one of them is no digit, and the number is no octet.
+pub record IsPair (high low n : ℕ) : Type 0 where
+  pub both : nat_lt n 256 ≡ (is_hex_digit high && is_hex_digit low)
+  pub octet : n < 256 → (i : ℕ) → pair_value high low i ≡ Ok n
+
+-- so many pairs at the front of a text are decoded at the front of a buffer, whatever follows them
+abbrev pub Paired : (text buf : List ℕ) (n : ℕ) → Type 0
+Paired text buf n = (rest : List ℕ)
+    → decode_pairs 0 (take (2 * n) text ++ rest) ≡ prepend (take n buf) (decode_pairs (2 * n) rest)
+
 -- So many pairs of digits stand at the front of a text, and are decoded at the front of a buffer of
 -- 1,024 octets: all of them, or as many as the buffer takes.
 pub record ArePairs (text buf : List ℕ) (n : ℕ) : Type 0 where
@@ -92,15 +103,23 @@ pub record ArePairs (text buf : List ℕ) (n : ℕ) : Type 0 where
       → (is_hex_digit (slice_index text (2 * n)) && is_hex_digit (slice_index text (2 * n + 1)))
       ≡ false
 
+-- the octets of the first line of what is behind a letter
+abbrev pub octets_in : Option (Bor (List ℕ)) → Option (List ℕ)
+octets_in None = None
+octets_in (Some text) = octets_of (first_line text.now)
+
+abbrev pub lines_in : Option (Bor (List ℕ)) → List (List ℕ)
+lines_in None = []
+lines_in (Some text) = later_lines text.now
+
 -- the event that is spelled so, if its octets are in hexadecimal
 abbrev pub spelled_event : Spelled → Option Event
-spelled_event (spellings.Line now text) = option_map (line now) (octets_of (first_line text.now))
+spelled_event (spellings.Line now text) = option_map (line now) (octets_in text)
 spelled_event (spellings.Open now rest) = Some (opening now)
-spelled_event (spellings.Bytes now text) =
-    option_map (received now) (octets_of (first_line text.now))
+spelled_event (spellings.Bytes now text) = option_map (received now) (octets_in text)
 spelled_event (spellings.Cut now rest) = Some (cut now)
 spelled_event (spellings.Tick now rest) = Some (tick now)
-spelled_event (spellings.Wall now number rest) = Some (wall now number)
+spelled_event (spellings.Wall now rest number) = Some (wall now number)
 
 abbrev pub spelled_by : Option Spelled → Option Event
 spelled_by None = None
@@ -108,12 +127,12 @@ spelled_by (Some event) = spelled_event event
 
 -- the lines behind it
 abbrev pub rest_of : Spelled → List (List ℕ)
-rest_of (spellings.Line now text) = later_lines text.now
+rest_of (spellings.Line now text) = lines_in text
 rest_of (spellings.Open now rest) = parts_after 10 (option_copied rest)
-rest_of (spellings.Bytes now text) = later_lines text.now
+rest_of (spellings.Bytes now text) = lines_in text
 rest_of (spellings.Cut now rest) = parts_after 10 (option_copied rest)
 rest_of (spellings.Tick now rest) = parts_after 10 (option_copied rest)
-rest_of (spellings.Wall now number rest) = parts_after 10 (option_copied rest)
+rest_of (spellings.Wall now rest number) = parts_after 10 (option_copied rest)
 
 -- the event of the first line of a text, if it has one, and the lines behind it
 abbrev pub IsEventAt : List ℕ → Option Spelled → Type 0

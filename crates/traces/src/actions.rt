@@ -71,6 +71,7 @@ pub fn print_action(
 }
 
 /// The same with a moment that is spelled already.
+#[inline(always)]
 pub fn print_action_at(
     alloc: Global,
     page: &mut Page,

@@ -1,5 +1,6 @@
 //! Numbers in decimal.
-ghost use Rattle.std.specs.Prelude.{◌≡◌, ◌&&◌, nat_le, Some, None, if◌then◌else◌};
+ghost use Rattle.std.specs.Char.{is_ascii_digit};
+ghost use Rattle.std.specs.Prelude.{◌≡◌, ◌-◌, ◌<◌, ◌≤◌, ◌&&◌, length, nat_le, Some, None, if◌then◌else◌};
 ghost use Rattle.traces.specs.Fields.{decimal_of};
 ghost use Rattle.traces.specs.FirstLines.{IsFrontNumber};
 
@@ -20,20 +21,44 @@ pub fn decimal(digits: &[u8]) -> Option<u64>
 
 /// The number of 1 to 15 decimal digits at the front of a text, and where it ends. Each octet is
 /// looked at once: where the number ends is seen as its digits are read.
+#[inline(always)]
 pub(crate) fn front_number(text: &[u8]) -> Option<(u64, usize)>
     ensures { IsFrontNumber text.now result }
 {
-    // One more than it may have shows that there are too many.
-    let near = text.len().min(MOST_DIGITS + 1);
+    // One more than it may have shows that there are too many. Where that many octets stand, as
+    // they do but at the end of a text, the compiler knows how far it may go, and counts nothing.
+    if text.len() > MOST_DIGITS {
+        number_within(text, MOST_DIGITS + 1)
+    } else {
+        number_within(text, text.len())
+    }
+}
+
+/// The same, by a look at so many octets at most.
+#[inline(always)]
+fn number_within(text: &[u8], near: usize) -> Option<(u64, usize)>
+    requires within { near ≤ length text.now }
+    requires most { near ≤ 16 }
+    requires all { near < 16 → near ≡ length text.now }
+    ensures { IsFrontNumber text.now result }
+{
     let mut value = 0u64;
     for i in 0..near {
-        let digit = text[i];
-        if digit < b'0' || digit > b'9' {
+        let digit = digit_of(text[i]);
+        if digit > 9 {
             return ended(value, i);
         }
-        value = value * 10 + (digit - b'0') as u64;
+        value = value * 10 + digit as u64;
     }
     ended(value, near)
+}
+
+/// The value of a decimal digit. That of another octet is above 9.
+fn digit_of(octet: u8) -> u8
+    ensures digit { is_ascii_digit octet ≡ nat_le result 9 }
+    ensures value { result ≤ 9 → result ≡ octet - 48 }
+{
+    octet.wrapping_sub(b'0')
 }
 
 /// A number of so many digits, if a number may have them.

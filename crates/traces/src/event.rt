@@ -5,7 +5,7 @@ ghost use Rattle.gateway.specs.Entries.{FitsPort};
 ghost use Rattle.gateway.specs.Ports.{FitsBuffer, told_by};
 ghost use Rattle.traces.specs.Event.{event_of, bare_event};
 ghost use Rattle.traces.specs.Fields.{octets_of, parts_after};
-ghost use Rattle.traces.specs.FirstLines.{IsFirstLine, IsEventAt, IsEventBehind, IsMomentAt, IsValued, ends_field, first_line, later_lines, rest_of, spelled_by, spelled_event};
+ghost use Rattle.traces.specs.FirstLines.{IsFirstLine, IsEventAt, IsEventBehind, IsMomentAt, IsValued, ends_field, first_line, later_lines, lines_in, octets_in, rest_of, spelled_by, spelled_event};
 ghost use Rattle.traces.specs.Progress.{came, tells_event};
 ghost use Rattle.traces.specs.Trace.{is_skipped};
 
@@ -17,15 +17,16 @@ use gateway::{Entry, Next};
 use std::alloc::{AllocError, Global};
 
 /// An event as a line spells it, and what follows. Where octets are spelled that is the text from
-/// them on: whether they are right, and where their line ends, is seen as they are read.
+/// them on: whether they are right, and where their line ends, is seen as they are read. What
+/// follows stands alike in each variant, `None` where nothing does, so that it stays in registers.
 #[derive(Clone, Copy)]
 pub(crate) enum Spelled<'a> {
-    Line(u64, &'a [u8]),
+    Line(u64, Option<&'a [u8]>),
     Open(u64, Option<&'a [u8]>),
-    Bytes(u64, &'a [u8]),
+    Bytes(u64, Option<&'a [u8]>),
     Cut(u64, Option<&'a [u8]>),
     Tick(u64, Option<&'a [u8]>),
-    Wall(u64, u64, Option<&'a [u8]>),
+    Wall(u64, Option<&'a [u8]>, u64),
 }
 
 /// The first line of a text, with the lines behind it.
@@ -119,11 +120,11 @@ fn valued(now: u64, kind: u8, text: &[u8]) -> Option<Spelled<'_>>
     ensures { IsValued now kind text.entry.now result }
 {
     match kind {
-        b'S' => Some(Spelled::Line(now, text)),
-        b'R' => Some(Spelled::Bytes(now, text)),
+        b'S' => Some(Spelled::Line(now, Some(text))),
+        b'R' => Some(Spelled::Bytes(now, Some(text))),
         b'W' => {
             let (number, rest) = cut(text, LINE_FEED);
-            Some(Spelled::Wall(now, decimal(number)?, rest))
+            Some(Spelled::Wall(now, rest, decimal(number)?))
         }
         _ => None,
     }
@@ -136,16 +137,17 @@ pub(crate) fn judged<'a>(event: &Spelled<'a>) -> Option<Option<&'a [u8]>>
     ensures rest { IfSome result (λ rest.
         rest_of event.now ≡ parts_after 10 (option_copied rest)) }
 {
-    match event {
-        Spelled::Line(_, text) | Spelled::Bytes(_, text) => {
-            let (_, rest) = octets_line(*text)?;
-            Some(rest)
-        }
-        Spelled::Open(_, rest)
-        | Spelled::Cut(_, rest)
-        | Spelled::Tick(_, rest)
-        | Spelled::Wall(_, _, rest) => Some(*rest),
-    }
+    // No pattern has two variants: the event would have to stand in memory for it.
+    let text = match event {
+        Spelled::Line(_, text) => *text,
+        Spelled::Bytes(_, text) => *text,
+        Spelled::Open(_, rest) => return Some(*rest),
+        Spelled::Cut(_, rest) => return Some(*rest),
+        Spelled::Tick(_, rest) => return Some(*rest),
+        Spelled::Wall(_, rest, _) => return Some(*rest),
+    };
+    let (_, rest) = octets_line(text?)?;
+    Some(rest)
 }
 
 /// An event as a port gives it, and the lines behind it: its octets are put at the front of the
@@ -165,28 +167,34 @@ pub(crate) fn announce<'a>(
 {
     match event {
         Spelled::Line(now, text) => {
-            let (len, rest) = write_line(*text, buf)?;
+            let (len, rest) = write_line((*text)?, buf)?;
             Some((Next::Line(*now, len), rest))
         }
         Spelled::Open(now, rest) => Some((Next::Open(*now), *rest)),
         Spelled::Bytes(now, text) => {
-            let (len, rest) = write_line(*text, buf)?;
+            let (len, rest) = write_line((*text)?, buf)?;
             Some((Next::Bytes(*now, len), rest))
         }
         Spelled::Cut(now, rest) => Some((Next::Cut(*now), *rest)),
         Spelled::Tick(now, rest) => Some((Next::Tick(*now), *rest)),
-        Spelled::Wall(now, number, rest) => Some((Next::Wall(*now, *number), *rest)),
+        Spelled::Wall(now, rest, number) => Some((Next::Wall(*now, *number), *rest)),
     }
 }
 
 /// The octets of a text's first line, and the lines behind it, if it has octets alone.
-fn read_line(alloc: Global, text: &[u8]) -> Result<Option<(Vec<u8>, Option<&[u8]>)>, AllocError>
+fn read_line<'a>(
+    alloc: Global,
+    text: Option<&'a [u8]>,
+) -> Result<Option<(Vec<u8>, Option<&'a [u8]>)>, AllocError>
     ensures octets { IfOk result (λ found. option_map (λ both. both.0.items) found
-        ≡ octets_of (first_line text.entry.now)) }
+        ≡ octets_in text.entry) }
     ensures rest { IfOk result (λ found. IfSome found (λ both.
-        later_lines text.entry.now ≡ parts_after 10 (option_copied both.1))) }
+        lines_in text.entry ≡ parts_after 10 (option_copied both.1))) }
     ensures most { IfOk result (λ found. IfSome found (λ both. length both.0.items ≤ 1024)) }
 {
+    let Some(text) = text else {
+        return Ok(None);
+    };
     let Some((digits, rest)) = octets_line(text) else {
         return Ok(None);
     };
@@ -219,6 +227,6 @@ pub(crate) fn entry<'a>(
         },
         Spelled::Cut(now, rest) => Ok(Some((Entry::Cut(*now), *rest))),
         Spelled::Tick(now, rest) => Ok(Some((Entry::Tick(*now), *rest))),
-        Spelled::Wall(now, number, rest) => Ok(Some((Entry::Wall(*now, *number), *rest))),
+        Spelled::Wall(now, rest, number) => Ok(Some((Entry::Wall(*now, *number), *rest))),
     }
 }

@@ -1,10 +1,10 @@
 //! Octets in hexadecimal.
-ghost use Rattle.std.specs.Prelude.{◌≡◌, ◌<◌, false, slice_index, ◌==◌, ◌*◌, ◌%◌, ◌≤◌, ◌&&◌, nat_le, nat_lt, true, Some, None, Ok, IfOk, IfSome, if◌then◌else◌, is_some, length, option_map, string_bytes, take};
+ghost use Rattle.std.specs.Prelude.{◌≡◌, ◌+◌, ◌<◌, false, slice_index, ◌==◌, ◌*◌, ◌%◌, ◌≤◌, ◌&&◌, nat_le, nat_lt, true, Some, None, Ok, IfOk, IfSome, if◌then◌else◌, is_some, length, option_map, string_bytes, take};
 ghost use Rattle.hex.specs.Hex.{IsBytes, encode_upper, hex_digit_value, is_hex_digit};
 ghost use Rattle.std.specs.List.{list_all};
 ghost use Rattle.std.specs.Option.{option_copied};
 ghost use Rattle.traces.specs.Fields.{octets_of, parts_after};
-ghost use Rattle.traces.specs.FirstLines.{AreDigitsTo, ArePairs, DigitsEnd, IsDigitsLine, IsOctetsLine, first_line, later_lines};
+ghost use Rattle.traces.specs.FirstLines.{AreDigitsTo, ArePairs, DigitsEnd, IsDigitsLine, IsOctetsLine, IsPair, Paired, first_line, later_lines};
 
 use crate::reading::LINE_FEED;
 use hex::FromHexError;
@@ -13,25 +13,46 @@ use std::alloc::{AllocError, Global};
 /// The most octets of one event.
 const MOST_OCTETS: usize = 1024;
 
-/// The value of each octet as a digit in hexadecimal, and 255 where it is none.
+/// The value of each octet as a digit in hexadecimal, and 256 where it is none.
 #[rattlefmt::skip]
-static VALUES: [u8; 256] = [
-    255, 255, 255, 255, 255, 255, 255, 255, 255, 255, 255, 255, 255, 255, 255, 255,
-    255, 255, 255, 255, 255, 255, 255, 255, 255, 255, 255, 255, 255, 255, 255, 255,
-    255, 255, 255, 255, 255, 255, 255, 255, 255, 255, 255, 255, 255, 255, 255, 255,
-      0,   1,   2,   3,   4,   5,   6,   7,   8,   9, 255, 255, 255, 255, 255, 255, // `0` to `9`
-    255,  10,  11,  12,  13,  14,  15, 255, 255, 255, 255, 255, 255, 255, 255, 255, // `A` to `F`
-    255, 255, 255, 255, 255, 255, 255, 255, 255, 255, 255, 255, 255, 255, 255, 255,
-    255,  10,  11,  12,  13,  14,  15, 255, 255, 255, 255, 255, 255, 255, 255, 255, // `a` to `f`
-    255, 255, 255, 255, 255, 255, 255, 255, 255, 255, 255, 255, 255, 255, 255, 255,
-    255, 255, 255, 255, 255, 255, 255, 255, 255, 255, 255, 255, 255, 255, 255, 255,
-    255, 255, 255, 255, 255, 255, 255, 255, 255, 255, 255, 255, 255, 255, 255, 255,
-    255, 255, 255, 255, 255, 255, 255, 255, 255, 255, 255, 255, 255, 255, 255, 255,
-    255, 255, 255, 255, 255, 255, 255, 255, 255, 255, 255, 255, 255, 255, 255, 255,
-    255, 255, 255, 255, 255, 255, 255, 255, 255, 255, 255, 255, 255, 255, 255, 255,
-    255, 255, 255, 255, 255, 255, 255, 255, 255, 255, 255, 255, 255, 255, 255, 255,
-    255, 255, 255, 255, 255, 255, 255, 255, 255, 255, 255, 255, 255, 255, 255, 255,
-    255, 255, 255, 255, 255, 255, 255, 255, 255, 255, 255, 255, 255, 255, 255, 255,
+static VALUES: [u16; 256] = [
+    256, 256, 256, 256, 256, 256, 256, 256, 256, 256, 256, 256, 256, 256, 256, 256,
+    256, 256, 256, 256, 256, 256, 256, 256, 256, 256, 256, 256, 256, 256, 256, 256,
+    256, 256, 256, 256, 256, 256, 256, 256, 256, 256, 256, 256, 256, 256, 256, 256,
+      0,   1,   2,   3,   4,   5,   6,   7,   8,   9, 256, 256, 256, 256, 256, 256, // `0` to `9`
+    256,  10,  11,  12,  13,  14,  15, 256, 256, 256, 256, 256, 256, 256, 256, 256, // `A` to `F`
+    256, 256, 256, 256, 256, 256, 256, 256, 256, 256, 256, 256, 256, 256, 256, 256,
+    256,  10,  11,  12,  13,  14,  15, 256, 256, 256, 256, 256, 256, 256, 256, 256, // `a` to `f`
+    256, 256, 256, 256, 256, 256, 256, 256, 256, 256, 256, 256, 256, 256, 256, 256,
+    256, 256, 256, 256, 256, 256, 256, 256, 256, 256, 256, 256, 256, 256, 256, 256,
+    256, 256, 256, 256, 256, 256, 256, 256, 256, 256, 256, 256, 256, 256, 256, 256,
+    256, 256, 256, 256, 256, 256, 256, 256, 256, 256, 256, 256, 256, 256, 256, 256,
+    256, 256, 256, 256, 256, 256, 256, 256, 256, 256, 256, 256, 256, 256, 256, 256,
+    256, 256, 256, 256, 256, 256, 256, 256, 256, 256, 256, 256, 256, 256, 256, 256,
+    256, 256, 256, 256, 256, 256, 256, 256, 256, 256, 256, 256, 256, 256, 256, 256,
+    256, 256, 256, 256, 256, 256, 256, 256, 256, 256, 256, 256, 256, 256, 256, 256,
+    256, 256, 256, 256, 256, 256, 256, 256, 256, 256, 256, 256, 256, 256, 256, 256,
+];
+
+/// Sixteen times that value, and 256 where the octet is no digit.
+#[rattlefmt::skip]
+static HIGH_VALUES: [u16; 256] = [
+    256, 256, 256, 256, 256, 256, 256, 256, 256, 256, 256, 256, 256, 256, 256, 256,
+    256, 256, 256, 256, 256, 256, 256, 256, 256, 256, 256, 256, 256, 256, 256, 256,
+    256, 256, 256, 256, 256, 256, 256, 256, 256, 256, 256, 256, 256, 256, 256, 256,
+      0,  16,  32,  48,  64,  80,  96, 112, 128, 144, 256, 256, 256, 256, 256, 256, // `0` to `9`
+    256, 160, 176, 192, 208, 224, 240, 256, 256, 256, 256, 256, 256, 256, 256, 256, // `A` to `F`
+    256, 256, 256, 256, 256, 256, 256, 256, 256, 256, 256, 256, 256, 256, 256, 256,
+    256, 160, 176, 192, 208, 224, 240, 256, 256, 256, 256, 256, 256, 256, 256, 256, // `a` to `f`
+    256, 256, 256, 256, 256, 256, 256, 256, 256, 256, 256, 256, 256, 256, 256, 256,
+    256, 256, 256, 256, 256, 256, 256, 256, 256, 256, 256, 256, 256, 256, 256, 256,
+    256, 256, 256, 256, 256, 256, 256, 256, 256, 256, 256, 256, 256, 256, 256, 256,
+    256, 256, 256, 256, 256, 256, 256, 256, 256, 256, 256, 256, 256, 256, 256, 256,
+    256, 256, 256, 256, 256, 256, 256, 256, 256, 256, 256, 256, 256, 256, 256, 256,
+    256, 256, 256, 256, 256, 256, 256, 256, 256, 256, 256, 256, 256, 256, 256, 256,
+    256, 256, 256, 256, 256, 256, 256, 256, 256, 256, 256, 256, 256, 256, 256, 256,
+    256, 256, 256, 256, 256, 256, 256, 256, 256, 256, 256, 256, 256, 256, 256, 256,
+    256, 256, 256, 256, 256, 256, 256, 256, 256, 256, 256, 256, 256, 256, 256, 256,
 ];
 
 /// 1 to 1,024 octets in hexadecimal, each as two digits of either case. `None` where the text is
@@ -119,7 +140,7 @@ fn run_end(text: &[u8], from: usize, limit: usize) -> usize
 {
     let mut end = from;
     'digits: while end < limit {
-        if value_of(text[end]) >= 16 {
+        if value_of(text[end]) >= NO_DIGIT {
             return end;
         }
         end += 1;
@@ -199,28 +220,112 @@ pub(crate) fn write_line<'a>(
     None
 }
 
-/// Decodes the pairs of digits at the front of a text, and says how many they are. It looks at none
-/// behind the first pair that isn't of digits.
+/// Decodes the pairs of digits at the front of a text, and says how many they are. The first are
+/// looked at one by one, since a value of one octet ends there; the others four at a time.
 #[inline(always)]
 fn write_pairs(text: &[u8], buf: &mut [u8; 1024]) -> usize
     ensures { ArePairs text.now buf.new result }
 {
     let most = (text.len() / 2).min(MOST_OCTETS);
-    'octets: for i in 0..most {
-        let high = value_of(text[2 * i]);
-        let low = value_of(text[2 * i + 1]);
-        if high | low >= 16 {
-            return i;
-        }
-        // Nothing is lost of two digits' values.
-        buf[i] = high.wrapping_mul(16).wrapping_add(low);
+    let near = write_each(text, buf, 0, most.min(NEAR_PAIRS));
+    if near < NEAR_PAIRS {
+        return near;
     }
-    most
+    let far = write_blocks(text, buf, near, most);
+    write_each(text, buf, far, most)
 }
 
-/// The value of a digit, which is below 16. Another octet has a greater one.
-fn value_of(octet: u8) -> u8
-    ensures { hex_digit_value octet ≡ (if nat_lt result 16 then Some result else None) }
+/// So many pairs are looked at one by one.
+const NEAR_PAIRS: usize = 2;
+
+/// So many pairs are decoded at a time.
+const PAIRS_AT_ONCE: usize = 4;
+
+/// Decodes on, pair by pair, as far as the limit. It looks at none behind the first pair that isn't
+/// of digits.
+#[inline(always)]
+fn write_each(text: &[u8], buf: &mut [u8; 1024], from: usize, limit: usize) -> usize
+    requires so_far { Paired text.now buf.old from }
+    requires forward { from ≤ limit }
+    requires most { limit ≤ 1024 }
+    requires within { 2 * limit ≤ length text.now }
+    ensures pairs { Paired text.now buf.new result }
+    ensures within { result ≤ limit }
+    ensures over { result < limit →
+        (is_hex_digit (slice_index text.now (2 * result))
+        && is_hex_digit (slice_index text.now (2 * result + 1))) ≡ false }
+{
+    'octets: for i in from..limit {
+        let octet = pair(text[2 * i], text[2 * i + 1]);
+        if octet >= NO_DIGIT {
+            return i;
+        }
+        buf[i] = octet as u8;
+    }
+    limit
+}
+
+/// Decodes on, for as many whole blocks of pairs of digits as follow, as far as the limit. A call,
+/// since the loop needs more registers than a caller leaves it.
+#[inline(never)]
+fn write_blocks(text: &[u8], buf: &mut [u8; 1024], from: usize, limit: usize) -> usize
+    requires so_far { Paired text.now buf.old from }
+    requires forward { from ≤ limit }
+    requires most { limit ≤ 1024 }
+    requires within { 2 * limit ≤ length text.now }
+    ensures pairs { Paired text.now buf.new result }
+    ensures within { result ≤ limit }
+{
+    let mut end = from;
+    'blocks: while PAIRS_AT_ONCE <= limit - end {
+        if !write_block(text, buf, end) {
+            return end;
+        }
+        end += PAIRS_AT_ONCE;
+    }
+    end
+}
+
+/// Decodes one block of pairs more, and says whether all were of digits. That is seen at its end:
+/// what it writes where they weren't means nothing.
+#[inline(always)]
+fn write_block(text: &[u8], buf: &mut [u8; 1024], from: usize) -> bool
+    requires so_far { Paired text.now buf.old from }
+    requires most { from + 4 ≤ 1024 }
+    requires within { 2 * (from + 4) ≤ length text.now }
+    ensures { Paired text.now buf.new (if result then from + 4 else from) }
+{
+    let mut bits = 0u16;
+    'pairs: for i in 0..PAIRS_AT_ONCE {
+        let octet = pair(text[2 * (from + i)], text[2 * (from + i) + 1]);
+        bits |= octet;
+        buf[from + i] = (octet % NO_DIGIT) as u8;
+    }
+    bits < NO_DIGIT
+}
+
+/// No octet, and what has no value as a digit.
+const NO_DIGIT: u16 = 256;
+
+/// The octet of two digits. It is none where one of these is no digit.
+#[inline(always)]
+fn pair(high: u8, low: u8) -> u16
+    ensures { IsPair high low result }
+{
+    high_value_of(high) | value_of(low)
+}
+
+/// The value of a digit. Another octet has a value that is no octet.
+fn value_of(octet: u8) -> u16
+    ensures { hex_digit_value octet ≡ (if nat_lt result 256 then Some result else None) }
 {
     VALUES[octet as usize]
+}
+
+/// Sixteen times the value of a digit. Another octet has a value that is no octet.
+fn high_value_of(octet: u8) -> u16
+    ensures { option_map (λ v. 16 * v) (hex_digit_value octet)
+        ≡ (if nat_lt result 256 then Some result else None) }
+{
+    HIGH_VALUES[octet as usize]
 }

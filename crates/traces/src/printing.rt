@@ -44,11 +44,11 @@ pub(crate) fn put_line(row: &mut [u8], moment: &Moment, letter: u8, octets: &[u8
     ensures within { result ≤ length row.new }
     ensures octets { IsBytes octets.now }
 {
-    let digits = moment.digits();
-    let letter_at = digits.len();
+    // As many octets as the longest moment has: what isn't of this one is written over.
+    let (digits, letter_at) = moment.spelled();
     let octets_at = letter_at + 5;
     let end = octets_at + 2 * octets.len();
-    row[..letter_at].copy_from_slice(digits);
+    row[..digits.len()].copy_from_slice(&digits);
     row[letter_at..octets_at].copy_from_slice(&[b' ', b'>', b' ', letter, b' ']);
     spell(octets, &mut row[octets_at..end]);
     row[end] = b'\n';

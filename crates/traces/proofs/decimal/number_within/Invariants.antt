@@ -1,6 +1,6 @@
 use Rattle.std.proofs.Common.{◌≡◌, ◌<◌, ◌^◌, take, Some}
 use Rattle.traces.specs.Fields.{digits_after}
-use Rattle.traces.proofs.decimal.front_number.Given as goal
+use Rattle.traces.proofs.decimal.number_within.Given as goal
 
 abbrev pub invariant-loop-i : goal.invariant-loop-i
 invariant-loop-i l = record {
