@@ -1,7 +1,7 @@
 #!/usr/bin/env python3
 """Measures `telegate replay` on large traces made by fixed rules.
 
-    bench/bench.py [--program FILE] [--against FILE] [--events N] [--runs N] [--growth] [--keep FOLDER] [WORKLOAD ..]
+    bench/bench.py [--program FILE] [--against FILE | --plain] [--events N] [--runs N] [--growth] [--keep FOLDER] [WORKLOAD ..]
 
 For each workload: a trace of about N events is made (the same each time), replayed three times (`--runs`) with the output thrown
 away, and the least processor time counts (user and system, so that other work on the machine disturbs little). Printed are the
@@ -11,7 +11,8 @@ the time and memory an event at each. The program is the one that ./build makes.
 
 With `--against` a second program with the same command line runs in turn with the first, so that both meet the same machine. Their
 outputs have to be equal: else the workload is told and the end is status 1. Printed besides are the ratios of the least processor
-times and of the peak memories, first program to second.
+times and of the peak memories, first program to second. `--plain` takes the plain Rust program of bench/plain as the second, which
+rustc compiles first.
 """
 import argparse
 import filecmp
@@ -19,6 +20,8 @@ import os
 import subprocess
 import sys
 import tempfile
+
+import plain
 
 TOP = os.path.dirname(os.path.dirname(os.path.abspath(__file__)))
 
@@ -286,7 +289,9 @@ def measured(programs, folder, name, events, runs):
 def main():
     words = argparse.ArgumentParser()
     words.add_argument("--program", default=os.path.join(TOP, "crates", "telegate", "out", "telegate"))
-    words.add_argument("--against", help="a second program, measured in turn with the first")
+    other = words.add_mutually_exclusive_group()
+    other.add_argument("--against", help="a second program, measured in turn with the first")
+    other.add_argument("--plain", action="store_true", help="the plain Rust program of bench/plain as the second")
     words.add_argument("--events", type=int, default=1000000)
     words.add_argument("--runs", type=int, default=3)
     words.add_argument("--growth", action="store_true")
@@ -296,9 +301,12 @@ def main():
     for name in given.workloads:
         if name not in WORKLOADS:
             words.error(f"no workload {name}: " + ", ".join(WORKLOADS))
-    programs = [given.program] + ([given.against] if given.against else [])
     alike = True
     with tempfile.TemporaryDirectory() as temporary:
+        against = plain.built(temporary) if given.plain else given.against
+        if given.plain and against is None:
+            words.error("--plain: there is no rustc")
+        programs = [given.program] + ([against] if against else [])
         folder = given.keep or temporary
         os.makedirs(folder, exist_ok=True)
         for name in given.workloads or WORKLOADS:
