@@ -246,7 +246,7 @@ def agrees(program, other, folder, seed, events):
 def main():
     words = argparse.ArgumentParser()
     words.add_argument("--program", default=ends.PROGRAM)
-    words.add_argument("--runs", type=int, default=200)
+    words.add_argument("--runs", type=int, default=100)
     words.add_argument("--events", type=int, default=150)
     words.add_argument("--seed", type=int, default=1)
     words.add_argument("--keep")
