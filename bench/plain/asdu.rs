@@ -55,7 +55,10 @@ pub struct Asdu<'a> {
 }
 
 fn number(octets: &[u8]) -> u32 {
-    octets.iter().rev().fold(0, |number, octet| number << 8 | u32::from(*octet))
+    octets
+        .iter()
+        .rev()
+        .fold(0, |number, octet| number << 8 | u32::from(*octet))
 }
 
 pub fn read(sizes: Sizes, octets: &[u8]) -> Option<Asdu<'_>> {
@@ -68,7 +71,11 @@ pub fn read(sizes: Sizes, octets: &[u8]) -> Option<Asdu<'_>> {
     let is_sequence = octets[1] & 0x80 != 0;
     let count = usize::from(octets[1] & 0x7F);
     let objects = &octets[head..];
-    let wanted = if is_sequence { sizes.ioa + count * content } else { count * (sizes.ioa + content) };
+    let wanted = if is_sequence {
+        sizes.ioa + count * content
+    } else {
+        count * (sizes.ioa + content)
+    };
     if count == 0 || objects.len() != wanted {
         return None;
     }
@@ -91,11 +98,21 @@ pub fn read(sizes: Sizes, octets: &[u8]) -> Option<Asdu<'_>> {
 impl<'a> Asdu<'a> {
     /// Each object's address and content.
     pub fn objects(&self) -> impl Iterator<Item = (u32, &'a [u8])> + use<'a> {
-        let Asdu { sizes, is_sequence, count, content, objects, .. } = *self;
+        let Asdu {
+            sizes,
+            is_sequence,
+            count,
+            content,
+            objects,
+            ..
+        } = *self;
         (0..count).map(move |n| {
             if is_sequence {
                 let start = sizes.ioa + n * content;
-                (number(&objects[..sizes.ioa]) + n as u32, &objects[start..start + content])
+                (
+                    number(&objects[..sizes.ioa]) + n as u32,
+                    &objects[start..start + content],
+                )
             } else {
                 let object = &objects[n * (sizes.ioa + content)..][..sizes.ioa + content];
                 (number(&object[..sizes.ioa]), &object[sizes.ioa..])
@@ -105,9 +122,22 @@ impl<'a> Asdu<'a> {
 
     /// Its pieces in the sizes of 104, one after another, each written in place of what `piece` held
     /// and handed on, until one isn't taken. With a tag (of 7 octets) it is the type with that tag.
-    pub fn translate(&self, tag: Option<&[u8]>, piece: &mut Vec<u8>, mut hand: impl FnMut(&[u8]) -> bool) -> bool {
-        let kind = if tag.is_some() { self.kind + 13 } else { self.kind };
-        let most = if self.is_sequence { 127.min(240 / self.content) } else { 243 / (3 + self.content) };
+    pub fn translate(
+        &self,
+        tag: Option<&[u8]>,
+        piece: &mut Vec<u8>,
+        mut hand: impl FnMut(&[u8]) -> bool,
+    ) -> bool {
+        let kind = if tag.is_some() {
+            self.kind + 13
+        } else {
+            self.kind
+        };
+        let most = if self.is_sequence {
+            127.min(240 / self.content)
+        } else {
+            243 / (3 + self.content)
+        };
         let mut left = self.count;
         let mut objects = self.objects();
         while left > 0 {
@@ -116,7 +146,14 @@ impl<'a> Asdu<'a> {
             piece.clear();
             let sequence = if self.is_sequence { 0x80 } else { 0 };
             let [low, high] = self.ca.to_le_bytes();
-            piece.extend_from_slice(&[kind, sequence | count as u8, self.cause, self.originator, low, high]);
+            piece.extend_from_slice(&[
+                kind,
+                sequence | count as u8,
+                self.cause,
+                self.originator,
+                low,
+                high,
+            ]);
             for (n, (address, content)) in objects.by_ref().take(count).enumerate() {
                 if n == 0 || !self.is_sequence {
                     piece.extend_from_slice(&address.to_le_bytes()[..3]);

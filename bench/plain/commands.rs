@@ -51,6 +51,45 @@ enum Line {
     Holds(Option<Vec<u8>>),
 }
 
+/// A command without a fault of its own.
+struct Command {
+    kind: u8,
+    target: Target,
+    element: [u8; 3],
+    is_test: bool,
+    /// Whether it operates something, as an interrogation doesn't.
+    is_switch: bool,
+    is_activation: bool,
+    is_select: bool,
+}
+
+impl Command {
+    fn of(octets: &[u8], target: Target) -> Command {
+        let kind = octets[0];
+        let element = padded(&octets[9..9 + element_size(kind)]);
+        let (is_switch, is_activation) = (kind != 100, octets[2] & 0x3F == 6);
+        let has_select = element[element_size(kind) - 1] & 0x80 != 0;
+        Command {
+            kind,
+            target,
+            element,
+            is_test: octets[2] & 0x80 != 0,
+            is_switch,
+            is_activation,
+            is_select: is_switch && is_activation && has_select,
+        }
+    }
+
+    fn is_execute(&self) -> bool {
+        self.is_switch && self.is_activation && !self.is_select
+    }
+
+    /// Whether it is an execute or a deactivation.
+    fn ends_selection(&self) -> bool {
+        self.is_switch && !self.is_select
+    }
+}
+
 pub struct Commands {
     stations: Vec<(u16, bool)>,
     sizes: Sizes,
@@ -65,11 +104,19 @@ pub struct Commands {
 }
 
 fn line_kind(kind: u8) -> u8 {
-    if (58..=62).contains(&kind) { kind - 13 } else { kind }
+    if (58..=62).contains(&kind) {
+        kind - 13
+    } else {
+        kind
+    }
 }
 
 fn element_size(kind: u8) -> usize {
-    if matches!(line_kind(kind), 48 | 49) { 3 } else { 1 }
+    if matches!(line_kind(kind), 48 | 49) {
+        3
+    } else {
+        1
+    }
 }
 
 fn padded(element: &[u8]) -> [u8; 3] {
@@ -101,17 +148,34 @@ fn instant(tag: &[u8]) -> Option<i64> {
     let (minute, hour) = (i64::from(tag[2] & 0x3F), i64::from(tag[3] & 0x1F));
     let (day, weekday) = (i64::from(tag[4] & 0x1F), i64::from(tag[4] >> 5));
     let (month, year) = (i64::from(tag[5] & 0x0F), i64::from(tag[6] & 0x7F));
-    if ms > 59999 || minute > 59 || hour > 23 || day == 0 || !(1..=12).contains(&month) || year > 99 {
+    if ms > 59999 || minute > 59 || hour > 23 || day == 0 || !(1..=12).contains(&month) || year > 99
+    {
         return None;
     }
     let year = 2000 + year;
     let is_leap = year % 4 == 0 && (year % 100 != 0 || year % 400 == 0);
-    let lengths = [31, if is_leap { 29 } else { 28 }, 31, 30, 31, 30, 31, 31, 30, 31, 30, 31];
+    let lengths = [
+        31,
+        if is_leap { 29 } else { 28 },
+        31,
+        30,
+        31,
+        30,
+        31,
+        31,
+        30,
+        31,
+        30,
+        31,
+    ];
     if day > lengths[month as usize - 1] {
         return None;
     }
     let leaps = |year: i64| (year - 1) / 4 - (year - 1) / 100 + (year - 1) / 400;
-    let days = 365 * (year - 1970) + leaps(year) - leaps(1970) + lengths[..month as usize - 1].iter().sum::<i64>() + day - 1;
+    let days = 365 * (year - 1970) + leaps(year) - leaps(1970)
+        + lengths[..month as usize - 1].iter().sum::<i64>()
+        + day
+        - 1;
     // 1970-01-01 was a Thursday, the fourth day of the week.
     if weekday != 0 && weekday != (days + 3) % 7 + 1 || tag[2] & 0x80 != 0 {
         return None;
@@ -122,7 +186,11 @@ fn instant(tag: &[u8]) -> Option<i64> {
 impl Commands {
     pub fn new(config: &Config) -> Commands {
         Commands {
-            stations: config.stations.iter().map(|Station { ca, select, .. }| (*ca, *select)).collect(),
+            stations: config
+                .stations
+                .iter()
+                .map(|Station { ca, select, .. }| (*ca, *select))
+                .collect(),
             sizes: config.sizes,
             select_ms: config.select_ms,
             max_age_ms: config.max_age_ms,
@@ -146,12 +214,20 @@ impl Commands {
         }
         let ca = u16::from_le_bytes([octets[4], octets[5]]);
         let is_for = |station: &(u16, bool)| station.0 == ca || kind == 100 && ca == 65535;
-        let addressed = self.stations.iter().filter(|station| is_for(station)).count();
+        let addressed = self
+            .stations
+            .iter()
+            .filter(|station| is_for(station))
+            .count();
         if addressed == 0 {
             return Some(answer(octets, 46));
         }
         let address = u32::from_le_bytes([octets[6], octets[7], octets[8], 0]);
-        let is_object = if kind == 100 { address == 0 } else { address != 0 && address >> (8 * self.sizes.ioa) == 0 };
+        let is_object = if kind == 100 {
+            address == 0
+        } else {
+            address != 0 && address >> (8 * self.sizes.ioa) == 0
+        };
         if !is_object {
             return Some(answer(octets, 47));
         }
@@ -179,50 +255,101 @@ impl Commands {
         instant.abs_diff(i64::try_from(wall).unwrap_or(i64::MAX)) <= self.max_age_ms
     }
 
-    fn admit(&mut self, octets: &[u8], target: Target, addressed: usize, now: u64) -> Option<Vec<u8>> {
-        let kind = octets[0];
-        let element = padded(&octets[9..9 + element_size(kind)]);
-        let (is_activation, is_test) = (octets[2] & 0x3F == 6, octets[2] & 0x80 != 0);
-        let is_switch = kind != 100;
-        let is_select = is_switch && is_activation && element[element_size(kind) - 1] & 0x80 != 0;
-        let is_execute = is_switch && is_activation && !is_select;
-        let is_guarded = is_switch && self.stations.iter().any(|(ca, select)| *ca == target.1 && *select);
-        let select_ms = self.select_ms;
-        let is_selected = |selection: &Selection| {
-            selection.target == target
-                && selection.kind == kind
-                && selection.is_test == is_test
-                && without_select(kind, selection.element) == without_select(kind, element)
-                && matches!(selection.stage, Stage::Confirmed(_))
-                && !selection.is_over(now, select_ms)
-        };
-        let lacks_selection = is_guarded && is_execute && !self.selections.iter().any(is_selected);
-        if is_execute || is_switch && !is_activation {
-            self.selections.retain(|selection| selection.target != target);
+    fn admit(
+        &mut self,
+        octets: &[u8],
+        target: Target,
+        addressed: usize,
+        now: u64,
+    ) -> Option<Vec<u8>> {
+        let command = Command::of(octets, target);
+        let is_guarded = command.is_switch
+            && self
+                .stations
+                .iter()
+                .any(|(ca, select)| *ca == target.1 && *select);
+        let lacks_selection =
+            is_guarded && command.is_execute() && !self.is_selected(&command, now);
+        if command.ends_selection() {
+            self.end_selection(target);
         }
-        let others = self.selections.iter().filter(|selection| selection.target != target).count();
-        let makes_selection = is_guarded && is_select;
-        if lacks_selection || self.waiting.len() + addressed > MOST_WAITING || makes_selection && others >= MOST_KEPT {
+        let makes_selection = is_guarded && command.is_select;
+        let is_full = self.waiting.len() + addressed > MOST_WAITING
+            || makes_selection && self.count_others(target) >= MOST_KEPT;
+        if lacks_selection || is_full {
             return Some(negative(octets));
         }
         if makes_selection {
-            let station = self.stations.iter().position(|(ca, _)| *ca == target.1)?;
-            self.selections.retain(|selection| selection.target != target);
-            let before = self.waiting.iter().filter(|waiting| waiting.station == station).count();
-            self.selections.push(Selection { station, target, kind, is_test, element, came: now, stage: Stage::Queued(before) });
+            self.select(&command, now);
         }
+        self.queue(octets, target);
+        None
+    }
+
+    fn is_selected(&self, command: &Command, now: u64) -> bool {
+        let kind = command.kind;
+        self.selections.iter().any(|selection| {
+            selection.target == command.target
+                && selection.kind == kind
+                && selection.is_test == command.is_test
+                && without_select(kind, selection.element) == without_select(kind, command.element)
+                && matches!(selection.stage, Stage::Confirmed(_))
+                && !selection.is_over(now, self.select_ms)
+        })
+    }
+
+    fn end_selection(&mut self, target: Target) {
+        self.selections
+            .retain(|selection| selection.target != target);
+    }
+
+    fn count_others(&self, target: Target) -> usize {
+        self.selections
+            .iter()
+            .filter(|selection| selection.target != target)
+            .count()
+    }
+
+    fn select(&mut self, command: &Command, now: u64) {
+        let target = command.target;
+        self.end_selection(target);
+        let Some(station) = self.stations.iter().position(|(ca, _)| *ca == target.1) else {
+            return;
+        };
+        let before = self
+            .waiting
+            .iter()
+            .filter(|waiting| waiting.station == station)
+            .count();
+        self.selections.push(Selection {
+            station,
+            target,
+            kind: command.kind,
+            is_test: command.is_test,
+            element: command.element,
+            came: now,
+            stage: Stage::Queued(before),
+        });
+    }
+
+    fn queue(&mut self, octets: &[u8], target: Target) {
         for (station, (ca, _)) in self.stations.iter().enumerate() {
-            if *ca == target.1 || target.1 == 65535 && kind == 100 {
-                let serial = serial(self.sizes, octets, *ca);
-                self.waiting.push(Waiting { station, received: octets.to_vec(), serial });
+            if *ca == target.1 || target.1 == 65535 && octets[0] == 100 {
+                self.waiting.push(Waiting {
+                    station,
+                    received: octets.to_vec(),
+                    serial: serial(self.sizes, octets, *ca),
+                });
             }
         }
-        None
     }
 
     /// The oldest command that waits for a station, in the sizes of the line.
     pub fn waiting(&self, station: usize) -> Option<&[u8]> {
-        let waiting = self.waiting.iter().find(|waiting| waiting.station == station)?;
+        let waiting = self
+            .waiting
+            .iter()
+            .find(|waiting| waiting.station == station)?;
         Some(&waiting.serial)
     }
 
@@ -232,11 +359,19 @@ impl Commands {
 
     /// It goes out for the first time.
     pub fn on_line(&mut self, station: usize) {
-        let Some(place) = self.waiting.iter().position(|waiting| waiting.station == station) else {
+        let Some(place) = self
+            .waiting
+            .iter()
+            .position(|waiting| waiting.station == station)
+        else {
             return;
         };
         let Waiting { received, .. } = self.waiting.remove(place);
-        for selection in self.selections.iter_mut().filter(|selection| selection.station == station) {
+        for selection in self
+            .selections
+            .iter_mut()
+            .filter(|selection| selection.station == station)
+        {
             selection.stage = match selection.stage {
                 Stage::Queued(0) => Stage::OnLine,
                 Stage::Queued(before) => Stage::Queued(before - 1),
@@ -253,7 +388,9 @@ impl Commands {
                 u16::from_le_bytes([received[4], received[5]]),
                 u32::from_le_bytes([received[6], received[7], received[8], 0]),
             );
-            let tag = received.get(9 + element_size(kind)..).and_then(|tag| tag.try_into().ok());
+            let tag = received
+                .get(9 + element_size(kind)..)
+                .and_then(|tag| tag.try_into().ok());
             self.sendings.push_back((target, tag));
         }
         self.lines[station] = Line::Holds(Some(received));
@@ -270,7 +407,9 @@ impl Commands {
 
     /// The command on a station's line is given up: whether there was one, and what was received.
     pub fn lost(&mut self, station: usize) -> (bool, Option<Vec<u8>>) {
-        self.selections.retain(|selection| selection.station != station || !matches!(selection.stage, Stage::OnLine));
+        self.selections.retain(|selection| {
+            selection.station != station || !matches!(selection.stage, Stage::OnLine)
+        });
         match std::mem::replace(&mut self.lines[station], Line::Free) {
             Line::Free => (false, None),
             Line::Holds(received) => (true, received),
@@ -289,14 +428,19 @@ impl Commands {
         let is_one = objects.next().is_none();
         let target = |address| (asdu.kind, asdu.ca, address);
         let tag = if is_one {
-            self.sendings.iter().rev().find(|sending| sending.0 == target(first.0)).and_then(|sending| sending.1)
+            self.sendings
+                .iter()
+                .rev()
+                .find(|sending| sending.0 == target(first.0))
+                .and_then(|sending| sending.1)
         } else {
             None
         };
         match asdu.cause & 0x7F {
             0x47 => {
                 for (address, _) in asdu.objects() {
-                    self.selections.retain(|selection| selection.target != target(address));
+                    self.selections
+                        .retain(|selection| selection.target != target(address));
                 }
             }
             0x07 if is_one => {
@@ -347,7 +491,8 @@ impl Commands {
 
     pub fn due(&mut self, now: u64) {
         let select_ms = self.select_ms;
-        self.selections.retain(|selection| !selection.is_over(now, select_ms));
+        self.selections
+            .retain(|selection| !selection.is_over(now, select_ms));
     }
 }
 

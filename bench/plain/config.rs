@@ -33,13 +33,22 @@ pub fn read(text: &str) -> Option<Config> {
     let mut stations = 0;
     for line in text.lines() {
         let line = line.split('#').next()?.trim();
-        if let Some(name) = line.strip_prefix("[[").and_then(|rest| rest.strip_suffix("]]")) {
+        if let Some(name) = line
+            .strip_prefix("[[")
+            .and_then(|rest| rest.strip_suffix("]]"))
+        {
             stations += 1;
             table = format!("{name}{stations}");
-        } else if let Some(name) = line.strip_prefix('[').and_then(|rest| rest.strip_suffix(']')) {
+        } else if let Some(name) = line
+            .strip_prefix('[')
+            .and_then(|rest| rest.strip_suffix(']'))
+        {
             table = name.to_string();
         } else if let Some((key, value)) = line.split_once('=') {
-            values.insert((table.clone(), key.trim().to_string()), value.trim().trim_matches('"').to_string());
+            values.insert(
+                (table.clone(), key.trim().to_string()),
+                value.trim().trim_matches('"').to_string(),
+            );
         }
     }
     let text = |table: &str, key: &str| values.get(&(table.to_string(), key.to_string()));

@@ -24,7 +24,10 @@ pub const TEST_ACT: u8 = 0x43;
 pub const TEST_CON: u8 = 0x83;
 
 fn is_u(octet: u8) -> bool {
-    matches!(octet, START_ACT | START_CON | STOP_ACT | STOP_CON | TEST_ACT | TEST_CON)
+    matches!(
+        octet,
+        START_ACT | START_CON | STOP_ACT | STOP_CON | TEST_ACT | TEST_CON
+    )
 }
 
 fn counter(low: u8, high: u8) -> u16 {
@@ -39,13 +42,29 @@ pub fn front(octets: &[u8]) -> Front<'_> {
         [0x68, _] => return Front::More,
         [0x68, len, control, ref rest @ ..] => {
             let (is_i, is_s) = (control & 1 == 0, control == 1);
-            let fits = if is_i { len >= 13 } else { (is_s || is_u(control)) && len == 4 };
+            let fits = if is_i {
+                len >= 13
+            } else {
+                (is_s || is_u(control)) && len == 4
+            };
             let is_right = |place: usize, octet: &u8| match place {
                 0 => is_i || *octet == 0,
-                1 => if is_i || is_s { octet & 1 == 0 } else { *octet == 0 },
+                1 => {
+                    if is_i || is_s {
+                        octet & 1 == 0
+                    } else {
+                        *octet == 0
+                    }
+                }
                 _ => is_i || is_s || *octet == 0,
             };
-            if !fits || !rest.iter().take(3).enumerate().all(|(place, octet)| is_right(place, octet)) {
+            if !fits
+                || !rest
+                    .iter()
+                    .take(3)
+                    .enumerate()
+                    .all(|(place, octet)| is_right(place, octet))
+            {
                 return Front::Never;
             }
             let end = 2 + usize::from(len);
@@ -54,7 +73,11 @@ pub fn front(octets: &[u8]) -> Front<'_> {
             }
             let nr = counter(octets[4], octets[5]);
             let apdu = if is_i {
-                Apdu::I { ns: counter(octets[2], octets[3]), nr, asdu: &octets[6..end] }
+                Apdu::I {
+                    ns: counter(octets[2], octets[3]),
+                    nr,
+                    asdu: &octets[6..end],
+                }
             } else if is_s {
                 Apdu::S { nr }
             } else {
@@ -175,7 +198,11 @@ impl Session {
             return Err(3);
         }
         let count = self.unacknowledged.len() - left;
-        let of_queue = self.unacknowledged.drain(..count).filter(|(is_of_queue, _)| *is_of_queue).count();
+        let of_queue = self
+            .unacknowledged
+            .drain(..count)
+            .filter(|(is_of_queue, _)| *is_of_queue)
+            .count();
         if let Apdu::I { .. } = apdu {
             self.next_received = (self.next_received + 1) % MODULUS;
             if self.unconfirmed == 0 {
@@ -203,7 +230,11 @@ impl Session {
     pub fn is_late(&self, now: u64) -> bool {
         let is_late = |moment: u64| now.saturating_sub(moment) >= self.t1;
         self.is_open()
-            && (self.unacknowledged.front().is_some_and(|(_, moment)| is_late(*moment)) || self.test_sent.is_some_and(is_late))
+            && (self
+                .unacknowledged
+                .front()
+                .is_some_and(|(_, moment)| is_late(*moment))
+                || self.test_sent.is_some_and(is_late))
     }
 
     fn confirm_received(&mut self) -> [u8; 6] {
@@ -230,7 +261,9 @@ impl Session {
         if !self.is_open() {
             return None;
         }
-        if self.unconfirmed > 0 && (self.unconfirmed >= self.w || now.saturating_sub(self.unconfirmed_since) >= self.t2) {
+        if self.unconfirmed > 0
+            && (self.unconfirmed >= self.w || now.saturating_sub(self.unconfirmed_since) >= self.t2)
+        {
             return Some(self.confirm_received());
         }
         if self.test_sent.is_none() && now.saturating_sub(self.last_frame) >= self.t3 {

@@ -4,8 +4,15 @@
 #[derive(Clone, Copy)]
 pub enum Frame<'a> {
     Single,
-    Fixed { control: u8, address: u16 },
-    Data { control: u8, address: u16, body: &'a [u8] },
+    Fixed {
+        control: u8,
+        address: u16,
+    },
+    Data {
+        control: u8,
+        address: u16,
+        body: &'a [u8],
+    },
 }
 
 /// What stands at the front of octets.
@@ -44,7 +51,11 @@ fn tail<'a>(size: usize, octets: &'a [u8], start: usize, len: usize) -> Front<'a
     let frame = if start == 1 {
         Frame::Fixed { control, address }
     } else {
-        Frame::Data { control, address, body: &octets[start + 1 + size..end] }
+        Frame::Data {
+            control,
+            address,
+            body: &octets[start + 1 + size..end],
+        }
     };
     Front::Whole(frame)
 }

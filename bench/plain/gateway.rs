@@ -77,7 +77,13 @@ impl Gateway {
             line: Master::new(&config),
             commands: Commands::new(&config),
             session: Session::new(config.k, config.w, config.t1, config.t2, config.t3),
-            queue: Queue { row: Vec::new(), places: config.queue, kept: 0, start: 0, mark: 0 },
+            queue: Queue {
+                row: Vec::new(),
+                places: config.queue,
+                kept: 0,
+                start: 0,
+                mark: 0,
+            },
             left_over: Vec::with_capacity(255),
             frame: Vec::with_capacity(255),
             moment: 0,
@@ -221,7 +227,13 @@ impl Gateway {
         let mut joined = std::mem::take(&mut self.left_over);
         joined.extend_from_slice(octets);
         let done = self.take_all(&joined, put);
-        joined.drain(..if self.session.is_open() { done } else { joined.len() });
+        joined.drain(
+            ..if self.session.is_open() {
+                done
+            } else {
+                joined.len()
+            },
+        );
         self.left_over = joined;
     }
 
@@ -255,7 +267,9 @@ impl Gateway {
             Err(cause) => return Some(cause),
         }
         if let Apdu::I { asdu, .. } = apdu {
-            let wall = self.wall.map(|(moment, wall)| wall.saturating_add(self.moment - moment));
+            let wall = self
+                .wall
+                .map(|(moment, wall)| wall.saturating_add(self.moment - moment));
             if let Some(answer) = self.commands.judge(asdu, self.moment, wall) {
                 if !self.commands.own(&answer) {
                     return Some(6);

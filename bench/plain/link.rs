@@ -96,14 +96,21 @@ fn answer_to<'a>(request: &Request, address: u16, frame: Frame<'a>) -> Option<An
                 Request::Counted(_, _) => Some(Answer::Empty),
             };
         }
-        Frame::Fixed { control, address: from } if from == address && control & 0x40 == 0 => (control & 15, None),
-        Frame::Data { control, address: from, body } if from == address && control & 0x40 == 0 => {
-            (control & 15, Some(body))
-        }
+        Frame::Fixed {
+            control,
+            address: from,
+        } if from == address && control & 0x40 == 0 => (control & 15, None),
+        Frame::Data {
+            control,
+            address: from,
+            body,
+        } if from == address && control & 0x40 == 0 => (control & 15, Some(body)),
         _ => return None,
     };
     match (request, function, body) {
-        (Request::Counted(_, service), 8, Some(body)) if service.is_poll() => Some(Answer::Report(body)),
+        (Request::Counted(_, service), 8, Some(body)) if service.is_poll() => {
+            Some(Answer::Report(body))
+        }
         (_, _, Some(_)) => None,
         (Request::Status, 11, None) => Some(Answer::Ready),
         (Request::Reset, 0, None) => Some(Answer::Confirmed),
@@ -166,17 +173,31 @@ impl Master {
     }
 
     fn wanted_poll(&self, station: &Station, fcb: bool, phase: Phase) -> Option<(Request, Phase)> {
-        let class1 = |sent| Some((Request::Counted(fcb, Service::Class1), Phase::Class1Polling(sent)));
+        let class1 = |sent| {
+            Some((
+                Request::Counted(fcb, Service::Class1),
+                Phase::Class1Polling(sent),
+            ))
+        };
         match phase {
             Phase::Polling if station.acd => class1(1),
-            Phase::Polling => Some((Request::Counted(fcb, Service::Class2), Phase::Class1Polling(0))),
+            Phase::Polling => Some((
+                Request::Counted(fcb, Service::Class2),
+                Phase::Class1Polling(0),
+            )),
             Phase::Class1Polling(sent) if station.acd && sent < self.burst => class1(sent + 1),
             _ => None,
         }
     }
 
     /// What a station's turn has next, and the phase that follows.
-    fn wanted(&self, place: usize, phase: Phase, again: bool, may_poll: bool) -> Option<(Request, Phase)> {
+    fn wanted(
+        &self,
+        place: usize,
+        phase: Phase,
+        again: bool,
+        may_poll: bool,
+    ) -> Option<(Request, Phase)> {
         let station = &self.stations[place];
         match (&station.link, phase) {
             (Link::Down, Phase::Starting) => Some((Request::Status, Phase::Starting)),
@@ -188,9 +209,10 @@ impl Master {
                 Some((Request::Counted(*fcb, service.clone()), phase))
             }
             (Link::Next(fcb), Phase::Starting | Phase::Commanding) => match &station.offered {
-                Some(command) if !station.dfc => {
-                    Some((Request::Counted(*fcb, Service::Command(command.clone())), Phase::Polling))
-                }
+                Some(command) if !station.dfc => Some((
+                    Request::Counted(*fcb, Service::Command(command.clone())),
+                    Phase::Polling,
+                )),
                 _ if may_poll => self.wanted_poll(station, *fcb, Phase::Polling),
                 _ => None,
             },
@@ -204,10 +226,12 @@ impl Master {
             return Some((self.turn, request, phase));
         }
         let count = self.stations.len();
-        (1..=count).map(|n| (self.turn + n) % count).find_map(|place| {
-            let (request, phase) = self.wanted(place, Phase::Starting, false, may_poll)?;
-            Some((place, request, phase))
-        })
+        (1..=count)
+            .map(|n| (self.turn + n) % count)
+            .find_map(|place| {
+                let (request, phase) = self.wanted(place, Phase::Starting, false, may_poll)?;
+                Some((place, request, phase))
+            })
     }
 
     /// The next request: its octets, its station, and whether a command goes out for the first time.
@@ -243,7 +267,12 @@ impl Master {
         self.phase = phase;
         self.again = false;
         self.octets.clear();
-        self.outstanding = Some(Awaited { request, since: now, deaf: false, has_octets: false });
+        self.outstanding = Some(Awaited {
+            request,
+            since: now,
+            deaf: false,
+            has_octets: false,
+        });
         Some((&self.request, place, is_first_command))
     }
 
@@ -282,7 +311,9 @@ impl Master {
                 };
                 (station.acd, station.dfc) = match frame {
                     Frame::Single => (false, false),
-                    Frame::Fixed { control, .. } | Frame::Data { control, .. } => (control & 0x20 != 0, control & 0x10 != 0),
+                    Frame::Fixed { control, .. } | Frame::Data { control, .. } => {
+                        (control & 0x20 != 0, control & 0x10 != 0)
+                    }
                 };
                 if matches!(answer, Answer::Unable) {
                     self.phase = Phase::Over;
@@ -350,7 +381,12 @@ impl Master {
     }
 }
 
-fn answered<'a>(place: usize, station: &mut Station, request: &Request, answer: Answer<'a>) -> Outcome<'a> {
+fn answered<'a>(
+    place: usize,
+    station: &mut Station,
+    request: &Request,
+    answer: Answer<'a>,
+) -> Outcome<'a> {
     match (request, &answer) {
         (Request::Status, Answer::Ready) => station.link = Link::Available,
         (Request::Status | Request::Counted(..), Answer::Unable) => station.link = Link::Down,
@@ -363,7 +399,11 @@ fn answered<'a>(place: usize, station: &mut Station, request: &Request, answer: 
             let (session, has_gap) = (station.session, station.has_gap);
             station.session = session.saturating_add(1);
             station.has_gap = false;
-            if has_gap { Outcome::Gap(place, session) } else { Outcome::None }
+            if has_gap {
+                Outcome::Gap(place, session)
+            } else {
+                Outcome::None
+            }
         }
         Answer::Ready => Outcome::None,
         Answer::Unable => Outcome::Down(place),

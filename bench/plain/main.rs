@@ -33,7 +33,10 @@ fn replay(gateway: &mut Gateway, text: &[u8], printer: &mut Printer<io::StdoutLo
     let mut buffer = [0; 1024];
     let mut put = |moment, action: gateway::Action<'_>| printer.put(moment, action);
     gateway.step(0, Event::Tick, &mut put);
-    for entry in lines(text).filter(|line| !is_skipped(line)).filter_map(entry) {
+    for entry in lines(text)
+        .filter(|line| !is_skipped(line))
+        .filter_map(entry)
+    {
         let moment = entry.moment;
         if let Some(event) = entry.event(&mut buffer) {
             gateway.step(moment, event, &mut put);
@@ -44,7 +47,10 @@ fn replay(gateway: &mut Gateway, text: &[u8], printer: &mut Printer<io::StdoutLo
 fn main() -> ExitCode {
     let words: Vec<String> = env::args().skip(1).collect();
     let has = |flag: &str| words.iter().any(|word| word == flag);
-    let files: Vec<&String> = words.iter().filter(|word| !word.starts_with("--")).collect();
+    let files: Vec<&String> = words
+        .iter()
+        .filter(|word| !word.starts_with("--"))
+        .collect();
     let [command, settings, trace] = files.as_slice() else {
         return ExitCode::from(2);
     };

@@ -60,7 +60,11 @@ pub fn entry(line: &[u8]) -> Option<Entry<'_>> {
         (b'S' | b'R' | b'W', [b' ', rest @ ..]) => rest,
         _ => return None,
     };
-    Some(Entry { moment, letter: *letter, rest })
+    Some(Entry {
+        moment,
+        letter: *letter,
+        rest,
+    })
 }
 
 impl Entry<'_> {
@@ -68,7 +72,9 @@ impl Entry<'_> {
         match self.letter {
             b'S' | b'R' => {
                 let len = self.rest.len();
-                len % 2 == 0 && (2..=2048).contains(&len) && self.rest.iter().all(u8::is_ascii_hexdigit)
+                len % 2 == 0
+                    && (2..=2048).contains(&len)
+                    && self.rest.iter().all(u8::is_ascii_hexdigit)
             }
             b'W' => number(self.rest).is_some(),
             _ => true,
@@ -87,7 +93,11 @@ impl Entry<'_> {
                 for (octet, digits) in octets.iter_mut().zip(self.rest.chunks_exact(2)) {
                     *octet = VALUES[usize::from(digits[0])] << 4 | VALUES[usize::from(digits[1])];
                 }
-                if letter == b'S' { Event::Line(octets) } else { Event::Bytes(octets) }
+                if letter == b'S' {
+                    Event::Line(octets)
+                } else {
+                    Event::Bytes(octets)
+                }
             }
         })
     }
@@ -104,7 +114,11 @@ pub struct Printer<W: Write> {
 
 impl<W: Write> Printer<W> {
     pub fn new(out: W) -> Printer<W> {
-        Printer { out, lines: Vec::with_capacity(1 << 16), fault: Ok(()) }
+        Printer {
+            out,
+            lines: Vec::with_capacity(1 << 16),
+            fault: Ok(()),
+        }
     }
 
     fn put_octets(&mut self, octets: &[u8]) {
@@ -138,9 +152,12 @@ impl<W: Write> Printer<W> {
                 self.lines.extend_from_slice(b" > T ");
                 self.put_octets(octets);
             }
-            Action::Close(cause) => self.lines.extend_from_slice(format!(" > X {cause}").as_bytes()),
+            Action::Close(cause) => self
+                .lines
+                .extend_from_slice(format!(" > X {cause}").as_bytes()),
             Action::Gap(station, session) => {
-                self.lines.extend_from_slice(format!(" > G {} {session}", station + 1).as_bytes());
+                self.lines
+                    .extend_from_slice(format!(" > G {} {session}", station + 1).as_bytes());
             }
         }
         self.end_line();
@@ -154,7 +171,8 @@ impl<W: Write> Printer<W> {
 
     pub fn put_counts(&mut self, counts: [u64; 4]) {
         let [skipped, mirrors, lost, spoilt] = counts;
-        let line = format!("counts skipped {skipped} mirrors {mirrors} lost {lost} spoilt {spoilt}");
+        let line =
+            format!("counts skipped {skipped} mirrors {mirrors} lost {lost} spoilt {spoilt}");
         self.lines.extend_from_slice(line.as_bytes());
         self.end_line();
     }
