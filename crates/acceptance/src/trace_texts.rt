@@ -6,7 +6,7 @@ use std::alloc::Global;
 use std::io;
 use std::io::{ErrorKind, Write};
 use std::test::Fail;
-use traces::{TextFault, TextPort, Trace, append_event, append_line, judge, read_trace};
+use traces::{Pause, TextFault, Trace, append_event, append_line, judge, read_trace};
 
 /// A call of a port, and what it is to answer.
 #[derive(Clone, Copy)]
@@ -180,10 +180,14 @@ fn trace_answers(
 
 /// Whether a port over the text answers these calls, and has this page until it is cleared.
 fn text_answers(alloc: Global, text: &[u8], steps: &[Step], page: &[u8]) -> bool {
-    let mut port = TextPort::new(alloc, text);
+    let mut port = Pause::new(alloc).over(text);
     let answered = all_answer(&mut port, steps) && port.failures() == 0 && port.page() == page;
     port.clear_page();
     answered && port.page().is_empty()
+}
+
+fn line_feeds(text: &[u8]) -> u64 {
+    text.iter().filter(|octet| **octet == b'\n').count() as u64
 }
 
 #[test]
@@ -191,7 +195,8 @@ fn texts_give_events_and_get_actions(rt: HostRuntime) -> Result<(), Fail> {
     let alloc = rt.alloc();
     for (text, count, steps, page) in TEXTS {
         assert!(rt; trace_answers(alloc, text, count, steps, page)?);
-        assert!(rt; judge(text)? == count as u64);
+        // Line feeds part the lines, of which the first has the number 1.
+        assert!(rt; Some(judge(text, 1)?) == line_feeds(text).checked_add(2));
         assert!(rt; text_answers(alloc, text, steps, page));
     }
     Ok(())

@@ -7,7 +7,7 @@ use Rattle.settings.specs.Settings.{IsReadOfText}
 use Rattle.telegate.specs.Audits.{IsToldOf, IsMemory, IsAuditedBy}
 use Rattle.telegate.specs.declared.answer.Answer.{Answer}
 use Rattle.telegate.specs.declared.fault.Fault.{Fault}
-use Rattle.telegate.specs.declared.fault.Fault.TheVariants.{Config, Trace, Script, Record, Differs, Sizes, Octets, Address, Device, NoMemory}
+use Rattle.telegate.specs.declared.fault.Fault.TheVariants.{Config, Trace, Script, Record, Differs, Sizes, Octets, Address, Device, Unread, NoMemory}
 
 -- the answer to the command, where its files were read
 pub audited : (config text : List ℕ) (settings : Settings) (verdict : Verdict) (r : Result Answer Fault)
@@ -26,3 +26,4 @@ audited config text settings verdict (Err Sizes) read found told = absurd told
 audited config text settings verdict (Err Octets) read found told = absurd told
 audited config text settings verdict (Err Address) read found told = absurd told
 audited config text settings verdict (Err Device) read found told = absurd told
+audited config text settings verdict (Err Unread) read found told = absurd told

@@ -3,13 +3,13 @@ use Rattle.std.proofs.Common.{◌≡◌, ℕ, List, [], ◌∷◌, Option, inl, 
 use Rattle.std.specs.Prelude.{Bool, Result}
 use Rattle.std.specs.Borrow.{Bor}
 use Rattle.clap.specs.Words.{Text}
-use Rattle.telegate.specs.Shell.{IsUnread, IsNotRead, Responds, RunsFiles, AreWishes, files_of}
+use Rattle.telegate.specs.Shell.{IsUnread, IsNotRead, ReplaysFile, Responds, RunsFiles, AreWishes, files_of}
 use Rattle.telegate.specs.CommandLine.{text_of, texts_of}
 use Rattle.telegate.specs.Faults.{status_of}
 use Rattle.telegate.specs.Guests.{IsGuestsFault}
 use Rattle.telegate.specs.declared.host.Wishes.{Wishes}
 use Rattle.telegate.specs.declared.command_line.Request.{Request}
-use Rattle.telegate.specs.declared.command_line.Request.TheVariants.{Run}
+use Rattle.telegate.specs.declared.command_line.Request.TheVariants.{Replay, Run}
 use Rattle.telegate.specs.declared.fault.Fault.{Fault}
 use Rattle.telegate.specs.declared.host.Unread.{Unread}
 use Rattle.telegate.specs.declared.host.Unread.TheVariants.{Unreadable, NoMemory}
@@ -66,6 +66,16 @@ module _ (has : Text → List ℕ → Type 0) (lacks : Text → Type 0) where
         → files_of request ≡ files → IsNotRead has lacks files exit → Responds has lacks ran request known known exit
     unanswered request files known exit are h =
         inr (subst (λ (fs : List Text). IsNotRead has lacks fs exit) (sym are) h, keeps_same known)
+
+    pub has_replayed : (request : Request) (config trace : Bor Text) (left counts : Bool) (octets : List ℕ)
+        (old new : Option (List ℕ)) (exit : ℕ) → request ≡ Replay config trace left counts → has config.now octets
+        → ReplaysFile has lacks trace.now octets (record { left = left; counts = counts }) old new exit
+        → Responds has lacks ran request old new exit
+    has_replayed request config trace left counts octets old new exit is read h =
+        subst (λ (r : Request). Responds has lacks ran r old new exit) (sym is) (elim h [
+          | inl ran ↦ inl (record { octets = octets; read = read; ran = ran })
+          | inr none ↦ inr (later_of_more config.now octets (trace.now ∷ []) exit read none.0, none.1)
+        ])
 
     pub has_run : (request : Request) (config : Bor Text) (redial log recorded : Bool) (resumed : Option (Bor Text))
         (allow : Option (Bor (List (Bor Text)))) (wishes : Wishes) (known : Option (List ℕ)) (exit : ℕ) →

@@ -11,3 +11,5 @@ pub mod Printing
 pub mod ReplayLemmas
 pub mod SimLemmas
 pub mod Performed
+pub mod TextLemmas
+pub mod PartLemmas

@@ -1,7 +1,8 @@
 -- Runs over a trace: what their ends say of the whole command.
-use Rattle.std.proofs.Common.{◌≡◌, ℕ, List, [], ◌++◌, Option, Some, None, inr, refl, ◌∙◌}
+use Rattle.std.proofs.Common.{◌≡◌, ◌⊎◌, ℕ, List, [], ◌++◌, Option, Some, None, inl, inr, refl, subst, ◌∙◌}
 use Rattle.std.proofs.lemmas.List.{append-nil}
 use Rattle.std.specs.Prelude.{Result, Ok, Err}
+use Rattle.std.specs.Io.KnownBytes.{Keeps}
 use Rattle.sim.specs.Runs.{IsBegun}
 use Rattle.delivery.specs.Delivery.{Delivers}
 use Rattle.gateway.specs.Accounts.{IsAccounted}
@@ -16,37 +17,39 @@ use Rattle.settings.specs.Settings.{IsReadOfText}
 use Rattle.traces.specs.Actions.{lines_of_actions}
 use Rattle.traces.specs.Progress.{script_in}
 use Rattle.traces.specs.Trace.{lines_of, first_wrong}
-use Rattle.telegate.specs.Answers.{IsRun, IsReplayed}
+use Rattle.telegate.specs.Answers.{HasRun, Runs, IsEndOf, IsRun, IsRunOf, IsStopOf, IsReplayed, IsConfigFault, WasJudged}
 use Rattle.telegate.specs.Closing.{closing_lines}
+use Rattle.telegate.specs.Parts.{IsWant, IsJudgedFault, IsRightText, IsStoppedOver}
+use Rattle.telegate.specs.Source.{Gives}
+use Rattle.telegate.proofs.Kept.{keeps_same}
 use Rattle.telegate.specs.Printed.{IsClosedBy}
 use Rattle.telegate.specs.declared.closing.Closing.{Closing}
 use Rattle.telegate.specs.declared.fault.Fault.{Fault}
-use Rattle.telegate.specs.declared.fault.Fault.TheVariants.{Config, Trace, Script, Record, Differs, Sizes, Octets, Address, Device, NoMemory}
+use Rattle.telegate.specs.declared.fault.Fault.TheVariants.{Config, Trace, Script, Record, Differs, Sizes, Octets, Address, Device, Unread, NoMemory}
 
-module _ (config trace : List ℕ) (closing : Closing) (settings : Settings) (log : Log) (old new : Option (List ℕ))
-    (read : IsReadOfText config (Ok settings)) (right : first_wrong 1 (lines_of trace) ≡ None)
-    (faithful : IsFaithful (setup_of settings) log) where
+module _ (has : List ℕ → Type 0) (closing : Closing) (settings : Settings) (trace : List ℕ) (log : Log)
+    (old new : Option (List ℕ)) (is : has trace) (faithful : IsFaithful (setup_of settings) log) where
   -- a run that stopped before its end
   pub stopped : (rest : List LogEntry) → events_of log ++ rest ≡ script_in trace
-      → IsBegun old new (lines_of_actions log) → IsReplayed config trace closing old new (Err NoMemory)
-  stopped rest events begun = inr (record {
-    settings = settings;
-    read_config = read;
-    read_trace = right;
+      → IsBegun old new (lines_of_actions log) → IsStopOf settings has old new
+  stopped rest events begun = record {
+    trace = trace;
+    is = is;
     log = log;
     rest = rest;
     events = events;
     faithful = faithful;
     printed = begun;
-  })
+  }
 
   -- a run that came to its end, with the state that the gateway then has
-  pub ended : (state : State) → events_of log ≡ script_in trace → HasRested (setup_of settings) log
-      → KeepsOrder log → Delivers (setup_of settings) log → Follows (setup_of settings) state (Some log)
-      → IsAccounted (setup_of settings) state log → (r : Result (Unit {0}) Fault)
+  pub ended : (state : State) → first_wrong 1 (lines_of trace) ≡ None → events_of log ≡ script_in trace
+      → HasRested (setup_of settings) log → KeepsOrder log → Delivers (setup_of settings) log
+      → Follows (setup_of settings) state (Some log) → IsAccounted (setup_of settings) state log
+      → (r : Result (Unit {0}) Fault)
       → IsClosedBy old new (lines_of_actions log) (closing_lines closing.left closing.counts state) r
-      → IsReplayed config trace closing old new r
-  ended state events rests ordered delivers follows accounts = by
+      → IsEndOf settings has closing old new r
+  ended state right events rests ordered delivers follows accounts = by
     where
       text : List ℕ
       text = lines_of_actions log ++ closing_lines closing.left closing.counts state
@@ -67,24 +70,10 @@ module _ (config trace : List ℕ) (closing : Closing) (settings : Settings) (lo
 
       by : (r : Result (Unit {0}) Fault)
           → IsClosedBy old new (lines_of_actions log) (closing_lines closing.left closing.counts state) r
-          → IsReplayed config trace closing old new r
-      by (Ok done) h = record {
-        settings = settings;
-        read_config = read;
-        read_trace = right;
-        text = text;
-        run = run;
-        printed = h;
-      }
-      by (Err Device) h = record {
-        settings = settings;
-        read_config = read;
-        read_trace = right;
-        text = text;
-        run = run;
-        printed = h;
-      }
-      by (Err NoMemory) h = stopped [] (append-nil (events_of log) ∙ events) h
+          → IsEndOf settings has closing old new r
+      by (Ok done) h = record { trace = trace; is = is; right = right; text = text; run = run; printed = h }
+      by (Err Device) h = record { trace = trace; is = is; right = right; text = text; run = run; printed = h }
+      by (Err NoMemory) h = inr (stopped [] (append-nil (events_of log) ∙ events) h)
       by (Err (Config why)) h = absurd h
       by (Err (Trace n)) h = absurd h
       by (Err (Script n)) h = absurd h
@@ -93,3 +82,177 @@ module _ (config trace : List ℕ) (closing : Closing) (settings : Settings) (lo
       by (Err Sizes) h = absurd h
       by (Err Octets) h = absurd h
       by (Err Address) h = absurd h
+      by (Err Unread) h = absurd h
+
+-- a run that stopped in the text, or before it
+pub stopped_by : (closing : Closing) (settings : Settings) (known old new : Option (List ℕ)) (began : State)
+    → Follows (setup_of settings) began (Some []) → (fault : Fault) → IsWant fault
+    → Keeps old new ⊎ IsStoppedOver known began old new → IsEndOf settings (Gives known) closing old new (Err fault)
+stopped_by closing settings known old new began begins = by
+  where
+    either : Keeps old new ⊎ IsStoppedOver known began old new
+        → Keeps old new ⊎ IsStopOf settings (Gives known) old new
+    either (inl keeps) = inl keeps
+    either (inr s) = inr (stopped (Gives known) closing settings s.octets s.log old new s.given
+        (s.faithful (setup_of settings) begins tt) s.rest s.events s.begun)
+
+    by : (fault : Fault) → IsWant fault → Keeps old new ⊎ IsStoppedOver known began old new
+        → IsEndOf settings (Gives known) closing old new (Err fault)
+    by NoMemory want stop = either stop
+    by Unread want stop = either stop
+    by (Config why) want stop = absurd want
+    by (Trace n) want stop = absurd want
+    by (Script n) want stop = absurd want
+    by (Record n) want stop = absurd want
+    by (Differs n) want stop = absurd want
+    by Sizes want stop = absurd want
+    by Octets want stop = absurd want
+    by Address want stop = absurd want
+    by Device want stop = absurd want
+
+-- memory was refused before the run began
+pub unbegun : (closing : Closing) (settings : Settings) (has : List ℕ → Type 0) (known : Option (List ℕ))
+    → IsEndOf settings has closing known known (Err NoMemory)
+unbegun closing settings has known = inl (keeps_same known)
+
+-- the whole command, where its settings were read and its trace was judged
+pub replayed : (config : List ℕ) (has more : List ℕ → Type 0) (closing : Closing) (settings : Settings)
+    (old new : Option (List ℕ)) → IsReadOfText config (Ok settings) → WasJudged more
+    → ((octets : List ℕ) → has octets → more octets) → (r : Result (Unit {0}) Fault)
+    → IsEndOf settings has closing old new r → IsReplayed config more closing old new r
+replayed config has more closing settings old new read judged wider = by
+  where
+    run_of : {P : List ℕ → Type 0} → IsRunOf settings has closing P → IsRunOf settings more closing P
+    run_of h = record {
+      trace = h.trace;
+      is = wider h.trace h.is;
+      right = h.right;
+      text = h.text;
+      run = h.run;
+      printed = h.printed;
+    }
+
+    stop_of : IsStopOf settings has old new → IsStopOf settings more old new
+    stop_of h = record {
+      trace = h.trace;
+      is = wider h.trace h.is;
+      log = h.log;
+      rest = h.rest;
+      events = h.events;
+      faithful = h.faithful;
+      printed = h.printed;
+    }
+
+    has_run : {P : Settings → Type 0} → P settings → HasRun config more P
+    has_run h = record { settings = settings; read_config = read; judged = judged; end = h }
+
+    either : Keeps old new ⊎ IsStopOf settings has old new
+        → Keeps old new ⊎ HasRun config more (λ s. IsStopOf s more old new)
+    either (inl keeps) = inl keeps
+    either (inr h) = inr (has_run (stop_of h))
+
+    by : (r : Result (Unit {0}) Fault) → IsEndOf settings has closing old new r → IsReplayed config more closing old new r
+    by (Ok done) h = has_run (run_of h)
+    by (Err Device) h = has_run (run_of h)
+    by (Err NoMemory) h = either h
+    by (Err Unread) h = either h
+    by (Err (Config why)) h = absurd h
+    by (Err (Trace n)) h = absurd h
+    by (Err (Script n)) h = absurd h
+    by (Err (Record n)) h = absurd h
+    by (Err (Differs n)) h = absurd h
+    by (Err Sizes) h = absurd h
+    by (Err Octets) h = absurd h
+    by (Err Address) h = absurd h
+
+-- a fault before anything was run
+pub wanted : (config : List ℕ) (has : List ℕ → Type 0) (closing : Closing) (known : Option (List ℕ)) (fault : Fault)
+    → IsWant fault → IsReplayed config has closing known known (Err fault)
+wanted config has closing known NoMemory want = inl (keeps_same known)
+wanted config has closing known Unread want = inl (keeps_same known)
+wanted config has closing known (Config why) want = absurd want
+wanted config has closing known (Trace n) want = absurd want
+wanted config has closing known (Script n) want = absurd want
+wanted config has closing known (Record n) want = absurd want
+wanted config has closing known (Differs n) want = absurd want
+wanted config has closing known Sizes want = absurd want
+wanted config has closing known Octets want = absurd want
+wanted config has closing known Address want = absurd want
+wanted config has closing known Device want = absurd want
+
+-- settings are wrong
+pub misconfigured : (config : List ℕ) (has : List ℕ → Type 0) (closing : Closing) (known : Option (List ℕ))
+    (fault : Fault) → IsConfigFault config fault → IsReplayed config has closing known known (Err fault)
+misconfigured config has closing known (Config why) wrong = (wrong, keeps_same known)
+misconfigured config has closing known NoMemory wrong = inl (keeps_same known)
+misconfigured config has closing known Unread wrong = absurd wrong
+misconfigured config has closing known (Trace n) wrong = absurd wrong
+misconfigured config has closing known (Script n) wrong = absurd wrong
+misconfigured config has closing known (Record n) wrong = absurd wrong
+misconfigured config has closing known (Differs n) wrong = absurd wrong
+misconfigured config has closing known Sizes wrong = absurd wrong
+misconfigured config has closing known Octets wrong = absurd wrong
+misconfigured config has closing known Address wrong = absurd wrong
+misconfigured config has closing known Device wrong = absurd wrong
+
+-- a trace is wrong
+pub misjudged : (config : List ℕ) (has : List ℕ → Type 0) (closing : Closing) (settings : Settings)
+    (known old : Option (List ℕ)) → IsReadOfText config (Ok settings)
+    → ((octets : List ℕ) → Gives known octets → has octets)
+    → (fault : Fault) → IsJudgedFault known fault → IsReplayed config has closing old old (Err fault)
+misjudged config has closing settings known old read gives (Trace n) wrong =
+    ((settings, read), (wrong.octets, gives wrong.octets wrong.given, wrong.wrong), keeps_same old)
+misjudged config has closing settings known old read gives NoMemory wrong = inl (keeps_same old)
+misjudged config has closing settings known old read gives Unread wrong = inl (keeps_same old)
+misjudged config has closing settings known old read gives (Config why) wrong = absurd wrong
+misjudged config has closing settings known old read gives (Script n) wrong = absurd wrong
+misjudged config has closing settings known old read gives (Record n) wrong = absurd wrong
+misjudged config has closing settings known old read gives (Differs n) wrong = absurd wrong
+misjudged config has closing settings known old read gives Sizes wrong = absurd wrong
+misjudged config has closing settings known old read gives Octets wrong = absurd wrong
+misjudged config has closing settings known old read gives Address wrong = absurd wrong
+misjudged config has closing settings known old read gives Device wrong = absurd wrong
+
+-- a text that was judged is one of those that may be
+pub was_judged : (has : List ℕ → Type 0) (known : Option (List ℕ)) → ((octets : List ℕ) → Gives known octets → has octets)
+    → IsRightText known → WasJudged has
+was_judged has known gives h = record { trace = h.octets; is = gives h.octets h.given; right = h.right }
+
+-- a text that stands in memory is that of a file
+replayed_as : (config : List ℕ) (has more : List ℕ → Type 0) (closing : Closing) (old new : Option (List ℕ))
+    (r : Result (Unit {0}) Fault) → ((octets : List ℕ) → has octets → more octets)
+    → IsReplayed config has closing old new r → IsReplayed config more closing old new r
+replayed_as config has more closing old new r wider = by r
+  where
+    judged : WasJudged has → WasJudged more
+    judged h = record { trace = h.trace; is = wider h.trace h.is; right = h.right }
+
+    under : (r : Result (Unit {0}) Fault) (settings : Settings) → IsReadOfText config (Ok settings) → WasJudged has
+        → IsEndOf settings has closing old new r → IsReplayed config more closing old new r
+    under r settings read was =
+        replayed config has more closing settings old new read (judged was) wider r
+
+    by : (r : Result (Unit {0}) Fault) → IsReplayed config has closing old new r → IsReplayed config more closing old new r
+    by (Ok done) h = under (Ok done) h.settings h.read_config h.judged h.end
+    by (Err Device) h = under (Err Device) h.settings h.read_config h.judged h.end
+    by (Err NoMemory) (inl keeps) = inl keeps
+    by (Err NoMemory) (inr h) = under (Err NoMemory) h.settings h.read_config h.judged (inr h.end)
+    by (Err Unread) (inl keeps) = inl keeps
+    by (Err Unread) (inr h) = under (Err Unread) h.settings h.read_config h.judged (inr h.end)
+    by (Err (Config why)) h = h
+    by (Err (Trace n)) h = (h.0, (h.1.0, wider h.1.0 h.1.1, h.1.2), h.2)
+    by (Err (Script n)) h = absurd h
+    by (Err (Record n)) h = absurd h
+    by (Err (Differs n)) h = absurd h
+    by (Err Sizes) h = absurd h
+    by (Err Octets) h = absurd h
+    by (Err Address) h = absurd h
+
+pub replayed_held : (config : List ℕ) (more : List ℕ → Type 0) (closing : Closing) (octets : List ℕ)
+    (old new : Option (List ℕ)) (exit : ℕ) → more octets
+    → Runs (IsReplayed config (λ xs. octets ≡ xs) closing) old new exit → Runs (IsReplayed config more closing) old new exit
+replayed_held config more closing octets old new exit is h = record {
+  result = h.result;
+  ran = replayed_as config (λ xs. octets ≡ xs) more closing old new h.result (λ xs e. subst more e is) h.ran;
+  status = h.status;
+}

@@ -1,6 +1,7 @@
 -- Runs over a simulated line: what their ends say of the whole command.
 use Rattle.std.proofs.Common.{◌≡◌, ℕ, ◌+◌, ◌≤◌, List, [], ◌∷◌, length, nat_le, true, Option, Some, inl, inr, refl, subst, sym, ◌∙◌, arith}
 use Rattle.std.proofs.lemmas.List.{length-append}
+use Rattle.std.specs.Io.KnownBytes.{Appends}
 use Rattle.std.specs.Prelude.{Result, Ok, Err, IfOk}
 use Rattle.gateway.specs.Agrees.{Follows, Rests}
 use Rattle.gateway.specs.Config.{Settings}
@@ -20,9 +21,10 @@ use Rattle.sim.specs.Runs.{IsRun, IsBegun, IsStopped}
 use Rattle.sim.specs.Scripts.{IsScriptOf}
 use Rattle.traces.specs.Actions.{lines_of_actions}
 use Rattle.telegate.specs.Answers.{IsSimulationOf, IsSimulatedBy}
+use Rattle.telegate.proofs.Poured.{appends_none}
 use Rattle.telegate.specs.Printed.{IsClosedBy}
 use Rattle.telegate.specs.declared.fault.Fault.{Fault}
-use Rattle.telegate.specs.declared.fault.Fault.TheVariants.{Config, Trace, Script, Record, Differs, Sizes, Octets, Address, Device, NoMemory}
+use Rattle.telegate.specs.declared.fault.Fault.TheVariants.{Config, Trace, Script, Record, Differs, Sizes, Octets, Address, Device, Unread, NoMemory}
 
 length-events : (log : Log) → length (events_of log) ≡ calls_in log
 length-events [] = refl
@@ -61,6 +63,12 @@ at_first_call p s plan sim is begins = (
   subst (λ (x : Simulated). Follows p s (Some x.log)) (sym is) begins,
   subst (λ (x : Simulated). Rests p (Some x.log)) (sym is) tt,
 )
+
+-- at first nothing was printed
+pub begun_blank : (known : Option (List ℕ)) (sim : Simulated) (plan : Plan) → sim ≡ fresh_run plan
+    → Appends known known (lines_of_actions sim.poured)
+begun_blank known sim plan is =
+    subst (λ (s : Simulated). Appends known known (lines_of_actions s.poured)) (sym is) (appends_none known)
 
 -- what is promised where there is no error
 pub at_ok : {T E : Type 0} (r : Result T E) (x : T) (P : T → Type 0) → r ≡ Ok x → IfOk r P → P x
@@ -107,6 +115,7 @@ ended c ds log closing old new (Err (Differs n)) run h = absurd h
 ended c ds log closing old new (Err Sizes) run h = absurd h
 ended c ds log closing old new (Err Octets) run h = absurd h
 ended c ds log closing old new (Err Address) run h = absurd h
+ended c ds log closing old new (Err Unread) run h = absurd h
 
 -- the command, where its files were read
 pub scripted : (config text : List ℕ) (c : Settings) (ds : List Directive) (old new : Option (List ℕ))
@@ -127,3 +136,4 @@ scripted config text c ds old new (Err (Differs n)) read said h = absurd h
 scripted config text c ds old new (Err Sizes) read said h = absurd h
 scripted config text c ds old new (Err Octets) read said h = absurd h
 scripted config text c ds old new (Err Address) read said h = absurd h
+scripted config text c ds old new (Err Unread) read said h = absurd h

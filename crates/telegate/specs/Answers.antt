@@ -32,9 +32,9 @@ use Rattle.telegate.specs.Faults.{status_of, status_of_end}
 use Rattle.telegate.specs.declared.closing.Closing.{Closing}
 use Rattle.telegate.specs.declared.answer.Answer.{Answer}
 use Rattle.telegate.specs.declared.fault.Fault.{Fault}
-use Rattle.telegate.specs.declared.fault.Fault.TheVariants.{Config, Trace, Script, Sizes, Octets, Device, NoMemory}
+use Rattle.telegate.specs.declared.fault.Fault.TheVariants.{Config, Trace, Script, Sizes, Octets, Device, Unread, NoMemory}
 use Rattle.telegate.specs.declared.job.Job.{Job}
-use Rattle.telegate.specs.declared.job.Job.TheVariants.{Show101, Show104, Check, Replay, Sim, Audit}
+use Rattle.telegate.specs.declared.job.Job.TheVariants.{Show101, Show104, Check, Sim, Audit}
 
 -- octets that are as they should be, 0, or not, 1
 abbrev pub status_by : Outcome → ℕ
@@ -125,27 +125,51 @@ pub record IsRun (settings : Settings) (trace : List ℕ) (closing : Closing)
   pub lines : text ≡ lines_of_actions log
       ++ closing_lines closing.left closing.counts state
 
--- settings and trace are free of faults, and so much of the text of a run over them was printed
-pub record IsRunPrinted (config trace : List ℕ) (closing : Closing)
+-- a text whose octets may be these was judged, and no line of it is wrong
+pub record WasJudged (has : List ℕ → Type 0) : Type 0 where
+  pub trace : List ℕ
+  pub is : has trace
+  pub right : first_wrong 1 (lines_of trace) ≡ None
+
+-- a run over a trace whose octets may be these, of which no line is wrong, and so much of the run's
+-- text was printed
+pub record IsRunOf (settings : Settings) (has : List ℕ → Type 0) (closing : Closing)
     (IsPrinted : List ℕ → Type 0) : Type 0 where
-  pub settings : Settings
-  pub read_config : IsReadOfText config (Ok settings)
-  pub read_trace : first_wrong 1 (lines_of trace) ≡ None
+  pub trace : List ℕ
+  pub is : has trace
+  pub right : first_wrong 1 (lines_of trace) ≡ None
   pub text : List ℕ
   pub run : IsRun settings trace closing text
   pub printed : IsPrinted text
 
 -- The same of a run that stopped before its end: the events of its log are the first of the trace,
 -- and a beginning of the lines of its actions was printed.
-pub record IsRunStopped (config trace : List ℕ) (old new : Option (List ℕ)) : Type 0 where
-  pub settings : Settings
-  pub read_config : IsReadOfText config (Ok settings)
-  pub read_trace : first_wrong 1 (lines_of trace) ≡ None
+pub record IsStopOf (settings : Settings) (has : List ℕ → Type 0) (old new : Option (List ℕ))
+    : Type 0 where
+  pub trace : List ℕ
+  pub is : has trace
   pub log : Log
   pub rest : List LogEntry
   pub events : events_of log ++ rest ≡ script_in trace
   pub faithful : IsFaithful (setup_of settings) log
   pub printed : IsBegun old new (lines_of_actions log)
+
+-- How a run over a trace ends that was judged. Where the output failed, of the text of the whole
+-- run a beginning was printed. Where memory was refused, the trace can't be read on, or a line of
+-- it is wrong that wasn't, the run stops, or doesn't begin.
+abbrev pub IsEndFault : Settings → (has : List ℕ → Type 0) → Closing → (old new : Option (List ℕ))
+    → Fault → Type 0
+IsEndFault settings has closing old new Device = IsRunOf settings has closing (IsBegun old new)
+IsEndFault settings has closing old new NoMemory =
+    Keeps old new ⊎ IsStopOf settings has old new
+IsEndFault settings has closing old new Unread = Keeps old new ⊎ IsStopOf settings has old new
+IsEndFault settings has closing old new _ = ⊥
+
+abbrev pub IsEndOf : Settings → (has : List ℕ → Type 0) → Closing → (old new : Option (List ℕ))
+    → Result (Unit {0}) Fault → Type 0
+IsEndOf settings has closing old new result =
+    MatchResult result (λ done. IsRunOf settings has closing (Appends old new))
+    (IsEndFault settings has closing old new)
 
 -- a run that is started stops by want of memory alone
 abbrev pub IsMemory : Fault → Type 0
@@ -155,26 +179,39 @@ IsMemory _ = ⊥
 abbrev pub IsGood : Result Answer Fault → Type 0
 IsGood result = MatchResult result TellsGood IsMemory
 
--- Settings are judged before the trace, and both before anything is printed. Where the output
--- failed, of the text of the whole run a beginning was printed.
-abbrev pub IsReplayFault : List ℕ → List ℕ → Closing → (old new : Option (List ℕ)) → Fault
-    → Type 0
-IsReplayFault config trace closing old new (Config why) =
-    IsReadOfText config (Err why) × Keeps old new
-IsReplayFault config trace closing old new (Trace n) =
-    ((s : Settings) × IsReadOfText config (Ok s)) × (first_wrong 1 (lines_of trace) ≡ Some n)
-    × Keeps old new
-IsReplayFault config trace closing old new Device =
-    IsRunPrinted config trace closing (IsBegun old new)
-IsReplayFault config trace closing old new NoMemory =
-    Keeps old new ⊎ IsRunStopped config trace old new
-IsReplayFault config trace closing old new _ = ⊥
+-- Settings and trace are free of faults, and a run over the trace ended so. The trace is read
+-- twice, so that its octets may be others the second time.
+pub record HasRun (config : List ℕ) (has : List ℕ → Type 0) (IsEnd : Settings → Type 0)
+    : Type 0 where
+  pub settings : Settings
+  pub read_config : IsReadOfText config (Ok settings)
+  pub judged : WasJudged has
+  pub end : IsEnd settings
 
-abbrev pub IsReplayed : List ℕ → List ℕ → Closing → (old new : Option (List ℕ))
+-- Settings are judged before the trace, and both before anything is printed.
+abbrev pub IsReplayFault : List ℕ → (has : List ℕ → Type 0) → Closing → (old new : Option (List ℕ))
+    → Fault → Type 0
+IsReplayFault config has closing old new (Config why) =
+    IsReadOfText config (Err why) × Keeps old new
+IsReplayFault config has closing old new (Trace n) =
+    ((s : Settings) × IsReadOfText config (Ok s))
+    × ((trace : List ℕ) × has trace × (first_wrong 1 (lines_of trace) ≡ Some n))
+    × Keeps old new
+IsReplayFault config has closing old new Device =
+    HasRun config has (λ s. IsRunOf s has closing (IsBegun old new))
+IsReplayFault config has closing old new NoMemory =
+    Keeps old new ⊎ HasRun config has (λ s. IsStopOf s has old new)
+IsReplayFault config has closing old new Unread =
+    Keeps old new ⊎ HasRun config has (λ s. IsStopOf s has old new)
+IsReplayFault config has closing old new _ = ⊥
+
+-- a replay of a trace whose octets may be these
+abbrev pub IsReplayed : List ℕ → (has : List ℕ → Type 0) → Closing → (old new : Option (List ℕ))
     → Result (Unit {0}) Fault → Type 0
-IsReplayed config trace closing old new result =
-    MatchResult result (λ done. IsRunPrinted config trace closing (Appends old new))
-    (IsReplayFault config trace closing old new)
+IsReplayed config has closing old new result =
+    MatchResult result
+    (λ done. HasRun config has (λ s. IsRunOf s has closing (Appends old new)))
+    (IsReplayFault config has closing old new)
 
 -- settings and script are free of faults, and this holds of a run of the script
 pub record IsScripted (config text : List ℕ)
@@ -247,8 +284,6 @@ abbrev pub DoesJob : Job → (old new : Option (List ℕ)) → (exit : ℕ) → 
 DoesJob (Show101 sizes hex) = Gives (IsShown101 sizes.now hex.now)
 DoesJob (Show104 hex) = Gives (IsShown104 hex.now)
 DoesJob (Check config) = Gives (IsChecked config.now)
-DoesJob (Replay config trace left counts) =
-    Runs (IsReplayed config.now trace.now (record { left = left; counts = counts }))
 DoesJob (Sim config script) = Runs (IsSimulatedBy config.now script.now)
 DoesJob (Audit config text) = Gives (IsAuditedBy config.now text.now)
 

@@ -9,3 +9,5 @@ pub mod Shell
 pub mod Guests
 pub mod Audits
 pub mod Examples
+pub mod Source
+pub mod Parts

@@ -7,10 +7,11 @@ use Rattle.clap.specs.Words.{Text, HasKind, fault_of, kind_of, subcommand_of}
 use Rattle.clap.specs.declared.error.Error.{Error}
 use Rattle.clap.specs.declared.error.kind.ErrorKind.{ErrorKind}
 use Rattle.clap.specs.declared.error.kind.ErrorKind.TheVariants as kind
-use Rattle.telegate.specs.Answers.{Performs}
+use Rattle.telegate.specs.Answers.{IsReplayed, Performs, Runs}
 use Rattle.telegate.specs.CommandLine.{IsRequestOf, text_of, texts_of, program}
 use Rattle.telegate.specs.Faults.{status_of, status_of_end}
 use Rattle.telegate.specs.Guests.{AreGuests, IsGuestsFault}
+use Rattle.telegate.specs.declared.closing.Closing.{Closing}
 use Rattle.telegate.specs.declared.host.Wishes.{Wishes}
 use Rattle.telegate.specs.declared.command_line.Request.{Request}
 use Rattle.telegate.specs.declared.command_line.Request.TheVariants.{Show101, Show104, Check, Replay, Sim, Audit, Run}
@@ -27,8 +28,6 @@ abbrev pub IsJobOf : (has : Text → List ℕ → Type 0) → Request → Job �
 IsJobOf has (Show101 sizes hex) (job.Show101 s h) = (s.now ≡ sizes.now) × (h.now ≡ hex.now)
 IsJobOf has (Show104 hex) (job.Show104 h) = h.now ≡ hex.now
 IsJobOf has (Check config) (job.Check c) = has config.now c.now
-IsJobOf has (Replay config trace left counts) (job.Replay c t l n) =
-    has config.now c.now × has trace.now t.now × (l ≡ left) × (n ≡ counts)
 IsJobOf has (Sim config script) (job.Sim c s) = has config.now c.now × has script.now s.now
 IsJobOf has (Audit config text) (job.Audit c t) = has config.now c.now × has text.now t.now
 IsJobOf has _ _ = ⊥
@@ -84,6 +83,21 @@ pub record IsJobDone (has : Text → List ℕ → Type 0) (request : Request) (o
   pub job : Job
   pub of : IsJobOf has request job
   pub done : Performs job old new exit
+
+-- A trace was replayed by settings of these octets; or it couldn't be read, and nothing was
+-- printed.
+abbrev pub ReplaysFile : (has : Text → List ℕ → Type 0) → (lacks : Text → Type 0) → (trace : Text)
+    → (config : List ℕ) → Closing → (old new : Option (List ℕ)) → (exit : ℕ) → Type 0
+ReplaysFile has lacks trace config closing old new exit =
+    Runs (IsReplayed config (has trace) closing) old new exit
+    ⊎ (IsNotRead has lacks (trace ∷ []) exit × Keeps old new)
+
+-- the same by the octets of a file
+pub record HasReplayed (has : Text → List ℕ → Type 0) (config trace : Text) (closing : Closing)
+    (old new : Option (List ℕ)) (exit : ℕ) : Type 0 where
+  pub octets : List ℕ
+  pub read : has config octets
+  pub ran : Runs (IsReplayed octets (has trace) closing) old new exit
 
 -- The gateway ran live by settings of these octets, behind a record of these, if one is given, and
 -- the exit status says how that ended.
@@ -150,6 +164,8 @@ abbrev pub IsDone : (has : Text → List ℕ → Type 0)
 IsDone has ran (Run config redial log recorded resumed allow) old new exit =
     (HasRunAsWished has ran config.now redial log recorded (text_of resumed) (texts_of allow) exit
     ⊎ HasNoGuests (texts_of allow) exit) × Keeps old new
+IsDone has ran (Replay config trace left counts) old new exit =
+    HasReplayed has config.now trace.now (record { left = left; counts = counts }) old new exit
 IsDone has ran request old new exit = IsJobDone has request old new exit
 
 -- the command is done, or a file couldn't be read and nothing was printed

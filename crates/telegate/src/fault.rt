@@ -52,6 +52,9 @@ pub(crate) enum Fault {
     /// The output can't be written.
     #[error("device failed")]
     Device,
+    /// A text can't be read on, or isn't the one that was judged.
+    #[error("cannot read")]
+    Unread,
     #[error("no memory")]
     NoMemory,
 }
@@ -86,7 +89,7 @@ impl Fault {
             | Fault::Sizes
             | Fault::Octets => BAD_CONTENT,
             Fault::Address => USAGE,
-            Fault::Device => DEVICE_FAILED,
+            Fault::Device | Fault::Unread => DEVICE_FAILED,
             Fault::NoMemory => NO_MEMORY,
         }
     }

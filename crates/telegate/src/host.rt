@@ -1,13 +1,17 @@
 //! What the program needs of the system that it runs on.
 ghost use Rattle.std.specs.Prelude.{◌≡◌, ℕ, List, Result, IfOk, IfErr};
+ghost use Rattle.telegate.specs.Source.{Gives};
 ghost use Rattle.telegate.specs.declared.fault.Fault.{Fault};
 ghost use Rattle.telegate.specs.declared.host.Unread.TheVariants as unread;
 ghost use Rattle.telegate.specs.declared.host.Wishes.{Wishes};
 
 use crate::fault::Fault;
 use crate::running::run_live;
+use crate::source::Source;
 use live::Guests;
+use std::fs::File;
 use std::io;
+use std::io::Read;
 use std::net::{Net, TcpListener, TcpStream};
 use std::rt::{Clock, Files};
 
@@ -46,10 +50,21 @@ pub(crate) trait Host {
     // ended.
     ghost ran: { Self → List ℕ → Wishes → Result (Unit {0}) Fault → Type 0 };
 
+    /// What the text of a file is read from.
+    type Text: Read + Drop;
+
     /// The octets of a file.
     fn read(&self, name: &str) -> Result<Vec<u8>, Unread>
         ensures octets { IfOk result (λ octets. has self.now name.now octets.items) }
         ensures none { IfErr result (λ why. why ≡ unread.Unreadable → lacks self.now name.now) };
+
+    /// The text of a file, from its beginning on.
+    fn open(&self, name: &str) -> Result<Self::Text, Unread>
+        ensures octets { IfOk result (λ text. (octets : List ℕ) →
+            Gives (Self.Text.remaining text) octets → has self.now name.now octets) };
+
+    /// Whether a file can be opened again from its beginning: a pipe can't.
+    fn can_reopen(&self, name: &str) -> bool;
 
     /// Whether somebody looks on at standard error.
     fn is_watched(&self) -> bool;
@@ -82,11 +97,28 @@ where
 
     ghost ran = { λ _ _ _ _. Unit {0} };
 
+    type Text = R::File;
+
     fn read(&self, name: &str) -> Result<Vec<u8>, Unread> {
         match std::fs::read(self.rt, name) {
             Ok(octets) => Ok(octets),
             Err(fault) if fault.kind() == io::ErrorKind::OutOfMemory => Err(Unread::NoMemory),
             Err(_) => Err(Unread::Unreadable),
+        }
+    }
+
+    fn open(&self, name: &str) -> Result<R::File, Unread> {
+        match File::open(self.rt, name) {
+            Ok(file) => Ok(file),
+            Err(fault) if fault.kind() == io::ErrorKind::OutOfMemory => Err(Unread::NoMemory),
+            Err(_) => Err(Unread::Unreadable),
+        }
+    }
+
+    fn can_reopen(&self, name: &str) -> bool {
+        match std::fs::metadata(self.rt, name) {
+            Ok(metadata) => metadata.is_file(),
+            Err(_) => false,
         }
     }
 
@@ -96,5 +128,22 @@ where
 
     fn run(&self, config: &[u8], wishes: Wishes) -> Result<(), Fault> {
         run_live(self.rt, config, wishes)
+    }
+}
+
+/// A file of a host, as a text that is opened anew each time.
+#[derive(Clone, Copy)]
+pub(crate) struct HostFile<'a, H> {
+    pub(crate) host: &'a H,
+    pub(crate) name: &'a str,
+}
+
+impl<H: Host> Source for HostFile<'_, H> {
+    type Text = H::Text;
+
+    ghost has = { λ s octets. H.has s.host.now s.name.now octets };
+
+    fn open(&self) -> Result<H::Text, Unread> {
+        self.host.open(self.name)
     }
 }

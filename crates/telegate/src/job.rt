@@ -1,6 +1,6 @@
 //! The work of a command.
 
-/// A command, with the octets of its files in place of their names.
+/// A command whose files are read whole, with their octets in place of their names.
 #[derive(Clone, Copy, Debug, PartialEq, Eq)]
 pub enum Job<'a> {
     /// The frame at the front of octets of the line: the sizes of its addresses, and the octets in
@@ -10,14 +10,6 @@ pub enum Job<'a> {
     Show104(&'a str),
     /// The judgement of a file of settings.
     Check(&'a [u8]),
-    /// A run of the gateway over the events of a trace; and whether a line follows for each piece
-    /// that no connection has acknowledged, and one with what was counted.
-    Replay {
-        config: &'a [u8],
-        trace: &'a [u8],
-        left: bool,
-        counts: bool,
-    },
     /// A run of the gateway over simulated stations and a simulated control centre: the settings,
     /// and the script.
     Sim(&'a [u8], &'a [u8]),

@@ -3,16 +3,18 @@
 //!
 //! `obey` does what a list of words asks for: it reads the files that they name, in their order,
 //! and hands their octets to `perform`, which does the work of one command (`Job`), or to the
-//! gateway's live run. Proved of `obey`, for every list of words and any host: the command is the
+//! gateway's live run; a trace it has read by `replay`, block by block, which judges it and then
+//! runs it (`Source`). Proved of `obey`, for every list of words and any host: the command is the
 //! one that the words name with what stands at each place, each file's octets go where its name
 //! stood, a file that can't be read ends it with 3 before anything is printed, `run` ends as the
 //! host's live run ended, and words that ask for nothing end with 2, or 0 where they ask for help
-//! or the version. Proved of `perform`: what it appends to a writer that tells its octets is the
-//! text of the command's answer and nothing else, nothing where a text is refused, and a beginning
-//! of the answer's text where the writer failed, or of a run's lines where memory was refused while
-//! they were printed; the exit status is that of the answer or of the first fault. Literal words,
-//! with what they ask for or how they end, are worked examples (`words_by_example`). What the
-//! system's files, terminals and sockets do, and the lines of faults, are tested.
+//! or the version. Proved of `perform` and `replay`: what each appends to a writer that tells its
+//! octets is the text of the command's answer and nothing else, nothing where a text is refused,
+//! and a beginning of the answer's text where the writer failed, or of a run's lines where memory
+//! was refused while they were printed; the exit status is that of the answer or of the first
+//! fault. Literal words, with what they ask for or how they end, are worked examples
+//! (`words_by_example`). What the system's files, terminals and sockets do, and the lines of
+//! faults, are tested.
 #![tactic(auto)]
 
 mod answer;
@@ -34,6 +36,7 @@ mod running;
 mod shell;
 mod showing;
 mod simulating;
+mod source;
 
 use fault::{Fault, USAGE};
 use host::System;

@@ -1,9 +1,10 @@
 //! Ports that print their actions on a page.
-ghost use Rattle.std.specs.Prelude.{◌≡◌, ◌++◌, IfSome, List, ℕ, Some};
+ghost use Rattle.std.specs.Prelude.{◌≡◌, ◌++◌, IfSome, List, Some};
 ghost use Rattle.gateway.specs.Log.{LogEntry, Log};
 ghost use Rattle.sim.specs.Lives.{Plan};
 ghost use Rattle.std.proofs.Common.{ap};
 ghost use Rattle.traces.specs.Actions.{lines_of_actions};
+ghost use Rattle.traces.specs.Progress.{Part};
 
 use gateway::Port;
 use sim::Sim;
@@ -46,10 +47,9 @@ pub(crate) trait Paged: Port {
 impl Paged for TextPort<'_> {
     ghost poured = { λ p. p.poured };
 
-    /// The text.
-    ghost Course = { List ℕ };
+    ghost Course = { Part };
 
-    ghost course = { λ p. p.text };
+    ghost course = { λ p. p.part };
 
     fn page(&self) -> &[u8] {
         TextPort::page(self)
@@ -59,9 +59,9 @@ impl Paged for TextPort<'_> {
         TextPort::clear_page(self);
     }
 
-    ghost poured_stays = { λ a b same. ap (λ (s : List ℕ × Log). s.1) same };
+    ghost poured_stays = { λ a b same. ap (λ (s : Part × Log). s.1) same };
 
-    ghost course_stays = { λ a b same. ap (λ (s : List ℕ × Log). s.0) same };
+    ghost course_stays = { λ a b same. ap (λ (s : Part × Log). s.0) same };
 }
 
 impl Paged for Sim<'_> {

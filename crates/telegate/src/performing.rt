@@ -8,10 +8,8 @@ ghost use Rattle.telegate.specs.Answers.{IsGiven, Performs};
 use crate::answer::Answer;
 use crate::auditing::audit;
 use crate::check::check;
-use crate::closing::Closing;
 use crate::fault::{DONE, Fault};
 use crate::job::Job;
-use crate::replay::replay;
 use crate::showing::{show101, show104};
 use crate::simulating::simulate;
 use std::alloc::Global;
@@ -21,9 +19,9 @@ use std::io::{ErrorKind, Write};
 /// Does a command: its answer goes to `out`, or the line of a fault to `err`. Answers the exit
 /// status: 0 done, 1 a bad frame or a file with wrong content, 3 where the output can't be written
 /// (what was written is then a beginning of the answer's text), 4 where memory was refused. A run
-/// over a trace or a script prints while it goes on, so that after 4 a beginning of its lines may
-/// have been written, and where it is watched it tells `err` how far it has come; the others print
-/// when all is there.
+/// over a script prints while it goes on, so that after 4 a beginning of its lines may have been
+/// written, and where it is watched it tells `err` how far it has come; the others print when all
+/// is there.
 pub fn perform<W: Write, E: Write>(
     alloc: Global,
     job: &Job<'_>,
@@ -37,21 +35,6 @@ pub fn perform<W: Write, E: Write>(
         Job::Show101(sizes, hex) => give(&show101(alloc, *sizes, *hex), out, err),
         Job::Show104(hex) => give(&show104(alloc, *hex), out, err),
         Job::Check(config) => give(&check(alloc, *config), out, err),
-        Job::Replay {
-            config,
-            trace,
-            left,
-            counts,
-        } => {
-            let closing = Closing {
-                left: *left,
-                counts: *counts,
-            };
-            match replay(alloc, *config, *trace, closing, is_watched, out, err) {
-                Ok(()) => DONE,
-                Err(fault) => tell(&fault, err),
-            }
-        }
         Job::Sim(config, script) => {
             match simulate(alloc, *config, *script, is_watched, out, err) {
                 Ok(()) => DONE,

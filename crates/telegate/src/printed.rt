@@ -1,5 +1,5 @@
 //! Runs that print while they go on, and tell on a terminal how far they have come.
-ghost use Rattle.std.specs.Prelude.{◌≡◌, ℕ, List, [], Option, ◌<◌, ◌≤◌, false, true, IfSome, OnOk, Some};
+ghost use Rattle.std.specs.Prelude.{◌≡◌, ℕ, List, Option, ◌<◌, ◌≤◌, false, true, IfSome, OnOk, Some};
 ghost use Rattle.std.specs.Io.KnownBytes.{Appends};
 ghost use Rattle.gateway.specs.Accounts.{IsAccounted};
 ghost use Rattle.gateway.specs.Agrees.{Follows, Rests};
@@ -25,20 +25,20 @@ const PART: u64 = 256;
 const STRIDE: u64 = 524_288;
 
 /// Takes the events of a port one after another, at most so many, as `drive_on` does, and prints
-/// the lines of the actions as they are made. Where the output fails, nothing more is printed, and
-/// the run goes on to its end: the second answer is whether all was printed. Where a run of more
-/// than one stride is watched, standard error tells after each how far it has come, and is blank
-/// again at the end; whether it takes that changes nothing.
+/// the lines of the actions as they are made. Where the output fails, or has failed before, nothing
+/// more is printed, and the run goes on to its end: the second answer is whether all was printed.
+/// Where a run of more than one stride is watched, standard error tells after each how far it has
+/// come, and is blank again at the end; whether it takes that changes nothing.
 pub(crate) fn drive_printed<P: Paged, W: Write, E: Write>(
     gateway: &mut Gateway,
     port: &mut P,
     turns: u64,
+    was_whole: bool,
     is_watched: bool,
     out: &mut W,
     err: &mut E,
 ) -> (End, bool)
     requires healthy { P.failed port.old ≡ 0 }
-    requires blank { P.poured port.old ≡ [] }
     // As of `drive_on`.
     ensures faithful { (p : Setup) → Follows p gateway.old (P.log port.old) →
         Rests p (P.log port.old) → IfSome (P.log port.new) (IsFaithful p) }
@@ -52,15 +52,17 @@ pub(crate) fn drive_printed<P: Paged, W: Write, E: Write>(
     ensures turns { result.0 ≡ End.Turns → MoreEvents turns (P.log port.old) (P.log port.new) }
     ensures finished { result.0 ≡ End.Finished → P.ended port.new ≡ true }
     ensures course { P.course port.new ≡ P.course port.old }
-    // All lines of the log were printed, or a beginning of them.
+    // All lines of the log were printed, or a beginning of them, where that is so of those before.
     ensures all { P.log port.new ≡ Some (P.poured port.new) }
-    ensures poured { IsPoured result.1 (W.contents out.old) (W.contents out.new)
-        (lines_of_actions (P.poured port.new)) }
+    ensures healthy { UnlessDevice result.0 (P.failed port.new ≡ 0) }
+    ensures poured { (before : Option (List ℕ)) →
+        IsPoured was_whole before (W.contents out.old) (lines_of_actions (P.poured port.old)) →
+        IsPoured result.1 before (W.contents out.new) (lines_of_actions (P.poured port.new)) }
     // Where nobody looks on, nothing is told.
     ensures unwatched { is_watched ≡ false → err.new ≡ err.old }
 {
     let is_told = is_watched && turns > STRIDE;
-    let mut is_whole = true;
+    let mut is_whole = was_whole;
     let mut done = 0;
     'parts: while turns - done > PART {
         let end = drive_on(gateway, port, PART);
@@ -129,7 +131,7 @@ fn tell_after<E: Write>(is_told: bool, done: u64, all: u64, err: &mut E)
 }
 
 /// Takes what was told from the terminal, where something was.
-fn blank_if<E: Write>(is_told: bool, err: &mut E)
+pub(crate) fn blank_if<E: Write>(is_told: bool, err: &mut E)
     ensures { is_told ≡ false → err.new ≡ err.old }
 {
     if is_told {
@@ -137,8 +139,8 @@ fn blank_if<E: Write>(is_told: bool, err: &mut E)
     }
 }
 
-/// Tells which part of so many turns is done, over what stands on the line.
-fn tell_percent<E: Write>(done: u64, all: u64, err: &mut E) -> io::Result<()>
+/// Tells which part of so many turns, or octets, is done, over what stands on the line.
+pub(crate) fn tell_percent<E: Write>(done: u64, all: u64, err: &mut E) -> io::Result<()>
     requires within { done ≤ all }
     requires some { 0 < all }
     ensures { OnOk result (Appends (E.contents err.old) (E.contents err.new)

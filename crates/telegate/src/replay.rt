@@ -1,107 +1,268 @@
 //! The command that runs the gateway over a trace.
-ghost use Rattle.std.specs.Prelude.{◌≡◌, ℕ, List, Option, ◌+◌, false, length, None, Ok, IfSome};
-ghost use Rattle.settings.specs.Settings.{IsReadOfText};
-ghost use Rattle.traces.specs.Progress.{events_in};
-ghost use Rattle.traces.specs.Trace.{first_wrong, lines_of};
-ghost use Rattle.telegate.specs.Answers.{IsReplayed};
+ghost use Rattle.std.specs.Prelude.{◌≡◌, ◌⊎◌, ◌+◌, ◌<◌, ℕ, List, Option, false, true, length, IfOk, IfErr, IfSome, OnOk, OnErr};
+ghost use Rattle.blocks.specs.Reading.{IsGiven};
+ghost use Rattle.traces.specs.Actions.{lines_of_actions};
+ghost use Rattle.traces.specs.Progress.{AreRight};
+ghost use Rattle.traces.specs.Trace.{lines_of};
+ghost use Rattle.telegate.specs.Answers.{IsEndOf, IsReplayed};
 ghost use Rattle.telegate.specs.Closing.{closing_lines};
+ghost use Rattle.telegate.specs.Parts.{IsWant, IsJudged, IsLineFault, IsClear, IsPartRun, IsPartStopped, RunsOver};
 ghost use Rattle.telegate.specs.Printed.{IsPoured, IsClosedBy};
+ghost use Rattle.telegate.specs.Source.{Gives};
 
 use crate::check::read_config;
 use crate::closing::{Closing, push_closing};
 use crate::fault::Fault;
-use crate::printed::{drive_printed, print_closing};
+use crate::host::Unread;
+use crate::printed::{blank_if, drive_printed, print_closing, tell_percent};
+use crate::source::Source;
+use blocks::{BlockFault, Blocks};
 use delivery::nothing_is_lost;
 use gateway::{Config, End, Gateway, steps_keep_their_order};
 use std::alloc::Global;
-use std::io::Write;
-use traces::{TextFault, TextPort, judge};
+use std::io::{Read, Write};
+use traces::{Pause, TextFault, judge};
 
-/// A trace without a wrong line, and what is asked of the run over it.
+/// So many octets of a trace pass before it is told how far a run has come: 2^25, a quarter of a
+/// second.
+const STRIDE: u64 = 33_554_432;
+
+/// What is asked of a replay.
 #[derive(Clone, Copy)]
-struct Course<'a> {
-    trace: &'a [u8],
-    /// A turn for each event, one for the tick at moment 0, and one in which there is no more.
-    turns: u64,
+pub(crate) struct Asked<'a> {
+    /// The octets of the file of settings.
+    pub(crate) config: &'a [u8],
+    pub(crate) closing: Closing,
+    /// Whether it is to be told on standard error how far a long run has come.
+    pub(crate) is_watched: bool,
+}
+
+/// A run over a trace that was judged.
+#[derive(Clone, Copy)]
+struct Course {
     closing: Closing,
+    /// The octets of the trace, with a line feed behind its last line too.
+    size: u64,
     is_watched: bool,
 }
 
 /// Runs the gateway over the events of a trace, and prints a line for each action as it is made,
-/// and then the lines of `closing`. The settings are judged before the trace, and the whole trace
-/// before the run, so that nothing is printed where either is wrong. Where it is watched, a long
-/// run tells on standard error how far it has come.
-pub(crate) fn replay<W: Write, E: Write>(
+/// and then the closing lines. The settings are judged before the trace, and the whole trace before
+/// the run, so that nothing is printed where either is wrong. The trace is read twice, block by
+/// block. Where it is watched, a long run tells on standard error how far it has come.
+pub(crate) fn replay<S: Source, W: Write, E: Write>(
     alloc: Global,
-    config: &[u8],
-    trace: &[u8],
-    closing: Closing,
-    is_watched: bool,
+    asked: &Asked<'_>,
+    trace: &S,
     out: &mut W,
     err: &mut E,
 ) -> Result<(), Fault>
-    ensures answer { IsReplayed config.now trace.now closing
+    ensures answer { IsReplayed asked.now.config.now (S.has trace.now) asked.now.closing
         (W.contents out.old) (W.contents out.new) result }
-    ensures unwatched { is_watched ≡ false → err.new ≡ err.old }
+    ensures unwatched { asked.now.is_watched ≡ false → err.new ≡ err.old }
 {
-    let config = read_config(alloc, config)?;
-    let events = match judge(trace) {
-        Ok(events) => events,
-        Err(TextFault::Line(n)) => return Err(Fault::Trace(n)),
-        Err(TextFault::NoMemory) => return Err(Fault::NoMemory),
-    };
-    let Some(turns) = turns_of(events) else {
-        return Err(Fault::NoMemory);
-    };
+    let text = open(trace)?;
+    let config = read_config(alloc, asked.config)?;
+    let size = judge_text(alloc, text)?;
     let course = Course {
-        trace,
-        turns,
-        closing,
-        is_watched,
+        closing: asked.closing,
+        size,
+        is_watched: asked.is_watched,
     };
-    run(alloc, &config, &course, out, err)
+    let text = open(trace)?;
+    run(alloc, &config, text, &course, out, err)
 }
 
-/// As many turns as a run over so many events wants.
-fn turns_of(events: u64) -> Option<u64>
-    ensures { IfSome result (λ turns. turns ≡ events + 2) }
+/// A text from its beginning on.
+fn open<S: Source>(trace: &S) -> Result<S::Text, Fault>
+    ensures text { IfOk result (λ text. (octets : List ℕ) →
+        Gives (S.Text.remaining text) octets → S.has trace.now octets) }
+    ensures fault { IfErr result IsWant }
 {
-    events.checked_add(2)
+    match trace.open() {
+        Ok(text) => Ok(text),
+        Err(Unread::Unreadable) => Err(Fault::Unread),
+        Err(Unread::NoMemory) => Err(Fault::NoMemory),
+    }
 }
 
-/// Runs the gateway over a trace. An output that fails is written to no more, and told at the end.
-fn run<W: Write, E: Write>(
+/// Goes on to the next block of a text, where there is one.
+fn advance<R: Read + Drop>(blocks: &mut Blocks<R>) -> Result<(), Fault>
+    requires { blocks.old.is_over ≡ false }
+    ensures block { OnOk result (IfSome blocks.old.coming (λ text. IsGiven text blocks.new)) }
+    ensures fault { IfErr result IsWant }
+{
+    match blocks.advance() {
+        Ok(true) => Ok(()),
+        Ok(false) => unreachable!(),
+        Err(BlockFault::Unread) => Err(Fault::Unread),
+        Err(BlockFault::NoMemory) => Err(Fault::NoMemory),
+    }
+}
+
+/// Judges the lines of a block, of which the first has this number. Answers that of the line behind
+/// them.
+fn judge_lines(lines: &[u8], first: u64) -> Result<u64, Fault>
+    ensures right { IfOk result (AreRight first (lines_of lines.now)) }
+    ensures fault { IfErr result (IsLineFault first lines.now) }
+{
+    match judge(lines, first) {
+        Ok(next) => Ok(next),
+        Err(TextFault::Line(n)) => Err(Fault::Trace(n)),
+        Err(TextFault::NoMemory) => Err(Fault::NoMemory),
+    }
+}
+
+/// Judges the lines of a text, block by block. Answers its size as a course has it.
+fn judge_text<R: Read + Drop>(alloc: Global, text: R) -> Result<u64, Fault>
+    ensures { IsJudged (R.remaining text) result }
+{
+    let mut blocks = Blocks::new(alloc, text);
+    let mut next = 1;
+    let mut size = 0;
+    'judging: for _ in 0..u64::MAX {
+        advance(&mut blocks)?;
+        let lines = blocks.lines();
+        next = judge_lines(lines, next)?;
+        size = with_lines(size, lines);
+        if blocks.is_over() {
+            return Ok(size);
+        }
+    }
+    // No memory holds so many blocks.
+    Err(Fault::NoMemory)
+}
+
+/// A size, and that of the lines behind it, with a line feed behind the last.
+fn with_lines(size: u64, lines: &[u8]) -> u64 {
+    size.saturating_add(lines.len() as u64).saturating_add(1)
+}
+
+/// Runs the gateway over a trace that was judged. An output that fails is written to no more, and
+/// told at the end.
+fn run<R: Read + Drop, W: Write, E: Write>(
     alloc: Global,
     config: &Config,
-    course: &Course<'_>,
+    text: R,
+    course: &Course,
     out: &mut W,
     err: &mut E,
 ) -> Result<(), Fault>
-    requires { course.now.turns ≡ length (events_in (lines_of course.now.trace.now)) + 2 }
-    ensures answer { (settings : List ℕ) → IsReadOfText settings (Ok config.now) →
-        first_wrong 1 (lines_of course.now.trace.now) ≡ None →
-        IsReplayed settings course.now.trace.now course.now.closing
+    ensures answer { IsEndOf config.now (Gives (R.remaining text)) course.now.closing
         (W.contents out.old) (W.contents out.new) result }
     ensures unwatched { course.now.is_watched ≡ false → err.new ≡ err.old }
 {
     nothing_is_lost();
     steps_keep_their_order();
     let mut gateway = Gateway::new(alloc, config)?;
-    let mut port = TextPort::new(alloc, course.trace);
-    let (end, is_whole) = drive_printed(
-        &mut gateway,
-        &mut port,
-        course.turns,
-        course.is_watched,
-        out,
-        err,
-    );
+    let ran = run_parts(alloc, &mut gateway, text, course, out, err);
+    blank_if(is_told(course), err);
+    let is_whole = ran?;
+    close(alloc, &gateway, course.closing, is_whole, out)
+}
+
+/// Whether it is told how far a run has come.
+fn is_told(course: &Course) -> bool
+    ensures unwatched { course.now.is_watched ≡ false → result ≡ false }
+    ensures some { result ≡ true → 0 < course.now.size }
+{
+    course.is_watched && course.size > STRIDE
+}
+
+/// Runs a gateway over a whole text, block by block, and prints the lines of its actions. Answers
+/// whether the output has taken all.
+fn run_parts<R: Read + Drop, W: Write, E: Write>(
+    alloc: Global,
+    gateway: &mut Gateway,
+    text: R,
+    course: &Course,
+    out: &mut W,
+    err: &mut E,
+) -> Result<bool, Fault>
+    ensures answer { RunsOver (R.remaining text) gateway.old gateway.new
+        (W.contents out.old) (W.contents out.new) result }
+    ensures unwatched { course.now.is_watched ≡ false → err.new ≡ err.old }
+{
+    let mut blocks = Blocks::new(alloc, text);
+    let mut pause = Pause::new(alloc);
+    let mut is_whole = true;
+    let mut size = 0;
+    'running: for _ in 0..u64::MAX {
+        advance(&mut blocks)?;
+        let lines = blocks.lines();
+        (pause, is_whole) = run_part(gateway, pause, lines, is_whole, out, err)?;
+        if blocks.is_over() {
+            return Ok(is_whole);
+        }
+        let before = size;
+        size = with_lines(size, lines);
+        tell_between(course, before, size, err);
+    }
+    // No memory holds so many blocks.
+    Err(Fault::NoMemory)
+}
+
+/// Runs a gateway over one block. Answers how the run then stands, and whether the output has taken
+/// all so far.
+fn run_part<W: Write, E: Write>(
+    gateway: &mut Gateway,
+    pause: Pause,
+    lines: &[u8],
+    was_whole: bool,
+    out: &mut W,
+    err: &mut E,
+) -> Result<(Pause, bool), Fault>
+    requires { IsClear pause }
+    ensures run { IfOk result (λ after.
+        IsPartRun pause lines.now gateway.old gateway.new after.0) }
+    ensures printed { IfOk result (λ after. (before : Option (List ℕ)) →
+        IsPoured was_whole before (W.contents out.old) (lines_of_actions pause.log) →
+        IsPoured after.1 before (W.contents out.new) (lines_of_actions after.0.log)) }
+    ensures stopped { IfErr result IsWant }
+    // Before the block, or in it.
+    ensures begun { OnErr result ((out.new ≡ out.old) ⊎ ((before : Option (List ℕ)) →
+        IsPoured was_whole before (W.contents out.old) (lines_of_actions pause.log) →
+        IsPartStopped pause lines.now gateway.old before (W.contents out.new))) }
+    ensures unwatched { err.new ≡ err.old }
+{
+    let mut port = pause.over(lines);
+    let Some(turns) = turns_of(lines) else {
+        return Err(Fault::NoMemory);
+    };
+    let (end, is_whole) = drive_printed(gateway, &mut port, turns, was_whole, false, out, err);
     let _page_is_clear = port.page();
     match end {
-        End::Finished => close(alloc, &gateway, course.closing, is_whole, out),
-        // No line is wrong, so it is memory that the page wanted.
-        End::Device => Err(Fault::NoMemory),
+        End::Finished => Ok((port.pause(), is_whole)),
+        End::Device => Err(fault_in(lines)),
         End::Turns => unreachable!(),
+    }
+}
+
+/// As many turns as a run over these lines takes at most: a line feed parts them, a tick may come
+/// before them, and behind them there is no more.
+fn turns_of(lines: &[u8]) -> Option<u64>
+    ensures { IfSome result (λ turns. turns ≡ length lines.now + 3) }
+{
+    (lines.len() as u64).checked_add(3)
+}
+
+/// Why a run stopped in a block: the page wanted memory, or the text isn't the one that was judged.
+fn fault_in(lines: &[u8]) -> Fault
+    ensures { IsWant result }
+{
+    match judge(lines, 1) {
+        Err(TextFault::Line(_)) => Fault::Unread,
+        _ => Fault::NoMemory,
+    }
+}
+
+/// Tells after each stride how far a run has come, where that is to be told.
+fn tell_between<E: Write>(course: &Course, before: u64, size: u64, err: &mut E)
+    ensures { course.now.is_watched ≡ false → err.new ≡ err.old }
+{
+    if is_told(course) && before / STRIDE < size / STRIDE {
+        // A text that has grown since it was judged isn't told beyond its end.
+        let _ = tell_percent(size.min(course.size), course.size, err);
     }
 }
 

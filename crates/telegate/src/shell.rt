@@ -4,14 +4,18 @@ ghost use Rattle.std.specs.Prelude.{◌≡◌, ◌∷◌, [], IfErr, IfOk, OnOk,
 ghost use Rattle.std.specs.Io.KnownBytes.{Appends};
 ghost use Rattle.clap.specs.Words.{kind_of};
 ghost use Rattle.telegate.specs.CommandLine.{text_of};
-ghost use Rattle.telegate.specs.Shell.{HasEndedLive, IsNotRead, IsTold, Obeys, Responds, RunsFiles, unreadable_line};
+ghost use Rattle.telegate.specs.Answers.{IsReplayed, Runs};
+ghost use Rattle.telegate.specs.Shell.{HasEndedLive, IsNotRead, IsTold, Obeys, ReplaysFile, Responds, RunsFiles, unreadable_line};
 
+use crate::closing::Closing;
 use crate::command_line::{Request, parse, request_of};
 use crate::fault::{DEVICE_FAILED, DONE, Fault, USAGE};
 use crate::guests::guests_of;
-use crate::host::{Host, Unread, Wishes};
+use crate::host::{Host, HostFile, Unread, Wishes};
 use crate::job::Job;
 use crate::performing::{perform, tell};
+use crate::replay::{Asked, replay};
+use crate::source::{Held, Source};
 use clap::Error;
 use clap::error::ErrorKind;
 use std::alloc::Global;
@@ -60,7 +64,8 @@ fn show<W: Write>(fault: &Error, to: &mut W) -> io::Result<()> {
     to.flush()
 }
 
-/// Reads the files that a request names, in the order of the words, and does the command.
+/// Reads the files that a request names, in the order of the words, and does the command. A trace
+/// is read while it is judged, and again while it is run.
 pub(crate) fn respond<H: Host, W: Write, E: Write>(
     alloc: Global,
     host: &H,
@@ -90,15 +95,17 @@ pub(crate) fn respond<H: Host, W: Write, E: Write>(
             trace,
             left,
             counts,
-        } => match read_files(host, *config, *trace, err) {
-            Ok((config, trace)) => {
-                let job = Job::Replay {
+        } => match read_file(host, *config, err) {
+            Ok(config) => {
+                let asked = Asked {
                     config: config.as_slice(),
-                    trace: trace.as_slice(),
-                    left: *left,
-                    counts: *counts,
+                    closing: Closing {
+                        left: *left,
+                        counts: *counts,
+                    },
+                    is_watched,
                 };
-                perform(alloc, &job, is_watched, out, err)
+                replay_file(alloc, host, *trace, &asked, out, err)
             }
             Err(status) => status,
         },
@@ -136,6 +143,55 @@ pub(crate) fn respond<H: Host, W: Write, E: Write>(
             }
             Err(fault) => tell(&fault, err),
         },
+    }
+}
+
+/// Replays a trace, and answers the exit status. A file that can't be opened again, as a pipe, is
+/// read whole.
+fn replay_file<H: Host, W: Write, E: Write>(
+    alloc: Global,
+    host: &H,
+    name: &str,
+    asked: &Asked<'_>,
+    out: &mut W,
+    err: &mut E,
+) -> u8
+    ensures { ReplaysFile (H.has host.now) (H.lacks host.now) name.now asked.now.config.now
+        asked.now.closing (W.contents out.old) (W.contents out.new) result }
+{
+    if host.can_reopen(name) {
+        return replay_text(alloc, &HostFile { host, name }, name, asked, out, err);
+    }
+    match read_file(host, name, err) {
+        Ok(octets) => {
+            let text = Held {
+                octets: octets.as_slice(),
+            };
+            replay_text(alloc, &text, name, asked, out, err)
+        }
+        Err(status) => status,
+    }
+}
+
+/// Replays the trace of this name, and answers the exit status.
+fn replay_text<S: Source, W: Write, E: Write>(
+    alloc: Global,
+    text: &S,
+    name: &str,
+    asked: &Asked<'_>,
+    out: &mut W,
+    err: &mut E,
+) -> u8
+    ensures { Runs (IsReplayed asked.now.config.now (S.has text.now) asked.now.closing)
+        (W.contents out.old) (W.contents out.new) result }
+{
+    match replay(alloc, asked, text, out, err) {
+        Ok(()) => DONE,
+        Err(Fault::Unread) => {
+            let _ = tell_unreadable(name, err);
+            DEVICE_FAILED
+        }
+        Err(fault) => tell(&fault, err),
     }
 }
 

@@ -66,7 +66,7 @@ fn run<W: Write, E: Write>(
         return Err(Fault::NoMemory);
     };
     let turns = script.turns();
-    let (end, is_whole) = drive_printed(&mut gateway, &mut sim, turns, is_watched, out, err);
+    let (end, is_whole) = drive_printed(&mut gateway, &mut sim, turns, true, is_watched, out, err);
     let _page_is_clear = sim.page();
     match end {
         End::Turns => close(alloc, &sim, is_whole, out),

@@ -1,7 +1,7 @@
 -- A port over the text of a trace, call by call.
-use Rattle.std.proofs.Common.{◌≡◌, ℕ, ◌+◌, Bool, true, false, List, [], ◌∷◌, ◌++◌, take, Option, Some, None, refl, ap, sym, ◌∙◌, subst, append_assoc}
+use Rattle.std.proofs.Common.{◌≡◌, ℕ, ◌+◌, Bool, true, false, not, length, arith, List, [], ◌∷◌, ◌++◌, take, Option, Some, None, refl, ap, sym, ◌∙◌, subst, append_assoc}
 use Rattle.std.specs.List.{AllByRecursion}
-use Rattle.gateway.specs.Log.{Came, Went, Input, LineIn, Opened, TcpIn, CutOff, Ticked, WallIs, Output, events_of}
+use Rattle.gateway.specs.Log.{Log, Came, Went, Input, LineIn, Opened, TcpIn, CutOff, Ticked, WallIs, Output, events_of}
 use Rattle.gateway.specs.Ports.{told_by}
 use Rattle.gateway.specs.Entries.{event_of as entry_event}
 use Rattle.gateway.specs.declared.entries.Entry.{Entry}
@@ -11,8 +11,10 @@ use Rattle.gateway.specs.declared.ports.Next.TheVariants as answers
 use Rattle.traces.specs.Actions.{line_of, lines_of_actions}
 use Rattle.traces.specs.Event.{Event, event_of, event_in}
 use Rattle.traces.specs.Fields.{parts_after}
-use Rattle.traces.specs.Progress.{came, events_in, IsRight, Progress, events_left, coming_in, IsProgress, tells_event}
+use Rattle.traces.specs.FirstLines.{first_line, later_lines}
+use Rattle.traces.specs.Progress.{came, events_in, script_in, IsRight, Progress, Standing, IsStanding, events_left, events_of_part, coming_in, IsProgress, tells_event}
 use Rattle.traces.specs.Trace.{lines_of, is_skipped, told, first_wrong}
+use Rattle.traces.proofs.FirstLineLemmas.{lines_first}
 
 -- Lines
 
@@ -55,7 +57,43 @@ right_event lines rest line event is told some all =
     let right : IsRight line = rw (told, some) refl in
     subst (AllByRecursion IsRight) (sym is) (right, all)
 
+-- a line more was judged
+counted_next : (n m : ℕ) (lines rest : List (List ℕ)) (line : List ℕ) → lines ≡ line ∷ rest
+    → n + length lines ≡ m → n + 1 + length rest ≡ m
+counted_next n m lines rest line is counted =
+    let one : length lines ≡ length (line ∷ rest) = ap length is in
+    omega (arith, one, counted)
+
+pub judged_next : (n m : ℕ) (left rest : Option (List ℕ)) (text : List ℕ) → left ≡ Some text
+    → later_lines text ≡ parts_after 10 rest → n + length (parts_after 10 left) ≡ m
+    → n + 1 + length (parts_after 10 rest) ≡ m
+judged_next n m left rest text is later counted =
+    counted_next n m (parts_after 10 left) (parts_after 10 rest) (first_line text)
+    (ap (parts_after 10) is ∙ lines_first text ∙ ap (λ ls. first_line text ∷ ls) later) counted
+
 -- The port
+
+-- a part begins
+pub begun : (text : List ℕ) (s : Standing) (earlier : Log) → earlier ≡ s.log → IsStanding s
+    → IsProgress (record {
+      part = record { text = text; is_first = not s.started; earlier = earlier };
+      left = Some text;
+      started = s.started;
+      log = s.log;
+      poured = s.poured;
+      page = s.page;
+      failed = s.failed;
+    })
+begun text s earlier same holds = record {
+  whole = by s.started;
+  lines = holds.lines;
+  right = none_wrong 1 (lines_of text);
+  first = λ fresh. refl;
+}
+  where
+    by : (b : Bool) → events_of s.log ++ events_left b text (Some text) ≡ events_of earlier ++ events_of_part (not b) text
+    by true = ap (λ log. events_of log ++ events_in (lines_of text)) (sym same)
+    by false = ap (λ log. events_of log ++ script_in text) (sym same)
 
 -- an action was printed
 pub went : (p : Progress) (page : List ℕ) (now : ℕ) (action : Output) → IsProgress p
@@ -73,11 +111,11 @@ went p page now action holds printed = record {
 -- an event came
 event_came : (p : Progress) (left : Option (List ℕ)) (started : Bool) (now : ℕ) (event : Input)
     → IsProgress p → started ≡ true → Came now event ∷ events_in (parts_after 10 left) ≡ coming_in p
-    → (AllByRecursion IsRight (parts_after 10 left) → first_wrong 1 (lines_of p.text) ≡ None) →
+    → (AllByRecursion IsRight (parts_after 10 left) → first_wrong 1 (lines_of p.part.text) ≡ None) →
     IsProgress (record p { left = left; started = started; log = Came now event ∷ p.log })
 event_came p left started now event holds begun told right = record {
   whole =
-      append_assoc (events_of p.log) (Came now event ∷ []) (events_left started p.text left)
+      append_assoc (events_of p.log) (Came now event ∷ []) (events_left started p.part.text left)
       ∙ ap (λ es. events_of p.log ++ Came now event ∷ es) same
       ∙ ap (λ es. events_of p.log ++ es) told ∙ holds.whole;
   lines = holds.lines;
@@ -85,7 +123,7 @@ event_came p left started now event holds begun told right = record {
   first = λ fresh. absurd (not_fresh started begun fresh);
 }
   where
-    same : events_left started p.text left ≡ events_in (parts_after 10 left)
+    same : events_left started p.part.text left ≡ events_in (parts_after 10 left)
     same = rw begun refl
 
     not_fresh : (b : Bool) → b ≡ true → b ≡ false → ⊥
@@ -95,7 +133,7 @@ event_came p left started now event holds begun told right = record {
 pub told_next : (p : Progress) (left : Option (List ℕ)) (started : Bool) (next : Next)
     (buf : List ℕ) → IsProgress p → started ≡ true → tells_event next ≡ true →
     told_by next buf ++ events_in (parts_after 10 left) ≡ coming_in p
-    → (AllByRecursion IsRight (parts_after 10 left) → first_wrong 1 (lines_of p.text) ≡ None)
+    → (AllByRecursion IsRight (parts_after 10 left) → first_wrong 1 (lines_of p.part.text) ≡ None)
     → IsProgress (record p { left = left; started = started; log = told_by next buf ++ p.log })
 told_next p left started (answers.Line now len) buf holds begun is told right =
     event_came p left started now (LineIn (take len buf)) holds begun told right

@@ -1,6 +1,6 @@
 -- What a port over the text of a trace is to its callers. Its log is stored nowhere: only proofs
 -- know it.
-use Rattle.std.specs.Prelude.{◌≡◌, ℕ, Bool, true, false, ◌&&◌, List, [], ◌∷◌, ◌++◌, map, length, Option, Some, None, Result, MatchResult}
+use Rattle.std.specs.Prelude.{◌≡◌, ℕ, ◌+◌, Bool, true, false, ◌&&◌, List, [], ◌∷◌, ◌++◌, map, length, Option, Some, None, Result, MatchResult}
 use Rattle.std.specs.List.{filter_map, AllByRecursion}
 use Rattle.std.specs.Option.{is_none}
 use Rattle.gateway.specs.Log.{Log, LogEntry, Came, LineIn, Opened, TcpIn, CutOff, Ticked, WallIs, events_of}
@@ -10,8 +10,9 @@ use Rattle.gateway.specs.declared.ports.Next.TheVariants as answers
 use Rattle.traces.specs.Actions.{lines_of_actions}
 use Rattle.traces.specs.Event.{Event, line, opening, received, cut, tick, wall}
 use Rattle.traces.specs.Fields.{parts_after}
-use Rattle.traces.specs.Trace.{lines_of, told, is_wrong, first_wrong, IsFaultOf}
+use Rattle.traces.specs.Trace.{lines_of, told, is_wrong, first_wrong}
 use Rattle.traces.specs.declared.reading.TextFault.{TextFault}
+use Rattle.traces.specs.declared.reading.TextFault.TheVariants.{Line, NoMemory}
 
 -- an event of a trace, as it stands in a log
 abbrev pub came : Event → LogEntry
@@ -34,12 +35,36 @@ script_in text = Came 0 Ticked ∷ events_in (lines_of text)
 abbrev pub IsRight : List ℕ → Type 0
 IsRight octets = is_wrong octets ≡ false
 
--- how far a run over a text has come: the lines of it that are still to come, whether the tick at
--- moment 0 came, the log so far, the part of it whose lines were taken off the page, the lines that
--- stand on the page, and how often the port failed
-pub record Progress : Type 0 where
+-- A part of a text, which is whole lines: whether the tick at moment 0 comes before it, and the log
+-- before it.
+pub record Part : Type 0 where
   pub text : List ℕ
+  pub is_first : Bool
+  pub earlier : Log
+
+-- the events of a part itself
+abbrev pub events_of_part : (is_first : Bool) → (text : List ℕ) → List LogEntry
+events_of_part true text = script_in text
+events_of_part false text = events_in (lines_of text)
+
+-- the events of a run up to the end of a part
+abbrev pub script_of : Part → List LogEntry
+script_of part = events_of part.earlier ++ events_of_part part.is_first part.text
+
+-- how far a run over a part of a text has come: the lines of it that are still to come, whether the
+-- tick at moment 0 came, the log so far, the part of it whose lines were taken off the page, the
+-- lines that stand on the page, and how often the port failed
+pub record Progress : Type 0 where
+  pub part : Part
   pub left : Option (List ℕ)
+  pub started : Bool
+  pub log : Log
+  pub poured : Log
+  pub page : List ℕ
+  pub failed : ℕ
+
+-- the same between two parts
+pub record Standing : Type 0 where
   pub started : Bool
   pub log : Log
   pub poured : Log
@@ -57,19 +82,28 @@ events_left true text left = events_in (parts_after 10 left)
 events_left false text left = script_in text
 
 abbrev pub coming_in : Progress → List LogEntry
-coming_in p = events_left p.started p.text p.left
+coming_in p = events_left p.started p.part.text p.left
 
 abbrev pub is_through : Progress → Bool
 is_through p = p.started && is_none p.left
 
--- What always holds of a port over a text: the events that came and those that are still to come
--- are those of the text, and the page has the lines of the log that weren't taken off it.
+-- the page has the lines of the log that weren't taken off it
+abbrev pub IsOnPage : (log poured : Log) → (page : List ℕ) → Type 0
+IsOnPage log poured page = lines_of_actions poured ++ page ≡ lines_of_actions log
+
+-- What always holds of a port over a part: the events that came and those that are still to come
+-- are those of the run up to the part's end, and the page has the lines of the log that weren't
+-- taken off it.
 pub record IsProgress (p : Progress) : Type 0 where
-  pub whole : events_of p.log ++ coming_in p ≡ script_in p.text
-  pub lines : lines_of_actions p.poured ++ p.page ≡ lines_of_actions p.log
+  pub whole : events_of p.log ++ coming_in p ≡ script_of p.part
+  pub lines : IsOnPage p.log p.poured p.page
   pub right : AllByRecursion IsRight (parts_after 10 p.left)
-      → first_wrong 1 (lines_of p.text) ≡ None
-  pub first : p.started ≡ false → p.left ≡ Some p.text
+      → first_wrong 1 (lines_of p.part.text) ≡ None
+  pub first : p.started ≡ false → p.left ≡ Some p.part.text
+
+-- and between two parts
+pub record IsStanding (s : Standing) : Type 0 where
+  pub lines : IsOnPage s.log s.poured s.page
 
 -- whether an answer tells an event
 abbrev pub tells_event : Next → Bool
@@ -88,10 +122,16 @@ pub record IsFirst (lines : List (List ℕ)) (left : Option (List ℕ)) (next : 
   pub right : AllByRecursion IsRight (parts_after 10 left) → AllByRecursion IsRight lines
   pub fits : FitsBuffer next
 
--- no line is wrong, and so many are events
-abbrev pub AreEvents : List (List ℕ) → ℕ → Type 0
-AreEvents lines n = (first_wrong 1 lines ≡ None) × (n ≡ length (events_in lines))
+-- no line is wrong, and this is the number of the line behind them, where the first has this number
+abbrev pub AreRight : (first : ℕ) → List (List ℕ) → (next : ℕ) → Type 0
+AreRight first lines next = (first_wrong first lines ≡ None) × (next ≡ first + length lines)
 
--- what the judgement of a text answers
-abbrev pub IsJudgement : List ℕ → Result ℕ TextFault → Type 0
-IsJudgement text result = MatchResult result (AreEvents (lines_of text)) (IsFaultOf (lines_of text))
+-- the first wrong line has this number
+abbrev pub IsWrongOf : (first : ℕ) → List (List ℕ) → TextFault → Type 0
+IsWrongOf first lines (Line n) = first_wrong first lines ≡ Some n
+IsWrongOf first lines NoMemory = Unit {0}
+
+-- what the judgement of a part of a text answers, whose first line has this number
+abbrev pub IsJudgement : (first : ℕ) → List ℕ → Result ℕ TextFault → Type 0
+IsJudgement first text result =
+    MatchResult result (AreRight first (lines_of text)) (IsWrongOf first (lines_of text))

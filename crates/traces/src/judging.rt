@@ -4,16 +4,17 @@ ghost use Rattle.traces.specs.Progress.{IsJudgement};
 use crate::event::{FirstLine, first_line, judged};
 use crate::reading::TextFault;
 
-/// How many events the lines of a trace tell. The first wrong line is the fault. It takes no
-/// memory; `NoMemory` says that there are more lines than any memory holds.
-pub fn judge(text: &[u8]) -> Result<u64, TextFault>
-    ensures { IsJudgement text.now result }
+/// Judges a part of a trace, which is whole lines, without the line feed behind the last of them.
+/// Lines are counted from `first`, the number of the part's first one: answers that of the line
+/// behind it. The first wrong line is the fault. It takes no memory; `NoMemory` says that there are
+/// more lines than any memory holds.
+pub fn judge(text: &[u8], first: u64) -> Result<u64, TextFault>
+    ensures { IsJudgement first text.now result }
 {
-    let mut count = 0u64;
     let mut left = Some(text);
-    for number in 1..u64::MAX {
+    for number in first..u64::MAX {
         let Some(text) = left else {
-            return Ok(count);
+            return Ok(number);
         };
         match first_line(text) {
             FirstLine::Skipped(rest) => left = rest,
@@ -21,7 +22,6 @@ pub fn judge(text: &[u8]) -> Result<u64, TextFault>
                 let Some(rest) = judged(&event) else {
                     return Err(TextFault::Line(number));
                 };
-                count += 1;
                 left = rest;
             }
             FirstLine::Wrong => return Err(TextFault::Line(number)),

@@ -5,8 +5,9 @@
 //! (`TextFault`); `read_octets` reads octets in hexadecimal alone, and `hex_digits` writes them.
 //! `Trace` is the gateway's port over entries: it gives a tick at moment 0 and then these, stores
 //! the log of the run, and writes the line of each action (`append_line`) to a writer. `TextPort`
-//! is the port over the text itself: it stores no log, and prints the actions on a page, their
-//! `Moment` spelled once for all actions of a step (`print_action_at`). What the gateway does with
+//! is the port over the text itself, or over one part of it after another (`Pause`): it stores no
+//! log, and prints the actions on a page, their `Moment` spelled once for all actions of a step
+//! (`print_action_at`). `judge` tells the first wrong line of a part. What the gateway does with
 //! the events, and with moments that go back, is its own matter. Proved: the entries are the events
 //! that the lines tell, in their order, and no line is wrong; a line that is refused is the first
 //! that is neither empty, nor a comment, nor an event; an entry's octets fit what a port gives at
@@ -49,4 +50,4 @@ pub use port::{Beginning, Trace};
 pub use reading::{TextFault, read_trace};
 pub use readings::trace_lines_by_example;
 pub use recorded::append_event;
-pub use text_port::TextPort;
+pub use text_port::{Pause, TextPort};

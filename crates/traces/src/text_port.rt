@@ -1,11 +1,11 @@
-//! The port over the text of a trace.
-ghost use Rattle.std.specs.Prelude.{◌≡◌, ℕ, ◌+◌, ◌<◌, ◌++◌, ◌∷◌, [], Bool, true, false, List, Some, None, IfOk, OnOk, OnErr, if◌then◌else◌, string_bytes};
+//! The port over the text of a trace, or over one part of it after another.
+ghost use Rattle.std.specs.Prelude.{◌≡◌, ℕ, ◌+◌, ◌<◌, ◌++◌, ◌∷◌, [], Bool, true, false, not, List, Some, None, IfOk, OnOk, OnErr, if◌then◌else◌, string_bytes};
 ghost use Rattle.std.specs.Option.{option_copied};
 ghost use Rattle.gateway.specs.Log.{events_of};
 ghost use Rattle.gateway.specs.Ports.{output_of};
 ghost use Rattle.traces.specs.Actions.{line_of, lines_of_actions};
 ghost use Rattle.traces.specs.Fields.{parts_after};
-ghost use Rattle.traces.specs.Progress.{IsFirst, script_in, coming_in, is_through, tells_event};
+ghost use Rattle.traces.specs.Progress.{IsFirst, script_of, coming_in, is_through, tells_event};
 ghost use Rattle.traces.specs.Trace.{first_wrong, lines_of};
 
 use crate::actions::print_action_at;
@@ -16,19 +16,125 @@ use gateway::{Action, History, Next, Port};
 use std::alloc::Global;
 use std::marker::Model;
 
-/// A port that gives a tick at moment 0 and then the events of a text, each as its line is due, and
-/// prints the line of each action on a page: `MS > S HEX` (to the line), `MS > T HEX` (to TCP), `MS
-/// > X CAUSE` (a close) or `MS > G S K` (a gap of station S, counted from 1, at the end of its
-/// session K), in upper case. It stores no log, and of its lines those alone that weren't taken off
-/// the page. A wrong line is a fault, as want of memory is; after one it takes and gives nothing
-/// more.
+/// A run over the text of a trace before its first part, between two parts, or behind the last one.
+/// A part is whole lines, without the line feed behind the last of them: the text need not stand in
+/// memory whole.
+#[derive(Drop)]
+pub struct Pause {
+    alloc: Global,
+    is_started: bool,
+    history: History,
+    /// The log as it was when the page was cleared.
+    poured: History,
+    page: Page,
+    /// That of the latest action.
+    moment: Moment,
+    failures: u64,
+}
+
+impl Model for Pause {
+    ghost use Rattle.traces.specs.Progress.{Standing, IsStanding};
+
+    ghost Value = { Standing };
+
+    ghost view = { λ a. record {
+      started = a.is_started;
+      log = a.history.entries;
+      poured = a.poured.entries;
+      page = a.page;
+      failed = a.failures;
+    } };
+
+    ghost invariant = { λ a. IsStanding (record {
+      started = a.is_started;
+      log = a.history.entries;
+      poured = a.poured.entries;
+      page = a.page;
+      failed = a.failures;
+    }) };
+}
+
+impl Pause {
+    /// A run that has not begun.
+    pub fn new(alloc: Global) -> Pause
+        ensures { result ≡ record {
+          started = false;
+          log = [];
+          poured = [];
+          page = [];
+          failed = 0;
+        } }
+    {
+        Pause {
+            alloc,
+            is_started: false,
+            history: History::new(),
+            poured: History::new(),
+            page: Page::new(alloc),
+            moment: Moment::new(0),
+            failures: 0,
+        }
+    }
+
+    /// The run goes on over this part of the text, or over all of it.
+    pub fn over<'a>(self, text: &'a [u8]) -> TextPort<'a>
+        ensures { result ≡ record {
+          part = record {
+            text = text.now;
+            is_first = not self.started;
+            earlier = self.log;
+          };
+          left = Some text.now;
+          started = self.started;
+          log = self.log;
+          poured = self.poured;
+          page = self.page;
+          failed = self.failed;
+        } }
+    {
+        let Pause {
+            alloc,
+            is_started,
+            history,
+            poured,
+            page,
+            moment,
+            failures,
+        } = self;
+        TextPort {
+            alloc,
+            text,
+            left: Some(text),
+            is_first: !is_started,
+            is_started,
+            earlier: history.again(),
+            history,
+            poured,
+            page,
+            moment,
+            failures,
+        }
+    }
+}
+
+/// A port that gives a tick at moment 0, where the run has not begun, and then the events of a part
+/// of a text, each as its line is due, and prints the line of each action on a page: `MS > S HEX`
+/// (to the line), `MS > T HEX` (to TCP), `MS > X CAUSE` (a close) or `MS > G S K` (a gap of station
+/// S, counted from 1, at the end of its session K), in upper case. It stores no log, and of its
+/// lines those alone that weren't taken off the page. A wrong line is a fault, as want of memory
+/// is; after one it takes and gives nothing more.
 #[derive(Drop)]
 pub struct TextPort<'a> {
     alloc: Global,
+    /// Those of this part.
     text: &'a [u8],
     /// The lines that are still to come.
     left: Option<&'a [u8]>,
+    /// Whether the tick at moment 0 comes before this part.
+    is_first: bool,
     is_started: bool,
+    /// The log before this part.
+    earlier: History,
     history: History,
     /// The log as it was when the page was cleared.
     poured: History,
@@ -45,7 +151,7 @@ impl<'a> Model for TextPort<'a> {
     ghost Value = { Progress };
 
     ghost view = { λ a. record {
-      text = a.text.now;
+      part = record { text = a.text.now; is_first = a.is_first; earlier = a.earlier.entries };
       left = option_copied a.left;
       started = a.is_started;
       log = a.history.entries;
@@ -55,7 +161,7 @@ impl<'a> Model for TextPort<'a> {
     } };
 
     ghost invariant = { λ a. IsProgress (record {
-      text = a.text.now;
+      part = record { text = a.text.now; is_first = a.is_first; earlier = a.earlier.entries };
       left = option_copied a.left;
       started = a.is_started;
       log = a.history.entries;
@@ -98,41 +204,17 @@ fn is_event(next: Next) -> bool
 }
 
 impl<'a> TextPort<'a> {
-    /// A port over this text.
-    pub fn new(alloc: Global, text: &'a [u8]) -> TextPort<'a>
-        ensures { result ≡ record {
-          text = text.now;
-          left = Some text.now;
-          started = false;
-          log = [];
-          poured = [];
-          page = [];
-          failed = 0;
-        } }
-    {
-        TextPort {
-            alloc,
-            text,
-            left: Some(text),
-            is_started: false,
-            history: History::new(),
-            poured: History::new(),
-            page: Page::new(alloc),
-            moment: Moment::new(0),
-            failures: 0,
-        }
-    }
-
     /// The page: lines of the log's actions, behind those that were taken off it.
     pub fn page(&self) -> &[u8]
         ensures page { result.now ≡ self.now.page }
         ensures lines { lines_of_actions self.now.poured ++ result.now
             ≡ lines_of_actions self.now.log }
-        // The events that came, and those that are still to come, are those of the text.
-        ensures whole { events_of self.now.log ++ coming_in self.now ≡ script_in self.now.text }
+        // The events that came, and those that are still to come, are those of the log before this
+        // part, and then those of the part.
+        ensures whole { events_of self.now.log ++ coming_in self.now ≡ script_of self.now.part }
         // Where all lines were read, none is wrong.
         ensures right { is_through self.now ≡ true →
-            first_wrong 1 (lines_of self.now.text) ≡ None }
+            first_wrong 1 (lines_of self.now.part.text) ≡ None }
     {
         self.page.octets()
     }
@@ -144,11 +226,45 @@ impl<'a> TextPort<'a> {
         self.page.clear();
         self.poured = self.history.again();
     }
+
+    /// The run behind this part, or where it was left.
+    pub fn pause(self) -> Pause
+        ensures { result ≡ record {
+          started = self.entry.started;
+          log = self.entry.log;
+          poured = self.entry.poured;
+          page = self.entry.page;
+          failed = self.entry.failed;
+        } }
+    {
+        let TextPort {
+            alloc,
+            text: _,
+            left: _,
+            is_first: _,
+            is_started,
+            earlier: _,
+            history,
+            poured,
+            page,
+            moment,
+            failures,
+        } = self;
+        Pause {
+            alloc,
+            is_started,
+            history,
+            poured,
+            page,
+            moment,
+            failures,
+        }
+    }
 }
 
 impl<'a> Port for TextPort<'a> {
     ghost use Rattle.gateway.specs.Log.{Log};
-    ghost use Rattle.traces.specs.Progress.{is_through};
+    ghost use Rattle.traces.specs.Progress.{Part, is_through};
 
     ghost log = { λ p. Some p.log };
 
@@ -156,10 +272,10 @@ impl<'a> Port for TextPort<'a> {
 
     ghost ended = { is_through };
 
-    /// The text, and what was taken off the page.
-    ghost Fixed = { List ℕ × Log };
+    /// The part of the text, and what was taken off the page.
+    ghost Fixed = { Part × Log };
 
-    ghost script = { λ p. (p.text, p.poured) };
+    ghost script = { λ p. (p.part, p.poured) };
 
     fn next(&mut self, buf: &mut [u8; 1024]) -> Next {
         if self.failures > 0 {

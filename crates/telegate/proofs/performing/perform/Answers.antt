@@ -16,31 +16,17 @@ returns-in-Check g c = performs_as c.in-Check.is
     (record { answer = c.check.result; answered = c.check.ensures; given = c.give-in-Check.ensures })
 
 pub returns-in-Ok : goal.returns-in-Ok
-returns-in-Ok g c = performs_as c.in-Replay.is (record {
-  result = c.replay.result;
-  ran = c.replay.ensures.answer;
+returns-in-Ok g c = performs_as c.in-Sim.is (record {
+  result = c.simulate.result;
+  ran = c.simulate.ensures.answer;
   status = sym (ap status_of_end c.in-Ok.is);
 })
 
 pub returns-in-Err : goal.returns-in-Err
-returns-in-Err g c = performs_as c.in-Replay.is (record {
-  result = c.replay.result;
-  ran = c.replay.ensures.answer;
+returns-in-Err g c = performs_as c.in-Sim.is (record {
+  result = c.simulate.result;
+  ran = c.simulate.ensures.answer;
   status = c.tell.ensures ∙ sym (ap status_of_end c.in-Err.is);
-})
-
-pub returns-in-Ok-simulate : goal.returns-in-Ok-simulate
-returns-in-Ok-simulate g c = performs_as c.in-Sim.is (record {
-  result = c.simulate.result;
-  ran = c.simulate.ensures.answer;
-  status = sym (ap status_of_end c.in-Ok-simulate.is);
-})
-
-pub returns-in-Err-simulate : goal.returns-in-Err-simulate
-returns-in-Err-simulate g c = performs_as c.in-Sim.is (record {
-  result = c.simulate.result;
-  ran = c.simulate.ensures.answer;
-  status = c.tell-in-Err-simulate.ensures ∙ sym (ap status_of_end c.in-Err-simulate.is);
 })
 
 pub returns-in-Audit : goal.returns-in-Audit

@@ -45,16 +45,14 @@ pub returns-in_default-clause-all : goal.returns-in_default-clause-all
 returns-in_default-clause-all g c = c.pour-is_whole.ensures.log ∙ c.pour-is_whole.ensures.all
 
 pub returns-in_default-clause-poured : goal.returns-in_default-clause-poured
-returns-in_default-clause-poured g c =
-    let before = g.W.Write.contents c.args.out.now in
+returns-in_default-clause-poured g c = λ before poured.
     c.pour-is_whole.ensures.poured before
     (subst (λ (log : Log). IsPoured c.parts.is_whole before (g.W.Write.contents c.parts.out) (lines_of_actions log))
     (sym (g.met.P.Paged.poured_stays c.drive_on-end.new.port c.parts.port c.drive_on-end.ensures.script))
-    c.parts.invariant.poured)
+    (c.parts.invariant.poured before poured))
 
 pub parts-preserved : goal.parts-preserved
 parts-preserved g c =
-    let before = g.W.Write.contents c.args.out.now in
     let end = c.drive_on-end.result in
     let port = c.drive_on-end.new.port in
     let old = g.P.Port.log c.args.port.now in
@@ -76,10 +74,11 @@ parts-preserved g c =
       course = c.pour-is_whole.ensures.course
           ∙ g.met.P.Paged.course_stays port c.parts.port c.drive_on-end.ensures.script ∙ c.parts.invariant.course;
       healthy = search rules;
-      poured = c.pour-is_whole.ensures.poured before
+      poured = λ before poured. c.pour-is_whole.ensures.poured before
           (subst (λ (log : Log). IsPoured c.parts.is_whole before (g.W.Write.contents c.parts.out)
           (lines_of_actions log))
-          (sym (g.met.P.Paged.poured_stays port c.parts.port c.drive_on-end.ensures.script)) c.parts.invariant.poured);
+          (sym (g.met.P.Paged.poured_stays port c.parts.port c.drive_on-end.ensures.script))
+          (c.parts.invariant.poured before poured));
       unwatched = search rules;
     }
 
@@ -119,9 +118,8 @@ pub returns-clause-all : goal.returns-clause-all
 returns-clause-all g c = c.pour-is_whole-2.ensures.log ∙ c.pour-is_whole-2.ensures.all
 
 pub returns-clause-poured : goal.returns-clause-poured
-returns-clause-poured g c =
-    let before = g.W.Write.contents c.args.out.now in
+returns-clause-poured g c = λ before poured.
     c.pour-is_whole-2.ensures.poured before
     (subst (λ (log : Log). IsPoured c.parts.is_whole before (g.W.Write.contents c.parts.out) (lines_of_actions log))
     (sym (g.met.P.Paged.poured_stays c.drive_on-end-2.new.port c.parts.port c.drive_on-end-2.ensures.script))
-    c.parts.invariant.poured)
+    (c.parts.invariant.poured before poured))

@@ -1,6 +1,6 @@
 -- So many turns are done, and what the run has left is as `drive_on` leaves it; of its lines all
 -- were printed, or a beginning.
-use Rattle.std.proofs.Common.{◌≡◌, ◌≤◌, ◌-◌, false}
+use Rattle.std.proofs.Common.{◌≡◌, ◌≤◌, ◌-◌, ℕ, List, Option, false}
 use Rattle.gateway.specs.Agrees.{Follows, Rests}
 use Rattle.gateway.specs.Reports.{Setup}
 use Rattle.gateway.specs.Runs.{MoreEvents}
@@ -18,8 +18,9 @@ invariant-parts g l = record {
       → Rests p (g.P.Port.log l.port);
   course : g.P.Paged.course l.port ≡ g.P.Paged.course l.fn.port;
   healthy : g.P.Port.failed l.port ≡ 0;
-  poured : IsPoured l.is_whole (g.W.Write.contents l.fn.out) (g.W.Write.contents l.out)
-      (lines_of_actions (g.P.Paged.poured l.port));
+  poured : (before : Option (List ℕ)) →
+      IsPoured l.fn.was_whole before (g.W.Write.contents l.fn.out) (lines_of_actions (g.P.Paged.poured l.fn.port)) →
+      IsPoured l.is_whole before (g.W.Write.contents l.out) (lines_of_actions (g.P.Paged.poured l.port));
   unwatched : l.is_told ≡ false → l.err ≡ l.fn.err;
 }
 

@@ -1,69 +1,33 @@
-use Rattle.std.proofs.Common.{◌≡◌, ◌++◌, true, Some, ap, ◌∙◌}
-use Rattle.gateway.specs.Accounts.{IsAccounted}
-use Rattle.gateway.specs.Agrees.{Follows}
-use Rattle.gateway.specs.Log.{events_of}
 use Rattle.gateway.specs.Setups.{setup_of}
-use Rattle.gateway.specs.Traffic.{HasRested}
 use Rattle.traces.specs.Actions.{lines_of_actions}
-use Rattle.traces.specs.Progress.{Progress, script_in, coming_in, is_through}
-use Rattle.telegate.proofs.Poured.{poured_all, poured_begun}
-use Rattle.telegate.proofs.ReplayLemmas.{stopped, ended}
-use Rattle.telegate.proofs.RunLemmas.{turns_are_left, all_came, at_first, at_finish}
+use Rattle.telegate.specs.Answers.{IsEndOf}
+use Rattle.telegate.specs.Source.{Gives}
+use Rattle.telegate.proofs.ReplayLemmas.{ended, stopped_by}
+use Rattle.telegate.proofs.RunLemmas.{as_err}
 use Rattle.telegate.proofs.replay.run.Goals as goal
 
-pub returns-in-Finished-clause-answer : goal.returns-in-Finished-clause-answer
-returns-in-Finished-clause-answer g c = λ text read right.
+pub returns-in_err-is_whole-clause-answer : goal.returns-in_err-is_whole-clause-answer
+returns-in_err-is_whole-clause-answer g c =
+    let known = g.R.Read.remaining c.args.text in
     let settings = c.args.config.now in
-    let trace = c.args.course.now.trace.now in
-    let p = setup_of settings in
-    let port = c.drive_printed-end.new.port in
-    let state = c.drive_printed-end.new.gateway in
-    let end = c.drive_printed-end.result.0 in
-    let before = g.W.Write.contents c.args.out.now in
-    let begun = at_first p c.in_ok-gateway.gateway c.new-port.result c.new-port.ensures c.in_ok-gateway.ensures.begins
-    in
-    let same : port.text ≡ trace = c.drive_printed-end.ensures.course ∙ ap (λ (t : Progress). t.text) c.new-port.ensures
-    in
-    let whole : events_of port.log ++ coming_in port ≡ script_in trace =
-    c.page-page_is_clear.ensures.whole ∙ ap script_in same in
-    let over : is_through port ≡ true = c.drive_printed-end.ensures.finished c.in-Finished.is in
-    let faithful = c.drive_printed-end.ensures.faithful p begun.0 begun.1 in
-    ended text trace c.args.course.now.closing settings port.log before (g.W.Write.contents c.close.new.out) read right
-    faithful state (all_came port trace over whole)
-    (at_finish end (HasRested p port.log) c.in-Finished.is (c.drive_printed-end.ensures.rests p begun.0 begun.1))
-    (c.steps_keep_their_order.ensures.settings settings port.log faithful)
-    (c.nothing_is_lost.ensures p port.log faithful)
-    (at_finish end (Follows p state (Some port.log)) c.in-Finished.is
-    (c.drive_printed-end.ensures.kept p begun.0 begun.1))
-    (at_finish end (IsAccounted p state port.log) c.in-Finished.is
-    (c.drive_printed-end.ensures.accounts p begun.0 begun.1))
-    c.close.result (c.close.ensures before (lines_of_actions port.log)
-    (poured_all c.drive_printed-end.result.1 before
-    (g.W.Write.contents c.drive_printed-end.new.out) port.log port.poured
-    c.drive_printed-end.ensures.all c.drive_printed-end.ensures.poured))
+    let closing = c.args.course.now.closing in
+    let old = g.W.Write.contents c.args.out.now in
+    let new = g.W.Write.contents c.run_parts-ran.new.out in
+    let fault = c.in_err-is_whole.field-0.0 in
+    as_err (IsEndOf settings (Gives known) closing old new) c.from_residual-in_err-is_whole.result fault
+    c.from_residual-in_err-is_whole.ensures.1
+    (stopped_by closing settings known old new c.in_ok-gateway.gateway c.in_ok-gateway.ensures.begins fault
+    c.in_err-is_whole.ensures.answer.0 c.in_err-is_whole.ensures.answer.1)
 
-pub returns-in-Device-clause-answer : goal.returns-in-Device-clause-answer
-returns-in-Device-clause-answer g c = λ text read right.
+pub returns-clause-answer : goal.returns-clause-answer
+returns-clause-answer g c =
+    let known = g.R.Read.remaining c.args.text in
     let settings = c.args.config.now in
-    let trace = c.args.course.now.trace.now in
-    let p = setup_of settings in
-    let port = c.drive_printed-end.new.port in
-    let before = g.W.Write.contents c.args.out.now in
-    let after = g.W.Write.contents c.drive_printed-end.new.out in
-    let begun = at_first p c.in_ok-gateway.gateway c.new-port.result c.new-port.ensures c.in_ok-gateway.ensures.begins
-    in
-    let same : port.text ≡ trace = c.drive_printed-end.ensures.course ∙ ap (λ (t : Progress). t.text) c.new-port.ensures
-    in
-    let whole : events_of port.log ++ coming_in port ≡ script_in trace =
-    c.page-page_is_clear.ensures.whole ∙ ap script_in same in
-    stopped text trace c.args.course.now.closing settings port.log before after read right
-    (c.drive_printed-end.ensures.faithful p begun.0 begun.1) (coming_in port) whole
-    (poured_begun c.drive_printed-end.result.1 before after (lines_of_actions port.log)
-    (poured_all c.drive_printed-end.result.1 before after port.log port.poured c.drive_printed-end.ensures.all
-    c.drive_printed-end.ensures.poured))
-
-pub unreachable-requires : goal.unreachable-requires
-unreachable-requires g c =
-    turns_are_left c.args.course.now.trace.now c.args.course.now.turns c.new-port.result c.drive_printed-end.new.port
-    c.new-port.ensures c.requires c.page-page_is_clear.ensures.whole c.drive_printed-end.ensures.course
-    (c.drive_printed-end.ensures.turns c.in-Turns.is)
+    let run = c.in_ok-is_whole.ensures.answer in
+    let old = g.W.Write.contents c.args.out.now in
+    let done = run.goes (setup_of settings) c.in_ok-gateway.ensures.begins tt in
+    ended (Gives known) c.args.course.now.closing settings run.octets run.log old (g.W.Write.contents c.close.new.out)
+    run.given done.faithful c.run_parts-ran.new.gateway run.right run.events done.rests
+    (c.steps_keep_their_order.ensures.settings settings run.log done.faithful)
+    (c.nothing_is_lost.ensures (setup_of settings) run.log done.faithful) done.follows done.accounts
+    c.close.result (c.close.ensures old (lines_of_actions run.log) run.poured)

@@ -1,6 +1,6 @@
-use Rattle.std.proofs.Common.{None, ap, refl}
+use Rattle.std.proofs.Common.{None, ap, refl, ◌∷◌, []}
 use Rattle.telegate.specs.Shell.{files_of}
-use Rattle.telegate.proofs.Files.{has_run, no_guests, unanswered}
+use Rattle.telegate.proofs.Files.{first_of_more, has_run, no_guests, unanswered}
 use Rattle.telegate.proofs.shell.respond.Goals as goal
 
 pub returns-in-Err : goal.returns-in-Err
@@ -9,26 +9,27 @@ returns-in-Err g c =
     (g.H.Host.ran c.args.host.now) c.args.request.now _ (g.W.Write.contents c.args.out.now) c.in-Err.status
     (ap files_of c.in-Check.is) c.in-Err.ensures.unread
 
+pub returns-in-Err-read_file : goal.returns-in-Err-read_file
+returns-in-Err-read_file g c =
+    unanswered (g.H.Host.has c.args.host.now) (g.H.Host.lacks c.args.host.now)
+    (g.H.Host.ran c.args.host.now) c.args.request.now _ (g.W.Write.contents c.args.out.now) c.in-Err-read_file.status
+    (ap files_of c.in-Replay.is)
+    (first_of_more (g.H.Host.has c.args.host.now) (g.H.Host.lacks c.args.host.now) c.in-Replay.config.now
+    (c.in-Replay.trace.now ∷ []) c.in-Err-read_file.status c.in-Err-read_file.ensures.unread)
+
 pub returns-in-Err-read_files : goal.returns-in-Err-read_files
 returns-in-Err-read_files g c =
     unanswered (g.H.Host.has c.args.host.now) (g.H.Host.lacks c.args.host.now)
     (g.H.Host.ran c.args.host.now) c.args.request.now _
     (g.W.Write.contents c.args.out.now) c.in-Err-read_files.status
-    (ap files_of c.in-Replay.is) c.in-Err-read_files.ensures.unread
+    (ap files_of c.in-Sim.is) c.in-Err-read_files.ensures.unread
 
 pub returns-in-Err-read_files-2 : goal.returns-in-Err-read_files-2
 returns-in-Err-read_files-2 g c =
     unanswered (g.H.Host.has c.args.host.now) (g.H.Host.lacks c.args.host.now)
     (g.H.Host.ran c.args.host.now) c.args.request.now _
     (g.W.Write.contents c.args.out.now) c.in-Err-read_files-2.status
-    (ap files_of c.in-Sim.is) c.in-Err-read_files-2.ensures.unread
-
-pub returns-in-Err-read_files-3 : goal.returns-in-Err-read_files-3
-returns-in-Err-read_files-3 g c =
-    unanswered (g.H.Host.has c.args.host.now) (g.H.Host.lacks c.args.host.now)
-    (g.H.Host.ran c.args.host.now) c.args.request.now _
-    (g.W.Write.contents c.args.out.now) c.in-Err-read_files-3.status
-    (ap files_of c.in-Audit.is) c.in-Err-read_files-3.ensures.unread
+    (ap files_of c.in-Audit.is) c.in-Err-read_files-2.ensures.unread
 
 pub returns-in-Ok-guests_of : goal.returns-in-Ok-guests_of
 returns-in-Ok-guests_of g c =

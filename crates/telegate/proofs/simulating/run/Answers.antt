@@ -8,7 +8,7 @@ use Rattle.sim.specs.Played.{Simulated}
 use Rattle.traces.specs.Actions.{lines_of_actions}
 use Rattle.telegate.proofs.Poured.{poured_all, poured_begun}
 use Rattle.telegate.proofs.RunLemmas.{at_turns, at_finish}
-use Rattle.telegate.proofs.SimLemmas.{at_first_call, run_turns, ended_calls, stopped}
+use Rattle.telegate.proofs.SimLemmas.{begun_blank, at_first_call, run_turns, ended_calls, stopped}
 use Rattle.telegate.proofs.simulating.run.Goals as goal
 
 pub returns-in-Turns-clause-answer : goal.returns-in-Turns-clause-answer
@@ -31,7 +31,8 @@ returns-in-Turns-clause-answer g c =
     (c.drive_printed-end.ensures.faithful p begun.0 begun.1)
     (at_turns end (HasRested p port.log) c.in-Turns.is (c.drive_printed-end.ensures.rests p begun.0 begun.1))
     (poured_all c.drive_printed-end.result.1 before after port.log port.poured c.drive_printed-end.ensures.all
-    c.drive_printed-end.ensures.poured)
+    (c.drive_printed-end.ensures.poured before
+    (begun_blank before c.in-Ok.sim (plan_of settings ds) c.in-Ok.ensures)))
 
 pub returns-in-Finished-clause-answer : goal.returns-in-Finished-clause-answer
 returns-in-Finished-clause-answer g c =
@@ -53,7 +54,8 @@ returns-in-Finished-clause-answer g c =
     (c.drive_printed-end.ensures.faithful p begun.0 begun.1)
     (at_finish end (HasRested p port.log) c.in-Finished.is (c.drive_printed-end.ensures.rests p begun.0 begun.1))
     (poured_all c.drive_printed-end.result.1 before after port.log port.poured c.drive_printed-end.ensures.all
-    c.drive_printed-end.ensures.poured)
+    (c.drive_printed-end.ensures.poured before
+    (begun_blank before c.in-Ok.sim (plan_of settings ds) c.in-Ok.ensures)))
 
 pub returns-clause-answer : goal.returns-clause-answer
 returns-clause-answer g c =
@@ -71,4 +73,5 @@ returns-clause-answer g c =
     (c.drive_printed-end.ensures.faithful p begun.0 begun.1)
     (poured_begun c.drive_printed-end.result.1 before after (lines_of_actions port.log)
     (poured_all c.drive_printed-end.result.1 before after port.log port.poured c.drive_printed-end.ensures.all
-    c.drive_printed-end.ensures.poured)))
+    (c.drive_printed-end.ensures.poured before
+    (begun_blank before c.in-Ok.sim (plan_of settings ds) c.in-Ok.ensures)))))

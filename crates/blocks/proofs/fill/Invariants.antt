@@ -1,0 +1,12 @@
+use Rattle.std.proofs.Common.{length, ◌≤◌}
+use Rattle.std.specs.Io.KnownBytes.{Keeps}
+use Rattle.blocks.specs.Reading.{held_and_left}
+use Rattle.blocks.proofs.fill.Given as goal
+
+-- what was read and what is still to come are what they were together
+abbrev pub invariant-filling : goal.invariant-filling
+invariant-filling g l = record {
+  within : l.filled ≤ length l.buf.items;
+  kept : Keeps (held_and_left l.initial.filled l.initial.buf.items (g.R.Read.remaining l.initial.reader))
+      (held_and_left l.filled l.buf.items (g.R.Read.remaining l.reader));
+}

@@ -1,0 +1,125 @@
+-- A run over a text that is read part by part.
+use Rattle.std.specs.Prelude.{◌≡◌, ◌⊎◌, ℕ, Bool, true, not, List, [], ◌++◌, Option, Some, None, Result, MatchResult}
+use Rattle.std.specs.Io.KnownBytes.{Keeps}
+use Rattle.gateway.specs.Accounts.{IsAccounted}
+use Rattle.gateway.specs.Agrees.{Follows}
+use Rattle.gateway.specs.Log.{Log, LogEntry, events_of}
+use Rattle.gateway.specs.Reports.{Setup}
+use Rattle.gateway.specs.State.{State}
+use Rattle.gateway.specs.Traffic.{IsFaithful, HasRested}
+use Rattle.sim.specs.Runs.{IsBegun}
+use Rattle.traces.specs.Actions.{lines_of_actions}
+use Rattle.traces.specs.Progress.{Part, Standing, script_in, script_of}
+use Rattle.traces.specs.Trace.{lines_of, first_wrong}
+use Rattle.telegate.specs.Printed.{IsPoured}
+use Rattle.telegate.specs.Source.{Gives}
+use Rattle.telegate.specs.declared.fault.Fault.{Fault}
+use Rattle.telegate.specs.declared.fault.Fault.TheVariants.{Trace, Unread, NoMemory}
+
+-- a text can't be read on, or memory was refused
+abbrev pub IsWant : Fault → Type 0
+IsWant Unread = Unit {0}
+IsWant NoMemory = Unit {0}
+IsWant _ = ⊥
+
+-- Judging
+
+-- no line of a text is wrong
+pub record IsRightText (known : Option (List ℕ)) : Type 0 where
+  pub octets : List ℕ
+  pub given : Gives known octets
+  pub right : first_wrong 1 (lines_of octets) ≡ None
+
+-- this line is the first wrong one
+pub record IsWrongText (known : Option (List ℕ)) (line : ℕ) : Type 0 where
+  pub octets : List ℕ
+  pub given : Gives known octets
+  pub wrong : first_wrong 1 (lines_of octets) ≡ Some line
+
+-- the same of some lines, of which the first has this number
+abbrev pub IsLineFault : (first : ℕ) → List ℕ → Fault → Type 0
+IsLineFault first text (Trace n) = first_wrong first (lines_of text) ≡ Some n
+IsLineFault first text NoMemory = Unit {0}
+IsLineFault first text _ = ⊥
+
+abbrev pub IsJudgedFault : Option (List ℕ) → Fault → Type 0
+IsJudgedFault known (Trace n) = IsWrongText known n
+IsJudgedFault known fault = IsWant fault
+
+abbrev pub IsJudged : Option (List ℕ) → Result ℕ Fault → Type 0
+IsJudged known result = MatchResult result (λ size. IsRightText known) (IsJudgedFault known)
+
+-- Running
+
+-- a part behind a run that stands so
+abbrev pub part_behind : Standing → List ℕ → Part
+part_behind s text = record { text = text; is_first = not s.started; earlier = s.log }
+
+-- what a run leaves: its log keeps every promise, and its gateway agrees with that
+pub record HasDone (p : Setup) (state : State) (log : Log) : Type 0 where
+  pub faithful : IsFaithful p log
+  pub rests : HasRested p log
+  pub follows : Follows p state (Some log)
+  pub accounts : IsAccounted p state log
+
+-- the same of a run that goes on from here, where it can
+abbrev pub GoesOn : (began : State) → (before : Log) → (ended : State) → (after : Log) → Type 0
+GoesOn began before ended after =
+    (p : Setup) → Follows p began (Some before) → HasRested p before → HasDone p ended after
+
+abbrev pub StaysFaithful : (began : State) → (before after : Log) → Type 0
+StaysFaithful began before after =
+    (p : Setup) → Follows p began (Some before) → HasRested p before → IsFaithful p after
+
+-- nothing failed, and all lines were taken off the page
+pub record IsClear (s : Standing) : Type 0 where
+  pub healthy : s.failed ≡ 0
+  pub poured : s.poured ≡ s.log
+
+-- a part was run
+pub record IsPartRun (s : Standing) (text : List ℕ) (began ended : State) (after : Standing)
+    : Type 0 where
+  pub events : events_of after.log ≡ script_of (part_behind s text)
+  pub right : first_wrong 1 (lines_of text) ≡ None
+  pub goes : GoesOn began s.log ended after.log
+  pub started : after.started ≡ true
+  pub clear : IsClear after
+
+-- a run stopped in a part, and a beginning of its lines was printed
+pub record IsPartStopped (s : Standing) (text : List ℕ) (began : State) (old new : Option (List ℕ))
+    : Type 0 where
+  pub log : Log
+  pub rest : List LogEntry
+  pub events : events_of log ++ rest ≡ script_of (part_behind s text)
+  pub faithful : StaysFaithful began s.log log
+  pub begun : IsBegun old new (lines_of_actions log)
+
+-- A run over a whole text, of which no line is wrong; all lines of its log were printed, or, where
+-- the output failed, a beginning of them.
+pub record IsRunOver (known : Option (List ℕ)) (began ended : State) (old new : Option (List ℕ))
+    (is_whole : Bool) : Type 0 where
+  pub octets : List ℕ
+  pub given : Gives known octets
+  pub right : first_wrong 1 (lines_of octets) ≡ None
+  pub log : Log
+  pub events : events_of log ≡ script_in octets
+  pub goes : GoesOn began [] ended log
+  pub poured : IsPoured is_whole old new (lines_of_actions log)
+
+-- a run over a text stopped before its end, and a beginning of its lines was printed; or before
+-- its beginning, and nothing was
+pub record IsStoppedOver (known : Option (List ℕ)) (began : State) (old new : Option (List ℕ))
+    : Type 0 where
+  pub octets : List ℕ
+  pub given : Gives known octets
+  pub log : Log
+  pub rest : List LogEntry
+  pub events : events_of log ++ rest ≡ script_in octets
+  pub faithful : StaysFaithful began [] log
+  pub begun : IsBegun old new (lines_of_actions log)
+
+abbrev pub RunsOver : Option (List ℕ) → (began ended : State) → (old new : Option (List ℕ))
+    → Result Bool Fault → Type 0
+RunsOver known began ended old new result =
+    MatchResult result (IsRunOver known began ended old new)
+    (λ fault. IsWant fault × (Keeps old new ⊎ IsStoppedOver known began old new))
