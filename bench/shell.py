@@ -239,28 +239,30 @@ def looked_at(program, words, folder, **more):
 
 
 def looks(count, program, folder):
-    """A long run tells a terminal after each 2^19 turns how far it has come, and leaves a blank line. Else nothing is told, as
-    where standard output is a terminal too."""
-    part = 1 << 19
-    # A run has a few turns more than events: the tick at moment 0, the one in which there is no more.
-    for events, told in (
+    """A long run tells a terminal after each 2^25 octets of its trace, or 2^19 calls of its script, how far it has come, and leaves
+    a blank line. Else nothing is told, as where standard output is a terminal too."""
+    part = 1 << 25
+    comment = "#" + "-" * 1022 + "\n"
+    for size, told in (
         (1, b""),
-        (part - 9, b""),
-        (part + 9, b"\r99 %\r    \r"),
+        (part - 4096, b""),
+        (part + part // 100, b"\r99 %\r    \r"),
         (2 * part + part // 2, b"\r39 %\r79 %\r    \r"),
     ):
         with open(os.path.join(folder, "long.trace"), "w") as file:
-            file.write("0 T\n" * events)
+            file.write(comment * (size // 1024))
+            file.write("0 T\n")
         seen, done = looked_at(program, "replay good.toml long.trace", folder)
         is_right = (done.returncode, text(done.stdout)) == (0, "0 > S 1049014A16\n") and seen == told
-        count.judge(f"{events} events looked at", is_right, (seen, done))
+        count.judge(f"{size} octets looked at", is_right, (seen, done))
         done = ran([program, *"replay good.toml long.trace".split()], folder)
         is_right = (done.returncode, text(done.stdout), done.stderr) == (0, "0 > S 1049014A16\n", b"")
-        count.judge(f"{events} events, nobody looks", is_right, done)
+        count.judge(f"{size} octets, nobody looks", is_right, done)
         seen, done = looked_at(program, "replay good.toml long.trace", folder, ends=["stdout"])
         is_right = (seen, done.returncode) == (b"0 > S 1049014A16\r\n", 0)
-        count.judge(f"{events} events to a terminal", is_right, (seen, done))
+        count.judge(f"{size} octets to a terminal", is_right, (seen, done))
     # A simulated run tells the same of its calls.
+    part = 1 << 19
     with open(os.path.join(folder, "long.script"), "w") as file:
         file.write(f"turns {part + 9}\n")
     seen, done = looked_at(program, "sim good.toml long.script", folder)
