@@ -104,6 +104,15 @@ def audited(program, config, record):
     return done.returncode, done.stdout, done.stderr
 
 
+def left(program, config, record):
+    """How many pieces wait at the end of a record, as docs/TEXTS.md tells to look at it: its events are a trace."""
+    path = record + ".trace"
+    with open(record, "rb") as file, open(path, "wb") as trace:
+        trace.writelines(line for line in file if not set(b">!") & set(line) and line.endswith(b"\n"))
+    done = subprocess.run([program, "replay", "--left", config, path], capture_output=True, text=True, timeout=600)
+    return done.returncode, sum(line.startswith("left ") for line in done.stdout.splitlines())
+
+
 def connected(door, process):
     end = time.monotonic() + ends.PATIENCE
     while True:
@@ -151,6 +160,7 @@ def a_restart(count, program, folder):
     time.sleep(0.3)
     count.judge("the first run says nothing", killed(first) == "")
     count.judge("the first record", audited(program, config, record)[0] == 0, audited(program, config, record))
+    count.judge("what waits there", left(program, config, record) == (0, REPORTS // 2), left(program, config, record))
     # A part of the last line is lost.
     with open(record, "rb+") as file:
         file.truncate(os.path.getsize(record) - 2)
@@ -168,6 +178,7 @@ def a_restart(count, program, folder):
     count.judge("the second run says nothing", killed(second) == "")
     status, out, err = audited(program, config, record)
     count.judge("the whole record is one run's", status == 0 and out.startswith("same, "), (status, out, err))
+    count.judge("nothing waits there", left(program, config, record) == (0, 0), left(program, config, record))
     third = started(program, config, record, "--resume", record)
     centre = connected(door, third)
     centre.send(ends.START)

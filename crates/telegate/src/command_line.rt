@@ -1,6 +1,6 @@
 //! The command line.
 ghost use Rattle.std.specs.Prelude.{◌≡◌, [], IfOk, codes, map, option_map, string_bytes};
-ghost use Rattle.clap.specs.Words.{FailsBy, fault_of, found_of, first_of, rows_of, subcommand_of, subcommand_rows_of};
+ghost use Rattle.clap.specs.Words.{App, FailsBy, fault_of, found_of, first_of, rows_of, subcommand_of, subcommand_rows_of, with_subcommand};
 ghost use Rattle.telegate.specs.CommandLine as line;
 ghost use Rattle.telegate.specs.CommandLine.{AreGiven, texts_of, IsArgument, IsAsked, IsCommand, IsFlag, IsRequestOf};
 
@@ -220,18 +220,28 @@ fn bare<'a>(alloc: Global) -> Command<'a>
         .arg_required_else_help(true)
 }
 
+/// The program with one more command. (A chain of `?` would drop what is built so far at each.)
+fn add_command<'a>(
+    above: Command<'a>,
+    command: Result<Command<'a>, AllocError>,
+) -> Result<Command<'a>, AllocError>
+    ensures { IfOk result (λ r. (app below : App) → IsCommand app above.entry →
+        IfOk command.entry (IsCommand below) → IsCommand (with_subcommand app below.top) r) }
+{
+    above.subcommand(command?)
+}
+
 /// The program, with its commands.
 fn program<'a>(alloc: Global) -> Result<Command<'a>, AllocError>
     ensures { IfOk result (IsCommand line.program) }
 {
-    bare(alloc)
-        .subcommand(show101(alloc)?)?
-        .subcommand(show104(alloc)?)?
-        .subcommand(check(alloc)?)?
-        .subcommand(replay(alloc)?)?
-        .subcommand(sim(alloc)?)?
-        .subcommand(audit(alloc)?)?
-        .subcommand(run(alloc)?)
+    let program = add_command(bare(alloc), show101(alloc))?;
+    let program = add_command(program, show104(alloc))?;
+    let program = add_command(program, check(alloc))?;
+    let program = add_command(program, replay(alloc))?;
+    let program = add_command(program, sim(alloc))?;
+    let program = add_command(program, audit(alloc))?;
+    add_command(program, run(alloc))
 }
 
 /// Reads the words, or gives the text that is to be printed in place of a run.

@@ -77,6 +77,41 @@ fn start_of(
     }
 }
 
+/// A gateway with these settings, and where its run begins; what the record of an earlier run lacks
+/// is in the other part. The record itself, which may be large, isn't held beyond this.
+fn begun(
+    alloc: Global,
+    config: &Config,
+    earlier: Option<Vec<u8>>,
+) -> Result<(Start, Option<Resumed>), Fault> {
+    let mut gateway = Gateway::new(alloc, config)?;
+    let resumed = start_of(alloc, &mut gateway, octets_of(&earlier))?;
+    let moment = match &resumed {
+        Some(resumed) => Some(resumed.moment),
+        None => None,
+    };
+    let start = Start {
+        gateway,
+        resumed: moment,
+    };
+    Ok((start, resumed))
+}
+
+/// Who tells of a run on standard error, if it is to be told, and on standard output, if it is to
+/// be recorded.
+fn scribes_of<'a, R: Clock + Print + Eprint + AllocGlobal>(
+    rt: &'a R,
+    config: &Config,
+    log: bool,
+    pen: Pen<StandardOutput<'a, R>>,
+) -> Result<Scribes<StandardError<'a, R>, StandardOutput<'a, R>>, Fault> {
+    let watch = Watch::new(rt.alloc(), config)?;
+    Ok(Scribes {
+        teller: Teller::new(watch, StandardError::new(rt), log),
+        pen,
+    })
+}
+
 /// Runs the gateway on the line and at the door that a file of settings names. The settings are
 /// judged first, then the record of an earlier run, if there is one, then the line is reached, then
 /// the door is opened. A line that is to be reached again every second is tried first once the
@@ -85,41 +120,52 @@ pub(crate) fn run_live<R>(rt: &R, config: &[u8], wishes: Wishes) -> Result<(), F
 where
     R: Net<Listener = TcpListener, Stream = TcpStream> + Clock + Print + Eprint + AllocGlobal,
 {
-    let Wishes {
-        redial,
-        log,
-        record,
-        earlier,
-        guests,
-    } = wishes;
     let (config, places) = read_live(rt.alloc(), config)?;
-    let mut gateway = Gateway::new(rt.alloc(), &config)?;
-    let resumed = start_of(rt.alloc(), &mut gateway, octets_of(&earlier))?;
-    let start = Start {
-        gateway,
-        resumed: match &resumed {
-            Some(resumed) => Some(resumed.moment),
-            None => None,
-        },
-    };
-    let watch = Watch::new(rt.alloc(), &config)?;
-    let mut scribes = Scribes {
-        teller: Teller::new(watch, StandardError::new(rt), log),
-        pen: pen_of(rt, record, resumed),
-    };
-    if redial {
-        let line = redialled(rt, places.line.as_str()).map_err(stop_of)?;
-        open(rt, &config, &places, line, guests, start, scribes)?;
-        return Ok(());
+    let (start, resumed) = begun(rt.alloc(), &config, wishes.earlier)?;
+    let pen = pen_of(rt, wishes.record, resumed);
+    let scribes = scribes_of(rt, &config, wishes.log, pen)?;
+    if wishes.redial {
+        run_redialled(rt, &config, &places, wishes.guests, start, scribes)
+    } else {
+        run_once(rt, &config, &places, wishes.guests, start, scribes)
     }
+}
+
+/// Runs the gateway on a line that is reached again where it ends.
+fn run_redialled<R, S: Sink + Drop, W: Sheet + Drop>(
+    rt: &R,
+    config: &Config,
+    places: &LiveSettings,
+    guests: Guests,
+    start: Start,
+    scribes: Scribes<S, W>,
+) -> Result<(), Fault>
+where
+    R: Net<Listener = TcpListener, Stream = TcpStream> + Clock + Eprint,
+{
+    let line = redialled(rt, places.line.as_str()).map_err(stop_of)?;
+    Ok(open(rt, config, places, line, guests, start, scribes)?)
+}
+
+/// Runs the gateway on a line, which has to be there, until it ends.
+fn run_once<R, S: Sink + Drop, W: Sheet + Drop>(
+    rt: &R,
+    config: &Config,
+    places: &LiveSettings,
+    guests: Guests,
+    start: Start,
+    mut scribes: Scribes<S, W>,
+) -> Result<(), Fault>
+where
+    R: Net<Listener = TcpListener, Stream = TcpStream> + Clock + Eprint,
+{
     match LineSocket::reach(rt, places.line.as_str()) {
-        Ok(line) => open(rt, &config, &places, line, guests, start, scribes)?,
+        Ok(line) => Ok(open(rt, config, places, line, guests, start, scribes)?),
         Err(fault) => {
             scribes.teller.note(Note::Trouble(line_trouble(&fault)));
-            return Err(Fault::from(stop_of(fault)));
+            Err(Fault::from(stop_of(fault)))
         }
     }
-    Ok(())
 }
 
 /// The octets of a record, if there is one.
