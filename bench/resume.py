@@ -6,8 +6,9 @@
 A station gives reports and no control centre connects, so the gateway keeps them; it is killed (SIGKILL) in mid-run, its record loses
 a part of its last line, and `telegate run --record --resume` goes on behind it. Then a control centre connects and gets every report,
 in order; the station's link was reset once in both runs; and `telegate audit` says 'same' over the whole record. A record of other
-settings, one that isn't a record, and none are refused; an empty one is a fresh start. All of it is on the loopback. The last line is
-`N passed, M failed`. The program is the one that ./build makes.
+settings, one that isn't a record, and none are refused; an empty one is a fresh start. What waits at the end of a record is told by
+`replay --left` over its events. All of it is on the loopback. The last line is `N passed, M failed`. The program is the one that
+./build makes.
 """
 import argparse
 import os
