@@ -6,7 +6,7 @@
 Each block of docs/*.md and packaging/*.md that begins with ```console is run: after `$ ` a command of `telegate`, then what it
 prints (standard output, then standard error), then `(status N)` where its exit status isn't 0. The crates in the table of
 docs/ARCHITECTURE.md are those of crates.txt, each below the crates that it stands on. Lines of README.md and of the documents have at most
-100 columns, README.md has at most 900 words and no sentence of 30 words or more, and each file that they name is there. The repository
+100 columns, README.md has no sentence of 30 words or more, and each file that they name is there. The repository
 stands alone: no line of a document, of an example or of a crate cites a demand by a letter and a number. Lines of src/ and specs/ have at
 most 100 columns, but for imports and attributes. Printed is a line for each case that failed, then `N passed, M failed`; the exit status is 1 where one failed. The program is the one that ./build makes.
 """
@@ -20,7 +20,6 @@ import sys
 
 TOP = os.path.dirname(os.path.dirname(os.path.abspath(__file__)))
 COLUMNS = 100
-WORDS = 900
 SENTENCE = 30
 # What a sentence names as a file: a path with one of these endings, or in one of these folders.
 NAMED = re.compile(r"`?(?<![\w/])((?:bench|crates|docs|examples|packaging|tools|specs|src|\.ci)/[\w./*-]*\w|[\w-]+\.(?:md|txt|py))`?")
@@ -35,7 +34,7 @@ def read(name):
 
 
 def documents():
-    names = ["README.md", *sorted(glob.glob("docs/*.md", root_dir=TOP)), *sorted(glob.glob("packaging/*.md", root_dir=TOP))]
+    names = [*sorted(glob.glob("*.md", root_dir=TOP)), *sorted(glob.glob("docs/*.md", root_dir=TOP)), *sorted(glob.glob("packaging/*.md", root_dir=TOP))]
     return {name: read(name) for name in names}
 
 
@@ -96,8 +95,6 @@ def prose(text):
 
 
 def judge_readme(judge, text):
-    words = len(text.split())
-    judge.case(words <= WORDS, f"README.md has {words} words")
     for paragraph in re.split(r"\n\s*\n|\n[-*] ", prose(text)):
         for sentence in re.split(r"[.:;?!]\s", paragraph.replace("\n", " ") + " "):
             count = len([word for word in sentence.split() if re.search(r"\w", word)])

@@ -7,23 +7,40 @@
 #
 #   PREFIX/bin/telegate                   the program (PREFIX is /usr/local)
 #   PREFIX/share/doc/telegate/            the documents, the licences and the examples
-#   PREFIX/share/man/man1/telegate.1      the man page, and shell completions, where there are any
-#   /etc/systemd/system/telegate.service  the service, which isn't started
-#   /etc/telegate/gateway.toml            settings to begin with; kept where there are some
+#   PREFIX/share/man/man1/telegate.1      the man page, and shell completions
+#   PREFIX/lib/systemd/system/            telegate.service for one line, telegate@.service for several
+#   /etc/telegate/gateway.toml            settings to begin with
+#   /etc/telegate/telegate.env            words of `telegate run` that belong to this site
+#
+# What stands in /etc is never written over, so a second call is an upgrade: it leaves what an
+# operator wrote.
 set -eu
 here=$(cd "$(dirname "$0")/.." && pwd)
 prefix=${PREFIX:-/usr/local}
 root=${DESTDIR:-}
 program=$here/crates/telegate/out/telegate
 share=$root$prefix/share
+units=$root$prefix/lib/systemd/system
 
-# A file of the repository, and where it goes: only where it is there.
+# A file of the repository, and where it goes.
 put() {
-    [ ! -f "$here/$2" ] || install -D -m "$1" "$here/$2" "$3"
+    install -D -m "$1" "$here/$2" "$3"
+}
+
+# The same, only where nothing stands there yet.
+put_once() {
+    [ -e "$3" ] || put "$1" "$2" "$3"
+}
+
+# A unit for the program where it is installed; the second argument changes it further.
+put_unit() {
+    install -d "$units"
+    sed -e "s|/usr/local/bin|$prefix/bin|g" -e "$2" "$here/packaging/telegate.service" >"$units/$1"
+    chmod 644 "$units/$1"
 }
 
 if [ "${1:-}" = --remove ]; then
-    rm -f "$root$prefix/bin/telegate" "$root/etc/systemd/system/telegate.service" \
+    rm -f "$root$prefix/bin/telegate" "$units/telegate.service" "$units/telegate@.service" \
         "$share/man/man1/telegate.1" "$share/bash-completion/completions/telegate" \
         "$share/zsh/site-functions/_telegate" "$share/fish/vendor_completions.d/telegate.fish"
     rm -rf "$share/doc/telegate"
@@ -32,7 +49,7 @@ fi
 
 [ -x "$program" ] || { echo "install.sh: no program: run ./build first" >&2; exit 1; }
 install -D -m 755 "$program" "$root$prefix/bin/telegate"
-(cd "$here" && find README.md LICENSE-* docs examples -type f) | while read -r file; do
+(cd "$here" && find ./*.md LICENSE-* docs examples -type f) | sed 's|^\./||' | while read -r file; do
     put 644 "$file" "$share/doc/telegate/$file"
 done
 put 644 packaging/README.md "$share/doc/telegate/packaging/README.md"
@@ -40,13 +57,16 @@ put 644 packaging/telegate.1 "$share/man/man1/telegate.1"
 put 644 packaging/telegate.bash "$share/bash-completion/completions/telegate"
 put 644 packaging/telegate.zsh "$share/zsh/site-functions/_telegate"
 put 644 packaging/telegate.fish "$share/fish/vendor_completions.d/telegate.fish"
-install -d "$root/etc/systemd/system"
-service=$root/etc/systemd/system/telegate.service
-sed "s|/usr/local|$prefix|g" "$here/packaging/telegate.service" >"$service"
-chmod 644 "$service"
-settings=$root/etc/telegate/gateway.toml
-[ -e "$settings" ] || install -D -m 644 "$here/examples/full.toml" "$settings"
+put_unit telegate.service ''
+# One instance a line, each with a folder of its own: telegate@north reads /etc/telegate/north/.
+put_unit telegate@.service 's|/etc/telegate/|/etc/telegate/%i/|g; s|^Description=.*|&, line %i|; s|^StateDirectory=telegate|&/%i|; s|/var/lib/telegate|&/%i|'
+put_once 644 examples/full.toml "$root/etc/telegate/gateway.toml"
+put_once 644 packaging/telegate.env "$root/etc/telegate/telegate.env"
+# A unit of an earlier version stood where an operator's own belong, and would hide the new one.
+earlier=$root/etc/systemd/system/telegate.service
+[ ! -e "$earlier" ] || echo "note: $earlier stands in front of $prefix/lib/systemd/system/telegate.service"
 
 echo "installed: $prefix/bin/telegate"
-echo "next: edit /etc/telegate/gateway.toml (telegate check judges it), name the two peers in"
-echo "/etc/systemd/system/telegate.service (IPAddressAllow), then systemctl enable --now telegate"
+echo "next: edit /etc/telegate/gateway.toml (telegate check judges it) and /etc/telegate/telegate.env,"
+echo "name the two peers by systemctl edit telegate (IPAddressAllow), then"
+echo "systemctl daemon-reload && systemctl enable --now telegate"

@@ -1,7 +1,7 @@
 //! The texts at the ends of help: what the files of a command hold, and the exit statuses.
 
-/// The number of this version, and the toolchain that its proofs are checked with.
-pub(crate) const VERSION: &str = "0.1.0 (rattle-kit-13f, logic dac8208d650f15bf)";
+/// The number of this version, and the logic that its proofs are checked with.
+pub(crate) const VERSION: &str = "0.1.0 (rattle, logic dac8208d650f15bf)";
 
 pub(crate) const PROGRAM: &str = "\
 `telegate COMMAND --help` tells what the files of a command hold.
