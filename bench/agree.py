@@ -5,8 +5,8 @@
 
 bench/plain writes the same rules once more in another form, so that a slip in one of the two shows where they differ (what both were
 written to do alike doesn't; bench/rows.py judges both by hand). The settings and traces are made from a fixed generator: what comes next looks at what the plain program has put out by then, so that
-stations mostly answer what they were asked and the control centre mostly counts right, with any sizes, types, causes, cuts, selects and
-tags, and mostly isn't always. Both replay each trace, with `--left --counts`. A run passes where they print the same. The last line
+stations mostly answer what they were asked and the control centre mostly counts right, with any sizes, addresses, types, causes, cuts,
+selects and tags, up to 32 stations, own answers of any length, and mostly isn't always. Both replay each trace, with `--left --counts`. A run passes where they print the same. The last line
 is `N passed, M failed`; the exit status is 1 where one failed, and `skipped` is said where there is no rustc. With --keep the settings
 and the trace of each run that differs stay in a folder.
 """
@@ -36,23 +36,32 @@ def low_first(number, octets):
     return (number % 256**octets).to_bytes(octets, "little")
 
 
+def addresses(draw, count, octets):
+    """So many addresses of one or two octets, none twice: small ones, or any that the settings allow."""
+    last = 254 if octets == 1 else 65534
+    if draw.random() < 0.4:
+        return list(range(1, 1 + count))
+    return draw.sample(sorted({1, 127, 128, last, *draw.sample(range(1, last + 1), count)}), count)
+
+
 class Setup:
     """Settings, and what is written by their sizes."""
 
     def __init__(self, draw):
         self.link, self.cause, self.ca, self.ioa = draw.choice((1, 1, 2)), draw.choice((1, 1, 2)), draw.choice((1, 1, 2)), draw.choice((1, 2, 2, 3))
-        self.stations = list(range(1, 1 + draw.choice((1, 1, 2, 3))))
-        self.answer_ms = draw.choice((1, 20, 200))
+        count = draw.choice((1, 1, 2, 3, 5, 32))
+        self.stations, self.cas = addresses(draw, count, self.link), addresses(draw, count, self.ca)
+        self.answer_ms = draw.choice((1, 20, 200, 200, 60000))
         self.t1 = draw.choice((50, 400, 15000))
         self.select_ms = draw.choice((30, 300, 30000))
         lines = ["[line]", f"link = {self.link}", f"cause = {self.cause}", f"ca = {self.ca}", f"ioa = {self.ioa}"]
         lines += [f"answer_ms = {self.answer_ms}", f"retries = {draw.choice((0, 1, 3))}", f"burst = {draw.choice((1, 2, 8))}"]
-        lines += [f'silence = "{draw.choice(("hold", "reset"))}"', f"queue = {draw.choice((3, 4, 8, 100))}"]
+        lines += [f'silence = "{draw.choice(("hold", "reset"))}"', f"queue = {draw.choice((3, 4, 8, 30, 100))}"]
         lines += ["[tcp]", f"k = {draw.choice((1, 2, 12))}", f"w = {draw.choice((1, 2, 8))}", f"t1_ms = {self.t1}"]
         lines += [f"t2_ms = {self.t1 - draw.choice((1, 20))}", f"t3_ms = {draw.choice((100, 2000, 20000))}"]
         lines += [f"select_ms = {self.select_ms}", "max_age_ms = 5000"]
-        for station in self.stations:
-            lines += ["[[station]]", f"address = {station}", f"ca = {station}", f"select = {draw.choice(('true', 'false'))}"]
+        for station, ca in zip(self.stations, self.cas):
+            lines += ["[[station]]", f"address = {station}", f"ca = {ca}", f"select = {draw.choice(('true', 'false'))}"]
         self.text = "\n".join(lines) + "\n"
 
     def fixed(self, control, address):
@@ -148,7 +157,8 @@ class Run:
 
     def noise(self):
         draw = self.draw
-        frame = draw.choice((b"\xe5", self.setup.fixed(draw.randrange(256), draw.randrange(3)), self.setup.data(0x08, 1, self.report())))
+        address = draw.choice([0, *self.setup.stations])
+        frame = draw.choice((b"\xe5", self.setup.fixed(draw.randrange(256), address), self.setup.data(0x08, address, self.report())))
         if draw.random() < 0.5:
             place = draw.randrange(len(frame))
             frame = frame[:place] + bytes([draw.randrange(256)]) + frame[place + 1 :]
@@ -179,14 +189,26 @@ class Run:
             command = bytearray(draw.choice(self.commands[-3:]))
             command[2] = command[2] & 0x80 * draw.randrange(2) | draw.choice((7, 7, 7, 0x47, 10, 9))
             return bytes(command)
+        if draw.random() < 0.05:
+            return self.long_mirror()
         kind = draw.choice(sorted(CONTENTS) + [2, 50])
         size = CONTENTS.get(kind, 1) + (7 if kind in range(30, 38) or kind in range(58, 63) else 0)
         count = draw.choice((1, 1, 1, 2, 5, 20, 60, 127))
         count = max(1, min(count, 240 // (size + self.setup.ioa)))
         content = lambda: bytes(draw.randrange(256) for _ in range(size - 7)) + TAG if size > 7 else bytes(draw.randrange(256) for _ in range(size))
         objects = [(draw.choice((0, 1, 10, 200, 65535)) + n, content()) for n in range(count)]
-        octets = self.setup.asdu(kind, draw.choice((1, 3, 3, 20, 0x83, 0x6C, 0xEC, 0x43)), draw.choice((1, 2, 3)), objects, draw.random() < 0.4)
+        octets = self.setup.asdu(kind, draw.choice((1, 3, 3, 20, 0x83, 0x6C, 0xEC, 0x43)), draw.choice([1, 2, *self.setup.cas]), objects, draw.random() < 0.4)
         return octets if draw.random() < 0.95 else octets[:-1]
+
+    def long_mirror(self):
+        """An answer to commands with as many objects as a frame takes: several pieces on the connection."""
+        draw, ioa = self.draw, self.setup.ioa
+        kind = draw.choice((45, 46, 49, 100))
+        size = COMMANDS[kind]
+        count = min(127, (240 - ioa) // (size + draw.choice((0, ioa))) if draw.random() < 0.7 else 3)
+        is_sequence = count * (size + ioa) > 240
+        objects = [(1 + n, bytes(size)) for n in range(count)]
+        return self.setup.asdu(kind, draw.choice((7, 0x47, 10)), draw.choice(self.setup.cas), objects, is_sequence)
 
     def centre(self):
         """Octets of the control centre: mostly frames that count right."""
@@ -222,9 +244,13 @@ class Run:
         element = bytes(size - 1) + bytes([last])
         tag = draw.choice((TAG, TAG, TAG, TAG[:6] + b"\x17")) if kind in range(58, 63) else b""
         cause = draw.choices((6, 8, 0x86, 0x46, 5), (20, 2, 1, 1, 1))[0]
-        ca = draw.choice(self.setup.stations * 12 + [9, 65535] + [65535] * 4 * is_global)
+        ca = draw.choice(self.setup.cas * (1 + 36 // len(self.setup.cas)) + [9, 65535] + [65535] * 4 * is_global)
         address = 0 if is_global and draw.random() < 0.95 else draw.choice((10,) * 12 + (11, 11, 0, 70000))
         number = draw.choice((1,) * 20 + (2, 0x81))
+        if draw.random() < 0.04:
+            # An ASDU of any type and of any length, whose own answer is as long.
+            behind = bytes(draw.randrange(256) for _ in range(draw.choice((0, 1, 91, 92, 240))))
+            return bytes([draw.choice((kind, 125, 51)), number, cause, 0]) + low_first(ca, 2) + low_first(address, 3) + behind
         return bytes([kind, number, cause, 0]) + low_first(ca, 2) + low_first(address, 3) + element + tag
 
 
