@@ -188,19 +188,46 @@ def mixed(t, events):
     return config(), "reports"
 
 
-def commands(t, events):
+def long(t, events):
+    """Reports of 1 to 80 single points in turn, an S frame before the window is full."""
+    t.start_stations(1)
+    t.start_connection()
+    sent, waiting = 0, 0
+    while t.events < events:
+        count = 1 + t.counted % 80
+        objects = b"".join((100 + n).to_bytes(2, "little") + bytes([n % 2]) for n in range(count))
+        t.add("S", data(0x08, 1, bytes([0x01, count, 0x03, 0x01]) + objects))
+        frames = -(-count // 60)
+        t.counted += 1
+        sent, waiting = sent + frames, waiting + frames
+        if waiting >= 8:
+            t.add("R", acknowledgement(sent))
+            waiting = 0
+    return config(), "reports"
+
+
+def select(t, events):
+    """Selects of one object without end, while the selection of another one lives."""
+    return commands(t, events, is_selecting=True)
+
+
+def commands(t, events, is_selecting=False):
     """Single commands without end: each is forwarded, accepted, confirmed by the station, and its confirmation passed on."""
     t.start_stations(1)
     t.start_connection()
-    confirmation = data(0x08, 1, bytes([0x2D, 0x01, 0x07, 0x01, 0x0A, 0x00, 0x01]))
+    # What passes beside a selection are selects of another object, since an execute would need its own.
+    element = 0x81 if is_selecting else 0x01
     while t.events < events:
+        is_first = is_selecting and t.counted == 0
+        point = 0x0B if is_first else 0x0A
         count = (t.counted % 32768 * 2).to_bytes(2, "little")
-        t.add("R", bytes([0x68, 0x0E]) + count + count + bytes.fromhex("2D01060001000A000001"))
+        t.add("R", bytes([0x68, 0x0E]) + count + count + bytes([0x2D, 1, 6, 0, 1, 0, point, 0, 0, element]))
         t.add("S", bytes([0xE5]))
         t.add("S", bytes([0xE5]))
-        t.add("S", confirmation)
+        t.add("S", data(0x08, 1, bytes([0x2D, 0x01, 0x07, 0x01, point, 0x00, element])))
         t.counted += 1
-    return config(), "commands"
+    settings = config()
+    return (settings + "select = true\n" if is_selecting else settings), "commands"
 
 
 WORKLOADS = {
@@ -211,6 +238,8 @@ WORKLOADS = {
     "flood": flood,
     "queue": queue,
     "commands": commands,
+    "long": long,
+    "select": select,
 }
 
 

@@ -139,32 +139,64 @@ impl<'a> Asdu<'a> {
             243 / (3 + self.content)
         };
         let mut left = self.count;
-        let mut objects = self.objects();
+        let mut first = 0;
         while left > 0 {
             let count = left.min(most);
             left -= count;
             piece.clear();
             let sequence = if self.is_sequence { 0x80 } else { 0 };
             let [low, high] = self.ca.to_le_bytes();
-            piece.extend_from_slice(&[
-                kind,
-                sequence | count as u8,
-                self.cause,
-                self.originator,
-                low,
-                high,
-            ]);
-            for (n, (address, content)) in objects.by_ref().take(count).enumerate() {
-                if n == 0 || !self.is_sequence {
-                    piece.extend_from_slice(&address.to_le_bytes()[..3]);
-                }
-                piece.extend_from_slice(content);
-            }
+            let head = [kind, sequence | count as u8, self.cause, self.originator, low, high];
+            piece.extend_from_slice(&head);
+            self.spread(first, count, piece);
+            first += count;
             piece.extend_from_slice(tag.unwrap_or_default());
             if !hand(piece) {
                 return false;
             }
         }
         true
+    }
+
+    /// Puts so many objects, from this one on, behind a piece.
+    fn spread(&self, first: usize, count: usize, piece: &mut Vec<u8>) {
+        let Asdu { sizes, content, objects, .. } = *self;
+        if self.is_sequence {
+            let address = number(&objects[..sizes.ioa]) + first as u32;
+            piece.extend_from_slice(&address.to_le_bytes()[..3]);
+            piece.extend_from_slice(&objects[sizes.ioa + first * content..][..count * content]);
+            return;
+        }
+        let width = sizes.ioa + content;
+        let from = &objects[first * width..][..count * width];
+        let start = piece.len();
+        piece.resize(start + count * (3 + content), 0);
+        let into = &mut piece[start..];
+        match (sizes.ioa, content) {
+            (1, 1) => each::<1, 1>(from, into),
+            (2, 1) => each::<2, 1>(from, into),
+            (3, _) => into.copy_from_slice(from),
+            (2, 2) => each::<2, 2>(from, into),
+            (2, 3) => each::<2, 3>(from, into),
+            (2, 5) => each::<2, 5>(from, into),
+            (2, 8) => each::<2, 8>(from, into),
+            (2, 9) => each::<2, 9>(from, into),
+            (2, 10) => each::<2, 10>(from, into),
+            (2, 12) => each::<2, 12>(from, into),
+            (ioa, content) => {
+                for (to, from) in into.chunks_exact_mut(3 + content).zip(from.chunks_exact(width)) {
+                    to[..ioa].copy_from_slice(&from[..ioa]);
+                    to[3..].copy_from_slice(&from[ioa..]);
+                }
+            }
+        }
+    }
+}
+
+/// Each object with an address of three octets, where it had one of `IOA`; `CONTENT` octets follow.
+fn each<const IOA: usize, const CONTENT: usize>(from: &[u8], into: &mut [u8]) {
+    for (to, from) in into.chunks_exact_mut(3 + CONTENT).zip(from.chunks_exact(IOA + CONTENT)) {
+        to[..IOA].copy_from_slice(&from[..IOA]);
+        to[3..].copy_from_slice(&from[IOA..]);
     }
 }

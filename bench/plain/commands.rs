@@ -9,10 +9,34 @@ const MOST_KEPT: usize = 16;
 /// What a command acts on: its type on the line, common address and object address.
 type Target = (u8, u16, u32);
 
+/// A command's octets: at most 19, as an ASDU of one object with a tag has.
+#[derive(Clone, Copy)]
+struct Short {
+    octets: [u8; 20],
+    len: u8,
+}
+
+impl Short {
+    fn of(octets: &[u8]) -> Short {
+        let mut short = Short { octets: [0; 20], len: 0 };
+        short.put(octets);
+        short
+    }
+
+    fn put(&mut self, octets: &[u8]) {
+        self.octets[usize::from(self.len)..][..octets.len()].copy_from_slice(octets);
+        self.len += octets.len() as u8;
+    }
+
+    fn get(&self) -> &[u8] {
+        &self.octets[..usize::from(self.len)]
+    }
+}
+
 struct Waiting {
     station: usize,
-    received: Vec<u8>,
-    serial: Vec<u8>,
+    received: Short,
+    serial: Short,
 }
 
 #[derive(Clone, Copy)]
@@ -48,7 +72,7 @@ impl Selection {
 /// connection lasts.
 enum Line {
     Free,
-    Holds(Option<Vec<u8>>),
+    Holds(Option<Short>),
 }
 
 /// A command without a fault of its own.
@@ -337,7 +361,7 @@ impl Commands {
             if *ca == target.1 || target.1 == 65535 && octets[0] == 100 {
                 self.waiting.push(Waiting {
                     station,
-                    received: octets.to_vec(),
+                    received: Short::of(octets),
                     serial: serial(self.sizes, octets, *ca),
                 });
             }
@@ -350,7 +374,7 @@ impl Commands {
             .waiting
             .iter()
             .find(|waiting| waiting.station == station)?;
-        Some(&waiting.serial)
+        Some(waiting.serial.get())
     }
 
     pub fn has_waiting(&self) -> bool {
@@ -378,17 +402,18 @@ impl Commands {
                 stage => stage,
             };
         }
-        let kind = line_kind(received[0]);
+        let octets = received.get();
+        let kind = line_kind(octets[0]);
         if kind != 100 {
             if self.sendings.len() == MOST_KEPT {
                 self.sendings.pop_front();
             }
             let target = (
                 kind,
-                u16::from_le_bytes([received[4], received[5]]),
-                u32::from_le_bytes([received[6], received[7], received[8], 0]),
+                u16::from_le_bytes([octets[4], octets[5]]),
+                u32::from_le_bytes([octets[6], octets[7], octets[8], 0]),
             );
-            let tag = received
+            let tag = octets
                 .get(9 + element_size(kind)..)
                 .and_then(|tag| tag.try_into().ok());
             self.sendings.push_back((target, tag));
@@ -406,7 +431,7 @@ impl Commands {
     }
 
     /// The command on a station's line is given up: whether there was one, and what was received.
-    pub fn lost(&mut self, station: usize) -> (bool, Option<Vec<u8>>) {
+    fn end_command(&mut self, station: usize) -> (bool, Option<Short>) {
         self.selections.retain(|selection| {
             selection.station != station || !matches!(selection.stage, Stage::OnLine)
         });
@@ -416,9 +441,14 @@ impl Commands {
         }
     }
 
+    /// The command on a station's line is given up, if there is one.
+    pub fn lost(&mut self, station: usize) -> bool {
+        self.end_command(station).0
+    }
+
     /// The station was busy: the answer, where its connection is open.
     pub fn busy(&mut self, station: usize) -> Option<Vec<u8>> {
-        self.lost(station).1.map(|received| negative(&received))
+        self.end_command(station).1.map(|received| negative(received.get()))
     }
 
     /// A station answered a command: what that does to selections, and the tag that the answer bears.
@@ -497,12 +527,12 @@ impl Commands {
 }
 
 /// A command in the sizes of the line, with the station's common address, and without a tag.
-fn serial(sizes: Sizes, octets: &[u8], ca: u16) -> Vec<u8> {
+fn serial(sizes: Sizes, octets: &[u8], ca: u16) -> Short {
     let kind = octets[0];
-    let mut out = vec![line_kind(kind), octets[1]];
-    out.extend_from_slice(&octets[2..2 + sizes.cause]);
-    out.extend_from_slice(&ca.to_le_bytes()[..sizes.ca]);
-    out.extend_from_slice(&octets[6..6 + sizes.ioa]);
-    out.extend_from_slice(&octets[9..9 + element_size(kind)]);
+    let mut out = Short::of(&[line_kind(kind), octets[1]]);
+    out.put(&octets[2..2 + sizes.cause]);
+    out.put(&ca.to_le_bytes()[..sizes.ca]);
+    out.put(&octets[6..6 + sizes.ioa]);
+    out.put(&octets[9..9 + element_size(kind)]);
     out
 }

@@ -36,6 +36,16 @@ fn counter(low: u8, high: u8) -> u16 {
 
 /// Reads the front of octets of the connection.
 pub fn front(octets: &[u8]) -> Front<'_> {
+    // Most frames without an ASDU come whole.
+    match *octets {
+        [0x68, 4, 1, 0, low, high, ..] if low & 1 == 0 => {
+            return Front::Whole(Apdu::S { nr: counter(low, high) }, 6);
+        }
+        [0x68, 4, control, 0, 0, 0, ..] if is_u(control) => {
+            return Front::Whole(Apdu::U(control), 6);
+        }
+        _ => {}
+    }
     match *octets {
         [] | [0x68] => return Front::More,
         [0x68, len, ..] if !(4..=253).contains(&len) => return Front::Never,

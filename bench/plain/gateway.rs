@@ -148,7 +148,7 @@ impl Gateway {
     }
 
     fn give_up(&mut self, station: usize) {
-        if self.commands.lost(station).0 {
+        if self.commands.lost(station) {
             self.lost = self.lost.saturating_add(1);
         }
     }

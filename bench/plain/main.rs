@@ -15,32 +15,13 @@ use std::env;
 use std::fs;
 use std::io;
 use std::process::ExitCode;
-use trace::{Event, Printer, entry};
+use trace::{Event, Printer, Trace};
 
-fn lines(text: &[u8]) -> impl Iterator<Item = &[u8]> {
-    text.split(|octet| *octet == b'\n')
-}
-
-fn is_skipped(line: &[u8]) -> bool {
-    line.first().is_none_or(|first| *first == b'#')
-}
-
-fn is_right(line: &[u8]) -> bool {
-    is_skipped(line) || entry(line).is_some_and(|entry| entry.is_right())
-}
-
-fn replay(gateway: &mut Gateway, text: &[u8], printer: &mut Printer<io::StdoutLock<'_>>) {
-    let mut buffer = [0; 1024];
+fn replay(gateway: &mut Gateway, trace: &Trace, printer: &mut Printer<io::StdoutLock<'_>>) {
     let mut put = |moment, action: gateway::Action<'_>| printer.put(moment, action);
     gateway.step(0, Event::Tick, &mut put);
-    for entry in lines(text)
-        .filter(|line| !is_skipped(line))
-        .filter_map(entry)
-    {
-        let moment = entry.moment;
-        if let Some(event) = entry.event(&mut buffer) {
-            gateway.step(moment, event, &mut put);
-        }
+    for (moment, event) in trace.events() {
+        gateway.step(moment, event, &mut put);
     }
 }
 
@@ -63,13 +44,17 @@ fn main() -> ExitCode {
     let Some(config) = config::read(&settings) else {
         return ExitCode::from(1);
     };
-    if let Some(place) = lines(&text).position(|line| !is_right(line)) {
-        eprintln!("trace: line {}", place + 1);
-        return ExitCode::from(1);
-    }
+    let trace = match Trace::read(&text) {
+        Ok(trace) => trace,
+        Err(line) => {
+            eprintln!("trace: line {line}");
+            return ExitCode::from(1);
+        }
+    };
+    drop(text);
     let mut gateway = Gateway::new(config);
     let mut printer = Printer::new(io::stdout().lock());
-    replay(&mut gateway, &text, &mut printer);
+    replay(&mut gateway, &trace, &mut printer);
     if has("--left") {
         gateway.kept().for_each(|piece| printer.put_left(piece));
     }
