@@ -11,6 +11,7 @@ ghost use Rattle.gateway.specs.Log.{LogEntry, Went, LineIn, TcpOut, Opened, tell
 ghost use Rattle.gateway.specs.Ports.{input_of};
 ghost use Rattle.gateway.specs.Reports.{Setup};
 ghost use Rattle.gateway.specs.Traffic.{IsFaithful};
+ghost use Rattle.gateway.specs.Accounts.{IsAccounted};
 ghost use Rattle.gateway.specs.State.{State, disconnected, connected, with_session, with_octets};
 ghost use Rattle.gateway.specs.Agrees.{IsClear, Tracks, Awaits, Meets, Leaves, Follows, HasCome, Rests, IsSpent, StaysInTime};
 ghost use Rattle.gateway.specs.Steps.{MayClose, HearsEvent, Begins};
@@ -504,6 +505,11 @@ impl Gateway {
         ensures faithful { (p : Setup) →
             IfSome (P.log port.old) (HasCome p self.old now (input_of event.entry)) →
             IfSome (P.log port.new) (IsFaithful p) }
+        // What it then keeps is what was taken and not acknowledged, and what it has counted is
+        // what the log shows.
+        ensures accounts { (p : Setup) →
+            IfSome (P.log port.old) (HasCome p self.old now (input_of event.entry)) →
+            OnTrue result (IfSome (P.log port.new) (IsAccounted p self.new)) }
         ensures puts { Puts P.log P.script P.failed port.old port.new (faults_unless result) }
     {
         line_keeps_the_procedures();

@@ -1,6 +1,7 @@
 use Rattle.std.proofs.Common.{◌∙◌}
 use Rattle.gateway.specs.Phases.{Asked}
 use Rattle.gateway.proofs.Put.{told_done, told_leaves, in_time_same}
+use Rattle.gateway.proofs.Accounting.{step_accounted}
 use Rattle.gateway.proofs.Events.{begins, told_settled, step_follows}
 use Rattle.gateway.proofs.engine.Gateway.step.Goals as goal
 
@@ -61,3 +62,6 @@ returns-then-not-ask-clause-faithful g c = λ p h.
     c.if-not-ask.ensures.kept p (c.if-not-tell_gap.ensures.kept p
     (c.if-not-watch.ensures.kept p (told_settled p _ c.take.new.self c.settle.new.self c.settle.ensures
     (c.if-not-take.ensures.kept p c.args.self.now c.args.now b h))))
+
+pub returns-clause-accounts : goal.returns-clause-accounts
+returns-clause-accounts g c = λ p h. step_accounted _ p _ _ (returns-clause-kept g c p h)
