@@ -186,9 +186,9 @@ ended p s log unjudged phase a octets fault as_now stands = by_case octets.is_op
 pub fresh : (s : Centre) (octets : Channel) → s.session.k < 32768 → session.is_open s.session ≡ octets.is_open
     → (octets.is_open ≡ false → octets ≡ no_channel) → octets.sent ≡ [] → octets.received ≡ []
     → is_transferring s.session ≡ false → s.session.next_received ≡ 0 → s.session.next_sent ≡ 0
-    → s.session.unacknowledged ≡ [] → s.queue.sent ≡ [] → s.so_far ≡ Some [] →
+    → s.session.unacknowledged ≡ [] → s.queue.sent ≡ [] → s.so_far ≡ Some [] → s.heard ≡ None →
     Presently s octets [] new_connection
-fresh s octets small link none sent received stopped first next us queued so = record {
+fresh s octets small link none sent received stopped first next us queued so taken = record {
   link = link;
   none = λ h. (none h, refl);
   put = [];
@@ -196,6 +196,7 @@ fresh s octets small link none sent received stopped first next us queued so = r
   sent = refl;
   so_far = [];
   assembler = so;
+  taken = taken;
   waits = nothing_waits;
   joined = received;
   fit = tt;
@@ -401,7 +402,7 @@ after_close laws p s log unjudged cause phase fault a on last timely stands why 
       plain = tt;
       here = subst (λ octets. Presently (disconnected s).centre octets [] new_connection) (sym shut)
           (fresh (disconnected s).centre no_channel a.here.tied.small refl
-          (λ h. refl) refl refl refl refl refl refl refl refl);
+          (λ h. refl) refl refl refl refl refl refl refl refl refl);
       left = closed_left phase new [] cause timely;
       carries = end.carries;
       before = record {

@@ -31,12 +31,12 @@ use Rattle.gateway.proofs.Working.{settled_placed, put_placed}
 
 -- One request
 
-frames_due : (p : Setup) (frames : List Apdu) (at : ℕ) (wall : Option ℕ) (c : Course)
+pub frames_due : (p : Setup) (frames : List Apdu) (at : ℕ) (wall : Option ℕ) (c : Course)
     → (with_frames p frames at wall c).works.is_due ≡ c.works.is_due
 frames_due p [] at wall c = refl
 frames_due p (f ∷ fs) at wall c = frames_due p fs at wall c
 
-sent_due : (f : Apdu) (w : Works) → (sent_works f w).is_due ≡ w.is_due
+pub sent_due : (f : Apdu) (w : Works) → (sent_works f w).is_due ≡ w.is_due
 sent_due (I ns nr asdu) w = by_objects (has_objects asdu.items)
   where
     by_objects : (b : Bool) → (if b then w else answered_works w).is_due ≡ w.is_due
@@ -45,7 +45,7 @@ sent_due (I ns nr asdu) w = by_objects (has_objects asdu.items)
 sent_due (S nr) w = refl
 sent_due (U u) w = refl
 
-closed_due : (p : Setup) (cause : Close) (is_open : Bool) (at : ℕ) (c : Course)
+pub closed_due : (p : Setup) (cause : Close) (is_open : Bool) (at : ℕ) (c : Course)
     → (closed_course p cause is_open at c).works.is_due ≡ c.works.is_due
 closed_due p Grammar is_open at c = refl
 closed_due p SendNumber is_open at c = refl

@@ -1,5 +1,5 @@
 //! What holds of the definitions.
-ghost use Rattle.std.specs.Prelude.{◌≡◌, ◌↔◌, IsTrue, Option, true, false, map};
+ghost use Rattle.std.specs.Prelude.{◌≡◌, ◌↔◌, IsTrue, Option, Some, true, false, map};
 ghost use Rattle.session.specs.declared.kinds.Close.{Close};
 ghost use Rattle.command.specs.declared.station.StationInfo.{StationInfo};
 ghost use Rattle.gateway.specs.declared.settings.Silence.TheVariants.{Hold};
@@ -17,6 +17,8 @@ ghost use Rattle.link.specs.Counts.{saturated};
 ghost use Rattle.gateway.specs.Line.{done_in};
 ghost use Rattle.gateway.specs.Tallies.{given_up_in, unpassed_in};
 ghost use Rattle.gateway.specs.Works.{tasks_of};
+ghost use Rattle.gateway.specs.State.{State, IsBetweenSteps};
+ghost use Rattle.gateway.specs.Agrees.{Follows};
 ghost use Rattle.gateway.specs.Traffic.{HasCause};
 
 use apci::{one_front, spellings_cancel};
@@ -84,6 +86,11 @@ pub fn counts_tell_commands()
     ensures mirrors { (p : Setup) (log : Log) (c : Course) → Runs p log c →
         (done_in p log c).serial.counts.mirrors
         ≡ saturated (unpassed_in false (done_in p log c).history) }
+{}
+
+/// Between two steps nothing of the step before is left to be told or to be taken.
+pub fn steps_leave_nothing_open()
+    ensures { (p : Setup) (s : State) (log : Log) → Follows p s (Some log) → IsBetweenSteps s }
 {}
 
 /// Each setting reaches the promises under its own name and with its own value: what a gateway with
