@@ -1,37 +1,21 @@
 -- What is empty between two steps.
-use Rattle.std.proofs.Common.{◌≡◌, ℕ, Bool, true, false, List, [], ◌∷◌, Option, Some, None, refl, sym, ap, ◌∙◌}
+use Rattle.std.proofs.Common.{◌≡◌, ℕ, Bool, true, false, [], ◌∷◌, None, refl, sym, ap, ◌∙◌}
 use Rattle.std.specs.Prelude.{if◌then◌else◌}
-use Rattle.apci.specs.declared.apdu.Apdu.{Apdu}
-use Rattle.apci.specs.declared.apdu.Apdu.TheVariants.{I, S, U}
 use Rattle.session.specs.declared.kinds.Close.{Close}
 use Rattle.session.specs.declared.kinds.Close.TheVariants.{Grammar, SendNumber, ReceiveNumber, Stopped, Timeout, OwnAnswers, Replaced}
-use Rattle.gateway.specs.Objects.{has_objects}
 use Rattle.gateway.specs.Log.{Log, LineIn, Opened, TcpIn, CutOff, Ticked, WallIs, LineOut, TcpOut, Closed, GapOut, Came, Went, latest}
 use Rattle.gateway.specs.Connections.{present}
 use Rattle.gateway.specs.Reports.{Setup}
-use Rattle.gateway.specs.Serial.{Serial, unless_silent}
-use Rattle.gateway.specs.Works.{Works, answered_works, sent_works, unasked_works, ready_works}
-use Rattle.gateway.specs.Course.{Course, with_frames, closed_course, room_in, Runs}
-use Rattle.gateway.specs.Phases.{resting}
+use Rattle.gateway.specs.Serial.{Serial}
+use Rattle.gateway.specs.Works.{Works, unasked_works, ready_works}
+use Rattle.gateway.specs.Course.{Course, closed_course, room_in, Runs}
+use Rattle.gateway.specs.Phases.{Asked, resting}
 use Rattle.gateway.specs.State.{State, IsBetweenSteps}
 use Rattle.gateway.specs.Agrees.{Agrees}
-use Rattle.gateway.proofs.Order.{frames_due, sent_due, closed_due}
+use Rattle.gateway.proofs.Order.{frames_due, sent_due, closed_due, frames_others, sent_others}
+use Rattle.gateway.proofs.Working.{gap_in}
 
 -- Nothing but the timers touches the silence of a step
-
-frames_silent : (p : Setup) (frames : List Apdu) (at : ℕ) (wall : Option ℕ) (c : Course)
-    → (with_frames p frames at wall c).works.serial.silent ≡ c.works.serial.silent
-frames_silent p [] at wall c = refl
-frames_silent p (f ∷ fs) at wall c = frames_silent p fs at wall c
-
-sent_silent : (f : Apdu) (w : Works) → (sent_works f w).serial.silent ≡ w.serial.silent
-sent_silent (I ns nr asdu) w = by_objects (has_objects asdu.items)
-  where
-    by_objects : (b : Bool) → (if b then w else answered_works w).serial.silent ≡ w.serial.silent
-    by_objects true = refl
-    by_objects false = refl
-sent_silent (S nr) w = refl
-sent_silent (U u) w = refl
 
 closed_silent : (p : Setup) (cause : Close) (is_open : Bool) (at : ℕ) (c : Course) → c.works.serial.silent ≡ None
     → (closed_course p cause is_open at c).works.serial.silent ≡ None
@@ -65,8 +49,10 @@ none_silent p (Went now (GapOut station session) ∷ log) c r due =
     ap (λ (d : Course). d.works.serial.silent) r.2.is
     ∙ none_silent p log r.0 r.1 (sym (ap (λ (d : Course). d.works.is_due) r.2.is) ∙ due)
 none_silent p (Went now (TcpOut octets) ∷ log) c r due =
-    ap (λ (d : Course). d.works.serial.silent) r.4.taken ∙ frames_silent p r.4.frames _ _ r.1
-    ∙ ap (λ (d : Course). d.works.serial.silent) r.3.put ∙ sent_silent r.3.frame r.0.works
+    ap (λ (d : Course). d.works.serial.silent) r.4.taken
+    ∙ ap (λ (s : Serial). s.silent) (frames_others p r.4.frames _ _ r.1)
+    ∙ ap (λ (d : Course). d.works.serial.silent) r.3.put
+    ∙ ap (λ (s : Serial). s.silent) (sent_others r.3.frame r.0.works)
     ∙ none_silent p log r.0 r.2 (sym (ap (λ (d : Course). d.works.is_due) r.4.taken
     ∙ frames_due p r.4.frames _ _ r.1 ∙ ap (λ (d : Course). d.works.is_due) r.3.put
     ∙ sent_due r.3.frame r.0.works) ∙ due)
@@ -77,15 +63,6 @@ none_silent p (Went now (Closed cause) ∷ log) c r due =
     ∙ closed_due p cause (present log).is_open (latest log) r.0) ∙ due))
 
 -- The end of a step
-
-silenced : (station : Option ℕ) (s : Serial) → (unless_silent station s).gap ≡ s.gap
-silenced None s = refl
-silenced (Some station) s = refl
-
-done_gap : (b : Bool) (at : ℕ) (room : Bool) (w : Works) → w.serial.gap ≡ None
-    → (if b then unasked_works at room (ready_works at w) else w).serial.gap ≡ None
-done_gap true at room w h = silenced w.serial.silent w.serial ∙ h
-done_gap false at room w h = h
 
 done_silent : (b : Bool) (at : ℕ) (room : Bool) (w : Works) → (b ≡ false → w.serial.silent ≡ None)
     → (if b then unasked_works at room (ready_works at w) else w).serial.silent ≡ None
@@ -104,6 +81,6 @@ between_steps p s (entry ∷ log) a = record {
       ∙ done_silent a.course.works.is_due _ (room_in p (entry ∷ log) a.course) a.course.works
       (none_silent p (entry ∷ log) a.course a.talk.course_runs);
   gap = ap (λ (t : Serial). t.gap) a.stands.does
-      ∙ done_gap a.course.works.is_due _ (room_in p (entry ∷ log) a.course) a.course.works a.stands.asks.2;
+      ∙ gap_in Asked (latest (entry ∷ log)) (room_in p (entry ∷ log) a.course) a.course.works ∙ a.stands.asks.2;
   heard = a.here.taken;
 }

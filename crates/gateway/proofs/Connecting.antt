@@ -338,6 +338,7 @@ module _ (laws : LineLaws) (p : Setup) (s t : State) (log : Log) (now : ℕ) (fi
         opened_runs,
         refl,
         sym a.here.link ∙ sym (ap (λ (c : Centre). session.is_open c.session) h.centre) ∙ on,
+        h.due,
       ) in
       let was : is_replaced (Came now Opened ∷ log) ≡ true = sym a.here.link
       ∙ sym (ap (λ (c : Centre). session.is_open c.session) h.centre) ∙ on in

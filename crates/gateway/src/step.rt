@@ -432,28 +432,12 @@ impl Gateway {
         self.receive(octets, port)
     }
 
-    /// Closes the connection where an answer is late.
-    fn watch<P: Port>(&mut self, port: &mut P) -> bool
-        requires { P.failed port.old < u64.MAX }
-        ensures kept { (p : Setup) → Tracks p self.old (P.log port.old) [] Timed →
-            Leaves result p self.new (P.log port.new) [] Timed }
-        ensures in_time { OnTrue result (IsInTime self.new.moment self.new.centre.session) }
-        ensures puts { Puts P.log P.script P.failed port.old port.new (faults_unless result) }
-    {
-        match self.late() {
-            None => true,
-            Some(cause) => self.close(cause, port),
-        }
-    }
-
-    /// Tells the gap of the session that the step's octets have ended, if there is one.
+    /// Tells the gap of the session that the event's octets have ended, if there is one.
     fn tell_gap<P: Port>(&mut self, port: &mut P) -> bool
         requires { P.failed port.old < u64.MAX }
-        ensures kept { (p : Setup) → Tracks p self.old (P.log port.old) [] Timed →
-            Leaves result p self.new (P.log port.new) [] Timed }
+        ensures kept { (p : Setup) → Tracks p self.old (P.log port.old) [] Idle →
+            Leaves result p self.new (P.log port.new) [] Idle }
         ensures told { self.new.serial.gap ≡ None }
-        ensures session { self.new.centre.session ≡ self.old.centre.session }
-        ensures moment { self.new.moment ≡ self.old.moment }
         ensures puts { Puts P.log P.script P.failed port.old port.new (faults_unless result) }
     {
         match self.take_gap() {
@@ -465,6 +449,22 @@ impl Gateway {
                     session: gap.session,
                 },
             ),
+        }
+    }
+
+    /// Closes the connection where an answer is late, once each gap is told.
+    fn watch<P: Port>(&mut self, port: &mut P) -> bool
+        requires ready { P.failed port.old < u64.MAX }
+        requires told { self.old.serial.gap ≡ None }
+        ensures kept { (p : Setup) → Tracks p self.old (P.log port.old) [] Timed →
+            Leaves result p self.new (P.log port.new) [] Timed }
+        ensures in_time { OnTrue result (IsInTime self.new.moment self.new.centre.session) }
+        ensures told { OnTrue result (self.new.serial.gap ≡ None) }
+        ensures puts { Puts P.log P.script P.failed port.old port.new (faults_unless result) }
+    {
+        match self.late() {
+            None => true,
+            Some(cause) => self.close(cause, port),
         }
     }
 
@@ -491,8 +491,8 @@ impl Gateway {
         }
     }
 
-    /// Takes one event, and puts out what follows from it: of the connection, then of the line,
-    /// then what else may be sent. After `false` the device has failed, and the gateway is given
+    /// Takes one event, and puts out what follows from it, then what the timers bring, then the
+    /// line's request, then what else may be sent to TCP. After `false` the device has failed, and the gateway is given
     /// up.
     pub fn step<P: Port>(&mut self, now: u64, event: Event<'_>, port: &mut P) -> bool
         requires { P.failed port.old < u64.MAX }
@@ -519,11 +519,11 @@ impl Gateway {
         if !self.take(event, fits, port) {
             return false;
         }
-        self.settle();
-        if !self.watch(port) {
+        if !self.tell_gap(port) {
             return false;
         }
-        if !self.tell_gap(port) {
+        self.settle();
+        if !self.watch(port) {
             return false;
         }
         if !self.ask(port) {
