@@ -289,7 +289,7 @@ impl Assembler {
     pub fn is_deaf(&self) -> bool
         ensures { IsTrue result ↔ (self.now.so_far ≡ None) }
     {
-        is_deaf(&self.state)
+        matches!(self.state, State::Deaf)
     }
 
     /// Whether no octet has come since the last APDU, and that is taken: so it has kept nothing.

@@ -6,11 +6,19 @@ ghost use Rattle.apci.specs.Short.{apdu_of};
 ghost use Rattle.apci.specs.Spelling.{Fits};
 ghost use Rattle.session.specs.Session.{from_queue};
 ghost use Rattle.session.specs.Ends.{IsConfirmed};
+ghost use Rattle.std.specs.Prelude.{ℕ, List, ◌++◌, OnOk, MatchResult};
+ghost use Rattle.checkpoint.specs.declared.StateFault.TheVariants.{Wrong};
+ghost use Rattle.session.specs.Session.{Session as Machine};
+ghost use Rattle.session.specs.Restored.{session_lines, counter_line, due_line, IsSavable, HasSettings};
 
 use crate::kinds::{Close, Kind, Taken, Transfer, Unacknowledged};
+use crate::saving::{
+    put_frames, put_moment, read_dues, read_frames, read_numbers, reply_number, transfer_number,
+};
 use apci::{Apdu, ApduRef, Short, Uf};
+use checkpoint::{Lines, Sheet, StateFault};
 use circular_buffer::HeapCircularBuffer;
-use std::alloc::Global;
+use std::alloc::{AllocError, Global};
 use std::marker::Model;
 use thiserror::Error;
 
@@ -423,6 +431,105 @@ impl Session {
             reply: _,
         } = self;
         unacknowledged
+    }
+}
+
+impl Session {
+    /// Each session can be read back.
+    fn is_savable(&self)
+        ensures { IsSavable self.now }
+    {
+        let _unconfirmed = self.unconfirmed;
+    }
+
+    /// Puts the line of the counters.
+    fn put_counters(&self, line: &mut Vec<u64>) -> Result<(), AllocError>
+        ensures { OnOk result (line.new.items ≡ line.old.items ++ counter_line self.now) }
+    {
+        line.push(transfer_number(self.transfer))?;
+        line.push(u64::from(self.next_sent))?;
+        line.push(u64::from(self.next_received))?;
+        line.push(self.acked_queue as u64)?;
+        line.push(self.acked_own as u64)?;
+        Ok(())
+    }
+
+    /// Puts the line of what is due.
+    fn put_dues(&self, line: &mut Vec<u64>) -> Result<(), AllocError>
+        ensures { OnOk result (line.new.items ≡ line.old.items ++ due_line self.now) }
+    {
+        line.push(self.unacknowledged.len() as u64)?;
+        line.push(u64::from(self.unconfirmed))?;
+        line.push(self.unconfirmed_since)?;
+        line.push(self.last_frame)?;
+        line.push(reply_number(self.reply))?;
+        put_moment(self.test_sent, line)
+    }
+
+    /// Puts all of its state but the settings onto a sheet: two lines, and one for each
+    /// unacknowledged frame. The line is for use meanwhile.
+    pub fn put_state<S: Sheet>(&self, sheet: &mut S, line: &mut Vec<u64>) -> Result<(), StateFault>
+        ensures lines { OnOk result (S.written sheet.new
+            ≡ S.written sheet.old ++ session_lines self.now) }
+        ensures savable { IsSavable self.now }
+    {
+        self.is_savable();
+        line.clear();
+        self.put_counters(line)?;
+        sheet.put(line.as_slice())?;
+        line.clear();
+        self.put_dues(line)?;
+        sheet.put(line.as_slice())?;
+        put_frames(&self.unacknowledged, sheet, line)
+    }
+
+    /// A session with these settings and the state that the lines tell. This takes memory: room
+    /// for k frames. `Wrong` says that the lines tell none.
+    pub fn read_state<L: Lines>(
+        alloc: Global,
+        k: u16,
+        w: u16,
+        t1: u64,
+        t2: u64,
+        t3: u64,
+        lines: &mut L,
+        line: &mut Vec<u64>,
+    ) -> Result<Session, StateFault>
+        requires k_in_range { (0 < k) × (k < 32768) }
+        requires w_in_range { (0 < w) × (w < 32768) }
+        ensures back { (s : Machine) (rest : List (List ℕ)) → IsSavable s →
+            HasSettings s k w t1 t2 t3 → L.coming lines.old ≡ session_lines s ++ rest →
+            MatchResult result (λ r. (r ≡ s) × (L.coming lines.new ≡ rest))
+            (λ fault. fault ≡ Wrong → ⊥) }
+        ensures settings { IfOk result (λ r. HasSettings r k w t1 t2 t3) }
+    {
+        let numbers = read_numbers(lines, line)?;
+        let dues = read_dues(lines, line)?;
+        if dues.frames > usize::from(k) {
+            return Err(StateFault::Wrong);
+        }
+        let Ok(mut unacknowledged) = HeapCircularBuffer::with_capacity(alloc, usize::from(k)) else {
+            return Err(StateFault::NoMemory);
+        };
+        read_frames(&mut unacknowledged, dues.frames, lines, line)?;
+        Ok(Session {
+            k,
+            w,
+            t1,
+            t2,
+            t3,
+            transfer: numbers.transfer,
+            unacknowledged,
+            acked_queue: numbers.acked_queue,
+            acked_own: numbers.acked_own,
+            next_sent: numbers.next_sent,
+            next_received: numbers.next_received,
+            unconfirmed: dues.unconfirmed,
+            unconfirmed_since: dues.unconfirmed_since,
+            last_frame: dues.last_frame,
+            test_sent: dues.test_sent,
+            reply: dues.reply,
+        })
     }
 }
 
