@@ -147,10 +147,17 @@ impl Session {
     }
 
     /// Whether data transfer is started and no STOPDT is pending. Without a connection it is false.
-    pub fn is_transferring(&self) -> bool
+    pub fn runs(&self) -> bool
         ensures { result ≡ is_transferring self.now }
     {
         matches!(self.transfer, Transfer::Started)
+    }
+
+    /// Another name of `runs`.
+    pub fn is_transferring(&self) -> bool
+        ensures { result ≡ is_transferring self.now }
+    {
+        self.runs()
     }
 
     /// Whether a STOPDT act isn't confirmed yet.
@@ -164,7 +171,7 @@ impl Session {
     pub fn may_send(&self) -> bool
         ensures { result ≡ can_send self.now }
     {
-        self.is_transferring() && self.unacknowledged.len() < usize::from(self.k)
+        self.runs() && self.unacknowledged.len() < usize::from(self.k)
     }
 
     /// Counts an I frame of this kind as sent now, and answers its N(S) and N(R).
@@ -252,7 +259,7 @@ impl Session {
         ensures { result ≡ outcome_of self.now (owned apdu.entry) }
     {
         match apdu {
-            ApduRef::I { .. } if !self.is_transferring() => Taken::Close(Close::Stopped),
+            ApduRef::I { .. } if !self.runs() => Taken::Close(Close::Stopped),
             ApduRef::I { ns, .. } if ns != self.next_received => Taken::Close(Close::SendNumber),
             ApduRef::I { nr, .. } if !self.is_valid(nr) => Taken::Close(Close::ReceiveNumber),
             ApduRef::I { .. } => Taken::Asdu,
@@ -369,7 +376,15 @@ impl Session {
 
     /// The next confirmation that is due, if any. A STOPDT act has an S frame first, where received
     /// I frames aren't acknowledged, and its STOPDT con once no sent I frame is unacknowledged.
-    pub fn confirm(&mut self) -> Option<Short>
+    pub fn confirm(&mut self) -> Option<Apdu>
+        ensures due { (result, self.new) ≡ confirmed self.old }
+        ensures fits { IfSome result Fits }
+    {
+        Some(self.confirm_short()?.to_apdu())
+    }
+
+    /// The answer and the state of `confirm`, with no room for an ASDU.
+    pub fn confirm_short(&mut self) -> Option<Short>
         ensures due { (option_map apdu_of result, self.new) ≡ confirmed self.old }
         ensures fits { IfSome result (λ frame. Fits (apdu_of frame)) }
     {
@@ -390,7 +405,15 @@ impl Session {
     }
 
     /// The S frame if one is due, else the TESTFR act if one is due.
-    pub fn pull(&mut self, now: u64) -> Option<Short>
+    pub fn pull(&mut self, now: u64) -> Option<Apdu>
+        ensures due { (result, self.new) ≡ pulled now self.old }
+        ensures fits { IfSome result Fits }
+    {
+        Some(self.pull_short(now)?.to_apdu())
+    }
+
+    /// The answer and the state of `pull`, with no room for an ASDU.
+    pub fn pull_short(&mut self, now: u64) -> Option<Short>
         ensures due { (option_map apdu_of result, self.new) ≡ pulled now self.old }
         ensures fits { IfSome result (λ frame. Fits (apdu_of frame)) }
     {
