@@ -5,3 +5,4 @@ pub mod Stream
 pub mod EachOctet
 pub mod WorkedExamples
 pub mod Following
+mod Resuming

@@ -1,11 +1,11 @@
 -- APDUs out of pieces of a stream of octets (this gateway's own profile: TCP cuts octets anywhere).
-use Rattle.std.specs.Prelude.{◌≡◌, ℕ, ◌+◌, ◌-◌, ◌^◌, min, List, [], ◌++◌, length, Option, Some, None}
+use Rattle.std.specs.Prelude.{◌≡◌, ℕ, ◌+◌, ◌-◌, ◌^◌, min, List, [], ◌∷◌, ◌++◌, length, All, Option, Some, None}
 use Rattle.apci.specs.declared.apdu.Apdu.{Apdu}
 use Rattle.apci.specs.declared.apdu.Front.TheVariants as front
 use Rattle.apci.specs.declared.assembling.Heard.{Heard}
 use Rattle.apci.specs.declared.assembling.Heard.TheVariants as heard
-use Rattle.apci.specs.Reading.{IsFront, IsDecidedAt}
-use Rattle.apci.specs.Spelling.{spelling}
+use Rattle.apci.specs.Reading.{IsFront, IsMore, IsDecidedAt}
+use Rattle.apci.specs.Spelling.{spelling, IsOctet}
 
 -- What contracts see of an assembler: the octets since the last APDU (none where it is deaf), the
 -- APDU that is whole and isn't taken yet, and how many octets it has looked at.
@@ -45,3 +45,14 @@ pub record IsHeardWhole (a : Apdu) (n : ℕ) (h : Heard) (after : Assembly) : Ty
   pub whole : after.whole ≡ Some a
   pub taken : n ≡ length (spelling a)
   pub listening : after.so_far ≡ Some []
+
+-- The octets since the last APDU as numbers, 1 before them; 0 alone where the assembler is deaf
+-- (profile).
+abbrev pub so_far_numbers : Option (List ℕ) → List ℕ
+so_far_numbers None = 0 ∷ []
+so_far_numbers (Some octets) = 1 ∷ octets
+
+-- octets that an assembler can have: an APDU may go on from them
+pub record IsResumable (octets : List ℕ) : Type 0 where
+  pub more : IsMore octets
+  pub octets_fit : All IsOctet octets

@@ -1,15 +1,18 @@
 //! APDUs out of pieces of a stream, with each octet looked at once.
 
-ghost use Rattle.std.specs.Prelude.{◌≡◌, ℕ, ◌+◌, ◌-◌, ◌^◌, ◌<◌, ◌≤◌, min, ◌↔◌, List, None, [], ◌∷◌, ◌++◌, length, Some, IfSome, IfNone, IsTrue};
+ghost use Rattle.std.specs.Prelude.{◌≡◌, ℕ, ◌+◌, ◌-◌, ◌^◌, ◌<◌, ◌≤◌, min, ◌↔◌, List, None, [], ◌∷◌, ◌++◌, length, Some, IfSome, IfNone, IsTrue, OnOk};
+ghost use Rattle.apci.specs.declared.assembling.Heard.{Heard};
 ghost use Rattle.apci.specs.declared.assembling.Heard.TheVariants.{Deaf as HeardDeaf};
 ghost use Rattle.apci.specs.declared.assembling.State.TheVariants as State;
-ghost use Rattle.apci.specs.Assembly.{Hears, HasLooked};
+ghost use Rattle.apci.specs.Assembly.{Hears, HasLooked, IsResumable, so_far_numbers};
+ghost use Rattle.apci.specs.Reading.{IsMore};
 ghost use Rattle.apci.specs.Progress.{so_far, whole, IsState, Gives};
 
 use crate::apdu::{Apdu, Short, Uf, Why};
 use crate::control::{Format, counter_of, format_of};
-use crate::writing::START;
+use crate::writing::{START, counter_octets};
 use arrayvec::ArrayVec;
+use std::alloc::AllocError;
 use std::marker::Model;
 use std::mem;
 
@@ -49,6 +52,55 @@ enum State {
     Information { ns: u16, nr: u16 },
     /// The first one: an S or U format is whole and isn't taken yet.
     Short(Short),
+}
+
+/// Puts octets behind a line of numbers.
+fn put_all(octets: &[u8], line: &mut Vec<u64>) -> Result<(), AllocError>
+    ensures { OnOk result (line.new.items ≡ line.old.items ++ octets.now) }
+{
+    for octet in octets {
+        line.push(u64::from(*octet))?;
+    }
+    Ok(())
+}
+
+impl State {
+    /// Puts the octets that it stands for behind a line of numbers.
+    fn put(self, asdu: &[u8], line: &mut Vec<u64>) -> Result<(), AllocError>
+        requires { IsState self asdu.now }
+        ensures { OnOk result (line.new.items
+            ≡ line.old.items ++ so_far_numbers (so_far self asdu.now)) }
+    {
+        match self {
+            State::Deaf => put_all(&[0], line),
+            State::Start | State::Information { .. } | State::Short(_) => put_all(&[1], line),
+            State::Length => put_all(&[1, START], line),
+            State::Control { len } => put_all(&[1, START, len], line),
+            State::ISecond { len, low } => put_all(&[1, START, len, low], line),
+            State::IThird { len, ns } => {
+                let ns = counter_octets(ns);
+                put_all(&[1, START, len, ns[0], ns[1]], line)
+            }
+            State::IFourth { len, ns, low } => {
+                let ns = counter_octets(ns);
+                put_all(&[1, START, len, ns[0], ns[1], low], line)
+            }
+            State::Asdu { len, ns, nr } => {
+                let ns = counter_octets(ns);
+                let nr = counter_octets(nr);
+                put_all(&[1, START, len, ns[0], ns[1], nr[0], nr[1]], line)?;
+                put_all(asdu, line)
+            }
+            State::SSecond => put_all(&[1, START, 4, 0x01], line),
+            State::SThird => put_all(&[1, START, 4, 0x01, 0x00], line),
+            State::SFourth { low } => put_all(&[1, START, 4, 0x01, 0x00, low], line),
+            State::USecond(function) => put_all(&[1, START, 4, function.octet()], line),
+            State::UThird(function) => put_all(&[1, START, 4, function.octet(), 0x00], line),
+            State::UFourth(function) => {
+                put_all(&[1, START, 4, function.octet(), 0x00, 0x00], line)
+            }
+        }
+    }
 }
 
 /// What one octet gives.
@@ -210,6 +262,34 @@ impl Assembler {
             asdu: ArrayVec::new(),
             looked: 0,
         }
+    }
+
+    /// An assembler that was fed these octets. Where an APDU may go on from them, it goes on.
+    pub fn resumed(octets: &[u8]) -> Self
+        ensures fed { (n : ℕ) × (heard : Heard) × Hears [] octets.now n heard result }
+        ensures so_far { IsMore octets.now → result.so_far ≡ Some octets.now }
+        ensures whole { IsMore octets.now → result.whole ≡ None }
+    {
+        let mut assembler = Assembler::new();
+        let _heard = assembler.feed(octets);
+        assembler
+    }
+
+    /// Puts the octets since the last APDU behind a line of numbers, or that it is deaf. An APDU
+    /// that is whole and isn't taken yet isn't put. `resumed` takes the octets up again.
+    pub fn put_so_far(&self, line: &mut Vec<u64>) -> Result<(), AllocError>
+        ensures line { OnOk result (line.new.items
+            ≡ line.old.items ++ so_far_numbers self.now.so_far) }
+        ensures resumable { IfSome self.now.so_far IsResumable }
+    {
+        self.state.put(&self.asdu, line)
+    }
+
+    /// Whether it hears nothing until `clear`, since octets before began no APDU.
+    pub fn is_deaf(&self) -> bool
+        ensures { IsTrue result ↔ (self.now.so_far ≡ None) }
+    {
+        matches!(self.state, State::Deaf)
     }
 
     /// Whether no octet has come since the last APDU, and that is taken: so it has kept nothing.

@@ -14,7 +14,7 @@ pub(crate) const START: u8 = 0x68;
 const LONGEST: usize = 255;
 
 /// N(S) or N(R) in two octets.
-fn counter_octets(n: u16) -> [u8; 2]
+pub(crate) fn counter_octets(n: u16) -> [u8; 2]
     requires { n < 2 ^ 15 }
     ensures { result ≡ counter n }
 {

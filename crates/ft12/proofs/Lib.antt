@@ -10,3 +10,4 @@ mod Computed
 mod Examples
 mod Following
 pub mod Rooms
+mod Resuming

@@ -61,3 +61,8 @@ pub record IsHeardWhole (size : LinkSize) (frame : Frame) (n : ℕ) (h : Heard)
   pub frame_is : h ≡ heard.Frame frame
   pub taken : n ≡ length (spelling size frame)
   pub listening : after ≡ Some []
+
+-- what an assembler has of the next frame, as numbers: 0 where it is deaf (profile)
+abbrev pub so_far_numbers : Option (List ℕ) → List ℕ
+so_far_numbers None = 0 ∷ []
+so_far_numbers (Some octets) = 1 ∷ octets

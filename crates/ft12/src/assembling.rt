@@ -1,12 +1,16 @@
 //! Frames out of pieces of a stream.
 
-ghost use Rattle.std.specs.Prelude.{◌≡◌, ◌+◌, ◌-◌, ◌^◌, ◌≤◌, ◌<◌, ◌↔◌, [], length, min, slice_index, Some, None, IfSome, IfNone, IsTrue, true, false};
+ghost use Rattle.std.specs.Prelude.{◌≡◌, ◌+◌, ◌-◌, ◌^◌, ◌≤◌, ◌<◌, ◌↔◌, ◌++◌, [], length, min, slice_index, Some, None, All};
+ghost use Rattle.std.specs.Prelude.{IfSome, IfNone, IsSome, OnOk, IsTrue, true, false};
 ghost use Rattle.ft12.specs.declared.assembling.Heard.TheVariants.{Deaf};
-ghost use Rattle.ft12.specs.Assembly.{Hears, HearsInner, looked_at};
+ghost use Rattle.ft12.specs.Assembly.{Hears, HearsInner, looked_at, so_far_numbers};
+ghost use Rattle.ft12.specs.Reading.{IsProperBeginning};
+ghost use Rattle.ft12.specs.Spelling.{IsOctet};
 
 use crate::frame::{Frame, LinkSize, Why};
 use crate::stage::{Data, Stage, Step};
 use arrayvec::ArrayVec;
+use std::alloc::AllocError;
 use std::marker::Model;
 
 /// What an assembler hears in a piece.
@@ -77,6 +81,44 @@ impl Assembler {
             stage: Some(Stage::Start),
             kept: ArrayVec::new(),
             looked: 0,
+        }
+    }
+
+    /// Puts what it has of the next frame behind a line of numbers: 0 where it is deaf, or else 1
+    /// and the octets, which `resumed` takes.
+    pub fn put_so_far(&self, line: &mut Vec<u64>) -> Result<(), AllocError>
+        ensures { OnOk result (line.new.items ≡ line.old.items ++ so_far_numbers self.now.so_far) }
+    {
+        match self.stage {
+            None => line.push(0)?,
+            Some(stage) => {
+                line.push(1)?;
+                stage.put(self.size, self.kept.as_slice(), line)?;
+            }
+        }
+        Ok(())
+    }
+
+    /// A law: what it has of the next frame is the beginning of one, so that `resumed` takes it.
+    pub fn is_resumable(&self)
+        ensures beginning { IfSome self.now.so_far (IsProperBeginning self.now.size) }
+        ensures octets { IfSome self.now.so_far (λ octets. All IsOctet octets) }
+    {
+        let _ = &self.stage;
+    }
+
+    /// An assembler to which these octets came since the last frame: where they are the beginning
+    /// of one.
+    pub fn resumed(size: LinkSize, octets: &[u8]) -> Option<Assembler>
+        ensures size { IfSome result (λ a. a.size ≡ size) }
+        ensures so_far { IfSome result (λ a. a.so_far ≡ Some octets.now) }
+        ensures taken { IsProperBeginning size octets.now → IsSome result }
+        ensures fresh { octets.now ≡ [] → IsSome result }
+    {
+        let mut assembler = Assembler::new(size);
+        match assembler.feed(octets).1 {
+            Heard::More => Some(assembler),
+            _ => None,
         }
     }
 

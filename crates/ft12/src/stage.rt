@@ -1,13 +1,14 @@
 //! What one octet adds to the beginning of a frame.
 
-ghost use Rattle.std.specs.Prelude.{◌≡◌, ℕ, List, ◌+◌, ◌≤◌, ◌<◌, [], ◌∷◌, ◌++◌, length};
+ghost use Rattle.std.specs.Prelude.{◌≡◌, ℕ, List, ◌+◌, ◌/◌, ◌%◌, ◌≤◌, ◌<◌, [], ◌∷◌, ◌++◌, length, OnOk};
 ghost use Rattle.ft12.specs.declared.frame.LinkSize.{LinkSize};
-ghost use Rattle.ft12.specs.Spelling.{address_len};
-ghost use Rattle.ft12.specs.Stage.{fields_octets, IsFields, head, IsStage, so_far, Steps, is_end, IsInner, EndsNoFrame};
+ghost use Rattle.ft12.specs.Spelling.{address_len, user};
+ghost use Rattle.ft12.specs.Stage.{fields_octets, IsFields, head, IsStage, so_far, Steps, is_end, IsInner, EndsNoFrame, summed_octets};
 
 use crate::frame::{Frame, LinkSize, Why};
 use crate::writing::{END, SINGLE, START_DATA, START_FIXED};
 use arrayvec::ArrayVec;
+use std::alloc::AllocError;
 use std::mem;
 
 /// The data of a frame, as far as they came.
@@ -342,5 +343,103 @@ fn at_second_start(len: u8, octet: u8) -> Step
         }))
     } else {
         Step::Never(3, Why::SecondStart)
+    }
+}
+
+/// Puts octets behind a line of numbers.
+fn put_all(octets: &[u8], line: &mut Vec<u64>) -> Result<(), AllocError>
+    ensures { OnOk result (line.new.items ≡ line.old.items ++ octets.now) }
+{
+    for octet in octets {
+        line.push(u64::from(*octet))?;
+    }
+    Ok(())
+}
+
+/// Puts control octet, address and data behind a line of numbers.
+fn put_user(
+    size: LinkSize,
+    c: u8,
+    a: u16,
+    kept: &[u8],
+    line: &mut Vec<u64>,
+) -> Result<(), AllocError>
+    ensures { OnOk result (line.new.items ≡ line.old.items ++ user size c a kept.now) }
+{
+    line.push(u64::from(c))?;
+    match size {
+        LinkSize::One => line.push(u64::from(a))?,
+        LinkSize::Two => {
+            line.push(u64::from(a % 256))?;
+            line.push(u64::from(a / 256))?;
+        }
+    }
+    put_all(kept, line)
+}
+
+impl Kind {
+    /// Puts the octets before the control octet behind a line of numbers.
+    fn put(self, len: u8, line: &mut Vec<u64>) -> Result<(), AllocError>
+        ensures { OnOk result (line.new.items ≡ line.old.items ++ head self len) }
+    {
+        match self {
+            Kind::Fixed => put_all(&[START_FIXED], line),
+            Kind::Variable => put_all(&[START_DATA, len, len, START_DATA], line),
+        }
+    }
+}
+
+impl Fields {
+    /// Puts the octets of the fields and of the data, as far as they came, behind a line of
+    /// numbers.
+    fn put(self, size: LinkSize, kept: &[u8], line: &mut Vec<u64>) -> Result<(), AllocError>
+        ensures { OnOk result (line.new.items
+            ≡ line.old.items ++ fields_octets size self kept.now) }
+    {
+        match self {
+            Fields::Nothing => Ok(()),
+            Fields::Control { c } => put_all(&[c], line),
+            Fields::LowAddress { c, low } => put_all(&[c, low], line),
+            Fields::Address { c, a } => put_user(size, c, a, kept, line),
+        }
+    }
+}
+
+impl Summed {
+    /// Puts all octets before the sum behind a line of numbers.
+    fn put(self, size: LinkSize, kept: &[u8], line: &mut Vec<u64>) -> Result<(), AllocError>
+        ensures { OnOk result (line.new.items
+            ≡ line.old.items ++ summed_octets size self kept.now) }
+    {
+        self.kind.put(self.len, line)?;
+        put_user(size, self.c, self.a, kept, line)
+    }
+}
+
+impl Stage {
+    /// Puts the octets that it stands for behind a line of numbers.
+    pub(crate) fn put(
+        self,
+        size: LinkSize,
+        kept: &[u8],
+        line: &mut Vec<u64>,
+    ) -> Result<(), AllocError>
+        ensures { OnOk result (line.new.items ≡ line.old.items ++ so_far size self kept.now) }
+    {
+        match self {
+            Stage::Start => Ok(()),
+            Stage::Length => put_all(&[START_DATA], line),
+            Stage::LengthAgain { len } => put_all(&[START_DATA, len], line),
+            Stage::SecondStart { len } => put_all(&[START_DATA, len, len], line),
+            Stage::User(summing) => {
+                summing.kind.put(summing.len, line)?;
+                summing.fields.put(size, kept, line)
+            }
+            Stage::Sum(summed) => summed.put(size, kept, line),
+            Stage::End(summed) => {
+                summed.put(size, kept, line)?;
+                put_all(&[summed.sum], line)
+            }
+        }
     }
 }

@@ -1,7 +1,8 @@
 -- What a state between two steps keeps and has counted.
 use Rattle.std.proofs.Common.{◌≡◌, [], ◌∷◌, length, drop, refl, ap, sym, subst, ◌∙◌, Option, Some, None}
-use Rattle.std.specs.Prelude.{IfSome, if◌then◌else◌}
+use Rattle.std.specs.Prelude.{IfSome, Bool, true, false, if◌then◌else◌}
 use Rattle.std.specs.List.{flat_map}
+use Rattle.std.specs.Bool.{OnTrue}
 use Rattle.std.proofs.Math.Seq.{drop-append_seam}
 use Rattle.events.specs.Queue.{kept}
 use Rattle.gateway.specs.Log.{Log, latest, tell}
@@ -18,6 +19,9 @@ use Rattle.gateway.specs.Phases.{resting}
 use Rattle.gateway.specs.State.{State}
 use Rattle.gateway.specs.Agrees.{Agrees, Carries, Follows}
 use Rattle.gateway.specs.Accounts.{IsAccounted}
+use Rattle.gateway.specs.Traffic.{IsFaithful}
+use Rattle.gateway.specs.Order.{KeepsOrder}
+use Rattle.gateway.proofs.Agreement.{faithful}
 use Rattle.gateway.proofs.Closing.{stands_now}
 use Rattle.gateway.proofs.Objects.{carries_end}
 
@@ -51,6 +55,18 @@ untold (Some log) = refl
 pub accounted : (p : Setup) (s : State) (told : Option Log) → Follows p s told → IfSome told (IsAccounted p s)
 accounted p s None h = tt
 accounted p s (Some log) h = accounted_at p s log h.0
+
+-- and so after a step, unless the device failed
+pub step_accounted : (result : Bool) (p : Setup) (s : State) (told : Option Log) → OnTrue result (Follows p s told)
+    → OnTrue result (IfSome told (IsAccounted p s))
+step_accounted true p s told h = accounted p s told h
+step_accounted false p s told h = tt
+
+-- the actions of each step keep their order
+pub ordered : (p : Setup) (s : State) (told : Option Log) → ((log : Log) → IsFaithful p log → KeepsOrder log)
+    → Follows p s told → IfSome told KeepsOrder
+ordered p s None law h = tt
+ordered p s (Some log) law h = law log (faithful p s log [] (resting log) h.0)
 
 -- at the end of a run, where no more has come
 pub ends_accounted : (e : End) (p : Setup) (s : State) (old new : Option Log) (news : Log) → Follows p s old

@@ -283,13 +283,13 @@ undue_by p s log unjudged phase a (inr h) =
 -- a frame is handed to TCP
 went_out : (s t : Centre) (octets : Channel) (unjudged : List ℕ) (c : Connection) (fs : List Sent) (f : Apdu)
     (h : Presently s octets unjudged c) → Fits f → session.is_open s.session ≡ true
-    → session.is_open t.session ≡ session.is_open s.session → t.so_far ≡ s.so_far →
+    → session.is_open t.session ≡ session.is_open s.session → t.so_far ≡ s.so_far → t.heard ≡ s.heard →
     fs ≡ data_frames (f ∷ h.put) → length c.sent_frames ≤ length fs →
     Tied (record { sent_frames = fs; received_frames = c.received_frames }) t.session t.queue.sent
     → IsNumberedFrom 0 fs →
     Presently t (sending octets (spelling f)) unjudged
     (record { sent_frames = fs; received_frames = c.received_frames })
-went_out s t octets unjudged c fs f h fits on same so bears more tied numbered = record {
+went_out s t octets unjudged c fs f h fits on same so heard bears more tied numbered = record {
   link = same ∙ h.link;
   none = λ off. absurd (false≢true (sym off ∙ sym h.link ∙ on));
   put = f ∷ h.put;
@@ -297,6 +297,7 @@ went_out s t octets unjudged c fs f h fits on same so bears more tied numbered =
   sent = bears;
   so_far = h.so_far;
   assembler = so ∙ h.assembler;
+  taken = heard ∙ h.taken;
   waits = h.waits;
   joined = h.joined;
   fit = h.fit;
@@ -423,7 +424,7 @@ after_piece p s log unjudged asdu rest phase a flushing ready may on none unsent
       offers = a.offers;
       plain = a.plain;
       here = went_out s.centre (piece_sent s).centre (present log) unjudged (here_of a.course) (a.course.sent ++ f
-          ∷ []) (next_frame s.centre.session asdu) a.here fits on refl refl
+          ∷ []) (next_frame s.centre.session asdu) a.here fits on refl refl refl
           (ap (λ xs. xs ++ f ∷ []) a.here.sent) (omega (arith, length-append a.course.sent (f ∷ [])))
           (subst (λ u. Tied (sent_more f (here_of a.course)) (session.sent FromQueue s.moment s.centre.session)
           (s.centre.queue.sent ++ take 1 u)) (sym unsent)
@@ -497,7 +498,7 @@ after_own p s log unjudged asdu phase a flushing ready may on first fits =
       offers = a.offers;
       plain = fewer_plain s.serial.commands.answers a.plain;
       here = went_out s.centre (own_sent s).centre (present log) unjudged (here_of a.course) (a.course.sent ++ f ∷ [])
-          (next_frame s.centre.session asdu) a.here fits on refl refl
+          (next_frame s.centre.session asdu) a.here fits on refl refl refl
           (ap (λ xs. xs ++ f ∷ []) a.here.sent) (omega (arith, length-append a.course.sent (f ∷ [])))
           (tied_own f s.moment (here_of a.course) s.centre.session s.centre.queue.sent a.here.tied may none)
           (numbered_more 0 a.course.sent f (a.here.tied.next
@@ -558,7 +559,7 @@ after_due p s t log unjudged f phase a flushing next on fits none goes same = re
   offers = a.offers;
   plain = a.plain;
   here = went_out s.centre (with_session t s).centre (present log) unjudged
-      (here_of a.course) a.course.sent f a.here fits on same.same_connected refl (a.here.sent
+      (here_of a.course) a.course.sent f a.here fits on same.same_connected refl refl (a.here.sent
       ∙ sym (none a.here.put)) (omega arith)
       (tied_same (here_of a.course) s.centre.session t s.centre.queue.sent same a.here.tied) a.here.numbered;
   left = left_out phase log s.moment _ _ unjudged a.left;

@@ -186,9 +186,9 @@ ended p s log unjudged phase a octets fault as_now stands = by_case octets.is_op
 pub fresh : (s : Centre) (octets : Channel) → s.session.k < 32768 → session.is_open s.session ≡ octets.is_open
     → (octets.is_open ≡ false → octets ≡ no_channel) → octets.sent ≡ [] → octets.received ≡ []
     → is_transferring s.session ≡ false → s.session.next_received ≡ 0 → s.session.next_sent ≡ 0
-    → s.session.unacknowledged ≡ [] → s.queue.sent ≡ [] → s.so_far ≡ Some [] →
+    → s.session.unacknowledged ≡ [] → s.queue.sent ≡ [] → s.so_far ≡ Some [] → s.heard ≡ None →
     Presently s octets [] new_connection
-fresh s octets small link none sent received stopped first next us queued so = record {
+fresh s octets small link none sent received stopped first next us queued so taken = record {
   link = link;
   none = λ h. (none h, refl);
   put = [];
@@ -196,6 +196,7 @@ fresh s octets small link none sent received stopped first next us queued so = r
   sent = refl;
   so_far = [];
   assembler = so;
+  taken = taken;
   waits = nothing_waits;
   joined = received;
   fit = tt;
@@ -217,6 +218,15 @@ fresh s octets small link none sent received stopped first next us queued so = r
 }
 
 -- The connection is closed
+
+not_asked : (cause : Close) → IsCloseAt cause Asked → ⊥
+not_asked Timeout h = h
+not_asked Grammar h = h
+not_asked SendNumber h = h
+not_asked ReceiveNumber h = h
+not_asked Stopped h = h
+not_asked OwnAnswers h = h
+not_asked Replaced h = h
 
 not_fresh : (cause : Close) → IsCloseAt cause Fresh → ⊥
 not_fresh Timeout h = h
@@ -298,6 +308,17 @@ works_due Stopped at w = refl
 works_due OwnAnswers at w = refl
 works_due Replaced at w = refl
 
+-- before the step's request
+closing_due : (cause : Close) (phase : Phase) (at : ℕ) (room : Bool) (w : Works) → IsCloseAt cause phase
+    → IsAsked phase at room w → w.is_due ≡ true
+closing_due cause Taking at room w timely h = h
+closing_due cause Idle at room w timely h = h
+closing_due cause Crowded at room w timely h = h
+closing_due cause Timed at room w timely h = h
+closing_due cause Judged at room w timely h = h
+closing_due cause Fresh at room w timely h = absurd (not_fresh cause timely)
+closing_due cause Asked at room w timely h = absurd (not_asked cause timely)
+
 closed_asks : (cause : Close) (phase : Phase) (at : ℕ) (room other : Bool) (w : Works) → IsCloseAt cause phase
     → IsAsked phase at room w → IsAsked (after_closing phase) at other (cut_works (works_at cause at w))
 closed_asks cause Taking at room other w timely h = works_due cause at w ∙ h
@@ -315,16 +336,7 @@ closed_asks cause Crowded at room other w timely h = works_due cause at w ∙ h
 closed_asks cause Timed at room other w timely h = works_due cause at w ∙ h
 closed_asks cause Judged at room other w timely h = absurd (not_judged cause timely)
 closed_asks cause Fresh at room other w timely h = absurd (not_fresh cause timely)
-closed_asks cause Asked at room other w timely h = absurd (never cause timely)
-  where
-    never : (cause : Close) → IsCloseAt cause Asked → ⊥
-    never Timeout h = h
-    never Grammar h = h
-    never SendNumber h = h
-    never ReceiveNumber h = h
-    never Stopped h = h
-    never OwnAnswers h = h
-    never Replaced h = h
+closed_asks cause Asked at room other w timely h = absurd (not_asked cause timely)
 
 closed_phase : (phase : Phase) (log : Log) (now : ℕ) (cause : Close) → IsCloseAt cause phase
     → IsPhase (after_closing phase) (Went now (Closed cause) ∷ log)
@@ -372,6 +384,7 @@ after_close laws p s log unjudged cause phase fault a on last timely stands why 
           ∙ ap (λ b. ended_course b (works_at cause (latest log) a.course.works) a.course)
           (sym (same_open cause (present log)))),
       why,
+      closing_due cause phase (latest log) (room_in p log a.course) a.course.works timely a.stands.asks,
     ) in
     let talk : Talks p (session.closed s.centre.session) new course =
     talk_cut p s.centre.session s.centre.session log new a.course course a.talk refl refl runs in
@@ -401,7 +414,7 @@ after_close laws p s log unjudged cause phase fault a on last timely stands why 
       plain = tt;
       here = subst (λ octets. Presently (disconnected s).centre octets [] new_connection) (sym shut)
           (fresh (disconnected s).centre no_channel a.here.tied.small refl
-          (λ h. refl) refl refl refl refl refl refl refl refl);
+          (λ h. refl) refl refl refl refl refl refl refl refl refl);
       left = closed_left phase new [] cause timely;
       carries = end.carries;
       before = record {

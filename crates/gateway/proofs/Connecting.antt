@@ -64,6 +64,7 @@ goes_on p s t old now event left fits octets unjudged c h w =
       sent = w.sent;
       so_far = w.so_far;
       assembler = w.assembler;
+      taken = w.taken;
       waits = w.waits;
       joined = w.joined;
       fit = w.fit;
@@ -251,7 +252,7 @@ come_cut laws p s t log now fits rest a h =
       offers = offers_cut laws t.serial.line (tasks.closed t.serial.commands);
       plain = tt;
       here = fresh (disconnected t).centre no_channel (small laws p s t log now CutOff fits rest a h) refl
-          (λ h. refl) refl refl refl refl refl refl refl refl;
+          (λ h. refl) refl refl refl refl refl refl refl refl refl;
       left = refl;
       carries = over_carries laws p s t log now CutOff fits rest a h;
       before = record {
@@ -294,7 +295,7 @@ module _ (laws : LineLaws) (p : Setup) (s t : State) (log : Log) (now : ℕ) (fi
 
   opened_here : Presently (connected (disconnected t)).centre new_channel [] new_connection
   opened_here = fresh (connected (disconnected t)).centre new_channel
-      (small laws p s t log now Opened fits rest a h) refl (λ h. cc) refl refl refl refl refl refl refl refl
+      (small laws p s t log now Opened fits rest a h) refl (λ h. cc) refl refl refl refl refl refl refl refl refl
 
   -- as it is once the close of the one before it, if any, has gone out
   pub come_open : session.is_open t.centre.session ≡ false
@@ -337,6 +338,7 @@ module _ (laws : LineLaws) (p : Setup) (s t : State) (log : Log) (now : ℕ) (fi
         opened_runs,
         refl,
         sym a.here.link ∙ sym (ap (λ (c : Centre). session.is_open c.session) h.centre) ∙ on,
+        h.due,
       ) in
       let was : is_replaced (Came now Opened ∷ log) ≡ true = sym a.here.link
       ∙ sym (ap (λ (c : Centre). session.is_open c.session) h.centre) ∙ on in
@@ -435,6 +437,7 @@ come_bytes p s t log now octets fits settled_fits rest a h =
             sent = w.sent;
             so_far = w.so_far;
             assembler = w.assembler;
+            taken = w.taken;
             waits = w.waits;
             joined = joined_now;
             fit = w.fit;

@@ -41,7 +41,7 @@ use Rattle.gateway.specs.declared.walls.Wall.{Wall}
 use Rattle.gateway.specs.State.{State, with_wall, with_serial, at_moment, line_timed, settled, disconnected, connected, after_request as after_next}
 use Rattle.gateway.specs.Steps.{HearsEvent, Begins, MayClose}
 use Rattle.gateway.specs.Agrees.{Talks, Agrees, OffersWait, ArePlain, Tracks, Awaits, Leaves, Follows, HasCome, Rests, Carries, IsClear, IsUndue, IsSpent, pending}
-use Rattle.gateway.proofs.Working.{gap_in, settled_without_gap, settled_placed, put_placed}
+use Rattle.gateway.proofs.Working.{gap_in, settled_gap, settled_placed, put_placed}
 use Rattle.gateway.proofs.Offering.{offers_stay, offers_made, offers_asked, offers_unasked}
 use Rattle.gateway.proofs.Closing.{stands_now, stands_overfull}
 use Rattle.gateway.proofs.Agreement.{has_places, same_room}
@@ -400,6 +400,10 @@ pub told_settled : (p : Setup) (told : Option Log) (s t : State) → t ≡ settl
 told_settled p None s t is h = tt
 told_settled p (Some log) s t is a = subst (λ x. Agrees p x log [] Timed) (sym is) (now_settled p s log a)
 
+-- and each gap stays told
+pub still_told : (s t : State) → t ≡ settled s → s.serial.gap ≡ None → t.serial.gap ≡ None
+still_told s t is none = ap (λ (x : State). x.serial.gap) is ∙ settled_gap s.moment s.serial ∙ none
+
 -- A gap is told
 
 one_more : (b : Bool) (xs : List ℕ) (session : ℕ) → (if b then xs ++ session ∷ [] else xs) ≡ xs
@@ -407,7 +411,7 @@ one_more : (b : Bool) (xs : List ℕ) (session : ℕ) → (if b then xs ++ sessi
 one_more true xs session = refl
 one_more false xs session = sym (append-nil xs)
 
-module _ (p : Setup) (s : State) (log : Log) (a : Agrees p s log [] Timed) (gap : Gap) (some : s.serial.gap
+module _ (p : Setup) (s : State) (log : Log) (a : Agrees p s log [] Idle) (gap : Gap) (some : s.serial.gap
     ≡ Some gap) where
   abbrev gap_log : Log
   gap_log = Went s.moment (GapOut gap.station gap.session) ∷ log
@@ -422,8 +426,7 @@ module _ (p : Setup) (s : State) (log : Log) (a : Agrees p s log [] Timed) (gap 
     record {
       all = all_taken log a.course a.here.so_far a.here.joined a.here.waits;
       due = a.stands.asks;
-      gap = sym (gap_in Timed (latest log) (room_in p log a.course) a.course.works)
-          ∙ ap (λ (z : Serial). z.gap) (sym a.stands.does) ∙ some;
+      gap = ap (λ (z : Serial). z.gap) (sym a.stands.does) ∙ some;
       is = refl;
     },
   )
@@ -435,7 +438,7 @@ module _ (p : Setup) (s : State) (log : Log) (a : Agrees p s log [] Timed) (gap 
   tells_gap i = one_more (gap.station == i) (gaps_told i log) gap.session
       ∙ ap (λ g. gaps_told i log ++ gap_for i g) (sym some) ∙ a.gaps i
 
-  pub gap_told : Agrees p (with_serial (serial.without_gap s.serial) s) gap_log [] Timed
+  pub gap_told : Agrees p (with_serial (serial.without_gap s.serial) s) gap_log [] Idle
   gap_told = record {
     k = a.k;
     sizes = a.sizes;
@@ -448,8 +451,7 @@ module _ (p : Setup) (s : State) (log : Log) (a : Agrees p s log [] Timed) (gap 
     course = after_gap;
     talk = gap_talk;
     stands = record {
-      does = ap serial.without_gap a.stands.does
-          ∙ sym (settled_without_gap (latest log) a.course.works.serial);
+      does = ap serial.without_gap a.stands.does;
       asks = a.stands.asks;
       phase_is = tt;
       placed =
@@ -473,17 +475,17 @@ module _ (p : Setup) (s : State) (log : Log) (a : Agrees p s log [] Timed) (gap 
 pub told_gap : (result : Bool) (p : Setup) (told after : Option Log) (s t : State) (gap : Gap) (now : ℕ)
     → s.serial.gap ≡ Some gap → now ≡ s.moment → t ≡ with_serial (serial.without_gap s.serial) s
     → after ≡ (if result then tell told (Went now (GapOut gap.station gap.session) ∷ []) else told)
-    → Tracks p s told [] Timed →
-    Leaves result p t after [] Timed
+    → Tracks p s told [] Idle →
+    Leaves result p t after [] Idle
 told_gap true p told after s t gap now some same is e h = rw (e, same, is) (by_log told h)
   where
-    by_log : (told : Option Log) → Tracks p s told [] Timed
+    by_log : (told : Option Log) → Tracks p s told [] Idle
         → Tracks p (with_serial (serial.without_gap s.serial) s)
-        (tell told (Went s.moment (GapOut gap.station gap.session) ∷ [])) [] Timed
+        (tell told (Went s.moment (GapOut gap.station gap.session) ∷ [])) [] Idle
     by_log None h = tt
     by_log (Some log) a = gap_told p s log a gap some
 told_gap false p told after s t gap now some same is e h =
-    subst (λ l. IfSome l (IsFaithful p)) (sym e) (told_faithful p told s [] Timed h)
+    subst (λ l. IfSome l (IsFaithful p)) (sym e) (told_faithful p told s [] Idle h)
 
 -- where there is none nothing changes
 pub no_gap_told : (s t : State) → s.serial.gap ≡ None → t ≡ with_serial (serial.without_gap s.serial) s → t ≡ s

@@ -88,6 +88,7 @@ after_heard p s log unjudged rest f a on ready undue past so fits whole passes f
         sent = a.here.sent;
         so_far = [];
         assembler = so;
+        taken = a.here.taken;
         waits = nothing_waits;
         joined = joined;
         fit = (fits, a.here.fit);
@@ -145,6 +146,7 @@ with_so_far p s log unjudged rest so_far phase a waits joined left = record {
     sent = a.here.sent;
     so_far = so_far;
     assembler = refl;
+    taken = refl;
     waits = waits;
     joined = joined;
     fit = a.here.fit;

@@ -37,3 +37,4 @@ pub mod Accounting
 pub mod Tallies
 pub mod Order
 pub mod Moments
+pub mod Between

@@ -22,21 +22,21 @@ use Rattle.gateway.specs.Frames.{Connection}
 use Rattle.gateway.specs.Connections.{is_replaced, Channel, new_channel, present, BeginsWithFault, IsConnection}
 use Rattle.gateway.specs.Reports.{Setup}
 use Rattle.gateway.specs.Works.{Works, has_lacked_place, answered_works, sent_works, ready_works}
-use Rattle.gateway.specs.Serial.{is_first_command}
-use Rattle.gateway.specs.Course.{Course, came_frames, with_frames, told_sent, closed_course, Runs}
+use Rattle.gateway.specs.Serial.{Serial, is_first_command}
+use Rattle.gateway.specs.Course.{Course, came_frames, with_frames, told_sent, closed_course, IsCause, Runs}
 use Rattle.gateway.specs.Conversation.{KeepsRulesSoFar, KeepsRulesThroughout}
 use Rattle.gateway.specs.Traffic.{HasCause, replaces, GoesOut, ActsRightly}
-use Rattle.gateway.specs.Order.{step_actions, is_request, is_close, MayFollow, KeepsOrder}
-use Rattle.gateway.proofs.Working.{settled_placed, put_placed}
+use Rattle.gateway.specs.Order.{step_actions, is_request, is_close, is_late, MayFollow, KeepsOrder}
+use Rattle.gateway.proofs.Working.{settled_gap, settled_placed, put_placed}
 
 -- One request
 
-frames_due : (p : Setup) (frames : List Apdu) (at : ℕ) (wall : Option ℕ) (c : Course)
+pub frames_due : (p : Setup) (frames : List Apdu) (at : ℕ) (wall : Option ℕ) (c : Course)
     → (with_frames p frames at wall c).works.is_due ≡ c.works.is_due
 frames_due p [] at wall c = refl
 frames_due p (f ∷ fs) at wall c = frames_due p fs at wall c
 
-sent_due : (f : Apdu) (w : Works) → (sent_works f w).is_due ≡ w.is_due
+pub sent_due : (f : Apdu) (w : Works) → (sent_works f w).is_due ≡ w.is_due
 sent_due (I ns nr asdu) w = by_objects (has_objects asdu.items)
   where
     by_objects : (b : Bool) → (if b then w else answered_works w).is_due ≡ w.is_due
@@ -45,7 +45,7 @@ sent_due (I ns nr asdu) w = by_objects (has_objects asdu.items)
 sent_due (S nr) w = refl
 sent_due (U u) w = refl
 
-closed_due : (p : Setup) (cause : Close) (is_open : Bool) (at : ℕ) (c : Course)
+pub closed_due : (p : Setup) (cause : Close) (is_open : Bool) (at : ℕ) (c : Course)
     → (closed_course p cause is_open at c).works.is_due ≡ c.works.is_due
 closed_due p Grammar is_open at c = refl
 closed_due p SendNumber is_open at c = refl
@@ -69,6 +69,68 @@ none_due p (Went now (TcpOut octets) ∷ log) c r h =
 none_due p (Went now (Closed cause) ∷ log) c r h =
     ap (λ (d : Course). d.works.is_due) r.2 ∙ closed_due p cause (present log).is_open (latest log) r.0
     ∙ none_due p log r.0 r.1 h
+
+-- The gap of an event goes out before the timers
+
+-- frames that come, and one that goes out, change nothing of the line's side but commands
+pub frames_others : (p : Setup) (frames : List Apdu) (at : ℕ) (wall : Option ℕ) (c : Course)
+    → (with_frames p frames at wall c).works.serial
+    ≡ record c.works.serial { commands = (with_frames p frames at wall c).works.serial.commands }
+frames_others p [] at wall c = refl
+frames_others p (f ∷ fs) at wall c =
+    ap (λ (s : Serial). let more : Serial = record s {
+      commands = (with_frames p (f ∷ fs) at wall c).works.serial.commands;
+    } in more) (frames_others p fs at wall c)
+
+pub sent_others : (f : Apdu) (w : Works)
+    → (sent_works f w).serial ≡ record w.serial { commands = (sent_works f w).serial.commands }
+sent_others (I ns nr asdu) w = by_objects (has_objects asdu.items)
+  where
+    by_objects : (b : Bool) → (if b then w else answered_works w).serial
+        ≡ record w.serial { commands = (if b then w else answered_works w).serial.commands }
+    by_objects true = refl
+    by_objects false = refl
+sent_others (S nr) w = refl
+sent_others (U u) w = refl
+
+closed_gap : (p : Setup) (cause : Close) (is_open : Bool) (at : ℕ) (c : Course) → c.works.serial.gap ≡ None
+    → (closed_course p cause is_open at c).works.serial.gap ≡ None
+closed_gap p Grammar is_open at c h = h
+closed_gap p SendNumber is_open at c h = h
+closed_gap p ReceiveNumber is_open at c h = h
+closed_gap p Stopped is_open at c h = h
+closed_gap p Timeout is_open at c h = settled_gap at c.works.serial ∙ h
+closed_gap p OwnAnswers is_open at c h = h
+closed_gap p Replaced is_open at c h = h
+
+told_before : (p : Setup) (log : Log) (cause : Close) (c : Course) → IsCause p log cause c
+    → (list_any is_late (step_actions log) ≡ true → c.works.serial.gap ≡ None)
+    → list_any is_late (Closed cause ∷ step_actions log) ≡ true → c.works.serial.gap ≡ None
+told_before p log Grammar c why told h = told h
+told_before p log SendNumber c why told h = told h
+told_before p log ReceiveNumber c why told h = told h
+told_before p log Stopped c why told h = told h
+told_before p log Timeout c why told h = why.told
+told_before p log OwnAnswers c why told h = told h
+told_before p log Replaced c why told h = told h
+
+-- once the timers have closed a connection, the step has no gap left to tell
+late_told : (p : Setup) (log : Log) (c : Course) → Runs p log c → list_any is_late (step_actions log) ≡ true
+    → c.works.serial.gap ≡ None
+late_told p [] c r h = cc
+late_told p (Came now event ∷ log) c r h = cc
+late_told p (Went now (LineOut octets) ∷ log) c r h = ap (λ (d : Course). d.works.serial.gap) r.2.is
+    ∙ settled_gap (latest log) r.0.works.serial ∙ r.2.told
+late_told p (Went now (GapOut station session) ∷ log) c r h = ap (λ (d : Course). d.works.serial.gap) r.2.is
+late_told p (Went now (TcpOut octets) ∷ log) c r h =
+    ap (λ (d : Course). d.works.serial.gap) r.4.taken
+    ∙ ap (λ (s : Serial). s.gap) (frames_others p r.4.frames (latest log) _ r.1)
+    ∙ ap (λ (d : Course). d.works.serial.gap) r.3.put
+    ∙ ap (λ (s : Serial). s.gap) (sent_others r.3.frame r.0.works) ∙ late_told p log r.0 r.2 h
+late_told p (Went now (Closed cause) ∷ log) c r h =
+    ap (λ (d : Course). d.works.serial.gap) r.2
+    ∙ closed_gap p cause (present log).is_open (latest log) r.0
+    (told_before p log cause r.0 r.3 (λ late. late_told p log r.0 r.1 late) h)
 
 -- A connection that has just been opened
 
@@ -285,6 +347,9 @@ no_close p log now cause settled (inr h) g = unclosed p log cause h g.replaced g
 
 -- Each action
 
+none_and_some : {A : Type 0} {x : A} → ◌≡◌ {A = Option A} None (Some x) → ⊥
+none_and_some e = cc
+
 not_true : (b : Bool) → (b ≡ true → ⊥) → b ≡ false
 not_true true h = absurd (h refl)
 not_true false h = refl
@@ -295,15 +360,21 @@ may_follow : (p : Setup) (log : Log) (now : ℕ) (action : Output) → 0 < p.ses
 may_follow p log now (LineOut octets) some long k g acts order =
     not_true (list_any is_request (step_actions log)) (λ h.
     let no : false ≡ true = sym (none_due p log k.runs.0 k.runs.1 h) ∙ k.runs.2.due in absurd (cc))
-may_follow p log now (GapOut station session) some long k g acts order =
-    not_true (list_any is_request (step_actions log)) (λ h.
-    let no : false ≡ true = sym (none_due p log k.runs.0 k.runs.1 h) ∙ k.runs.2.due in absurd (cc))
+may_follow p log now (GapOut station session) some long k g acts order = (
+  not_true (list_any is_late (step_actions log)) (λ h.
+      none_and_some (sym (late_told p log k.runs.0 k.runs.1 h) ∙ k.runs.2.gap)),
+  not_true (list_any is_request (step_actions log)) (λ h.
+      let no : false ≡ true = sym (none_due p log k.runs.0 k.runs.1 h) ∙ k.runs.2.due in absurd (cc)),
+)
 may_follow p log now (TcpOut octets) some long k g acts order =
     not_true (list_any is_close (step_actions log)) (λ h. no_octets p log now octets some long
     (after_close p log acts order h) k g)
-may_follow p log now (Closed cause) some long k g acts order =
-    not_true (list_any is_close (step_actions log)) (λ h. no_close p log now cause (settled_after log h)
-    (after_close p log acts order h) g)
+may_follow p log now (Closed cause) some long k g acts order = (
+  not_true (list_any is_close (step_actions log)) (λ h. no_close p log now cause (settled_after log h)
+      (after_close p log acts order h) g),
+  not_true (list_any is_request (step_actions log)) (λ h.
+      let no : false ≡ true = sym (none_due p log k.runs.0 k.runs.1 h) ∙ k.runs.4 in absurd (cc)),
+)
 
 pub keeps_order : (p : Setup) → 0 < p.session.w → 0 < p.session.t3 → (log : Log) → KeepsRulesThroughout p log
     → ActsRightly p log → KeepsOrder log

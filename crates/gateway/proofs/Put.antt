@@ -9,7 +9,7 @@ use Rattle.apci.specs.Spelling.{spelling, Fits}
 use Rattle.session.specs.declared.kinds.Close.{Close}
 use Rattle.session.specs.Session as session
 use Rattle.session.specs.Session.{Session, may_send, is_transferring}
-use Rattle.gateway.specs.Log.{Log, events_of, Went, Output, TcpOut, Closed, tell}
+use Rattle.gateway.specs.Log.{latest, Log, events_of, Went, Output, TcpOut, Closed, tell}
 use Rattle.gateway.specs.Reports.{Setup}
 use Rattle.gateway.specs.Traffic.{IsFaithful}
 use Rattle.gateway.specs.Runs.{events_told}
@@ -28,7 +28,9 @@ use Rattle.gateway.specs.Agrees.{IsClear, Agrees, Tracks, Awaits, Leaves, Rests,
 use Rattle.gateway.specs.Steps.{SendsPiece, SendsOwn, SendsData, MayClose}
 use Rattle.gateway.proofs.Tied.{SameWindow}
 use Rattle.gateway.proofs.Talking.{HasNoData, confirms, pulls, patient, all_taken, confirmed_by, late_by, confirm_t1, pull_t1}
-use Rattle.gateway.specs.Course.{IsFlushed, HasBegun}
+use Rattle.gateway.specs.Course.{room_in, IsFlushed, HasBegun}
+use Rattle.gateway.specs.Serial.{Serial}
+use Rattle.gateway.proofs.Working.{gap_in}
 use Rattle.gateway.proofs.Agreement.{flushed_by, begun_by, GoesOut, faithful, after_piece, after_own, after_due}
 use Rattle.gateway.proofs.Hearing.{now_taking}
 use Rattle.gateway.proofs.Closing.{stands_now, after_close, rested}
@@ -368,9 +370,10 @@ late_some : (b : Bool) (cause : Close) → Some cause ≡ (if b then Some Timeou
 late_some true cause e = let is : cause ≡ Timeout = cc in (is, refl)
 late_some false cause e = cc
 
-late_closes : (p : Setup) (s : State) (log : Log) → session.timed_out s.moment s.centre.session ≡ true
+late_closes : (p : Setup) (s : State) (log : Log) → s.serial.gap ≡ None
+    → session.timed_out s.moment s.centre.session ≡ true
     → Agrees p s log [] Timed → MayClose p s Timeout Timed log
-late_closes p s log late a =
+late_closes p s log told late a =
     let on : session.is_open s.centre.session ≡ true =
     (and_parts (session.is_open s.centre.session)
     (session.is_late s.moment s.centre.session s.centre.session.unacknowledged
@@ -390,18 +393,20 @@ late_closes p s log late a =
       why = record {
         all = all_taken log a.course a.here.so_far a.here.joined a.here.waits;
         placed = a.stands.placed (sym a.here.link ∙ on);
+        told = sym (gap_in Timed (latest log) (room_in p log a.course) a.course.works)
+            ∙ ap (λ (z : Serial). z.gap) (sym a.stands.does) ∙ told;
         late = subst (λ m. has_timed_out p.session.t1 m a.course.talk ≡ true) a.clock
             (sym (late_by p s.centre.session log a.course a.talk s.moment) ∙ late);
       };
     }
 
 pub told_late : (p : Setup) (told : Option Log) (s : State) (cause : Close)
-    → Some cause ≡ (if session.timed_out s.moment s.centre.session then Some Timeout else None)
+    → Some cause ≡ (if session.timed_out s.moment s.centre.session then Some Timeout else None) → s.serial.gap ≡ None
     → Tracks p s told [] Timed → IfSome told (MayClose p s cause Timed)
-told_late p None s cause e h = tt
-told_late p (Some log) s cause e a =
+told_late p None s cause e none h = tt
+told_late p (Some log) s cause e none a =
     let late = late_some (session.timed_out s.moment s.centre.session) cause e in
-    subst (λ x. MayClose p s x Timed log) (sym late.0) (late_closes p s log late.1 a)
+    subst (λ x. MayClose p s x Timed log) (sym late.0) (late_closes p s log none late.1 a)
 
 -- Confirmations
 

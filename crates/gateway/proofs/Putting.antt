@@ -1,5 +1,5 @@
 -- What parts of a step leave of their port, one after another.
-use Rattle.std.proofs.Common.{◌≡◌, ℕ, ◌+◌, ◌<◌, List, Option, arith, refl, ◌∙◌}
+use Rattle.std.proofs.Common.{ℕ, ◌<◌, Option, arith, refl, ◌∙◌}
 use Rattle.gateway.specs.Log.{Log}
 use Rattle.gateway.specs.Runs.{Puts}
 

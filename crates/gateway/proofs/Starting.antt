@@ -90,7 +90,7 @@ at_first c starts laws commands line_laws rules timely = record {
   offers = λ k octets e. absurd (no_offer k octets e);
   plain = tt;
   here = fresh (first_state c).centre no_channel timely.range.k_small refl
-      (λ h. refl) refl refl refl refl refl refl refl refl;
+      (λ h. refl) refl refl refl refl refl refl refl refl refl;
   left = refl;
   carries = record { whole = refl; gone = []; front = refl; joined = refl; count = refl };
   before = record { are = tt; orders = tt; times = tt; acts = tt; rests = tt };

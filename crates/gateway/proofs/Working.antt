@@ -185,7 +185,7 @@ answers_in Asked at room w = by_due w.is_due
 
 -- and the log's gap
 
-settled_gap : (at : ℕ) (s : Serial) → (settled at s).gap ≡ s.gap
+pub settled_gap : (at : ℕ) (s : Serial) → (settled at s).gap ≡ s.gap
 settled_gap at s = by_silent s.silent
   where
     by_silent : (o : Option ℕ) → (unless_silent o s).gap ≡ s.gap
@@ -204,16 +204,6 @@ gap_in Asked at room w = by_due w.is_due
     by_due : (b : Bool) → (if b then unasked_works at room (ready_works at w) else w).serial.gap ≡ w.serial.gap
     by_due true = settled_gap at w.serial
     by_due false = refl
-
-pub settled_without_gap : (at : ℕ) (s : Serial) → settled at (without_gap s) ≡ without_gap (settled at s)
-settled_without_gap at s = by_silent s.silent
-  where
-    after : Serial → Serial
-    after t = record t { commands = tasks.timed at t.commands; silent = None }
-
-    by_silent : (o : Option ℕ) → after (unless_silent o (without_gap s)) ≡ without_gap (after (unless_silent o s))
-    by_silent None = refl
-    by_silent (Some i) = refl
 
 -- A request goes out
 

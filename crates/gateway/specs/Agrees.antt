@@ -92,6 +92,8 @@ pub record Presently (s : Centre) (octets : Channel) (unjudged : List ℕ)
   pub sent : c.sent_frames ≡ data_frames put
   pub so_far : List ℕ
   pub assembler : s.so_far ≡ Some so_far
+  -- no whole frame waits to be taken
+  pub taken : s.heard ≡ None
   pub waits : IsMore so_far
   pub joined : octets.received ≡ spelled c.received_frames ++ (so_far ++ unjudged)
   pub fit : AllFit c.received_frames

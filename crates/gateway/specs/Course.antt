@@ -206,10 +206,12 @@ pub record StandsNext (p : Setup) (log : Log) (cause : Close) (c : Course) : Typ
   pub placed : has_lacked_place c.works.history ≡ false
 
 -- An I frame or a test has been without an answer for t1 (5.2), and no cause stands before it: all
--- that came was taken without fault, and each own answer found a place.
+-- that came was taken without fault, each own answer found a place, and the gap of the event is
+-- told.
 pub record IsLate (p : Setup) (log : Log) (c : Course) : Type 0 where
   pub all : HasTakenAll (present log) c.talk
   pub placed : has_lacked_place c.works.history ≡ false
+  pub told : c.works.serial.gap ≡ None
   pub late : has_timed_out p.session.t1 (latest log) c.talk ≡ true
 
 -- Why a connection is closed, where the course is so far: an answer is late; the own answer of the
@@ -277,8 +279,8 @@ Comes p log at Opened c d = d
     ≡ opened_course at (ended_course (present log).is_open (begun_works at c.works) c)
 Comes p log at CutOff c d = d ≡ ended_course (present log).is_open (begun_works at c.works) c
 
--- The gap of the session that the event's octets have ended is told, once all that came is taken
--- and before the step's request.
+-- The gap of the session that the event's octets have ended is told, once all that came is taken,
+-- and before the step's timers and its request.
 pub record TellsGap (log : Log) (station session : ℕ) (before after : Course) : Type 0 where
   pub all : HasTakenAll (present log) before.talk
   pub due : before.works.is_due ≡ true
@@ -309,7 +311,8 @@ pub record SendsNext (p : Setup) (log : Log) (octets : List ℕ)
 
 -- The course that the log shows. When an event comes all whole frames received before are taken,
 -- and the step before has done what was due. Frames are taken of an event's octets, before and
--- between the frames that go out in its step. A connection is closed where the cause stands.
+-- between the frames that go out in its step. A connection is closed where the cause stands,
+-- before the step's request.
 abbrev pub Runs : Setup → Log → Course → Type 0
 Runs p [] c = c ≡ first_course p
 Runs p (Came now event ∷ log) c =
@@ -326,4 +329,4 @@ Runs p (Went now (GapOut station session) ∷ log) c = (before : Course) × Runs
 Runs p (Went now (Closed cause) ∷ log) c =
     (before : Course) × Runs p log before × (c
     ≡ closed_course p cause (present log).is_open (latest log) before)
-    × IsCause p log cause before
+    × IsCause p log cause before × (before.works.is_due ≡ true)

@@ -1,6 +1,7 @@
 -- The order of actions within a step. All of it is this gateway's own profile.
 use Rattle.std.specs.Prelude.{◌≡◌, Bool, true, false, List, [], ◌∷◌}
 use Rattle.std.specs.List.{list_any}
+use Rattle.session.specs.declared.kinds.Close.TheVariants.{Timeout}
 use Rattle.gateway.specs.Log.{Log, Went, Output, LineOut, TcpOut, Closed, GapOut}
 
 -- the actions of the latest step so far, those since the latest event, the newest first (profile)
@@ -18,13 +19,22 @@ abbrev pub is_close : Output → Bool
 is_close (Closed cause) = true
 is_close action = false
 
--- A request, and a gap, only where the step has put out no request yet; octets to TCP, and a close,
--- only where it has closed no connection yet (profile).
+-- the close of a connection where an answer is late, which the timers bring (profile)
+abbrev pub is_late : Output → Bool
+is_late (Closed Timeout) = true
+is_late action = false
+
+-- What follows from the event comes first, then what the timers bring, then the request: a gap only
+-- where the step's timers have closed no connection yet, and a gap, a close and a request only
+-- where it has put out no request yet. And octets to TCP, and a close, only where it has closed no
+-- connection yet (profile).
 abbrev pub MayFollow : (earlier : List Output) → Output → Type 0
 MayFollow earlier (LineOut octets) = list_any is_request earlier ≡ false
 MayFollow earlier (TcpOut octets) = list_any is_close earlier ≡ false
-MayFollow earlier (Closed cause) = list_any is_close earlier ≡ false
-MayFollow earlier (GapOut station session) = list_any is_request earlier ≡ false
+MayFollow earlier (Closed cause) =
+    (list_any is_close earlier ≡ false) × (list_any is_request earlier ≡ false)
+MayFollow earlier (GapOut station session) =
+    (list_any is_late earlier ≡ false) × (list_any is_request earlier ≡ false)
 
 -- each action of the log, after those of its step (profile)
 abbrev pub KeepsOrder : Log → Type 0

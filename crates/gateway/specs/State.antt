@@ -33,6 +33,13 @@ pub record State : Type 0 where
 abbrev pub HasPlaces : Primary → Queue → Type 0
 HasPlaces line q = is_polling line ≡ true → 3 ≤ free_places q
 
+-- What is empty between two steps: the silence and the gap of the step before are told, and each
+-- whole frame is taken.
+pub record IsBetweenSteps (s : State) : Type 0 where
+  pub silent : s.serial.silent ≡ None
+  pub gap : s.serial.gap ≡ None
+  pub heard : s.centre.heard ≡ None
+
 -- what `counts` answers
 abbrev pub counts_of : State → Counts
 counts_of s = record {

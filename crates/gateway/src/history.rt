@@ -27,6 +27,15 @@ impl History {
         History {}
     }
 
+    /// A log that begins with what has passed, in whatever lives before: which entries these are is
+    /// known to proofs alone.
+    pub fn before() -> History
+        ghost log: { List LogEntry }
+        ensures { result.entries ≡ log }
+    {
+        History {}
+    }
+
     /// The log as it stands, beside one that goes on.
     pub fn again(&self) -> History
         ensures { result.entries ≡ self.now.entries }

@@ -1,6 +1,11 @@
 //! What holds of the definitions.
-ghost use Rattle.std.specs.Prelude.{◌≡◌, Option, true, false};
+ghost use Rattle.std.specs.Prelude.{◌≡◌, ◌↔◌, IsTrue, Option, Some, true, false, map};
 ghost use Rattle.session.specs.declared.kinds.Close.{Close};
+ghost use Rattle.command.specs.declared.station.StationInfo.{StationInfo};
+ghost use Rattle.gateway.specs.declared.settings.Silence.TheVariants.{Hold};
+ghost use Rattle.gateway.specs.declared.settings.Station.{Station};
+ghost use Rattle.gateway.specs.Config.{Settings};
+ghost use Rattle.gateway.specs.Setups.{setup_of};
 ghost use Rattle.gateway.specs.Frames.{Connection};
 ghost use Rattle.gateway.specs.Log.{Log};
 ghost use Rattle.gateway.specs.Reports.{Setup};
@@ -12,6 +17,8 @@ ghost use Rattle.link.specs.Counts.{saturated};
 ghost use Rattle.gateway.specs.Line.{done_in};
 ghost use Rattle.gateway.specs.Tallies.{given_up_in, unpassed_in};
 ghost use Rattle.gateway.specs.Works.{tasks_of};
+ghost use Rattle.gateway.specs.State.{State, IsBetweenSteps};
+ghost use Rattle.gateway.specs.Agrees.{Follows};
 ghost use Rattle.gateway.specs.Traffic.{HasCause};
 
 use apci::{one_front, spellings_cancel};
@@ -79,4 +86,35 @@ pub fn counts_tell_commands()
     ensures mirrors { (p : Setup) (log : Log) (c : Course) → Runs p log c →
         (done_in p log c).serial.counts.mirrors
         ≡ saturated (unpassed_in false (done_in p log c).history) }
+{}
+
+/// Between two steps nothing of the step before is left to be told or to be taken.
+pub fn steps_leave_nothing_open()
+    ensures { (p : Setup) (s : State) (log : Log) → Follows p s (Some log) → IsBetweenSteps s }
+{}
+
+/// Each setting reaches the promises under its own name and with its own value: what a gateway with
+/// these settings promises (`setup_of`) speaks of these numbers, of these stations in their order,
+/// and of no others. A service is held in silence exactly where the settings say so.
+pub fn settings_reach_the_promises()
+    ensures link { (c : Settings) → (setup_of c).link.size ≡ c.line.link }
+    ensures answer_ms { (c : Settings) → (setup_of c).link.answer_ms ≡ c.line.answer_ms }
+    ensures retries { (c : Settings) → (setup_of c).link.retries ≡ c.line.retries }
+    ensures silence { (c : Settings) → IsTrue (setup_of c).link.hold ↔ (c.line.silence ≡ Hold) }
+    ensures burst { (c : Settings) → (setup_of c).link.burst ≡ c.line.burst }
+    ensures sizes { (c : Settings) → (setup_of c).sizes ≡ c.line.sizes }
+    ensures queue { (c : Settings) → (setup_of c).places ≡ c.line.queue }
+    ensures addresses { (c : Settings) →
+        (setup_of c).addresses ≡ map (λ (s : Station). s.address) c.stations }
+    ensures ca { (c : Settings) → map (λ (i : StationInfo). i.ca) (setup_of c).stations
+        ≡ map (λ (s : Station). s.ca) c.stations }
+    ensures select { (c : Settings) → map (λ (i : StationInfo). i.select) (setup_of c).stations
+        ≡ map (λ (s : Station). s.select) c.stations }
+    ensures k { (c : Settings) → (setup_of c).session.k ≡ c.tcp.k }
+    ensures w { (c : Settings) → (setup_of c).session.w ≡ c.tcp.w }
+    ensures t1_ms { (c : Settings) → (setup_of c).session.t1 ≡ c.tcp.t1_ms }
+    ensures t2_ms { (c : Settings) → (setup_of c).session.t2 ≡ c.tcp.t2_ms }
+    ensures t3_ms { (c : Settings) → (setup_of c).session.t3 ≡ c.tcp.t3_ms }
+    ensures select_ms { (c : Settings) → (setup_of c).select_ms ≡ c.tcp.select_ms }
+    ensures max_age_ms { (c : Settings) → (setup_of c).max_age_ms ≡ c.tcp.max_age_ms }
 {}

@@ -1,5 +1,6 @@
 //! Whole runs of a gateway over a port.
 ghost use Rattle.std.specs.Prelude.{◌≡◌, ℕ, ◌+◌, ◌<◌, true, false, List, [], ◌∷◌, Some, IfSome, IfOk, IfErr, OnOk, OnErr};
+ghost use Rattle.gateway.specs.Config.{Settings};
 ghost use Rattle.gateway.specs.Log.{Came};
 ghost use Rattle.gateway.specs.Ports.{told_by, input_of, FitsBuffer, faults_of};
 ghost use Rattle.gateway.specs.Reports.{Setup};
@@ -39,11 +40,15 @@ pub fn drive_on<P: Port>(gateway: &mut Gateway, port: &mut P, turns: u64) -> End
     ensures accounts { (p : Setup) → Follows p gateway.old (P.log port.old) →
         Rests p (P.log port.old) →
         UnlessDevice result (IfSome (P.log port.new) (IsAccounted p gateway.new)) }
+    // A step puts out at most one request and at most one close, and nothing to TCP after a close.
+    ensures order { (c : Settings) → Follows (setup_of c) gateway.old (P.log port.old) →
+        Rests (setup_of c) (P.log port.old) → IfSome (P.log port.new) KeepsOrder }
     ensures turns { result ≡ End.Turns → MoreEvents turns (P.log port.old) (P.log port.new) }
     ensures finished { result ≡ End.Finished → P.ended port.new ≡ true }
     ensures script { P.script port.new ≡ P.script port.old }
     ensures device { P.failed port.new ≡ P.failed port.old + faults_at result }
 {
+    steps_keep_their_order();
     let mut buf = [0; 1024];
     for _ in 0..turns {
         let next = port.next(&mut buf);
@@ -86,7 +91,6 @@ pub fn drive<P: Port>(
     ensures script { P.script port.new ≡ P.script port.old }
     ensures unasked { OnErr result (port.new ≡ port.old) }
 {
-    steps_keep_their_order();
     let mut gateway = Gateway::new(alloc, config)?;
     Ok(drive_on(&mut gateway, port, turns))
 }

@@ -11,6 +11,7 @@ ghost use Rattle.gateway.specs.Log.{LogEntry, Went, LineIn, TcpOut, Opened, tell
 ghost use Rattle.gateway.specs.Ports.{input_of};
 ghost use Rattle.gateway.specs.Reports.{Setup};
 ghost use Rattle.gateway.specs.Traffic.{IsFaithful};
+ghost use Rattle.gateway.specs.Accounts.{IsAccounted};
 ghost use Rattle.gateway.specs.State.{State, disconnected, connected, with_session, with_octets};
 ghost use Rattle.gateway.specs.Agrees.{IsClear, Tracks, Awaits, Meets, Leaves, Follows, HasCome, Rests, IsSpent, StaysInTime};
 ghost use Rattle.gateway.specs.Steps.{MayClose, HearsEvent, Begins};
@@ -431,28 +432,12 @@ impl Gateway {
         self.receive(octets, port)
     }
 
-    /// Closes the connection where an answer is late.
-    fn watch<P: Port>(&mut self, port: &mut P) -> bool
-        requires { P.failed port.old < u64.MAX }
-        ensures kept { (p : Setup) → Tracks p self.old (P.log port.old) [] Timed →
-            Leaves result p self.new (P.log port.new) [] Timed }
-        ensures in_time { OnTrue result (IsInTime self.new.moment self.new.centre.session) }
-        ensures puts { Puts P.log P.script P.failed port.old port.new (faults_unless result) }
-    {
-        match self.late() {
-            None => true,
-            Some(cause) => self.close(cause, port),
-        }
-    }
-
-    /// Tells the gap of the session that the step's octets have ended, if there is one.
+    /// Tells the gap of the session that the event's octets have ended, if there is one.
     fn tell_gap<P: Port>(&mut self, port: &mut P) -> bool
         requires { P.failed port.old < u64.MAX }
-        ensures kept { (p : Setup) → Tracks p self.old (P.log port.old) [] Timed →
-            Leaves result p self.new (P.log port.new) [] Timed }
+        ensures kept { (p : Setup) → Tracks p self.old (P.log port.old) [] Idle →
+            Leaves result p self.new (P.log port.new) [] Idle }
         ensures told { self.new.serial.gap ≡ None }
-        ensures session { self.new.centre.session ≡ self.old.centre.session }
-        ensures moment { self.new.moment ≡ self.old.moment }
         ensures puts { Puts P.log P.script P.failed port.old port.new (faults_unless result) }
     {
         match self.take_gap() {
@@ -464,6 +449,22 @@ impl Gateway {
                     session: gap.session,
                 },
             ),
+        }
+    }
+
+    /// Closes the connection where an answer is late, once each gap is told.
+    fn watch<P: Port>(&mut self, port: &mut P) -> bool
+        requires ready { P.failed port.old < u64.MAX }
+        requires told { self.old.serial.gap ≡ None }
+        ensures kept { (p : Setup) → Tracks p self.old (P.log port.old) [] Timed →
+            Leaves result p self.new (P.log port.new) [] Timed }
+        ensures in_time { OnTrue result (IsInTime self.new.moment self.new.centre.session) }
+        ensures told { OnTrue result (self.new.serial.gap ≡ None) }
+        ensures puts { Puts P.log P.script P.failed port.old port.new (faults_unless result) }
+    {
+        match self.late() {
+            None => true,
+            Some(cause) => self.close(cause, port),
         }
     }
 
@@ -490,8 +491,8 @@ impl Gateway {
         }
     }
 
-    /// Takes one event, and puts out what follows from it: of the connection, then of the line,
-    /// then what else may be sent. After `false` the device has failed, and the gateway is given
+    /// Takes one event, and puts out what follows from it, then what the timers bring, then the
+    /// line's request, then what else may be sent to TCP. After `false` the device has failed, and the gateway is given
     /// up.
     pub fn step<P: Port>(&mut self, now: u64, event: Event<'_>, port: &mut P) -> bool
         requires { P.failed port.old < u64.MAX }
@@ -504,6 +505,11 @@ impl Gateway {
         ensures faithful { (p : Setup) →
             IfSome (P.log port.old) (HasCome p self.old now (input_of event.entry)) →
             IfSome (P.log port.new) (IsFaithful p) }
+        // What it then keeps is what was taken and not acknowledged, and what it has counted is
+        // what the log shows.
+        ensures accounts { (p : Setup) →
+            IfSome (P.log port.old) (HasCome p self.old now (input_of event.entry)) →
+            OnTrue result (IfSome (P.log port.new) (IsAccounted p self.new)) }
         ensures puts { Puts P.log P.script P.failed port.old port.new (faults_unless result) }
     {
         line_keeps_the_procedures();
@@ -513,11 +519,11 @@ impl Gateway {
         if !self.take(event, fits, port) {
             return false;
         }
-        self.settle();
-        if !self.watch(port) {
+        if !self.tell_gap(port) {
             return false;
         }
-        if !self.tell_gap(port) {
+        self.settle();
+        if !self.watch(port) {
             return false;
         }
         if !self.ask(port) {

@@ -37,3 +37,6 @@ pub mod Visiting
 pub mod VisitRuns
 pub mod Fairness
 pub mod Telltale
+pub mod Saved
+pub mod Fits
+pub mod RestoredBack

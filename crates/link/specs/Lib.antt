@@ -16,6 +16,7 @@ pub mod Gaps
 pub mod Secondary
 pub mod Life
 pub mod Runs
+pub mod Saved
 pub mod Leave
 pub mod Offers
 pub mod Visits
@@ -23,3 +24,4 @@ pub mod Waits
 pub mod Tidings
 pub mod Examples
 pub mod LineLaws
+pub mod Restored

@@ -92,6 +92,7 @@ impl CommandOctets {
     pub fn octets(&self) -> &[u8]
         ensures octets { result.now ≡ self.now }
         ensures small { length result.now ≤ 12 }
+        ensures bytes { All (λ n. n < 256) result.now }
     {
         &self.octets
     }

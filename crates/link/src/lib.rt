@@ -54,6 +54,7 @@ mod procedure;
 mod refinement;
 mod request;
 mod runs;
+mod saving;
 mod service;
 mod session;
 mod settings;

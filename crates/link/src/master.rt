@@ -9,6 +9,9 @@ ghost use Rattle.link.specs.Primary.{start, choice, station_asked, after_choice,
 ghost use Rattle.link.specs.declared.outcome.Outcome.TheVariants as outcome;
 ghost use Rattle.link.specs.Holding.{outstanding_of, IsFittingChoice, frame_after, so_far_after, is_at_front, noted, completed, gathered, MayEnd, MayComplete};
 
+mod restoring;
+mod saving;
+
 use crate::answer::Answer;
 use crate::asdu::CommandOctets;
 use crate::awaited::Awaited;

@@ -4,3 +4,4 @@ pub mod Keeps
 pub mod Standard
 pub mod Obeyed
 pub mod Ordered
+mod ReadBack

@@ -6,3 +6,4 @@ pub mod Laws
 pub mod Rules
 pub mod Ends
 pub mod SessionLaws
+pub mod Restored

@@ -6,11 +6,19 @@ ghost use Rattle.apci.specs.Short.{apdu_of};
 ghost use Rattle.apci.specs.Spelling.{Fits};
 ghost use Rattle.session.specs.Session.{from_queue};
 ghost use Rattle.session.specs.Ends.{IsConfirmed};
+ghost use Rattle.std.specs.Prelude.{ℕ, List, ◌++◌, OnOk, MatchResult};
+ghost use Rattle.checkpoint.specs.declared.StateFault.TheVariants.{Wrong};
+ghost use Rattle.session.specs.Session.{Session as Machine};
+ghost use Rattle.session.specs.Restored.{session_lines, counter_line, due_line, IsSavable, HasSettings};
 
 use crate::kinds::{Close, Kind, Taken, Transfer, Unacknowledged};
+use crate::saving::{
+    put_frames, put_moment, read_dues, read_frames, read_numbers, reply_number, transfer_number,
+};
 use apci::{Apdu, ApduRef, Short, Uf};
+use checkpoint::{Lines, Sheet, StateFault};
 use circular_buffer::HeapCircularBuffer;
-use std::alloc::Global;
+use std::alloc::{AllocError, Global};
 use std::marker::Model;
 use thiserror::Error;
 
@@ -139,10 +147,17 @@ impl Session {
     }
 
     /// Whether data transfer is started and no STOPDT is pending. Without a connection it is false.
-    pub fn is_transferring(&self) -> bool
+    pub fn runs(&self) -> bool
         ensures { result ≡ is_transferring self.now }
     {
         matches!(self.transfer, Transfer::Started)
+    }
+
+    /// Another name of `runs`.
+    pub fn is_transferring(&self) -> bool
+        ensures { result ≡ is_transferring self.now }
+    {
+        self.runs()
     }
 
     /// Whether a STOPDT act isn't confirmed yet.
@@ -156,7 +171,7 @@ impl Session {
     pub fn may_send(&self) -> bool
         ensures { result ≡ can_send self.now }
     {
-        self.is_transferring() && self.unacknowledged.len() < usize::from(self.k)
+        self.runs() && self.unacknowledged.len() < usize::from(self.k)
     }
 
     /// Counts an I frame of this kind as sent now, and answers its N(S) and N(R).
@@ -244,7 +259,7 @@ impl Session {
         ensures { result ≡ outcome_of self.now (owned apdu.entry) }
     {
         match apdu {
-            ApduRef::I { .. } if !self.is_transferring() => Taken::Close(Close::Stopped),
+            ApduRef::I { .. } if !self.runs() => Taken::Close(Close::Stopped),
             ApduRef::I { ns, .. } if ns != self.next_received => Taken::Close(Close::SendNumber),
             ApduRef::I { nr, .. } if !self.is_valid(nr) => Taken::Close(Close::ReceiveNumber),
             ApduRef::I { .. } => Taken::Asdu,
@@ -361,7 +376,15 @@ impl Session {
 
     /// The next confirmation that is due, if any. A STOPDT act has an S frame first, where received
     /// I frames aren't acknowledged, and its STOPDT con once no sent I frame is unacknowledged.
-    pub fn confirm(&mut self) -> Option<Short>
+    pub fn confirm(&mut self) -> Option<Apdu>
+        ensures due { (result, self.new) ≡ confirmed self.old }
+        ensures fits { IfSome result Fits }
+    {
+        Some(self.confirm_short()?.to_apdu())
+    }
+
+    /// The answer and the state of `confirm`, with no room for an ASDU.
+    pub fn confirm_short(&mut self) -> Option<Short>
         ensures due { (option_map apdu_of result, self.new) ≡ confirmed self.old }
         ensures fits { IfSome result (λ frame. Fits (apdu_of frame)) }
     {
@@ -382,7 +405,15 @@ impl Session {
     }
 
     /// The S frame if one is due, else the TESTFR act if one is due.
-    pub fn pull(&mut self, now: u64) -> Option<Short>
+    pub fn pull(&mut self, now: u64) -> Option<Apdu>
+        ensures due { (result, self.new) ≡ pulled now self.old }
+        ensures fits { IfSome result Fits }
+    {
+        Some(self.pull_short(now)?.to_apdu())
+    }
+
+    /// The answer and the state of `pull`, with no room for an ASDU.
+    pub fn pull_short(&mut self, now: u64) -> Option<Short>
         ensures due { (option_map apdu_of result, self.new) ≡ pulled now self.old }
         ensures fits { IfSome result (λ frame. Fits (apdu_of frame)) }
     {
@@ -423,6 +454,105 @@ impl Session {
             reply: _,
         } = self;
         unacknowledged
+    }
+}
+
+impl Session {
+    /// Each session can be read back.
+    fn is_savable(&self)
+        ensures { IsSavable self.now }
+    {
+        let _unconfirmed = self.unconfirmed;
+    }
+
+    /// Puts the line of the counters.
+    fn put_counters(&self, line: &mut Vec<u64>) -> Result<(), AllocError>
+        ensures { OnOk result (line.new.items ≡ line.old.items ++ counter_line self.now) }
+    {
+        line.push(transfer_number(self.transfer))?;
+        line.push(u64::from(self.next_sent))?;
+        line.push(u64::from(self.next_received))?;
+        line.push(self.acked_queue as u64)?;
+        line.push(self.acked_own as u64)?;
+        Ok(())
+    }
+
+    /// Puts the line of what is due.
+    fn put_dues(&self, line: &mut Vec<u64>) -> Result<(), AllocError>
+        ensures { OnOk result (line.new.items ≡ line.old.items ++ due_line self.now) }
+    {
+        line.push(self.unacknowledged.len() as u64)?;
+        line.push(u64::from(self.unconfirmed))?;
+        line.push(self.unconfirmed_since)?;
+        line.push(self.last_frame)?;
+        line.push(reply_number(self.reply))?;
+        put_moment(self.test_sent, line)
+    }
+
+    /// Puts all of its state but the settings onto a sheet: two lines, and one for each
+    /// unacknowledged frame. The line is for use meanwhile.
+    pub fn put_state<S: Sheet>(&self, sheet: &mut S, line: &mut Vec<u64>) -> Result<(), StateFault>
+        ensures lines { OnOk result (S.written sheet.new
+            ≡ S.written sheet.old ++ session_lines self.now) }
+        ensures savable { IsSavable self.now }
+    {
+        self.is_savable();
+        line.clear();
+        self.put_counters(line)?;
+        sheet.put(line.as_slice())?;
+        line.clear();
+        self.put_dues(line)?;
+        sheet.put(line.as_slice())?;
+        put_frames(&self.unacknowledged, sheet, line)
+    }
+
+    /// A session with these settings and the state that the lines tell. This takes memory: room
+    /// for k frames. `Wrong` says that the lines tell none.
+    pub fn read_state<L: Lines>(
+        alloc: Global,
+        k: u16,
+        w: u16,
+        t1: u64,
+        t2: u64,
+        t3: u64,
+        lines: &mut L,
+        line: &mut Vec<u64>,
+    ) -> Result<Session, StateFault>
+        requires k_in_range { (0 < k) × (k < 32768) }
+        requires w_in_range { (0 < w) × (w < 32768) }
+        ensures back { (s : Machine) (rest : List (List ℕ)) → IsSavable s →
+            HasSettings s k w t1 t2 t3 → L.coming lines.old ≡ session_lines s ++ rest →
+            MatchResult result (λ r. (r ≡ s) × (L.coming lines.new ≡ rest))
+            (λ fault. fault ≡ Wrong → ⊥) }
+        ensures settings { IfOk result (λ r. HasSettings r k w t1 t2 t3) }
+    {
+        let numbers = read_numbers(lines, line)?;
+        let dues = read_dues(lines, line)?;
+        if dues.frames > usize::from(k) {
+            return Err(StateFault::Wrong);
+        }
+        let Ok(mut unacknowledged) = HeapCircularBuffer::with_capacity(alloc, usize::from(k)) else {
+            return Err(StateFault::NoMemory);
+        };
+        read_frames(&mut unacknowledged, dues.frames, lines, line)?;
+        Ok(Session {
+            k,
+            w,
+            t1,
+            t2,
+            t3,
+            transfer: numbers.transfer,
+            unacknowledged,
+            acked_queue: numbers.acked_queue,
+            acked_own: numbers.acked_own,
+            next_sent: numbers.next_sent,
+            next_received: numbers.next_received,
+            unconfirmed: dues.unconfirmed,
+            unconfirmed_since: dues.unconfirmed_since,
+            last_frame: dues.last_frame,
+            test_sent: dues.test_sent,
+            reply: dues.reply,
+        })
     }
 }
 

@@ -19,6 +19,7 @@
 mod connection;
 mod kinds;
 mod laws;
+mod saving;
 
 pub use connection::{NoMemory, Session};
 pub use kinds::{Close, Kind, Taken, Transfer, Unacknowledged};

@@ -1,7 +1,5 @@
-use Rattle.gateway.specs.Order.{KeepsOrder}
-use Rattle.gateway.specs.Traffic.{IsFaithful}
 use Rattle.gateway.specs.Setups.{setup_of}
-use Rattle.gateway.proofs.Starting.{told_follows, nothing_rests, of_told}
+use Rattle.gateway.proofs.Starting.{told_follows, nothing_rests}
 use Rattle.gateway.proofs.runs.drive.Goals as goal
 
 pub returns-clause-faithful : goal.returns-clause-faithful
@@ -19,6 +17,5 @@ returns-clause-rests g c = λ e.
 pub returns-clause-order : goal.returns-clause-order
 returns-clause-order g c = λ e.
     let p = setup_of c.args.config.now in
-    of_told (IsFaithful p) KeepsOrder _ (c.drive_on.ensures.faithful p
-    (told_follows p c.in_ok-gateway.gateway _ c.in_ok-gateway.ensures.begins e) (nothing_rests p _ e))
-    (c.steps_keep_their_order.ensures.settings c.args.config.now)
+    c.drive_on.ensures.order c.args.config.now (told_follows p c.in_ok-gateway.gateway _ c.in_ok-gateway.ensures.begins e)
+    (nothing_rests p _ e)

@@ -1,6 +1,11 @@
 use Rattle.std.proofs.Common.{◌∙◌, sym, subst, arith}
 use Rattle.gateway.specs.Agrees.{Follows, Rests}
-use Rattle.gateway.proofs.Accounting.{accounted, ends_accounted, told_same, unless_device}
+use Rattle.std.specs.Prelude.{IfSome}
+use Rattle.gateway.specs.Order.{KeepsOrder}
+use Rattle.gateway.specs.Traffic.{IsFaithful}
+use Rattle.gateway.specs.Setups.{setup_of}
+use Rattle.gateway.proofs.Starting.{of_told}
+use Rattle.gateway.proofs.Accounting.{accounted, ordered, ends_accounted, told_same, unless_device}
 use Rattle.gateway.proofs.Events.{come, more_events}
 use Rattle.gateway.proofs.runs.drive_on.Goals as goal
 
@@ -64,3 +69,21 @@ returns-in-Err-clause-script g c = c.next-next.ensures.script ∙ c.loop.invaria
 pub returns-in-Err-clause-device : goal.returns-in-Err-clause-device
 returns-in-Err-clause-device g c =
     omega (arith, c.next-next.ensures.cause, c.in-Err.ensures.end.0, c.loop.invariant.ready)
+
+pub returns-then-not-step-clause-order : goal.returns-then-not-step-clause-order
+returns-then-not-step-clause-order g c = λ s t r.
+    let p = setup_of s in
+    of_told (IsFaithful p) KeepsOrder _ (c.if-not-step.ensures.faithful p
+    (come p _ _ c.loop.gateway _ _ _ c.next-next.ensures.told c.in-Ok.ensures.came (c.loop.invariant.kept p t r)
+    (c.loop.invariant.rests p t r))) (c.steps_keep_their_order.ensures.settings s)
+
+pub returns-in-Err-clause-order : goal.returns-in-Err-clause-order
+returns-in-Err-clause-order g c = λ s t r.
+    let p = setup_of s in
+    subst (λ told. IfSome told KeepsOrder) (sym (told_same _ _ _ c.next-next.ensures.told c.in-Err.ensures.none))
+    (ordered p _ _ (c.steps_keep_their_order.ensures.settings s) (c.loop.invariant.kept p t r))
+
+pub returns-clause-order : goal.returns-clause-order
+returns-clause-order g c = λ s t r.
+    let p = setup_of s in
+    ordered p _ _ (c.steps_keep_their_order.ensures.settings s) (c.loop.invariant.kept p t r)

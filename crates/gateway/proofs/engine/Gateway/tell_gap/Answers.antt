@@ -1,13 +1,13 @@
 use Rattle.std.proofs.Common.{[], ap, sym, ◌∙◌, subst}
 use Rattle.gateway.specs.Agrees.{Tracks}
-use Rattle.gateway.specs.Phases.{Timed}
+use Rattle.gateway.specs.Phases.{Idle}
 use Rattle.gateway.specs.State.{State}
 use Rattle.gateway.proofs.Events.{told_gap, no_gap_told}
 use Rattle.gateway.proofs.engine.Gateway.tell_gap.Goals as goal
 
 pub returns-in-None-clause-kept : goal.returns-in-None-clause-kept
 returns-in-None-clause-kept g c = λ p h.
-    subst (λ (x : State). Tracks p x (g.P.Port.log c.args.port.now) [] Timed)
+    subst (λ (x : State). Tracks p x (g.P.Port.log c.args.port.now) [] Idle)
     (sym (no_gap_told c.args.self.now c.take_gap.new.self (sym c.in-None.ensures.gap) c.take_gap.ensures.state)) h
 
 pub returns-in-Some-clause-kept : goal.returns-in-Some-clause-kept

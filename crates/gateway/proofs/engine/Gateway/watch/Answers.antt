@@ -7,4 +7,4 @@ returns-in-None-clause-in_time g c = late_none _ c.in-None.ensures
 
 pub returns-in-Some-clause-kept : goal.returns-in-Some-clause-kept
 returns-in-Some-clause-kept g c = λ p h. c.close.ensures.kept p Timed
-    (told_late p _ c.args.self.now c.in-Some.cause c.in-Some.ensures h)
+    (told_late p _ c.args.self.now c.in-Some.cause c.in-Some.ensures c.requires.told h)

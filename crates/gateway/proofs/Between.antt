@@ -1,0 +1,86 @@
+-- What is empty between two steps.
+use Rattle.std.proofs.Common.{◌≡◌, ℕ, Bool, true, false, [], ◌∷◌, None, refl, sym, ap, ◌∙◌}
+use Rattle.std.specs.Prelude.{if◌then◌else◌}
+use Rattle.session.specs.declared.kinds.Close.{Close}
+use Rattle.session.specs.declared.kinds.Close.TheVariants.{Grammar, SendNumber, ReceiveNumber, Stopped, Timeout, OwnAnswers, Replaced}
+use Rattle.gateway.specs.Log.{Log, LineIn, Opened, TcpIn, CutOff, Ticked, WallIs, LineOut, TcpOut, Closed, GapOut, Came, Went, latest}
+use Rattle.gateway.specs.Connections.{present}
+use Rattle.gateway.specs.Reports.{Setup}
+use Rattle.gateway.specs.Serial.{Serial}
+use Rattle.gateway.specs.Works.{Works, unasked_works, ready_works}
+use Rattle.gateway.specs.Course.{Course, closed_course, room_in, Runs}
+use Rattle.gateway.specs.Phases.{Asked, resting}
+use Rattle.gateway.specs.State.{State, IsBetweenSteps}
+use Rattle.gateway.specs.Agrees.{Agrees}
+use Rattle.gateway.proofs.Order.{frames_due, sent_due, closed_due, frames_others, sent_others}
+use Rattle.gateway.proofs.Working.{gap_in}
+
+-- Nothing but the timers touches the silence of a step
+
+closed_silent : (p : Setup) (cause : Close) (is_open : Bool) (at : ℕ) (c : Course) → c.works.serial.silent ≡ None
+    → (closed_course p cause is_open at c).works.serial.silent ≡ None
+closed_silent p Grammar is_open at c h = h
+closed_silent p SendNumber is_open at c h = h
+closed_silent p ReceiveNumber is_open at c h = h
+closed_silent p Stopped is_open at c h = h
+closed_silent p Timeout is_open at c h = refl
+closed_silent p OwnAnswers is_open at c h = h
+closed_silent p Replaced is_open at c h = h
+
+-- and a request goes out behind the timers
+none_silent : (p : Setup) (log : Log) (c : Course) → Runs p log c → c.works.is_due ≡ false
+    → c.works.serial.silent ≡ None
+none_silent p [] c r due = ap (λ (d : Course). d.works.serial.silent) r
+none_silent p (Came now (LineIn octets) ∷ log) c r due =
+    let no : true ≡ false = sym (ap (λ (d : Course). d.works.is_due) r.5.2) ∙ due in absurd (cc)
+none_silent p (Came now (TcpIn octets) ∷ log) c r due =
+    let no : true ≡ false = sym (ap (λ (d : Course). d.works.is_due) r.5.taken
+    ∙ frames_due p r.5.frames _ _ _) ∙ due in absurd (cc)
+none_silent p (Came now Ticked ∷ log) c r due =
+    let no : true ≡ false = sym (ap (λ (d : Course). d.works.is_due) r.5) ∙ due in absurd (cc)
+none_silent p (Came now (WallIs number) ∷ log) c r due =
+    let no : true ≡ false = sym (ap (λ (d : Course). d.works.is_due) r.5) ∙ due in absurd (cc)
+none_silent p (Came now Opened ∷ log) c r due =
+    let no : true ≡ false = sym (ap (λ (d : Course). d.works.is_due) r.5) ∙ due in absurd (cc)
+none_silent p (Came now CutOff ∷ log) c r due =
+    let no : true ≡ false = sym (ap (λ (d : Course). d.works.is_due) r.5) ∙ due in absurd (cc)
+none_silent p (Went now (LineOut octets) ∷ log) c r due = ap (λ (d : Course). d.works.serial.silent) r.2.is
+none_silent p (Went now (GapOut station session) ∷ log) c r due =
+    ap (λ (d : Course). d.works.serial.silent) r.2.is
+    ∙ none_silent p log r.0 r.1 (sym (ap (λ (d : Course). d.works.is_due) r.2.is) ∙ due)
+none_silent p (Went now (TcpOut octets) ∷ log) c r due =
+    ap (λ (d : Course). d.works.serial.silent) r.4.taken
+    ∙ ap (λ (s : Serial). s.silent) (frames_others p r.4.frames _ _ r.1)
+    ∙ ap (λ (d : Course). d.works.serial.silent) r.3.put
+    ∙ ap (λ (s : Serial). s.silent) (sent_others r.3.frame r.0.works)
+    ∙ none_silent p log r.0 r.2 (sym (ap (λ (d : Course). d.works.is_due) r.4.taken
+    ∙ frames_due p r.4.frames _ _ r.1 ∙ ap (λ (d : Course). d.works.is_due) r.3.put
+    ∙ sent_due r.3.frame r.0.works) ∙ due)
+none_silent p (Went now (Closed cause) ∷ log) c r due =
+    ap (λ (d : Course). d.works.serial.silent) r.2
+    ∙ closed_silent p cause (present log).is_open (latest log) r.0
+    (none_silent p log r.0 r.1 (sym (ap (λ (d : Course). d.works.is_due) r.2
+    ∙ closed_due p cause (present log).is_open (latest log) r.0) ∙ due))
+
+-- The end of a step
+
+done_silent : (b : Bool) (at : ℕ) (room : Bool) (w : Works) → (b ≡ false → w.serial.silent ≡ None)
+    → (if b then unasked_works at room (ready_works at w) else w).serial.silent ≡ None
+done_silent true at room w h = refl
+done_silent false at room w h = h refl
+
+pub between_steps : (p : Setup) (s : State) (log : Log) → Agrees p s log [] (resting log) → IsBetweenSteps s
+between_steps p s [] a = record {
+  silent = ap (λ (t : Serial). t.silent) a.stands.does
+      ∙ none_silent p [] a.course a.talk.course_runs a.stands.asks.0;
+  gap = ap (λ (t : Serial). t.gap) a.stands.does ∙ a.stands.asks.1;
+  heard = a.here.taken;
+}
+between_steps p s (entry ∷ log) a = record {
+  silent = ap (λ (t : Serial). t.silent) a.stands.does
+      ∙ done_silent a.course.works.is_due _ (room_in p (entry ∷ log) a.course) a.course.works
+      (none_silent p (entry ∷ log) a.course a.talk.course_runs);
+  gap = ap (λ (t : Serial). t.gap) a.stands.does
+      ∙ gap_in Asked (latest (entry ∷ log)) (room_in p (entry ∷ log) a.course) a.course.works ∙ a.stands.asks.2;
+  heard = a.here.taken;
+}

@@ -1,0 +1,187 @@
+-- A station's state as lists of numbers, each of them a line of a saved state, and what such lists
+-- say (a form of this gateway's own).
+use Rattle.std.specs.Prelude.{◌≡◌, ℕ, ◌<◌, ◌≤◌, ◌==◌, ◌&&◌, nat_le, nat_lt, Bool, true, false, if◌then◌else◌, List, [], ◌∷◌, All, length, Option, Some, None}
+use Rattle.std.specs.List.{list_all}
+use Rattle.link.specs.Answers.{Service, Class1, Class2, Command}
+use Rattle.link.specs.Procedure.{Link, Down, Available, Next, Held}
+use Rattle.link.specs.Turns.{StationState}
+
+abbrev pub bit_number : Bool → ℕ
+bit_number true = 1
+bit_number false = 0
+
+abbrev pub bit_from : ℕ → Option Bool
+bit_from n = if n == 0 then Some false else if n == 1 then Some true else None
+
+-- the service, and behind it a command's octets
+abbrev pub service_numbers : Service → List ℕ
+service_numbers Class1 = 1 ∷ []
+service_numbers Class2 = 2 ∷ []
+service_numbers (Command asdu) = 3 ∷ asdu
+
+abbrev pub link_numbers : Link → List ℕ
+link_numbers Down = 0 ∷ []
+link_numbers Available = 1 ∷ []
+link_numbers (Next fcb) = 2 ∷ bit_number fcb ∷ []
+link_numbers (Held fcb service missed) = 3 ∷ bit_number fcb ∷ missed ∷ service_numbers service
+
+-- a command of at most 12 octets
+abbrev pub command_from : List ℕ → Option (List ℕ)
+command_from octets =
+    if nat_le (length octets) 12 && list_all (λ n. nat_lt n 256) octets then Some octets else None
+
+abbrev pub command_service : Option (List ℕ) → Option Service
+command_service None = None
+command_service (Some asdu) = Some (Command asdu)
+
+-- nothing may follow
+abbrev pub bare_service : Service → List ℕ → Option Service
+bare_service service [] = Some service
+bare_service service (n ∷ ns) = None
+
+abbrev pub service_by : ℕ → List ℕ → Option Service
+service_by kind ns =
+    if kind == 1 then bare_service Class1 ns
+    else if kind == 2 then bare_service Class2 ns
+    else if kind == 3 then command_service (command_from ns)
+    else None
+
+abbrev pub service_from : List ℕ → Option Service
+service_from [] = None
+service_from (kind ∷ ns) = service_by kind ns
+
+abbrev pub bare_link : Link → List ℕ → Option Link
+bare_link link [] = Some link
+bare_link link (n ∷ ns) = None
+
+abbrev pub next_by : Option Bool → List ℕ → Option Link
+next_by None ns = None
+next_by (Some fcb) ns = bare_link (Next fcb) ns
+
+abbrev pub next_from : List ℕ → Option Link
+next_from [] = None
+next_from (bit ∷ ns) = next_by (bit_from bit) ns
+
+abbrev pub held_with : Bool → (missed : ℕ) → Option Service → Option Link
+held_with fcb missed None = None
+held_with fcb missed (Some service) = Some (Held fcb service missed)
+
+abbrev pub held_missed : Bool → List ℕ → Option Link
+held_missed fcb [] = None
+held_missed fcb (missed ∷ ns) =
+    if nat_lt missed 65536 then held_with fcb missed (service_from ns) else None
+
+abbrev pub held_by : Option Bool → List ℕ → Option Link
+held_by None ns = None
+held_by (Some fcb) ns = held_missed fcb ns
+
+abbrev pub held_from : List ℕ → Option Link
+held_from [] = None
+held_from (bit ∷ ns) = held_by (bit_from bit) ns
+
+abbrev pub link_by : ℕ → List ℕ → Option Link
+link_by kind ns =
+    if kind == 0 then bare_link Down ns
+    else if kind == 1 then bare_link Available ns
+    else if kind == 2 then next_from ns
+    else if kind == 3 then held_from ns
+    else None
+
+-- the link that a line says
+abbrev pub link_from : List ℕ → Option Link
+link_from [] = None
+link_from (kind ∷ ns) = link_by kind ns
+
+-- What a link of the program has: a command of at most 12 octets, and a count of 16 bits.
+abbrev pub FitsSavedCommand : List ℕ → Type 0
+FitsSavedCommand asdu = (length asdu ≤ 12) × All (λ n. n < 256) asdu
+
+abbrev pub FitsSavedService : Service → Type 0
+FitsSavedService Class1 = Unit {0}
+FitsSavedService Class2 = Unit {0}
+FitsSavedService (Command asdu) = FitsSavedCommand asdu
+
+abbrev pub FitsSavedLink : Link → Type 0
+FitsSavedLink (Held fcb service missed) = (missed < 65536) × FitsSavedService service
+FitsSavedLink link = Unit {0}
+
+-- what a line says that was made of it is the link
+abbrev pub LinkReadsBack : Link → Type 0
+LinkReadsBack link = link_from (link_numbers link) ≡ Some link
+
+-- what a line has of a station but for its link and its offered command
+abbrev pub flags_numbers : StationState → List ℕ
+flags_numbers s =
+    s.address ∷ bit_number s.acd ∷ bit_number s.dfc ∷ s.session.number
+    ∷ bit_number s.session.has_gap ∷ []
+
+abbrev pub offered_numbers : Option (List ℕ) → List ℕ
+offered_numbers None = 0 ∷ []
+offered_numbers (Some asdu) = 1 ∷ asdu
+
+abbrev pub bare_station : (address number : ℕ) → (acd dfc gap : Option Bool) → Option StationState
+bare_station address number (Some acd) (Some dfc) (Some gap) =
+    if nat_lt address 65536 then
+    Some (record {
+      address = address;
+      link = Down;
+      acd = acd;
+      dfc = dfc;
+      offered = None;
+      session = record { number = number; has_gap = gap };
+    })
+    else None
+bare_station address number acd dfc gap = None
+
+-- a station that is down, with what such a line says
+abbrev pub flags_from : List ℕ → Option StationState
+flags_from (address ∷ acd ∷ dfc ∷ number ∷ gap ∷ []) =
+    bare_station address number (bit_from acd) (bit_from dfc) (bit_from gap)
+flags_from ns = None
+
+abbrev pub some_offer : Option (List ℕ) → Option (Option (List ℕ))
+some_offer None = None
+some_offer (Some asdu) = Some (Some asdu)
+
+abbrev pub no_offer : List ℕ → Option (Option (List ℕ))
+no_offer [] = Some None
+no_offer (n ∷ ns) = None
+
+abbrev pub offered_by : ℕ → List ℕ → Option (Option (List ℕ))
+offered_by kind ns =
+    if kind == 0 then no_offer ns else if kind == 1 then some_offer (command_from ns) else None
+
+abbrev pub offered_from : List ℕ → Option (Option (List ℕ))
+offered_from [] = None
+offered_from (kind ∷ ns) = offered_by kind ns
+
+abbrev pub station_by : Option StationState → Option Link → Option (Option (List ℕ)) → Option StationState
+station_by (Some s) (Some link) (Some offered) = Some (record {
+  address = s.address;
+  link = link;
+  acd = s.acd;
+  dfc = s.dfc;
+  offered = offered;
+  session = s.session;
+})
+station_by s link offered = None
+
+abbrev pub FitsSavedOffer : Option (List ℕ) → Type 0
+FitsSavedOffer None = Unit {0}
+FitsSavedOffer (Some asdu) = FitsSavedCommand asdu
+
+pub record FitsSavedStation (s : StationState) : Type 0 where
+  pub address : s.address < 65536
+  pub link : FitsSavedLink s.link
+  pub offered : FitsSavedOffer s.offered
+
+-- the station that its three lines say is the station
+abbrev pub StationReadsBack : StationState → Type 0
+StationReadsBack s =
+    station_by (flags_from (flags_numbers s)) (link_from (link_numbers s.link))
+    (offered_from (offered_numbers s.offered)) ≡ Some s
+
+-- the lines of stations, three for each
+abbrev pub lines_of : List StationState → List (List ℕ)
+lines_of [] = []
+lines_of (s ∷ ss) = flags_numbers s ∷ link_numbers s.link ∷ offered_numbers s.offered ∷ lines_of ss

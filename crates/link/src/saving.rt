@@ -1,0 +1,341 @@
+//! A station's state as lines of numbers, and back.
+//!
+//! A station has three lines: its address, flags and session; its link; and its offered command.
+//! The part of a line whose length varies ends the line, so that no reader hands on a rest.
+ghost use Rattle.std.specs.Prelude.{◌≡◌, ◌++◌, ◌∷◌, ◌<◌, [], List, ℕ, length, OnOk, MatchResult};
+ghost use Rattle.std.specs.List.{AllByRecursion};
+ghost use Rattle.checkpoint.specs.declared.StateFault.TheVariants.{Wrong};
+ghost use Rattle.link.specs.Saved.{bit_number, bit_from, service_numbers, service_by, service_from};
+ghost use Rattle.link.specs.Saved.{link_numbers, link_by, link_from, next_from, held_from, held_missed};
+ghost use Rattle.link.specs.Saved.{flags_numbers, flags_from, offered_numbers, offered_by, offered_from};
+ghost use Rattle.link.specs.Saved.{command_from, lines_of};
+ghost use Rattle.link.specs.Saved.{FitsSavedService, FitsSavedLink, FitsSavedOffer, FitsSavedStation};
+ghost use Rattle.link.specs.Turns.{StationState};
+
+use crate::asdu::{CommandOctets, LONGEST_COMMAND};
+use crate::procedure::Link;
+use crate::service::Service;
+use crate::session::SessionState;
+use crate::turn::StationState;
+use arrayvec::ArrayVec;
+use checkpoint::{Lines, Sheet, StateFault};
+use std::alloc::{AllocError, Global};
+
+/// A bit as a number.
+pub(crate) fn bit_number(bit: bool) -> u64
+    ensures { result ≡ bit_number bit }
+{
+    if bit { 1 } else { 0 }
+}
+
+/// The bit that a number is: none but for 0 and 1.
+pub(crate) fn bit_from(number: u64) -> Option<bool>
+    ensures { result ≡ bit_from number }
+{
+    match number {
+        0 => Some(false),
+        1 => Some(true),
+        _ => None,
+    }
+}
+
+/// Puts octets behind a line of numbers.
+fn put_octets(octets: &[u8], line: &mut Vec<u64>) -> Result<(), AllocError>
+    ensures { OnOk result (line.new.items ≡ line.old.items ++ octets.now) }
+{
+    for octet in octets {
+        line.push(u64::from(*octet))?;
+    }
+    Ok(())
+}
+
+/// Puts a service behind a line of numbers.
+pub(crate) fn put_service(service: &Service, line: &mut Vec<u64>) -> Result<(), AllocError>
+    ensures line { OnOk result (line.new.items ≡ line.old.items ++ service_numbers service.now) }
+    ensures fits { OnOk result (FitsSavedService service.now) }
+{
+    match service {
+        Service::Class1 => line.push(1)?,
+        Service::Class2 => line.push(2)?,
+        Service::Command(command) => {
+            line.push(3)?;
+            put_octets(command.octets(), line)?;
+        }
+    }
+    Ok(())
+}
+
+/// Puts a station's second line: its link.
+fn put_link(link: &Link, line: &mut Vec<u64>) -> Result<(), AllocError>
+    ensures line { OnOk result (line.new.items ≡ line.old.items ++ link_numbers link.now) }
+    ensures fits { OnOk result (FitsSavedLink link.now) }
+{
+    match link {
+        Link::Down => line.push(0)?,
+        Link::Available => line.push(1)?,
+        Link::Next(fcb) => {
+            line.push(2)?;
+            line.push(bit_number(*fcb))?;
+        }
+        Link::Held(fcb, service, missed) => {
+            line.push(3)?;
+            line.push(bit_number(*fcb))?;
+            line.push(u64::from(*missed))?;
+            put_service(service, line)?;
+        }
+    }
+    Ok(())
+}
+
+/// The command that numbers are: at most [`LONGEST_COMMAND`], each below 256.
+fn command_from(numbers: &[u64]) -> Option<CommandOctets>
+    ensures { result ≡ command_from numbers.now }
+{
+    if numbers.len() > LONGEST_COMMAND {
+        return None;
+    }
+    let mut octets: ArrayVec<u8, LONGEST_COMMAND> = ArrayVec::new();
+    for number in numbers {
+        if *number > 255 {
+            return None;
+        }
+        octets.push(*number as u8);
+    }
+    Some(CommandOctets::new(octets.as_slice()))
+}
+
+/// The service of this kind, with these numbers behind it.
+fn service_by(kind: u64, numbers: &[u64]) -> Option<Service>
+    ensures { result ≡ service_by kind numbers.now }
+{
+    match (kind, numbers) {
+        (1, []) => Some(Service::Class1),
+        (2, []) => Some(Service::Class2),
+        (3, octets) => Some(Service::Command(command_from(octets)?)),
+        _ => None,
+    }
+}
+
+/// The service that the rest of a line says.
+pub(crate) fn service_from(numbers: &[u64]) -> Option<Service>
+    ensures { result ≡ service_from numbers.now }
+{
+    let (kind, others) = numbers.split_first()?;
+    service_by(*kind, others)
+}
+
+/// A link that is up: the frame count bit of the next service.
+fn next_from(numbers: &[u64]) -> Option<Link>
+    ensures { result ≡ next_from numbers.now }
+{
+    match numbers {
+        [bit] => Some(Link::Next(bit_from(*bit)?)),
+        _ => None,
+    }
+}
+
+/// A held service with this frame count bit: how often it was missed, and the service.
+fn held_missed(fcb: bool, numbers: &[u64]) -> Option<Link>
+    ensures { result ≡ held_missed fcb numbers.now }
+{
+    let (missed, others) = numbers.split_first()?;
+    if *missed > 65535 {
+        return None;
+    }
+    let service = service_from(others)?;
+    Some(Link::Held(fcb, service, *missed as u16))
+}
+
+/// A link that holds a service.
+fn held_from(numbers: &[u64]) -> Option<Link>
+    ensures { result ≡ held_from numbers.now }
+{
+    let (bit, others) = numbers.split_first()?;
+    let fcb = bit_from(*bit)?;
+    held_missed(fcb, others)
+}
+
+/// The link of this kind, with these numbers behind it.
+fn link_by(kind: u64, numbers: &[u64]) -> Option<Link>
+    ensures { result ≡ link_by kind numbers.now }
+{
+    match (kind, numbers) {
+        (0, []) => Some(Link::Down),
+        (1, []) => Some(Link::Available),
+        (2, others) => next_from(others),
+        (3, others) => held_from(others),
+        _ => None,
+    }
+}
+
+/// The link that a line of numbers says.
+fn link_from(numbers: &[u64]) -> Option<Link>
+    ensures { result ≡ link_from numbers.now }
+{
+    let (kind, others) = numbers.split_first()?;
+    link_by(*kind, others)
+}
+
+/// Puts a station's first line: its address, ACD, DFC and session.
+fn put_flags(station: &StationState, line: &mut Vec<u64>) -> Result<(), AllocError>
+    ensures line { OnOk result (line.new.items ≡ line.old.items ++ flags_numbers station.now) }
+    ensures fits { OnOk result (station.now.address < 65536) }
+{
+    line.push(u64::from(station.address))?;
+    line.push(bit_number(station.acd))?;
+    line.push(bit_number(station.dfc))?;
+    line.push(station.session.number)?;
+    line.push(bit_number(station.session.has_gap))?;
+    Ok(())
+}
+
+/// Puts a station's third line: the command that is offered to it.
+fn put_offered(offered: &Option<CommandOctets>, line: &mut Vec<u64>) -> Result<(), AllocError>
+    ensures line { OnOk result (line.new.items ≡ line.old.items ++ offered_numbers offered.now) }
+    ensures fits { OnOk result (FitsSavedOffer offered.now) }
+{
+    match offered {
+        None => line.push(0)?,
+        Some(command) => {
+            line.push(1)?;
+            put_octets(command.octets(), line)?;
+        }
+    }
+    Ok(())
+}
+
+/// A station that is down, with what its first line says.
+fn flags_from(numbers: &[u64]) -> Option<StationState>
+    ensures { result ≡ flags_from numbers.now }
+{
+    match numbers {
+        [address, acd, dfc, number, gap] => {
+            let acd = bit_from(*acd)?;
+            let dfc = bit_from(*dfc)?;
+            let has_gap = bit_from(*gap)?;
+            if *address > 65535 {
+                return None;
+            }
+            Some(StationState {
+                address: *address as u16,
+                link: Link::Down,
+                acd,
+                dfc,
+                offered: None,
+                session: SessionState {
+                    number: *number,
+                    has_gap,
+                },
+            })
+        }
+        _ => None,
+    }
+}
+
+/// The offered command, or that there is none, by the kind of the line.
+fn offered_by(kind: u64, numbers: &[u64]) -> Option<Option<CommandOctets>>
+    ensures { result ≡ offered_by kind numbers.now }
+{
+    match (kind, numbers) {
+        (0, []) => Some(None),
+        (1, octets) => Some(Some(command_from(octets)?)),
+        _ => None,
+    }
+}
+
+/// The offered command that a line says, or that there is none.
+fn offered_from(numbers: &[u64]) -> Option<Option<CommandOctets>>
+    ensures { result ≡ offered_from numbers.now }
+{
+    let (kind, others) = numbers.split_first()?;
+    offered_by(*kind, others)
+}
+
+/// Puts a station's three lines.
+fn put_station<S: Sheet>(
+    station: &StationState,
+    sheet: &mut S,
+    line: &mut Vec<u64>,
+) -> Result<(), StateFault>
+    ensures lines { OnOk result (S.written sheet.new ≡ S.written sheet.old ++ lines_of (station.now ∷ [])) }
+    ensures fits { OnOk result (FitsSavedStation station.now) }
+{
+    line.clear();
+    put_flags(station, line)?;
+    sheet.put(line.as_slice())?;
+    line.clear();
+    put_link(&station.link, line)?;
+    sheet.put(line.as_slice())?;
+    line.clear();
+    put_offered(&station.offered, line)?;
+    sheet.put(line.as_slice())?;
+    Ok(())
+}
+
+/// Reads a station's three lines.
+fn read_station<L: Lines>(lines: &mut L, line: &mut Vec<u64>) -> Result<StationState, StateFault>
+    ensures { (s : StationState) (rest : List (List ℕ)) → FitsSavedStation s →
+        L.coming lines.old ≡ flags_numbers s ∷ link_numbers s.link ∷ offered_numbers s.offered ∷ rest →
+        MatchResult result (λ t. (t ≡ s) × (L.coming lines.new ≡ rest)) (λ e. e ≡ Wrong → ⊥) }
+{
+    lines.next(line)?;
+    let Some(bare) = flags_from(line.as_slice()) else {
+        return Err(StateFault::Wrong);
+    };
+    lines.next(line)?;
+    let Some(link) = link_from(line.as_slice()) else {
+        return Err(StateFault::Wrong);
+    };
+    lines.next(line)?;
+    let Some(offered) = offered_from(line.as_slice()) else {
+        return Err(StateFault::Wrong);
+    };
+    Ok(StationState {
+        address: bare.address,
+        link,
+        acd: bare.acd,
+        dfc: bare.dfc,
+        offered,
+        session: bare.session,
+    })
+}
+
+/// Puts the lines of stations.
+pub(crate) fn put_stations<S: Sheet>(
+    stations: &[StationState],
+    sheet: &mut S,
+    line: &mut Vec<u64>,
+) -> Result<(), StateFault>
+    ensures lines { OnOk result (S.written sheet.new ≡ S.written sheet.old ++ lines_of stations.now) }
+    ensures fits { OnOk result (AllByRecursion FitsSavedStation stations.now) }
+{
+    for station in stations {
+        put_station(station, sheet, line)?;
+    }
+    Ok(())
+}
+
+/// Reads so many stations.
+pub(crate) fn read_stations<L: Lines>(
+    alloc: Global,
+    count: usize,
+    lines: &mut L,
+    line: &mut Vec<u64>,
+) -> Result<Vec<StationState>, StateFault>
+    ensures { (ss : List StationState) (rest : List (List ℕ)) → length ss ≡ count → AllByRecursion FitsSavedStation ss →
+        L.coming lines.old ≡ lines_of ss ++ rest →
+        MatchResult result (λ v. (v.items ≡ ss) × (L.coming lines.new ≡ rest)) (λ e. e ≡ Wrong → ⊥) }
+{
+    let mut stations = Vec::new(alloc);
+    for _i in 0..count {
+        match read_station(lines, line) {
+            Ok(station) => {
+                if stations.push(station).is_err() {
+                    return Err(StateFault::NoMemory);
+                }
+            }
+            Err(fault) => return Err(fault),
+        }
+    }
+    Ok(stations)
+}
