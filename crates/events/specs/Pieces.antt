@@ -7,6 +7,7 @@ use Rattle.arrayvec.specs.ArrayVec.{ArrayVec}
 abbrev pub AreAsdus : List (ArrayVec ℕ) → Type 0
 AreAsdus pieces = AllByRecursion (λ p. (9 ≤ length p.items) × (length p.items ≤ 249)) pieces
 
--- the same, of their octets
-abbrev pub AreSendable : List (List ℕ) → Type 0
-AreSendable pieces = AllByRecursion (λ p. (9 ≤ length p) × (length p ≤ 249)) pieces
+-- how a queue is kept: the mark is within the pieces, and each can be sent
+pub record IsSound (pieces : List (ArrayVec ℕ)) (mark : ℕ) : Type 0 where
+  pub within : mark ≤ length pieces
+  pub asdus : AreAsdus pieces
