@@ -133,15 +133,15 @@ impl Gateway {
             Event::Wall(wall) => self.wall = Some((self.moment, wall)),
             _ => {}
         }
+        if let Some((station, session)) = gap {
+            put(self.moment, Action::Gap(station, session));
+        }
         if let Some(station) = silent {
             self.give_up(station);
         }
         self.commands.due(self.moment);
         if self.session.is_late(self.moment) {
             self.close(5, put);
-        }
-        if let Some((station, session)) = gap {
-            put(self.moment, Action::Gap(station, session));
         }
         self.ask(put);
         self.flush(put);
