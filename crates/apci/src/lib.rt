@@ -24,7 +24,7 @@ pub use apdu::{Apdu, ApduRef, Front, FrontRef, Short, Uf, Why};
 pub use assembling::{Assembler, Heard};
 pub use laws::{
     apdus_are_heard_one_after_another, formats_are_told_apart, no_spelling_begins_another,
-    one_front, one_spelling, spellings_cancel, worked_examples_hold,
+    one_front, one_spelling, refusals_are_told, spellings_cancel, worked_examples_hold,
 };
 pub use reading::{front, front_ref};
 pub use writing::{encode, write_information};
