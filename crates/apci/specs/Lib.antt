@@ -7,3 +7,4 @@ pub mod Control
 pub mod Progress
 pub mod Examples
 pub mod Refusals
+pub mod Places
