@@ -22,3 +22,4 @@ pub mod Examples
 pub mod Tagged
 pub mod Staying
 pub mod OwnAnswers
+pub mod SavedBack

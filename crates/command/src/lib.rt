@@ -32,6 +32,8 @@ mod judging;
 mod keeping;
 mod laws;
 mod mirrors;
+mod restoring;
+mod saving;
 mod selection;
 mod station;
 mod tags;
