@@ -23,3 +23,6 @@ pub mod Tagged
 pub mod Staying
 pub mod OwnAnswers
 pub mod SavedBack
+pub mod Places
+pub mod Wholes
+pub mod Heard

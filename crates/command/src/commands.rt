@@ -17,8 +17,8 @@ use crate::judging::{
     negative_cause,
 };
 use crate::keeping::{
-    advanced, count_waiting, cut_all, free_lines, is_used_at, kept_stations, place_of, push_copies,
-    refusal_at, station_number,
+    advanced, count_waiting, cut_all, free_lines, is_heard, is_used_at, kept_stations, place_of,
+    push_copies, refusal_at, station_number,
 };
 use crate::mirrors::{element_of, is_con};
 use crate::restoring::{Parts, are_answers, read_parts, ring_of};
@@ -200,8 +200,8 @@ impl Commands {
     fn tell(&mut self, sign: Sign)
         ensures { self.new ≡ told sign self.old }
     {
-        // Most of the time nothing is selected, and each event comes by here.
-        if !self.selections.is_empty() {
+        // Each event comes by here, and few change a selection: the list is made anew for those.
+        if is_heard(self.selections.as_slice(), self.select_ms, &sign) {
             self.advance(sign);
         }
     }
