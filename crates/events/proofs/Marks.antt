@@ -6,28 +6,29 @@ use Rattle.std.specs.List.{AllByRecursion}
 use Rattle.std.specs.Prelude.{Some, None, Result, Ok, Err, IsOk, OnOk, slice_get, slice_set}
 use Rattle.arrayvec.specs.ArrayVec.{ArrayVec}
 use Rattle.events.specs.Pieces.{AreAsdus}
-use Rattle.events.specs.Queue.{Queue, queue_of, octets_of, pushed, marked_sent, acknowledged, rewound, free_places, kept}
+use Rattle.events.specs.Queue.{Queue, queue_of, octets_of, pushed, acknowledged, rewound, free_places, kept}
+use Rattle.events.specs.Restored.{marked}
 
-abbrev queue_from : List (List ℕ) → List (List ℕ) → ℕ → Queue
+abbrev pub queue_from : List (List ℕ) → List (List ℕ) → ℕ → Queue
 queue_from sent unsent places = record { sent = sent; unsent = unsent; places = places }
 
-same_queue : (s t u v : List (List ℕ)) (n : ℕ) → s ≡ t → u ≡ v → queue_from s u n ≡ queue_from t v n
+pub same_queue : (s t u v : List (List ℕ)) (n : ℕ) → s ≡ t → u ≡ v → queue_from s u n ≡ queue_from t v n
 same_queue s t u v n e f = ap (λ x. queue_from x u n) e ∙ ap (λ x. queue_from t x n) f
 
--- what stands before the mark, one further on
-take_next : (xs : List (ArrayVec ℕ)) (m : ℕ) → octets_of (take (m + 1) xs) ≡ octets_of (take m xs)
-    ++ take 1 (octets_of (drop m xs))
-take_next xs m =
-    let split : take (m + 1) xs ≡ take m xs ++ take 1 (drop m xs) =
-    sym (take-append-drop m (take (m + 1) xs)) ∙ ap (λ l. l ++ drop m (take (m + 1) xs))
-    (take-take m (m + 1) xs (omega arith)) ∙ ap (λ l. take m xs ++ l) (drop-take m 1 xs) in
-    ap octets_of split ∙ map-append (λ p. p.items) (take m xs) (take 1 (drop m xs))
-    ∙ ap (λ l. octets_of (take m xs) ++ l) (sym (take-map (λ p. p.items) 1 (drop m xs)))
+-- what stands before the mark, n further on
+take_next : (n : ℕ) (xs : List (ArrayVec ℕ)) (m : ℕ) → octets_of (take (m + n) xs) ≡ octets_of (take m xs)
+    ++ take n (octets_of (drop m xs))
+take_next n xs m =
+    let split : take (m + n) xs ≡ take m xs ++ take n (drop m xs) =
+    sym (take-append-drop m (take (m + n) xs)) ∙ ap (λ l. l ++ drop m (take (m + n) xs))
+    (take-take m (m + n) xs (omega arith)) ∙ ap (λ l. take m xs ++ l) (drop-take m n xs) in
+    ap octets_of split ∙ map-append (λ p. p.items) (take m xs) (take n (drop m xs))
+    ∙ ap (λ l. octets_of (take m xs) ++ l) (sym (take-map (λ p. p.items) n (drop m xs)))
 
-pub queue_of-marked : (xs : List (ArrayVec ℕ)) (m places : ℕ)
-    → queue_of xs (m + 1) places ≡ marked_sent (queue_of xs m places)
-queue_of-marked xs m places = same_queue _ _ _ _ places (take_next xs m)
-    (ap octets_of (sym (drop-drop 1 m xs)) ∙ sym (drop-map (λ p. p.items) 1 (drop m xs)))
+pub queue_of-marked : (n : ℕ) (xs : List (ArrayVec ℕ)) (m places : ℕ)
+    → queue_of xs (m + n) places ≡ marked n (queue_of xs m places)
+queue_of-marked n xs m places = same_queue _ _ _ _ places (take_next n xs m)
+    (ap octets_of (sym (drop-drop n m xs)) ∙ sym (drop-map (λ p. p.items) n (drop m xs)))
 
 pub queue_of-rewound : (xs : List (ArrayVec ℕ)) (m places : ℕ) → queue_of xs 0 places ≡ rewound (queue_of xs m places)
 queue_of-rewound xs m places = same_queue _ _ _ _ places refl
@@ -137,7 +138,7 @@ pub written_there : (xs ys : List (ArrayVec ℕ)) (y p : ArrayVec ℕ) (n : ℕ)
 written_there xs ys y p n e at =
     ap (λ zs. slice_set zs n p) e ∙ ap (λ k. slice_set (xs ++ y ∷ []) k p) at ∙ set-append_seam xs y [] p
 
-kept-queue_of : (xs : List (ArrayVec ℕ)) (m places : ℕ) → kept (queue_of xs m places) ≡ octets_of xs
+pub kept-queue_of : (xs : List (ArrayVec ℕ)) (m places : ℕ) → kept (queue_of xs m places) ≡ octets_of xs
 kept-queue_of xs m places =
     sym (map-append (λ p. p.items) (take m xs) (drop m xs)) ∙ ap octets_of (take-append-drop m xs)
 

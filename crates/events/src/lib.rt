@@ -8,9 +8,13 @@
 //! ([`Events::rewind`]). What pieces say, and which frames acknowledge them, is no matter of this
 //! crate.
 //!
+//! A place has room for the longest piece, some 264 octets, and a report is written where it will
+//! stand. A place that was never used is never touched.
+//!
 //! Proved: each call is one small function on the two lists. Above it, after every list of calls
 //! the queue keeps what was pushed and isn't acknowledged, in its order: nothing is overwritten or
-//! lost. Only `new` takes memory, and after it no call can fail.
+//! lost. Only `new` takes memory, and after it no call can fail. The lines that a queue puts give
+//! the same queue again ([`Events::put_state`], [`Events::read_state`]).
 #![tactic(auto)]
 
 ghost use Rattle.std.specs.Map.Iter.{TakesFirst, deref};
@@ -18,9 +22,10 @@ ghost use Rattle.std.specs.Iterator.{at_most};
 ghost use Rattle.std.specs.Prelude.{◌≡◌, ◌<◌, ◌≤◌, ◌↔◌, [], ◌∷◌, length, drop, IfOk, IfSome, IfNone, IsTrue};
 ghost use Rattle.asdu.specs.Reading.{value_of};
 ghost use Rattle.asdu.specs.Translation.{report_pieces};
-ghost use Rattle.events.specs.Pieces.{AreAsdus};
+ghost use Rattle.events.specs.Pieces.{IsSendable, AreAsdus};
 
 mod laws;
+mod restoring;
 
 use asdu::{Asdu, Piece, Pieces, Translation};
 use circular_buffer::{HeapCircularBuffer, Iter};
@@ -37,10 +42,11 @@ pub struct NoMemory;
 /// The most pieces of one report.
 const MOST_PIECES: usize = 3;
 
-/// The kept pieces, oldest first. Those before the mark were sent on the open connection.
+/// The kept pieces, oldest first. The first ones were sent on the open connection.
 #[derive(Drop)]
 pub struct Events {
     ring: HeapCircularBuffer<Piece>,
+    /// How many of the pieces were sent.
     sent: usize,
 }
 
@@ -87,11 +93,18 @@ impl Events {
         requires asdus { AreAsdus pieces.items }
         ensures { self.new ≡ pushed (octets_of pieces.items) self.old }
     {
-        let count = pieces.len();
-        prove!(count <= self.ring.capacity() - self.ring.len());
         for piece in pieces {
-            let _ = self.ring.try_push_back(piece);
+            self.keep(piece);
         }
+    }
+
+    /// Appends a piece, unsent.
+    fn keep(&mut self, piece: Piece)
+        requires room { 1 ≤ free_places self.old }
+        requires asdu { IsSendable piece.items }
+        ensures { self.new ≡ pushed (piece.items ∷ []) self.old }
+    {
+        let _ = self.ring.try_push_back(piece);
     }
 
     /// Appends the pieces of a report of at most 253 octets, unsent, each written in its place. The
