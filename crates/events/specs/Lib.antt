@@ -1,3 +1,4 @@
 pub mod Queue
 pub mod Pieces
 pub mod Runs
+pub mod Restored

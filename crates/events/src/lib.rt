@@ -8,19 +8,24 @@
 //! ([`Events::rewind`]). What pieces say, and which frames acknowledge them, is no matter of this
 //! crate.
 //!
+//! A place has room for the longest piece, some 264 octets, and a report is written where it will
+//! stand. A place that was never used is never touched.
+//!
 //! Proved: each call is one small function on the two lists. Above it, after every list of calls
 //! the queue keeps what was pushed and isn't acknowledged, in its order: nothing is overwritten or
-//! lost. Only `new` takes memory, and after it no call can fail.
+//! lost. Only `new` takes memory, and after it no call can fail. The lines that a queue puts give
+//! the same queue again ([`Events::put_state`], [`Events::read_state`]).
 #![tactic(auto)]
 
 ghost use Rattle.std.specs.Map.Iter.{TakesFirst, deref};
 ghost use Rattle.std.specs.Iterator.{at_most};
-ghost use Rattle.std.specs.Prelude.{◌≡◌, ◌<◌, ◌≤◌, ◌↔◌, [], ◌∷◌, length, drop, IfOk, IfSome, IfNone, IsTrue};
+ghost use Rattle.std.specs.Prelude.{◌≡◌, ◌<◌, ◌≤◌, ◌↔◌, [], ◌∷◌, length, take, drop, IfOk, IfSome, IfNone, IsTrue};
 ghost use Rattle.asdu.specs.Reading.{value_of};
 ghost use Rattle.asdu.specs.Translation.{report_pieces};
-ghost use Rattle.events.specs.Pieces.{AreAsdus};
+ghost use Rattle.events.specs.Pieces.{IsSendable, AreAsdus, AreSendable};
 
 mod laws;
+mod restoring;
 
 use asdu::{Asdu, Piece, Pieces, Translation};
 use circular_buffer::{HeapCircularBuffer, Iter};
@@ -37,10 +42,11 @@ pub struct NoMemory;
 /// The most pieces of one report.
 const MOST_PIECES: usize = 3;
 
-/// The kept pieces, oldest first. Those before the mark were sent on the open connection.
+/// The kept pieces, oldest first. The first ones were sent on the open connection.
 #[derive(Drop)]
 pub struct Events {
     ring: HeapCircularBuffer<Piece>,
+    /// How many of the pieces were sent.
     sent: usize,
 }
 
@@ -87,11 +93,18 @@ impl Events {
         requires asdus { AreAsdus pieces.items }
         ensures { self.new ≡ pushed (octets_of pieces.items) self.old }
     {
-        let count = pieces.len();
-        prove!(count <= self.ring.capacity() - self.ring.len());
         for piece in pieces {
-            let _ = self.ring.try_push_back(piece);
+            self.keep(piece);
         }
+    }
+
+    /// Appends a piece, unsent.
+    fn keep(&mut self, piece: Piece)
+        requires room { 1 ≤ free_places self.old }
+        requires asdu { IsSendable piece.items }
+        ensures { self.new ≡ pushed (piece.items ∷ []) self.old }
+    {
+        let _ = self.ring.try_push_back(piece);
     }
 
     /// Appends the pieces of a report of at most 253 octets, unsent, each written in its place. The
@@ -102,15 +115,26 @@ impl Events {
         ensures { self.new ≡ pushed (report_pieces (value_of asdu.now)) self.old }
     {
         let mut left = Translation::new(asdu);
-        prove!(self.sent <= self.ring.len());
         while !left.is_over() {
-            let newest = self.ring.len();
-            let _ = self.ring.try_push_back(Piece::new());
-            let Some(piece) = self.ring.get_mut(newest) else {
-                unreachable!();
-            };
-            left.write_next(piece);
+            self.append_next(&mut left);
         }
+    }
+
+    /// Writes a report's next piece where it will stand, unsent.
+    #[inline(always)]
+    fn append_next(&mut self, left: &mut Translation)
+        requires room { 1 ≤ free_places self.old }
+        requires some { 1 ≤ length left.old }
+        requires lengths { AreSendable left.old }
+        ensures queue { self.new ≡ pushed (take 1 left.old) self.old }
+        ensures others { left.new ≡ drop 1 left.old }
+    {
+        let newest = self.ring.len();
+        let _ = self.ring.try_push_back(Piece::new());
+        let Some(piece) = self.ring.get_mut(newest) else {
+            unreachable!();
+        };
+        left.write_next(piece);
     }
 
     /// The oldest piece that isn't sent, of 9 to 249 octets.

@@ -1,10 +1,15 @@
-use Rattle.std.proofs.Common.{◌≡◌, ◌++◌}
+use Rattle.std.proofs.Common.{◌≡◌, ◌≤◌, ◌+◌, ◌++◌, length}
+use Rattle.events.specs.Queue.{kept, octets_of}
+use Rattle.events.specs.Pieces.{AreAsdus}
 use Rattle.events.proofs.Events.push.Given as goal
 
 abbrev pub invariant-loop-piece : goal.invariant-loop-piece
-invariant-loop-piece l =
-    (goal.iterator-loop-piece).can_next l.piece-iterator ×
-    (goal.iterator-loop-piece).is_finite l.piece-iterator ×
-    (l.self-inside.ring.items ++ l.piece-iterator ≡ l.initial.self-inside.ring.items ++ l.fn.pieces.items) ×
-    (l.self-inside.ring.capacity ≡ l.initial.self-inside.ring.capacity) ×
-    (l.self-inside.sent ≡ l.initial.self-inside.sent)
+invariant-loop-piece l = record {
+  next : (goal.iterator-loop-piece).can_next l.piece-iterator;
+  finite : (goal.iterator-loop-piece).is_finite l.piece-iterator;
+  sent : l.self.sent ≡ l.initial.self.sent;
+  unsent : l.self.unsent ++ octets_of l.piece-iterator ≡ l.initial.self.unsent ++ octets_of l.fn.pieces.items;
+  places : l.self.places ≡ l.initial.self.places;
+  room : length (kept l.self) + length l.piece-iterator ≤ l.self.places;
+  asdus : AreAsdus l.piece-iterator;
+}
