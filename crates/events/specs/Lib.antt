@@ -1,5 +1,4 @@
 pub mod Queue
 pub mod Pieces
-pub mod Row
-pub mod Octets
 pub mod Runs
+pub mod Restored

@@ -3,10 +3,18 @@ use Rattle.std.specs.Prelude.{ℕ, ◌≤◌, List, length}
 use Rattle.std.specs.List.{AllByRecursion}
 use Rattle.arrayvec.specs.ArrayVec.{ArrayVec}
 
--- each has 9 to 249 octets
-abbrev pub AreAsdus : List (ArrayVec ℕ) → Type 0
-AreAsdus pieces = AllByRecursion (λ p. (9 ≤ length p.items) × (length p.items ≤ 249)) pieces
+-- 9 to 249 octets
+abbrev pub IsSendable : List ℕ → Type 0
+IsSendable piece = (9 ≤ length piece) × (length piece ≤ 249)
 
--- the same, of their octets
 abbrev pub AreSendable : List (List ℕ) → Type 0
-AreSendable pieces = AllByRecursion (λ p. (9 ≤ length p) × (length p ≤ 249)) pieces
+AreSendable pieces = AllByRecursion IsSendable pieces
+
+-- the same, of pieces as they are stored
+abbrev pub AreAsdus : List (ArrayVec ℕ) → Type 0
+AreAsdus pieces = AllByRecursion (λ p. IsSendable p.items) pieces
+
+-- how a queue is kept: the mark is within the pieces, and each can be sent
+pub record IsSound (pieces : List (ArrayVec ℕ)) (mark : ℕ) : Type 0 where
+  pub within : mark ≤ length pieces
+  pub asdus : AreAsdus pieces

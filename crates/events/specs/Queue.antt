@@ -38,3 +38,11 @@ rewound q = record { sent = []; unsent = kept q; places = q.places }
 
 abbrev pub octets_of : List (ArrayVec ℕ) → List (List ℕ)
 octets_of pieces = map (λ p. p.items) pieces
+
+-- the kept pieces with a mark behind the sent ones
+abbrev pub queue_of : List (ArrayVec ℕ) → ℕ → ℕ → Queue
+queue_of pieces mark places = record {
+  sent = octets_of (take mark pieces);
+  unsent = octets_of (drop mark pieces);
+  places = places;
+}

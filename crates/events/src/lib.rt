@@ -2,33 +2,33 @@
 //! or `push` until a connection acknowledged them (this gateway's own profile; IEC 60870-5-104,
 //! 5.1, for what acknowledging is).
 //!
-//! [`Events`] is a list with two marks, its oldest piece and its first unsent one. Pieces go behind
-//! the newest, are lent to be sent from the mark on, and leave from the oldest. What is sent and
-//! not acknowledged when a connection ends is unsent again ([`Events::rewind`]). What pieces say,
-//! and which frames acknowledge them, is no matter of this crate.
+//! [`Events`] is a list with two marks, its oldest piece and its first unsent one, in a ring of
+//! fixed places. Pieces go behind the newest, are lent to be sent from the mark on, and leave from
+//! the oldest. What is sent and not acknowledged when a connection ends is unsent again
+//! ([`Events::rewind`]). What pieces say, and which frames acknowledge them, is no matter of this
+//! crate.
 //!
-//! The pieces stand as octets one behind another, each behind its length. What left stays in front
-//! of them until it takes as much as they do; then they move to the front. So for each octet that
-//! leaves one is moved at most, and the octets in use are at most twice those of what is kept. The
-//! room that `new` reserves is for as many pieces of 249 octets; what was never in use of it is
-//! never touched.
+//! A place has room for the longest piece, some 264 octets, and a report is written where it will
+//! stand. A place that was never used is never touched.
 //!
 //! Proved: each call is one small function on the two lists. Above it, after every list of calls
 //! the queue keeps what was pushed and isn't acknowledged, in its order: nothing is overwritten or
-//! lost. Only `new` takes memory, and after it no call can fail.
+//! lost. Only `new` takes memory, and after it no call can fail. The lines that a queue puts give
+//! the same queue again ([`Events::put_state`], [`Events::read_state`]).
 #![tactic(auto)]
 
 ghost use Rattle.std.specs.Map.Iter.{TakesFirst, deref};
 ghost use Rattle.std.specs.Iterator.{at_most};
-ghost use Rattle.std.specs.Prelude.{◌≡◌, ◌+◌, ◌<◌, ◌≤◌, ◌↔◌, [], ◌∷◌, length, take, drop, IfOk, IfSome, IfNone, IsTrue};
+ghost use Rattle.std.specs.Prelude.{◌≡◌, ◌<◌, ◌≤◌, ◌↔◌, [], ◌∷◌, length, drop, IfOk, IfSome, IfNone, IsTrue};
 ghost use Rattle.asdu.specs.Reading.{value_of};
 ghost use Rattle.asdu.specs.Translation.{report_pieces};
-ghost use Rattle.events.specs.Pieces.{AreAsdus, AreSendable};
+ghost use Rattle.events.specs.Pieces.{IsSendable, AreAsdus};
 
 mod laws;
-mod row;
+mod restoring;
 
 use asdu::{Asdu, Piece, Pieces, Translation};
+use circular_buffer::{HeapCircularBuffer, Iter};
 pub use laws::pieces_are_kept_in_order;
 use std::alloc::Global;
 use std::marker::Model;
@@ -42,37 +42,23 @@ pub struct NoMemory;
 /// The most pieces of one report.
 const MOST_PIECES: usize = 3;
 
-/// The octets that are reserved for a place: a piece takes 250 at most with its length, and as many
-/// of what left may stand in front of it.
-const PLACE_OCTETS: usize = 500;
-
-/// The kept pieces, oldest first. Those before the mark were sent on the open connection.
+/// The kept pieces, oldest first. The first ones were sent on the open connection.
 #[derive(Drop)]
 pub struct Events {
-    /// What left, and then the kept pieces, each behind its length.
-    octets: Vec<u8>,
-    /// How many pieces may be kept.
-    places: usize,
-    /// Where the oldest kept piece stands.
-    start: usize,
-    /// Where the first unsent one stands.
-    mark: usize,
-    /// How many pieces are kept.
-    kept: usize,
-    /// A report's next piece is written here before it is appended.
-    next: Piece,
+    ring: HeapCircularBuffer<Piece>,
+    /// How many of the pieces were sent.
+    sent: usize,
 }
 
 impl Model for Events {
-    ghost use Rattle.events.specs.Queue.{Queue};
+    ghost use Rattle.events.specs.Queue.{Queue, queue_of};
+    ghost use Rattle.events.specs.Pieces.{IsSound};
 
     ghost Value = { Queue };
 
-    ghost use Rattle.events.specs.Octets.{queue_of, IsSound};
+    ghost view = { λ e. queue_of e.ring.items e.sent e.ring.capacity };
 
-    ghost view = { queue_of };
-
-    ghost invariant = { IsSound };
+    ghost invariant = { λ e. IsSound e.ring.items e.sent };
 }
 
 impl Events {
@@ -82,23 +68,15 @@ impl Events {
     pub fn new(alloc: Global, places: usize) -> Result<Events, NoMemory>
         ensures { IfOk result (λ e. e ≡ empty places) }
     {
-        let reserved = places.checked_mul(PLACE_OCTETS).ok_or(NoMemory)?;
-        let octets = Vec::with_capacity(alloc, reserved).map_err(|_| NoMemory)?;
-        Ok(Events {
-            octets,
-            places,
-            start: 0,
-            mark: 0,
-            kept: 0,
-            next: Piece::new(),
-        })
+        let ring = HeapCircularBuffer::with_capacity(alloc, places).map_err(|_| NoMemory)?;
+        Ok(Events { ring, sent: 0 })
     }
 
     /// How many more pieces fit.
     pub fn free(&self) -> usize
         ensures { result ≡ free_places self.now }
     {
-        self.places - self.kept
+        self.ring.capacity() - self.ring.len()
     }
 
     /// Whether fewer than three places are free, so that the pieces of a report may not fit.
@@ -115,61 +93,37 @@ impl Events {
         requires asdus { AreAsdus pieces.items }
         ensures { self.new ≡ pushed (octets_of pieces.items) self.old }
     {
-        for piece in pieces.as_slice() {
-            self.append(piece.as_slice());
+        for piece in pieces {
+            self.keep(piece);
         }
     }
 
-    /// Appends the pieces of a report of at most 253 octets, unsent. The queue may not be full.
+    /// Appends a piece, unsent.
+    fn keep(&mut self, piece: Piece)
+        requires room { 1 ≤ free_places self.old }
+        requires asdu { IsSendable piece.items }
+        ensures { self.new ≡ pushed (piece.items ∷ []) self.old }
+    {
+        let _ = self.ring.try_push_back(piece);
+    }
+
+    /// Appends the pieces of a report of at most 253 octets, unsent, each written in its place. The
+    /// queue may not be full.
     pub fn push_report(&mut self, asdu: &Asdu)
         requires room { 3 ≤ free_places self.old }
         requires short { length asdu.now.octets.now ≤ 253 }
         ensures { self.new ≡ pushed (report_pieces (value_of asdu.now)) self.old }
     {
         let mut left = Translation::new(asdu);
-        if left.is_over() {
-            return;
-        }
-        // Most reports are one piece.
-        self.append_next(&mut left);
-        self.append_others(left);
-    }
-
-    /// Appends the pieces of a report that are left.
-    #[inline(always)]
-    fn append_others(&mut self, mut left: Translation)
-        requires room { length (kept self.old) + length left ≤ self.old.places }
-        requires lengths { AreSendable left }
-        ensures { self.new ≡ pushed left.entry self.old }
-    {
+        prove!(self.sent <= self.ring.len());
         while !left.is_over() {
-            self.append_next(&mut left);
+            let newest = self.ring.len();
+            let _ = self.ring.try_push_back(Piece::new());
+            let Some(piece) = self.ring.get_mut(newest) else {
+                unreachable!();
+            };
+            left.write_next(piece);
         }
-    }
-
-    /// Appends a piece of 9 to 249 octets, unsent.
-    fn append(&mut self, piece: &[u8])
-        requires room { 1 ≤ free_places self.old }
-        requires least { 9 ≤ length piece.now }
-        requires most { length piece.now ≤ 249 }
-        ensures { self.new ≡ pushed (piece.now ∷ []) self.old }
-    {
-        row::append(&mut self.octets, piece);
-        self.kept += 1;
-    }
-
-    /// Writes a report's next piece, and appends it, unsent.
-    #[inline(always)]
-    fn append_next(&mut self, left: &mut Translation)
-        requires room { 1 ≤ free_places self.old }
-        requires some { 1 ≤ length left.old }
-        requires lengths { AreSendable left.old }
-        ensures queue { self.new ≡ pushed (take 1 left.old) self.old }
-        ensures others { left.new ≡ drop 1 left.old }
-    {
-        left.write_next(&mut self.next);
-        row::append(&mut self.octets, self.next.as_slice());
-        self.kept += 1;
     }
 
     /// The oldest piece that isn't sent, of 9 to 249 octets.
@@ -179,8 +133,8 @@ impl Events {
         ensures none { IfNone result (self.now.unsent ≡ []) }
         ensures fits { IfSome result (λ piece. (9 ≤ length piece.now) × (length piece.now ≤ 249)) }
     {
-        let (piece, _) = row::split_first(&self.octets[self.mark..])?;
-        Some(piece)
+        let piece = self.ring.get(self.sent)?;
+        Some(piece.as_slice())
     }
 
     /// The oldest unsent piece was sent.
@@ -188,7 +142,8 @@ impl Events {
         requires { 0 < length self.old.unsent }
         ensures { self.new ≡ marked_sent self.old }
     {
-        self.mark += row::length_of(&self.octets[self.mark..], 1);
+        prove!(self.sent < self.ring.len());
+        self.sent += 1;
     }
 
     /// Removes the `count` oldest pieces, which were sent.
@@ -196,41 +151,40 @@ impl Events {
         requires { count ≤ length self.old.sent }
         ensures { self.new ≡ acknowledged count self.old }
     {
-        // Most APDUs acknowledge none.
-        if count > 0 {
-            self.remove_oldest(count);
-        }
-    }
-
-    /// The same. What is left moves to the front where it takes no more than what left.
-    fn remove_oldest(&mut self, count: usize)
-        requires { count ≤ length self.old.sent }
-        ensures { self.new ≡ acknowledged count self.old }
-    {
-        self.start += row::length_of(&self.octets[self.start..self.mark], count);
-        self.kept -= count;
-        // What left takes as much as what is kept, or more.
-        if self.octets.len() - self.start <= self.start {
-            row::remove_front(&mut self.octets, self.start);
-            self.mark -= self.start;
-            self.start = 0;
-        }
+        let left = self.ring.len() - count;
+        self.ring.truncate_front(left);
+        self.sent -= count;
     }
 
     /// All kept pieces are unsent again.
     pub fn rewind(&mut self)
         ensures { self.new ≡ rewound self.old }
     {
-        self.mark = self.start;
+        self.sent = 0;
+    }
+
+    /// How many pieces were sent on the open connection.
+    pub fn sent(&self) -> usize
+        ensures { result ≡ length self.now.sent }
+    {
+        self.sent
     }
 
     /// The kept pieces, oldest first.
     pub fn kept(&self) -> Kept<'_>
         ensures { result ≡ kept self.now }
     {
-        Kept {
-            row: &self.octets[self.start..],
-        }
+        let pieces = self.ring.iter();
+        Kept { pieces }
+    }
+
+    /// The ring itself, the oldest piece first.
+    pub fn into_ring(self) -> HeapCircularBuffer<Piece>
+        ensures pieces { octets_of result.items ≡ kept self }
+        ensures capacity { result.capacity ≡ self.places }
+    {
+        let Events { ring, sent: _ } = self;
+        ring
     }
 }
 
@@ -238,19 +192,16 @@ impl Events {
 /// come.
 #[derive(Drop)]
 pub struct Kept<'a> {
-    /// The pieces to come, each behind its length.
-    row: &'a [u8],
+    pieces: Iter<'a, Piece>,
 }
 
 impl<'a> Model for Kept<'a> {
     ghost use Rattle.std.specs.Prelude.{List, ℕ};
-    ghost use Rattle.events.specs.Row.{pieces_of, IsRow};
+    ghost use Rattle.events.specs.Queue.{octets_of};
 
     ghost Value = { List (List ℕ) };
 
-    ghost view = { λ k. pieces_of k.row.now };
-
-    ghost invariant = { λ k. IsRow k.row.now };
+    ghost view = { λ k. octets_of k.pieces };
 }
 
 impl<'a> Iterator for Kept<'a> {
@@ -261,8 +212,7 @@ impl<'a> Iterator for Kept<'a> {
     ghost remaining = { λ s. at_most (length s) };
 
     fn next(&mut self) -> Option<&'a [u8]> {
-        let (piece, behind) = row::split_first(self.row)?;
-        self.row = behind;
-        Some(piece)
+        let piece = self.pieces.next()?;
+        Some(piece.as_slice())
     }
 }

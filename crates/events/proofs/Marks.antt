@@ -1,0 +1,162 @@
+-- A list with a mark, and the two lists round the mark.
+use Rattle.std.proofs.Common.{◌≡◌, ℕ, ◌+◌, ◌-◌, ◌≤◌, List, [], ◌∷◌, ◌++◌, length, take, drop, refl, ap, sym, subst, ◌∙◌, arith, suc, zero, Option, append_assoc, length-append}
+use Rattle.std.proofs.lemmas.List.{map-append, take-append-drop, take-map, drop-map, drop-drop, drop-take, take-append-le, drop-append-le, take-take, length-map, length-take}
+use Rattle.std.proofs.Math.Seq.{set-append_seam}
+use Rattle.std.specs.List.{AllByRecursion}
+use Rattle.std.specs.Prelude.{Some, None, Result, Ok, Err, IsOk, OnOk, slice_get, slice_set}
+use Rattle.arrayvec.specs.ArrayVec.{ArrayVec}
+use Rattle.events.specs.Pieces.{AreAsdus}
+use Rattle.events.specs.Queue.{Queue, queue_of, octets_of, pushed, acknowledged, rewound, free_places, kept}
+use Rattle.events.specs.Restored.{marked}
+
+abbrev pub queue_from : List (List ℕ) → List (List ℕ) → ℕ → Queue
+queue_from sent unsent places = record { sent = sent; unsent = unsent; places = places }
+
+pub same_queue : (s t u v : List (List ℕ)) (n : ℕ) → s ≡ t → u ≡ v → queue_from s u n ≡ queue_from t v n
+same_queue s t u v n e f = ap (λ x. queue_from x u n) e ∙ ap (λ x. queue_from t x n) f
+
+-- what stands before the mark, n further on
+take_next : (n : ℕ) (xs : List (ArrayVec ℕ)) (m : ℕ) → octets_of (take (m + n) xs) ≡ octets_of (take m xs)
+    ++ take n (octets_of (drop m xs))
+take_next n xs m =
+    let split : take (m + n) xs ≡ take m xs ++ take n (drop m xs) =
+    sym (take-append-drop m (take (m + n) xs)) ∙ ap (λ l. l ++ drop m (take (m + n) xs))
+    (take-take m (m + n) xs (omega arith)) ∙ ap (λ l. take m xs ++ l) (drop-take m n xs) in
+    ap octets_of split ∙ map-append (λ p. p.items) (take m xs) (take n (drop m xs))
+    ∙ ap (λ l. octets_of (take m xs) ++ l) (sym (take-map (λ p. p.items) n (drop m xs)))
+
+pub queue_of-marked : (n : ℕ) (xs : List (ArrayVec ℕ)) (m places : ℕ)
+    → queue_of xs (m + n) places ≡ marked n (queue_of xs m places)
+queue_of-marked n xs m places = same_queue _ _ _ _ places (take_next n xs m)
+    (ap octets_of (sym (drop-drop n m xs)) ∙ sym (drop-map (λ p. p.items) n (drop m xs)))
+
+pub queue_of-rewound : (xs : List (ArrayVec ℕ)) (m places : ℕ) → queue_of xs 0 places ≡ rewound (queue_of xs m places)
+queue_of-rewound xs m places = same_queue _ _ _ _ places refl
+    (ap octets_of (sym (take-append-drop m xs)) ∙ map-append (λ p. p.items) (take m xs) (drop m xs))
+
+pub queue_of-acknowledged : (xs : List (ArrayVec ℕ)) (m places n : ℕ) → n ≤ m
+    → queue_of (drop n xs) (m - n) places ≡ acknowledged n (queue_of xs m places)
+queue_of-acknowledged xs m places n le =
+    let there : n + (m - n) ≡ m = omega arith in
+    same_queue _ _ _ _ places
+    (ap octets_of (sym (drop-take n (m - n) xs) ∙ ap (λ k. drop n (take k xs)) there)
+    ∙ sym (drop-map (λ p. p.items) n (take m xs)))
+    (ap octets_of (drop-drop (m - n) n xs ∙ ap (λ k. drop k xs) there))
+
+pub queue_of-pushed : (xs more : List (ArrayVec ℕ)) (m places : ℕ) → m ≤ length xs
+    → queue_of (xs ++ more) m places ≡ pushed (octets_of more) (queue_of xs m places)
+queue_of-pushed xs more m places le = same_queue _ _ _ _ places
+    (ap octets_of (take-append-le m xs more le))
+    (ap octets_of (drop-append-le m xs more le) ∙ map-append (λ p. p.items) (drop m xs) more)
+
+pub within_mark : (xs : List (ArrayVec ℕ)) (m places n : ℕ) (q : Queue) → queue_of xs m places ≡ q → n ≤ length q.sent
+    → n ≤ m
+within_mark xs m places n q e h =
+    omega (
+      arith,
+      ap (λ (p : Queue). length p.sent) e,
+      length-map (take m xs) (λ (p : ArrayVec ℕ). p.items),
+      length-take m xs,
+    )
+
+-- what stands at the mark
+pub unsent_some : (xs : List (ArrayVec ℕ)) (m : ℕ) (p : ArrayVec ℕ) → slice_get xs m ≡ Some p
+    → octets_of (drop m xs) ≡ p.items ∷ drop 1 (octets_of (drop m xs))
+unsent_some [] m p h = cc
+unsent_some (x ∷ xs) zero p h = let same : x ≡ p = cc in ap (λ (y : ArrayVec ℕ). y.items ∷ octets_of xs) same
+unsent_some (x ∷ xs) (suc m) p h = unsent_some xs m p h
+
+pub unsent_none : (xs : List (ArrayVec ℕ)) (m : ℕ) → slice_get xs m ≡ None → octets_of (drop m xs) ≡ []
+unsent_none [] zero h = refl
+unsent_none [] (suc m) h = refl
+unsent_none (x ∷ xs) zero h = cc
+unsent_none (x ∷ xs) (suc m) h = unsent_none xs m h
+
+pub on_ok : {T E : Type 0} (r : Result T E) (P : Type 0) → IsOk r → OnOk r P → P
+on_ok (Ok x) P h p = p
+on_ok (Err e) P h p = cc
+
+-- ---- each piece is an ASDU
+
+pub asdus-append : (xs ys : List (ArrayVec ℕ)) → AreAsdus xs → AreAsdus ys → AreAsdus (xs ++ ys)
+asdus-append [] ys h k = k
+asdus-append (x ∷ xs) ys h k = (h.0, asdus-append xs ys h.1 k)
+
+pub asdus-drop : (n : ℕ) (xs : List (ArrayVec ℕ)) → AreAsdus xs → AreAsdus (drop n xs)
+asdus-drop zero xs h = h
+asdus-drop (suc n) [] h = h
+asdus-drop (suc n) (x ∷ xs) h = asdus-drop n xs h.1
+
+pub asdus-get : (xs : List (ArrayVec ℕ)) (m : ℕ) (p : ArrayVec ℕ) → AreAsdus xs → slice_get xs m ≡ Some p
+    → (9 ≤ length p.items) × (length p.items ≤ 249)
+asdus-get [] m p h e = cc
+asdus-get (x ∷ xs) zero p h e = (let same : x ≡ p = cc in
+    subst (λ (y : ArrayVec ℕ). (9 ≤ length y.items) × (length y.items ≤ 249)) same h.0)
+asdus-get (x ∷ xs) (suc m) p h e = asdus-get xs m p h.1 e
+
+-- ---- Pieces that are written one after another behind those that are kept
+
+-- All are those that stand in the ring, and then those that are still to be written. Each can be
+-- sent, and has a place.
+pub record IsWriting (all : List (List ℕ)) (places : ℕ) (xs : List (ArrayVec ℕ)) (left : List (List ℕ)) : Type 0 where
+  pub pieces : octets_of xs ++ left ≡ all
+  pub asdus : AreAsdus xs
+  pub lengths : AllByRecursion (λ p. (9 ≤ length p) × (length p ≤ 249)) left
+  pub room : length xs + length left ≤ places
+
+pub one_more : (all : List (List ℕ)) (places : ℕ) (xs ys : List (ArrayVec ℕ)) (p : ArrayVec ℕ)
+    (left rest : List (List ℕ)) → left ≡ p.items ∷ rest → ys ≡ xs ++ p ∷ [] → IsWriting all places xs left
+    → IsWriting all places ys rest
+one_more all places xs ys p left rest e1 e2 h =
+    let lengths = subst (λ ps. AllByRecursion (λ q. (9 ≤ length q) × (length q ≤ 249)) ps) e1 h.lengths in
+    let shorter = ap (λ (ps : List (List ℕ)). length ps) e1 in
+    let longer = ap (λ (zs : List (ArrayVec ℕ)). length zs) e2 in
+    let sum = length-append xs (p ∷ []) in
+    let room = h.room in
+    record {
+      pieces = ap (λ zs. octets_of zs ++ rest) e2 ∙ ap (λ ps. ps ++ rest) (map-append (λ q. q.items) xs (p ∷ []))
+          ∙ append_assoc (octets_of xs) (p.items ∷ []) rest ∙ ap (λ ps. octets_of xs ++ ps) (sym e1) ∙ h.pieces;
+      asdus = subst AreAsdus (sym e2) (asdus-append xs (p ∷ []) h.asdus (lengths.0, tt));
+      lengths = lengths.1;
+      room = omega arith;
+    }
+
+-- the place behind the last one is there, and takes what is written
+get_seam : (xs : List (ArrayVec ℕ)) (y : ArrayVec ℕ) → slice_get (xs ++ y ∷ []) (length xs) ≡ Some y
+get_seam [] y = refl
+get_seam (x ∷ xs) y = get_seam xs y
+
+pub place_is_there : (o : Option (ArrayVec ℕ)) (xs ys : List (ArrayVec ℕ)) (y : ArrayVec ℕ) (n : ℕ) → o ≡ None
+    → o ≡ slice_get ys n → ys ≡ xs ++ y ∷ [] → n ≡ length xs → ⊥
+place_is_there o xs ys y n none is e at =
+    let some : None ≡ Some y =
+    sym none ∙ is ∙ ap (λ zs. slice_get zs n) e ∙ ap (slice_get (xs ++ y ∷ [])) at ∙ get_seam xs y in
+    cc
+
+pub written_there : (xs ys : List (ArrayVec ℕ)) (y p : ArrayVec ℕ) (n : ℕ) → ys ≡ xs ++ y ∷ [] → n ≡ length xs
+    → slice_set ys n p ≡ xs ++ p ∷ []
+written_there xs ys y p n e at =
+    ap (λ zs. slice_set zs n p) e ∙ ap (λ k. slice_set (xs ++ y ∷ []) k p) at ∙ set-append_seam xs y [] p
+
+pub kept-queue_of : (xs : List (ArrayVec ℕ)) (m places : ℕ) → kept (queue_of xs m places) ≡ octets_of xs
+kept-queue_of xs m places =
+    sym (map-append (λ p. p.items) (take m xs) (drop m xs)) ∙ ap octets_of (take-append-drop m xs)
+
+pub room_of : (xs : List (ArrayVec ℕ)) (m places : ℕ) (q : Queue) → queue_of xs m places ≡ q → 3 ≤ free_places q
+    → 3 + length xs ≤ places
+room_of xs m places q e h =
+    let here : 3 ≤ free_places (queue_of xs m places) = subst (λ r. 3 ≤ free_places r) (sym e) h in
+    let all = ap (λ (ps : List (List ℕ)). length ps) (kept-queue_of xs m places) in
+    let same = length-map xs (λ (p : ArrayVec ℕ). p.items) in
+    omega arith
+
+pub queue_of-behind : (xs ys : List (ArrayVec ℕ)) (more : List (List ℕ)) (m places : ℕ) → m ≤ length xs
+    → octets_of ys ≡ octets_of xs ++ more → queue_of ys m places ≡ pushed more (queue_of xs m places)
+queue_of-behind xs ys more m places le e =
+    let same = length-map xs (λ (p : ArrayVec ℕ). p.items) in
+    let within : m ≤ length (octets_of xs) = omega arith in
+    same_queue _ _ _ _ places
+    (sym (take-map (λ p. p.items) m ys) ∙ ap (take m) e ∙ take-append-le m (octets_of xs) more within
+    ∙ take-map (λ p. p.items) m xs)
+    (sym (drop-map (λ p. p.items) m ys) ∙ ap (drop m) e ∙ drop-append-le m (octets_of xs) more within
+    ∙ ap (λ ps. ps ++ more) (drop-map (λ p. p.items) m xs))
