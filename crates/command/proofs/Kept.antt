@@ -1,7 +1,7 @@
 -- Lists of what is kept: small steps that the loops take.
 use Rattle.std.proofs.Common.{◌≡◌, ℕ, zero, suc, ◌+◌, ◌<◌, ◌≤◌, Bool, true, false, List, [], ◌∷◌, ◌++◌, length, map, drop, get_or, count_by, cond, refl, sym, subst, ap, append_assoc, ◌∙◌, arith}
 use Rattle.std.proofs.lemmas.List.{append-nil, at_drop_more, drop_all}
-use Rattle.std.proofs.lemmas.List.Sums.{sum_by-drop_more}
+use Rattle.std.proofs.lemmas.List.Sums.{sum_by-cons, sum_by-drop_more}
 use Rattle.std.specs.Prelude.{Some, slice_get}
 use Rattle.arrayvec.specs.ArrayVec.{ArrayVec}
 use Rattle.asdu.specs.declared.sizes.Sizes.{Sizes}
@@ -55,6 +55,30 @@ copies_more sizes octets sts i d old new all less is whole =
     ap (λ ys. ys ++ copies sizes octets (i + 1) left) is
     ∙ (append_assoc old (copies sizes octets i (st ∷ [])) (copies sizes octets (i + 1) left)
     ∙ (ap (λ ys. old ++ ys) (sym step) ∙ whole))
+
+-- one for each station that it is for
+pub copies_count : (sizes : Sizes) (octets : List ℕ) (i : ℕ) (sts : List StationInfo)
+    → length (copies sizes octets i sts) ≡ count_by (is_addressed (command_at octets)) sts
+copies_count sizes octets i [] = refl
+copies_count sizes octets i (st ∷ sts) =
+    by (is_addressed (command_at octets) st) refl (copies_count sizes octets (i + 1) sts)
+    (sum_by-cons (λ x. cond (is_addressed (command_at octets) x) 1 0) st sts)
+  where
+    by : (b : Bool) → is_addressed (command_at octets) st ≡ b
+        → length (copies sizes octets (i + 1) sts) ≡ count_by (is_addressed (command_at octets)) sts
+        → count_by (is_addressed (command_at octets)) (st ∷ sts)
+        ≡ cond (is_addressed (command_at octets) st) 1 0 + count_by (is_addressed (command_at octets)) sts
+        → length (copies sizes octets i (st ∷ sts)) ≡ count_by (is_addressed (command_at octets)) (st ∷ sts)
+    by true e rest cons =
+        let long : length (copies sizes octets i (st ∷ sts)) ≡ suc (length (copies sizes octets (i + 1) sts)) =
+        rw e refl in
+        let one : ◌≡◌ {A = ℕ} (cond (is_addressed (command_at octets) st) 1 0) 1 = rw e refl in
+        omega (arith, long, one, cons, rest)
+    by false e rest cons =
+        let long : length (copies sizes octets i (st ∷ sts)) ≡ length (copies sizes octets (i + 1) sts) =
+        rw e refl in
+        let none : ◌≡◌ {A = ℕ} (cond (is_addressed (command_at octets) st) 1 0) 0 = rw e refl in
+        omega (arith, long, none, cons, rest)
 
 -- and there is room for the others
 pub room_more : (p : StationInfo → Bool) (sts : List StationInfo) (i : ℕ) (d : StationInfo) (old new room left : ℕ)

@@ -22,3 +22,7 @@ pub mod Examples
 pub mod Tagged
 pub mod Staying
 pub mod OwnAnswers
+pub mod SavedBack
+pub mod Places
+pub mod Wholes
+pub mod Heard

@@ -79,7 +79,7 @@ counts_from xs n (station ∷ stations) =
     counts_from xs (n + (if is_addressed (command_at xs) station then 1 else 0)) stations
     ∙ ap (λ (b : Bool). count_from (is_for_station xs) (n + (if b then 1 else 0)) stations) (stations_read xs station)
 
-counts_read : (xs : List ℕ) (stations : List StationInfo)
+pub counts_read : (xs : List ℕ) (stations : List StationInfo)
     → count_by (is_addressed (command_at xs)) stations ≡ count_by (is_for_station xs) stations
 counts_read xs stations = counts_from xs 0 stations
 

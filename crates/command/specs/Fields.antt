@@ -31,6 +31,7 @@ pub record IsSound (a : Inside) : Type 0 where
   pub few : length a.stations.items ≤ 32
   -- room that was taken at the start
   pub waiting : 64 ≤ vec_capacity a.waiting
+  pub few_waiting : length a.waiting.items ≤ 64
   pub room : a.answers.capacity ≡ 16
   pub sent : a.sendings.capacity ≡ 16
   pub asdus : AreAsdus a.answers.items

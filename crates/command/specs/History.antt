@@ -1,6 +1,6 @@
 -- What can be seen of commands from outside, and what the rules make of it. Nothing here knows how
 -- it is kept.
-use Rattle.std.specs.Prelude.{◌≡◌, ℕ, suc, ◌+◌, ◌-◌, ◌<◌, Bool, true, false, not, ◌&&◌, ◌||◌, ◌==◌, nat_lt, if◌then◌else◌, List, [], ◌∷◌, ◌++◌, length, take, drop, Option, Some, None, option_map, is_none, unwrap_or, slice_get, slice_index}
+use Rattle.std.specs.Prelude.{◌≡◌, ℕ, suc, ◌+◌, ◌-◌, ◌<◌, ◌≤◌, Bool, true, false, not, ◌&&◌, ◌||◌, ◌==◌, nat_lt, if◌then◌else◌, List, [], ◌∷◌, ◌++◌, length, count_by, take, drop, Option, Some, None, option_map, is_none, unwrap_or, slice_get, slice_index}
 use Rattle.std.specs.Option.{option_map_or}
 use Rattle.elements.specs.declared.types.TypeId.{TypeId}
 use Rattle.elements.specs.Types.{type_of}
@@ -11,7 +11,7 @@ use Rattle.asdu.specs.Writing.{carried}
 use Rattle.asdu.specs.Tagging.{untagged}
 use Rattle.asdu.specs.declared.sizes.Sizes.{Sizes}
 use Rattle.command.specs.Octets.{answer}
-use Rattle.command.specs.Standard.{operates, has_tag, tag_if_any, is_activation, is_deactivating, selects, executes, have_one_target, have_one_type, have_one_element, have_one_test_bit, is_object_of, confirms_command, refuses_command, is_for_station, must_be_selected, station_of, negative_of, cause_of_fault, IsFresh}
+use Rattle.command.specs.Standard.{common_address, IsRefusal, operates, has_tag, tag_if_any, is_activation, is_deactivating, selects, executes, have_one_target, have_one_type, have_one_element, have_one_test_bit, is_object_of, confirms_command, refuses_command, is_for_station, must_be_selected, station_of, negative_of, cause_of_fault, IsFresh}
 use Rattle.command.specs.declared.station.StationInfo.{StationInfo}
 
 pub data Told : Type 0 where
@@ -211,6 +211,20 @@ module _ (sizes : Sizes) (stations : List StationInfo) (select_ms max_age_ms : �
   GivesOwnAnswers (GivenUp k b ∷ h) = (b ≡ is_on_line k h) × GivesOwnAnswers h
   GivesOwnAnswers (_ ∷ h) = GivesOwnAnswers h
 
+  -- Each ASDU that isn't forwarded gets one answer, and so does a command that a busy station had,
+  -- where its connection is open: the whole ASDU that came, refused. No other has one.
+  abbrev pub AnswersWholly : History → Type 0
+  AnswersWholly [] = Unit {0}
+  AnswersWholly (Judged now wall xs (Some a) ∷ h) =
+      (9 ≤ length xs → slice_index xs 2 < 256 → IsRefusal (cause_given wall xs) xs a)
+      × AnswersWholly h
+  AnswersWholly (Refused k None ∷ h) = (on_line k h ≡ None) × AnswersWholly h
+  AnswersWholly (Refused k (Some a) ∷ h) =
+      ((xs : List ℕ) × (on_line k h ≡ Some xs)
+      × (9 ≤ length xs → slice_index xs 2 < 256 → IsRefusal (negative_of xs) xs a))
+      × AnswersWholly h
+  AnswersWholly (_ ∷ h) = AnswersWholly h
+
   -- ---- Selections
 
   -- nothing is wrong with the command ys, which came at this wall moment, and its target is that of
@@ -291,6 +305,31 @@ module _ (sizes : Sizes) (stations : List StationInfo) (select_ms max_age_ms : �
       (must_be_selected stations xs ≡ true → executes xs ≡ true → IsSelected xs now h)
       × ExecutesAreSelected h
   ExecutesAreSelected (_ ∷ h) = ExecutesAreSelected h
+
+  -- each forwarded execute to this station is selected
+  abbrev pub IsGuarded : StationInfo → History → Type 0
+  IsGuarded station [] = Unit {0}
+  IsGuarded station (Judged now wall xs None ∷ h) =
+      (common_address xs ≡ station.ca → executes xs ≡ true → IsSelected xs now h)
+      × IsGuarded station h
+  IsGuarded station (_ ∷ h) = IsGuarded station h
+
+-- ---- Places (profile: 64 commands may wait, one for each station that an ASDU is for)
+
+-- how many commands were forwarded on the open connection, over all stations
+abbrev pub forwarded_in_all : List StationInfo → History → ℕ
+forwarded_in_all stations [] = 0
+forwarded_in_all stations (Judged now wall xs None ∷ h) =
+    forwarded_in_all stations h + count_by (is_for_station xs) stations
+forwarded_in_all stations (Ended ∷ h) = 0
+forwarded_in_all stations (_ ∷ h) = forwarded_in_all stations h
+
+-- how many of them went out
+abbrev pub sent_in_all : History → ℕ
+sent_in_all [] = 0
+sent_in_all (Sent k octets ∷ h) = suc (sent_in_all h)
+sent_in_all (Ended ∷ h) = 0
+sent_in_all (_ ∷ h) = sent_in_all h
 
 -- ---- Own answers
 

@@ -15,3 +15,5 @@ pub mod Rules
 pub mod Laws
 pub mod CommandLaws
 pub mod Examples
+pub mod Saved
+pub mod Restored

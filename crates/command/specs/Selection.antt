@@ -86,6 +86,16 @@ advanced select_ms (sign.Con target element now) z =
 advanced select_ms (sign.Time now) z =
     if nat_le select_ms (now - lasts_from z z.stage) then None else Some z
 
+-- the sign may change it: it is of its station before that accepted it, or of its target, or its time
+-- has passed
+abbrev pub hears : ℕ → Sign → Selection → Bool
+hears select_ms (sign.Sending station) z = z.station == station && not (is_accepted z.stage)
+hears select_ms (sign.Acceptance station) z = z.station == station && not (is_accepted z.stage)
+hears select_ms (sign.Loss station) z = z.station == station && not (is_accepted z.stage)
+hears select_ms (sign.Over target) z = same_target (target_of z.command) target
+hears select_ms (sign.Con target element now) z = same_target (target_of z.command) target
+hears select_ms (sign.Time now) z = nat_le select_ms (now - lasts_from z z.stage)
+
 -- it is confirmed, less than select_ms ago
 abbrev pub is_live : ℕ → ℕ → Stage → Bool
 is_live select_ms now (Live since) = nat_lt (now - since) select_ms

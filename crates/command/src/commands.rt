@@ -1,6 +1,7 @@
 //! What is kept of commands, and the calls.
-ghost use Rattle.std.specs.Prelude.{◌≡◌, false, ◌≤◌, ◌<◌, ◌+◌, length, count_by, IfOk, IfSome, IfNone, Some, None, option_map, if◌then◌else◌, slice_index, vec_len};
+ghost use Rattle.std.specs.Prelude.{◌≡◌, ℕ, List, ◌++◌, OnOk, MatchResult, false, ◌≤◌, ◌<◌, ◌+◌, length, count_by, IfOk, IfSome, IfNone, Some, None, option_map, if◌then◌else◌, slice_index, vec_len};
 ghost use Rattle.arrayvec.specs.ArrayVec.{array_vec_len};
+ghost use Rattle.checkpoint.specs.declared.StateFault.TheVariants.{Wrong};
 ghost use Rattle.elements.specs.Types.{row};
 ghost use Rattle.asdu.specs.Reading.{value_of};
 ghost use Rattle.command.specs.Octets.{negative};
@@ -16,16 +17,19 @@ use crate::judging::{
     negative_cause,
 };
 use crate::keeping::{
-    advanced, count_waiting, cut_all, free_lines, is_used_at, kept_stations, place_of, push_copies,
-    refusal_at, station_number,
+    advanced, count_waiting, cut_all, free_lines, is_heard, is_used_at, kept_stations, place_of,
+    push_copies, refusal_at, station_number,
 };
 use crate::mirrors::{element_of, is_con};
+use crate::restoring::{Parts, are_answers, read_parts, ring_of};
+use crate::saving::{put_items, put_list, put_ring};
 use crate::selection::{Selection, Sign, Stage};
 use crate::station::StationInfo;
-use crate::tags::{Sending, newest_tag, no_sendings};
+use crate::tags::{MOST_SENDINGS, Sending, newest_tag, no_sendings};
 use crate::waiting::{Line, Waiting};
 use arrayvec::ArrayVec;
 use asdu::{Asdu, Sizes, head};
+use checkpoint::{Lines, Sheet, StateFault};
 use circular_buffer::HeapCircularBuffer;
 use elements::Cp56;
 use std::alloc::Global;
@@ -38,13 +42,13 @@ use thiserror::Error;
 pub struct NoMemory;
 
 /// The most commands that wait for the line.
-const MOST_WAITING: usize = 64;
+pub(crate) const MOST_WAITING: usize = 64;
 
 /// The most selections.
-const MOST_SELECTIONS: usize = 16;
+pub(crate) const MOST_SELECTIONS: usize = 16;
 
 /// The most own answers that wait to be sent.
-const MOST_ANSWERS: usize = 16;
+pub(crate) const MOST_ANSWERS: usize = 16;
 
 /// Commands on their way to the line, selections and own answers.
 #[derive(Drop)]
@@ -76,7 +80,8 @@ impl Model for Commands {
 }
 
 impl Commands {
-    ghost use Rattle.command.specs.State.{new_state, told, has_answer_place, offered, first_answer, answered, closed, timed, octets_waiting, with_line, sent as after_sending, noted, accepted as after_acceptance, given_up, line_of, is_used, refusal_of};
+    ghost use Rattle.command.specs.Restored.{commands_lines, IsSavable, HasSettings, HaveRoom, state_with, are_long};
+    ghost use Rattle.command.specs.State.{State, new_state, told, has_answer_place, offered, first_answer, answered, closed, timed, octets_waiting, with_line, sent as after_sending, noted, accepted as after_acceptance, given_up, line_of, is_used, refusal_of};
     ghost use Rattle.command.specs.Judging.{answer_of, judged, admitted, placed, ends_selection, without_selection, fault as fault_of, cause_fault as fault_of_cause, address_fault as fault_of_addresses, lacks_selection, lacks_place, makes_selection, forwarded, queued, selected, others};
     ghost use Rattle.command.specs.Stations.{is_addressed};
 
@@ -114,12 +119,89 @@ impl Commands {
         })
     }
 
+    /// Puts what is kept as lines of numbers: of that, [`Commands::read_state`] makes it again. The
+    /// settings aren't in them. `line` is used on the way.
+    pub fn put_state<S: Sheet>(&self, sheet: &mut S, line: &mut Vec<u64>) -> Result<(), StateFault>
+        ensures lines { OnOk result (S.written sheet.new
+            ≡ S.written sheet.old ++ commands_lines self.now) }
+        ensures savable { OnOk result (IsSavable self.now) }
+    {
+        put_list(self.waiting.as_slice(), sheet, line)?;
+        put_items(self.lines.as_slice(), sheet, line)?;
+        put_list(self.selections.as_slice(), sheet, line)?;
+        put_ring(&self.sendings, sheet, line)?;
+        put_ring(&self.answers, sheet, line)?;
+        Ok(())
+    }
+
+    /// What was put, made again of the lines that come, with the settings that `new` takes: the
+    /// lines of a state are never refused as wrong, and what comes behind them is left. Others are
+    /// wrong where a line says nothing, or more is kept than there are places. `line` is used on
+    /// the way.
+    pub fn read_state<L: Lines>(
+        alloc: Global,
+        stations: &[StationInfo],
+        sizes: Sizes,
+        select_ms: u64,
+        max_age_ms: u64,
+        lines: &mut L,
+        line: &mut Vec<u64>,
+    ) -> Result<Commands, StateFault>
+        requires { length stations.now ≤ 32 }
+        ensures { (s : State) (rest : List (List ℕ)) → IsSavable s →
+            HasSettings stations.now sizes select_ms max_age_ms s →
+            L.coming lines.old ≡ commands_lines s ++ rest →
+            MatchResult result (λ c. (c ≡ s) × (L.coming lines.new ≡ rest))
+            (λ e. e ≡ Wrong → ⊥) }
+    {
+        let parts = read_parts(alloc, stations.len(), lines, line)?;
+        Commands::of_parts(alloc, stations, sizes, select_ms, max_age_ms, parts)
+    }
+
+    /// With these settings and parts.
+    fn of_parts(
+        alloc: Global,
+        stations: &[StationInfo],
+        sizes: Sizes,
+        select_ms: u64,
+        max_age_ms: u64,
+        parts: Parts,
+    ) -> Result<Commands, StateFault>
+        requires few { length stations.now ≤ 32 }
+        requires room { HaveRoom (length stations.now) parts }
+        ensures { MatchResult result
+            (λ c. c ≡ state_with stations.now sizes select_ms max_age_ms parts)
+            (λ e. e ≡ Wrong → are_long parts.answers.items ≡ false) }
+    {
+        if !are_answers(parts.answers.as_slice()) {
+            return Err(StateFault::Wrong);
+        }
+        let known = kept_stations(alloc, stations).map_err(|_| StateFault::NoMemory)?;
+        let mut selections = ArrayVec::new();
+        let Ok(()) = selections.try_extend_from_slice(parts.selections.as_slice()) else {
+            unreachable!();
+        };
+        let sendings = ring_of(alloc, MOST_SENDINGS, parts.sendings)?;
+        let answers = ring_of(alloc, MOST_ANSWERS, parts.answers)?;
+        Ok(Commands {
+            stations: known,
+            sizes,
+            select_ms,
+            max_age_ms,
+            waiting: parts.waiting,
+            lines: parts.lines,
+            selections,
+            sendings,
+            answers,
+        })
+    }
+
     /// Selections hear of something.
     fn tell(&mut self, sign: Sign)
         ensures { self.new ≡ told sign self.old }
     {
-        // Most of the time nothing is selected, and each event comes by here.
-        if !self.selections.is_empty() {
+        // Each event comes by here, and few change a selection: the list is made anew for those.
+        if is_heard(self.selections.as_slice(), self.select_ms, &sign) {
             self.advance(sign);
         }
     }

@@ -1,9 +1,9 @@
 //! Lists of what is kept: waiting commands, lines and selections.
 ghost use Rattle.std.specs.Prelude.{◌≡◌, ◌≤◌, ◌<◌, ◌+◌, ◌++◌, [], ◌∷◌, length, map, remove, get_or, count_by, slice_index, slice_index_or, IfOk, IfSome, IfNone, Some, None, option_map, vec_len, vec_capacity};
-ghost use Rattle.std.specs.List.{filter_map};
+ghost use Rattle.std.specs.List.{filter_map, list_any};
 ghost use Rattle.arrayvec.specs.ArrayVec.{array_vec_len};
 ghost use Rattle.command.specs.Command.{command_len, command_at};
-ghost use Rattle.command.specs.Selection.{advanced as next_of};
+ghost use Rattle.command.specs.Selection.{hears, advanced as next_of};
 ghost use Rattle.command.specs.Stations.{is_addressed, station_number as number_of};
 ghost use Rattle.command.specs.State.{cut_off, free_line, oldest, without_oldest, is_used, refusal_of};
 ghost use Rattle.command.specs.Judging.{copies, waiting_count};
@@ -20,6 +20,15 @@ use crate::waiting::{Line, LineOctets, Received, Waiting};
 use arrayvec::ArrayVec;
 use asdu::Sizes;
 use std::alloc::Global;
+
+/// Whether a selection hears of the sign.
+pub(crate) fn is_heard(selections: &[Selection], select_ms: u64, sign: &Sign) -> bool
+    ensures { result ≡ list_any (hears select_ms sign.now) selections.now }
+{
+    selections
+        .iter()
+        .any(|selection| selection.hears(select_ms, sign))
+}
 
 /// What is left of selections after a sign.
 pub(crate) fn advanced(

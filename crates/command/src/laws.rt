@@ -4,7 +4,7 @@
 //! stations and what they answered, and the own answers. Each law says what the calls do by what
 //! the rules make of that history.
 
-ghost use Rattle.std.specs.Prelude.{◌≡◌, ◌≤◌, ◌<◌, ◌==◌, ◌++◌, ℕ, List, [], length, slice_index, Option, Some, None, false, true, option_map};
+ghost use Rattle.std.specs.Prelude.{◌≡◌, ◌≤◌, ◌<◌, ◌==◌, ◌+◌, ◌&&◌, ◌++◌, ℕ, List, [], length, count_by, slice_get, slice_index, Option, Some, None, false, true, option_map};
 ghost use Rattle.std.specs.List.{AllByRecursion};
 ghost use Rattle.asdu.specs.Asdu.{AsduValue};
 ghost use Rattle.asdu.specs.InformationObjects.{monitor_objects_of};
@@ -13,9 +13,11 @@ ghost use Rattle.command.specs.Octets.{answer};
 ghost use Rattle.command.specs.State.{State, octets_waiting, sent, line_of, refusal_of};
 ghost use Rattle.command.specs.Judging.{judged};
 ghost use Rattle.command.specs.Mirrors.{mirrored, tag_for};
-ghost use Rattle.command.specs.Standard.{first_cause, cause_of_fault, executes, IsRefusal};
+ghost use Rattle.asdu.specs.declared.sizes.Sizes.{Sizes};
+ghost use Rattle.command.specs.declared.station.StationInfo.{StationInfo};
+ghost use Rattle.command.specs.Standard.{first_cause, cause_of_fault, executes, selects, must_be_selected, is_for_station, is_deactivating, IsRefusal};
 ghost use Rattle.command.specs.Rules.{rules_for, not_selected, no_place};
-ghost use Rattle.command.specs.History.{ForwardsCommands, next_octets, SendsFreshCommands, mirror_tag, ExecutesAreSelected, IsSelected, GivesOwnAnswers, own_kept, own_sent, KeepsOwnAnswers};
+ghost use Rattle.command.specs.History.{ForwardsCommands, next_octets, SendsFreshCommands, mirror_tag, ExecutesAreSelected, IsSelected, GivesOwnAnswers, own_kept, own_sent, KeepsOwnAnswers, AnswersWholly, IsGuarded, forwarded_in_all, sent_in_all};
 ghost use Rattle.command.specs.Selections.{AreDistinct, IsStanding, IsInTime};
 ghost use Rattle.command.specs.Examples.{OctetExamples, IsRight, WaitsSo, rule_examples, selection_examples, line_examples, tag_examples, BearsIt, mirror_examples};
 ghost use Rattle.command.specs.Laws.{AfterEachRun, AtEachMoment, AfterEachDue};
@@ -40,10 +42,36 @@ pub fn commands_are_forwarded()
 
 /// A command that goes out for the first time, if it is an activation that came with a time tag,
 /// came with a good one, at a known moment of the wall, and the two were at most `max_age_ms`
-/// apart.
-pub fn sent_commands_are_fresh()
-    ensures { AfterEachRun (λ stations sizes select_ms max_age_ms s h.
+/// apart. A deactivation may be of any age: whatever the moment of the wall, it is judged as if
+/// that weren't known.
+pub fn sent_activations_are_fresh()
+    ensures activations { AfterEachRun (λ stations sizes select_ms max_age_ms s h.
         SendsFreshCommands sizes stations select_ms max_age_ms h) }
+    ensures deactivations { (sizes : Sizes) (stations : List StationInfo) (max_age_ms : ℕ)
+        (wall : Option ℕ) (xs : List ℕ) → is_deactivating xs ≡ true →
+        cause_of_fault sizes stations max_age_ms wall xs
+        ≡ cause_of_fault sizes stations max_age_ms None xs }
+{}
+
+/// Places come back: the commands that wait are those that were forwarded on the open connection
+/// less those that went out, over all stations, and at most 64. So a command finds its places where
+/// no more than 64 wait with it, and where nothing is wrong with it and it needs no selection, it
+/// is forwarded then.
+pub fn places_come_back()
+    ensures waiting { AfterEachRun (λ stations sizes select_ms max_age_ms s h.
+        length s.waiting + sent_in_all h ≡ forwarded_in_all stations h) }
+    ensures few { AfterEachRun (λ stations sizes select_ms max_age_ms s h.
+        length s.waiting ≤ 64) }
+    ensures room { AfterEachRun (λ stations sizes select_ms max_age_ms s h. (xs : List ℕ) →
+        forwarded_in_all stations h + count_by (is_for_station xs) stations ≤ sent_in_all h + 64
+        → (must_be_selected stations xs && selects xs) ≡ false
+        → (no_place xs s).applies ≡ false) }
+    ensures forwarded { AfterEachRun (λ stations sizes select_ms max_age_ms s h. (xs : List ℕ)
+        (now : ℕ) (wall : Option ℕ) →
+        cause_of_fault sizes stations max_age_ms wall xs ≡ None
+        → must_be_selected stations xs ≡ false
+        → forwarded_in_all stations h + count_by (is_for_station xs) stations ≤ sent_in_all h + 64
+        → (judged xs now wall s).0 ≡ None) }
 {}
 
 /// The tag with which a station's answer to a command is passed on is that of the newest first
@@ -57,10 +85,14 @@ pub fn mirrors_bear_the_newest_tag()
 
 /// Before each forwarded execute to a station that asks for selects its select stands: the latest
 /// of its type and addresses, received with its type, accepted on the line and confirmed in time,
-/// with nothing between that ends it.
+/// with nothing between that ends it. So it is for each station of the settings that asks for
+/// them, whatever its place among them and its common address.
 pub fn executes_are_selected()
-    ensures { AfterEachRun (λ stations sizes select_ms max_age_ms s h.
+    ensures selected { AfterEachRun (λ stations sizes select_ms max_age_ms s h.
         ExecutesAreSelected sizes stations select_ms max_age_ms h) }
+    ensures each_station { AfterEachRun (λ stations sizes select_ms max_age_ms s h. (k : ℕ)
+        (station : StationInfo) → slice_get stations k ≡ Some station → station.select ≡ true →
+        IsGuarded sizes stations select_ms max_age_ms station h) }
 {}
 
 /// Where moments never fall, a selected execute is refused for no want of a selection: one that is
@@ -92,11 +124,15 @@ pub fn selections_are_selects_that_stand()
 {}
 
 /// Each answer is the right one: the ASDU that came, with another cause, P/N 1, and its test bit
-/// and all other octets as they were. The own answers that are kept go out first in, first out: 16
+/// and all other octets as they were, however many they are; an ASDU that isn't forwarded gets one,
+/// and so does a command that a busy station had, where its connection is open, and no other has
+/// one. The own answers that are kept go out first in, first out: 16
 /// of them at most wait, and the end of a connection removes them.
 pub fn own_answers_are_given()
     ensures right { AfterEachRun (λ stations sizes select_ms max_age_ms s h.
         GivesOwnAnswers sizes stations select_ms max_age_ms h) }
+    ensures wholly { AfterEachRun (λ stations sizes select_ms max_age_ms s h.
+        AnswersWholly sizes stations select_ms max_age_ms h) }
     ensures in_turn { AfterEachRun (λ stations sizes select_ms max_age_ms s h.
         own_kept h ≡ own_sent h ++ s.answers) }
     ensures kept { AfterEachRun (λ stations sizes select_ms max_age_ms s h. KeepsOwnAnswers h) }

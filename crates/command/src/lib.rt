@@ -32,6 +32,8 @@ mod judging;
 mod keeping;
 mod laws;
 mod mirrors;
+mod restoring;
+mod saving;
 mod selection;
 mod station;
 mod tags;
@@ -42,7 +44,8 @@ pub use commands::{Commands, NoMemory};
 pub use laws::{
     commands_are_forwarded, commands_keep_the_rules, executes_are_selected,
     judgement_is_the_first_rule_that_applies, mirrors_bear_the_newest_tag, own_answers_are_given,
-    own_answers_bear_no_objects, selected_executes_pass, selections_are_selects_that_stand,
-    sent_commands_are_fresh, settings_stay, waiting_commands_stay, worked_examples_hold,
+    own_answers_bear_no_objects, places_come_back, selected_executes_pass,
+    selections_are_selects_that_stand, sent_activations_are_fresh, settings_stay,
+    waiting_commands_stay, worked_examples_hold,
 };
 pub use station::StationInfo;

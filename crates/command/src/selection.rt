@@ -1,6 +1,6 @@
 //! Selections.
 ghost use Rattle.std.specs.Prelude.{◌≡◌, ◌&&◌};
-ghost use Rattle.command.specs.Selection.{same_target as are_same_targets, same_element as are_same_elements, with_stage as staged, after_sending as sending, after_acceptance as acceptance, after_loss as loss, is_accepted as accepted, is_live as live, lasts_from as running_from, advanced as next_of, lets_through as through, target_of};
+ghost use Rattle.command.specs.Selection.{same_target as are_same_targets, same_element as are_same_elements, with_stage as staged, after_sending as sending, after_acceptance as acceptance, after_loss as loss, is_accepted as accepted, is_live as live, lasts_from as running_from, hears as may_change, advanced as next_of, lets_through as through, target_of};
 ghost use Rattle.command.specs.declared.selection.Sign.TheVariants.{Con as ConSign, Time as TimeSign};
 
 use crate::content::{Command, Element, Target};
@@ -125,6 +125,21 @@ impl Selection {
         match self.stage {
             Stage::Queued(_) | Stage::Sent | Stage::Accepted => self.came,
             Stage::Live(since) => since,
+        }
+    }
+
+    /// Whether the sign may change it.
+    pub(crate) fn hears(&self, select_ms: u64, sign: &Sign) -> bool
+        ensures { result ≡ may_change select_ms sign.now self.now }
+    {
+        match sign {
+            Sign::Sending(station) | Sign::Acceptance(station) | Sign::Loss(station) => {
+                self.station == *station && !self.is_accepted()
+            }
+            Sign::Over(target) | Sign::Con(target, _, _) => {
+                same_target(self.command.target(), *target)
+            }
+            Sign::Time(now) => now.saturating_sub(self.lasts_from()) >= select_ms,
         }
     }
 

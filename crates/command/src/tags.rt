@@ -13,7 +13,7 @@ use std::alloc::Global;
 
 /// How many of the latest first sendings are kept with their time tags: a station answers a command
 /// before it gets many more.
-const MOST_SENDINGS: usize = 16;
+pub(crate) const MOST_SENDINGS: usize = 16;
 
 /// How many octets a time tag has (CP56Time2a, IEC 60870-5-101, 7.2.6.18).
 pub(crate) const TAG_OCTETS: usize = 7;
@@ -48,7 +48,7 @@ pub(crate) fn no_sendings(alloc: Global) -> Result<HeapCircularBuffer<Sending>, 
 }
 
 /// The seven octets of a tag.
-fn read_tag(octets: &[u8]) -> Cp56
+pub(crate) fn read_tag(octets: &[u8]) -> Cp56
     requires { length octets.now ≡ 7 }
     ensures { result.0 ≡ octets.now }
 {

@@ -1,5 +1,7 @@
+use Rattle.command.specs.Calls.{run}
 use Rattle.command.proofs.Refusals.{refuses}
 use Rattle.command.proofs.Runs.{run_holds}
+use Rattle.command.proofs.Wholes.{answers_wholly}
 use Rattle.command.proofs.laws.own_answers_are_given.Goals as goal
 
 pub returns-clause-right : goal.returns-clause-right
@@ -16,3 +18,8 @@ returns-clause-kept c = λ stations sizes select_ms max_age_ms calls.
 
 pub returns-clause-spelled : goal.returns-clause-spelled
 returns-clause-spelled c = refuses
+
+pub returns-clause-wholly : goal.returns-clause-wholly
+returns-clause-wholly c = λ stations sizes select_ms max_age_ms calls.
+    answers_wholly sizes stations select_ms max_age_ms (run stations sizes select_ms max_age_ms calls).history
+    (run_holds sizes stations select_ms max_age_ms calls).keeps.rightly
