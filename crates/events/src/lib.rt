@@ -174,6 +174,13 @@ impl Events {
         self.sent = 0;
     }
 
+    /// How many pieces were sent on the open connection.
+    pub fn sent(&self) -> usize
+        ensures { result ≡ length self.now.sent }
+    {
+        self.sent
+    }
+
     /// The kept pieces, oldest first.
     pub fn kept(&self) -> Kept<'_>
         ensures { result ≡ kept self.now }

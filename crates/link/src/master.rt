@@ -6,6 +6,7 @@ ghost use Rattle.ft12.specs.Borrowed.{owned, FitsMemory};
 ghost use Rattle.ft12.specs.Fronts.{front_of};
 ghost use Rattle.link.specs.Requests.{IsUserData, FitsAddress, FitsAsked};
 ghost use Rattle.link.specs.Primary.{start, choice, station_asked, after_choice, asked, sending, request_of, acd_of, dfc_of, phase_after, station_answered, heard_from, heard_outcome, received, received_outcome, station_unanswered, unanswered, miss_outcome, timed_out, due_outcome, is_sending_command, may_offer, offered_to, without_offer, withdrawn};
+ghost use Rattle.link.specs.Leave.{is_polling};
 ghost use Rattle.link.specs.declared.outcome.Outcome.TheVariants as outcome;
 ghost use Rattle.link.specs.Holding.{outstanding_of, IsFittingChoice, frame_after, so_far_after, is_at_front, noted, completed, gathered, MayEnd, MayComplete};
 
@@ -296,6 +297,19 @@ impl Master {
         ensures { result ≡ is_some self.now.outstanding }
     {
         self.outstanding.is_some()
+    }
+
+    /// Whether the outstanding request is a poll, or an unanswered poll is to be sent again at once.
+    pub fn is_polling(&self) -> bool
+        ensures { result ≡ is_polling self.now }
+    {
+        match &self.outstanding {
+            Some(awaited) => matches!(
+                awaited.request,
+                Asked::Counted(_, Service::Class1 | Service::Class2)
+            ),
+            None => self.again && self.stations[self.turn].link.holds_poll(),
+        }
     }
 
     /// The next request, at this moment in milliseconds: none where one is outstanding, or no

@@ -1,5 +1,6 @@
 //! The link to one station, as its exchanges leave it.
 ghost use Rattle.std.specs.Prelude.{◌≡◌, true};
+ghost use Rattle.link.specs.Leave.{holds_poll};
 ghost use Rattle.link.specs.Procedure.{after_answer, after_silence, missed_so_far, has_repeats, goes_down, is_held, holds_command};
 
 use crate::answer::Answer;
@@ -81,6 +82,13 @@ impl Link {
         ensures { result ≡ holds_command self.now }
     {
         matches!(self, Link::Held(_, Service::Command(_), _))
+    }
+
+    /// Whether a poll was sent, and isn't answered.
+    pub(crate) fn holds_poll(&self) -> bool
+        ensures { result ≡ holds_poll self.now }
+    {
+        matches!(self, Link::Held(_, Service::Class1 | Service::Class2, _))
     }
 
     pub(crate) fn is_held(&self) -> bool

@@ -327,6 +327,13 @@ impl Session {
         (self.acked_queue, self.acked_own)
     }
 
+    /// How many of the unacknowledged frames are the queue's.
+    pub fn queue_frames(&self) -> usize
+        ensures { result ≡ from_queue self.now.unacknowledged }
+    {
+        from_queue(&self.unacknowledged, self.unacknowledged.len())
+    }
+
     /// Close 5 where an I frame or a TESTFR act has waited for t1. Without a connection it is None.
     pub fn due(&self, now: u64) -> Option<Close>
         ensures { result ≡ (if timed_out now self.now then Some Close.Timeout else None) }

@@ -164,7 +164,7 @@ impl CentreSide {
         ensures rest { self.new ≡ record self.old { session = self.new.session } }
         ensures fits { IfSome result (λ frame. Fits (apdu_of frame)) }
     {
-        self.session.confirm()
+        self.session.confirm_short()
     }
 
     /// The next S frame or TESTFR act that is due.
@@ -174,7 +174,7 @@ impl CentreSide {
         ensures rest { self.new ≡ record self.old { session = self.new.session } }
         ensures fits { IfSome result (λ frame. Fits (apdu_of frame)) }
     {
-        self.session.pull(moment)
+        self.session.pull_short(moment)
     }
 
     /// Writes the frame of an own answer, and says how many octets it has.
