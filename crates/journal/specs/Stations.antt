@@ -74,8 +74,8 @@ told_down now w = let told = changed (note.Down w.address) w.down now in
     station_told Down told.1 (record w { down = told.0 })
 
 abbrev pub told_silent : StationTold → ℕ → StationWatch → StationWatch × Option Line
-told_silent as now w = let told = changed (note.Silent w.address) w.silent now in
-    station_told as told.1 (record w { silent = told.0 })
+told_silent next now w = let told = changed (note.Silent w.address) w.silent now in
+    station_told next told.1 (record w { silent = told.0 })
 
 abbrev pub told_again : ℕ → StationWatch → StationWatch × Option Line
 told_again now w = let told = changed (note.Again w.address) w.again now in
@@ -108,12 +108,12 @@ is_unanswered w = nat_lt w.tries w.sent
 -- that it doesn't answer is told
 abbrev pub silent_by : (is_unanswered : Bool) → StationTold → ℕ → StationWatch
     → StationWatch × Option Line
-silent_by true as now w = told_silent as now w
-silent_by false as now w = (w, None)
+silent_by true next now w = told_silent next now w
+silent_by false next now w = (w, None)
 
 -- and again a minute after it was told last
 abbrev pub still_silent : StationTold → ℕ → StationWatch → StationWatch × Option Line
-still_silent as now w = silent_by (is_minute_after w.silent.told now) as now w
+still_silent next now w = silent_by (is_minute_after w.silent.told now) next now w
 
 abbrev pub unheard_by : (is_unanswered : Bool) → ℕ → StationWatch → StationWatch × Option Line
 unheard_by true now w = still_silent Unheard now w
