@@ -3,11 +3,13 @@
 
     bench/log.py [--program FILE]
 
-The lines of a run, in their order: the line isn't there, a station is asked, the line is reached, the station is up, a connection is
+The lines of a run, in their order: a station is asked, the line isn't there, the line is reached, the station is up, a connection is
 opened, started, stopped and cut, another one sends what begins no APDU, the station falls silent and is asked again, the line is lost and
-reached again. Then a flood of connections: a line a second at most. A silent station that is held is told once. With --allow a host of
-another address is sent away, and the open connection stays. A run that can't begin says why. Each line begins with a UTC time that Python
-reads. All of it is on the loopback. The last line is `N passed, M failed`. The program is the one that ./build makes.
+reached again. Then a flood of connections: a line a second at most. A silent station that is held is told, and one that never answered.
+With --allow a host of another address is sent away, and the open connection stays. A run that can't begin says why; a second run by
+mistake ends at the port, and leaves the line of the first alone. Where standard input, output or error is closed nothing but requests goes
+out on the line. A server that accepts and closes is tried more and more rarely. Each line begins with a UTC time that Python reads. All of
+it is on the loopback. The last line is `N passed, M failed`. The program is the one that ./build makes.
 """
 import argparse
 import datetime
@@ -146,8 +148,8 @@ def a_run(count, program, folder):
             at = found or at
 
         comes("listening at 127.0.0.1:%d" % run.door[1])
-        comes("line not there")
         comes("station 7 asked for its status")
+        comes("line not there")
         station.begin()
         comes("line reached")
         comes("station 7 up")
@@ -203,20 +205,112 @@ def flood(count, run, at):
 
 
 def held(count, program, folder):
-    """A station that is held when it falls silent: that it doesn't answer is told once, and that it answers again."""
+    """A station that is held when it falls silent: that it doesn't answer is told once a minute, and that it answers again."""
     station = Station()
     with Run(program, folder, station, "--log", settings=HELD) as run:
+        count.judge("a held station is asked", run.log.waits("station 7 asked for its status") == 2, run.log.lines)
         up = run.log.waits("station 7 up")
         count.judge("a held station is up", up is not None, run.log.lines)
         time.sleep(1)
+        began = len(run.log.lines)
         station.is_silent = True
-        silent = run.log.waits("station 7 doesn't answer")
-        time.sleep(1)
+        silent = run.log.waits("station 7 doesn't answer", began)
+        time.sleep(1.5)
+        told = [line for line in run.log.lines[began:] if line.startswith("station 7 d")]
+        count.judge("its silence is told once", told == ["station 7 doesn't answer"], run.log.lines)
         station.is_silent = False
         count.judge("it answers again", silent and run.log.waits("station 7 answers again", silent), run.log.lines)
-        told = [line for line in run.log.lines if line.startswith("station 7")]
-        words = ["asked for its status", "up", "doesn't answer", "answers again"]
-        count.judge("each of it once", told == [f"station 7 {word}" for word in words], told)
+
+
+def mute(count, program, folder):
+    """A station that never answered is told, be it held or reset."""
+    for name, settings in (("held", HELD), ("reset", SETTINGS)):
+        station = Station()
+        station.is_silent = True
+        with Run(program, folder, station, "--log", settings=settings) as run:
+            asked = run.log.waits("station 7 asked for its status")
+            silent = run.log.waits("station 7 doesn't answer")
+            count.judge(f"a station that never answered, {name}", asked and silent and asked < silent, run.log.lines)
+            time.sleep(1.5)
+            told = run.log.lines.count("station 7 doesn't answer")
+            count.judge(f"it is told once a minute, {name}", told == 1, run.log.lines)
+
+
+def fickle(count, program, folder):
+    """A server that accepts and closes: the tries come at twice the distance each time, and few lines tell of it."""
+    tries = []
+
+    def accept(server):
+        while True:
+            server.accept()[0].close()
+            tries.append(time.monotonic())
+
+    station = Station(is_there=False)
+    with socket.create_server(("127.0.0.1", station.port)) as server:
+        threading.Thread(target=accept, args=(server,), daemon=True).start()
+        with Run(program, folder, station, "--redial", "--log") as run:
+            time.sleep(8.5)
+            between = [b - a for a, b in zip(tries, tries[1:])]
+            # On a busy machine a try may come late, and none too early.
+            is_rare = 2 <= len(tries) <= 3 and all(gap > 1.9 * 2**n for n, gap in enumerate(between))
+            count.judge("a server that accepts and closes is tried rarely", is_rare, between)
+            lines = [line for line in run.log.lines if line.startswith("line")]
+            count.judge("few lines tell of it", lines in (["line reached", "line lost"], ["line not there"]), run.log.lines)
+
+
+def second(count, program, folder):
+    """A second run with the same settings ends at the port, and the first keeps its line."""
+    for flags in ((), ("--redial",)):
+        station = Station()
+        with Run(program, folder, station, "--log", *flags) as run:
+            count.judge("the first is up", run.log.waits("station 7 up") is not None, run.log.lines)
+            config = os.path.join(folder, "live.toml")
+            done = subprocess.run([program, "run", "--log", *flags, config], capture_output=True, timeout=ends.PATIENCE)
+            said = done.stderr.decode().splitlines()
+            is_right = done.returncode == 3 and len(said) == 2 and said[0].endswith(" 0 port in use") and said[1] == "device failed"
+            count.judge("a second run", is_right, (done.returncode, said))
+            time.sleep(0.3)
+            count.judge("the first keeps its line", not any(line.startswith("line lost") for line in run.log.lines), run.log.lines)
+            count.judge("the first stays", run.process.poll() is None, run.process.poll())
+
+
+def closed(count, program, folder):
+    """Standard descriptors that are closed at the start: nothing but requests goes out on the line."""
+    for numbers in ((0,), (1,), (2,), (1, 2), (0, 1, 2)):
+        with socket.create_server(("127.0.0.1", 0)) as server:
+            server.settimeout(ends.PATIENCE)
+            config = os.path.join(folder, "closed.toml")
+            with open(config, "w") as file:
+                line, listen = server.getsockname()[1], ends.free_port()
+                file.write(f'{HELD}[live]\nline = "tcp:127.0.0.1:{line}"\nlisten = "127.0.0.1:{listen}"\n')
+            process = subprocess.Popen(
+                [program, "run", "--record", "--log", config],
+                stdin=subprocess.DEVNULL,
+                stdout=subprocess.DEVNULL,
+                stderr=subprocess.DEVNULL,
+                preexec_fn=lambda: [os.close(number) for number in numbers],
+            )
+            stream = server.accept()[0]
+            stream.settimeout(ends.PATIENCE)
+            octets = b""
+            while len(octets) < 50:
+                octets += stream.recv(50)
+            # A silent station is asked for its status again and again.
+            count.judge(f"only requests on the line without {numbers}", octets == (ends.fixed(0x49, 7) * 20)[: len(octets)], octets)
+            count.judge(f"it is up without {numbers}", process.poll() is None, process.poll())
+            process.kill()
+            process.wait()
+            stream.close()
+
+
+def sent_away(log):
+    """How many were sent away by the log's lines, once these tell of five, or no more comes."""
+    end, told = time.monotonic() + ends.PATIENCE, 0
+    while told < 5 and time.monotonic() < end:
+        time.sleep(0.05)
+        lines = [re.fullmatch(r"(\d+) sent away, the last at 127\.0\.0\.2", line) for line in list(log.lines)]
+        told = sum(int(line[1]) for line in lines if line)
+    return told
 
 
 def guests(count, program, folder):
@@ -233,7 +327,8 @@ def guests(count, program, folder):
                 octets = b""
             count.judge("a stranger is sent away", octets == b"", octets)
         count.judge("the guest's connection stays", exchange(centre, ends.TEST, ends.TESTED))
-        count.judge("it is told", run.log.waits("1 sent away, the last at 127.0.0.2") or run.log.waits("5 sent away"), run.log.lines)
+        # In one line or in several, as they come within a second or not.
+        count.judge("it is told", sent_away(run.log) == len(strangers), run.log.lines)
         opened = [line for line in run.log.lines if line.startswith("connection opened")]
         count.judge("no stranger opened one", len(opened) == 1, opened)
         station.lose()
@@ -247,20 +342,25 @@ def guests(count, program, folder):
 def troubles(count, program, folder):
     with socket.create_server(("127.0.0.1", 0)) as taken:
         here = "127.0.0.1:%d" % taken.getsockname()[1]
-        closed = "tcp:127.0.0.1:%d" % ends.free_port()
+        shut = "tcp:127.0.0.1:%d" % ends.free_port()
+        free = "127.0.0.1:%d" % ends.free_port()
         rows = [
-            (closed, here, "line refused"),
-            ("tcp:no-such-host.invalid:1", here, "name unknown"),
-            ("unix:nowhere", here, "name unknown"),
+            (shut, free, "line refused"),
+            ("tcp:no-such-host.invalid:1", free, "name unknown"),
+            ("unix:nowhere", free, "name unknown"),
+            # The door is opened first.
+            (shut, here, "port in use"),
             (f"tcp:{here}", here, "port in use"),
         ]
         for line, listen, why in rows:
+            listens = [f"listening at {listen}"] if listen == free else []
             config = os.path.join(folder, "trouble.toml")
             with open(config, "w") as file:
                 file.write(f'{SETTINGS}[live]\nline = "{line}"\nlisten = "{listen}"\n')
             done = subprocess.run([program, "run", "--log", config], capture_output=True, timeout=ends.PATIENCE, cwd=folder)
             said = done.stderr.decode().splitlines()
-            is_right = done.returncode == 3 and len(said) == 2 and said[0].endswith(f" 0 {why}") and said[1] == "device failed"
+            words = [line.split(" ", 2)[2] if re.match(r"\S+Z 0 ", line) else line for line in said]
+            is_right = done.returncode == 3 and words == [*listens, why, "device failed"]
             count.judge(why, is_right, (done.returncode, said))
 
 
@@ -270,7 +370,7 @@ def main():
     program = os.path.abspath(words.parse_args().program)
     count = Count()
     with tempfile.TemporaryDirectory() as folder:
-        for judge in (a_run, held, guests, troubles):
+        for judge in (a_run, held, mute, fickle, guests, troubles, second, closed):
             judge(count, program, folder)
     print(f"{count.passed} passed, {count.failed} failed")
     return 1 if count.failed else 0

@@ -13,7 +13,7 @@ The control centre plays IEC 60870-5-104 and notes each report that it hears. Ea
 - redialled:  the line is cut again and again, where the program knows `run --redial`
 - crowded:    more connections than a door takes at once, and a process with too few descriptors
 
-No report may be missing or heard twice (what was sent on a connection and not acknowledged before its end comes again on the next one
+No stall may cut the control centre's connection. No report may be missing or heard twice (what was sent on a connection and not acknowledged before its end comes again on the next one
 and counts once), and on a line that loses nothing no request may be repeated. The last line is `N passed, M failed`, and the exit
 status is 1 where M isn't 0. All is on the loopback, on ports that the system gives.
 """
@@ -233,6 +233,8 @@ def stopped(program, seconds, loss):
         stops += 1
     settle(station, centre)
     once(station, centre, faults)
+    if centre.connections != 1:
+        faults.append(f"a stall cut the connection {centre.connections - 1} times")
     if loss == 0 and station.repeats:
         faults.append(f"{station.repeats} of {station.requests} requests repeated, though the line answered in time")
     run.end()

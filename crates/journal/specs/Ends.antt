@@ -4,7 +4,10 @@ use Rattle.std.specs.declared.net.ip_addr.IpAddr.{IpAddr}
 use Rattle.session.specs.declared.kinds.Close.{Close}
 use Rattle.live.specs.declared.wires.CutCause.{CutCause}
 use Rattle.live.specs.declared.wires.SentAway.{SentAway}
-use Rattle.journal.specs.Limits.{asked, is_free, one_more}
+use Rattle.live.specs.declared.wires.Presence.{Presence}
+use Rattle.live.specs.declared.wires.Presence.TheVariants as presence
+use Rattle.live.specs.declared.wires.Presence.TheVariants.{Untried, Away}
+use Rattle.journal.specs.Limits.{asked, is_free, is_minute_after, one_more}
 use Rattle.journal.specs.declared.limit.Limit.{Limit}
 use Rattle.journal.specs.declared.note.Line.{Line}
 use Rattle.journal.specs.declared.note.Note.{Note}
@@ -35,36 +38,47 @@ changed what limit now = if is_free limit now then happened what limit now else 
 abbrev pub new_line : LineWatch
 new_line = record { told = Nothing; there = new_limit; away = new_limit }
 
--- what is to be told of a line of which this was told last
-abbrev pub line_change : LineTold → (is_there : Bool) → Option (LineTold × Note)
-line_change Nothing false = Some (NotThere, note.LineNotThere)
-line_change Nothing true = Some (There, note.LineReached)
-line_change NotThere false = None
-line_change NotThere true = Some (There, note.LineReached)
-line_change There false = Some (Lost, note.LineLost)
-line_change There true = None
-line_change Lost false = None
-line_change Lost true = Some (There, note.LineReachedAgain)
+-- A line is told once it was tried, and that it isn't there again each minute. One that was lost is
+-- there again once it has given octets, or is there for a minute.
+abbrev pub line_change : LineTold → Presence → (is_minute : Bool) → Option (LineTold × Note)
+line_change told Untried is_minute = None
+line_change Nothing Away is_minute = Some (NotThere, note.LineNotThere)
+line_change NotThere Away true = Some (NotThere, note.LineNotThere)
+line_change NotThere Away false = None
+line_change There Away is_minute = Some (Lost, note.LineLost)
+line_change Lost Away true = Some (Lost, note.LineNotThere)
+line_change Lost Away false = None
+line_change There presence is_minute = None
+line_change Lost presence.Heard is_minute = Some (There, note.LineReachedAgain)
+line_change Lost presence.There true = Some (There, note.LineReachedAgain)
+line_change Lost presence.There false = None
+line_change told presence is_minute = Some (There, note.LineReached)
 
 -- it was told, or not yet
 abbrev pub line_told : LineTold → Option Line → LineWatch → LineWatch × Option Line
 line_told told None w = (w, None)
 line_told told (Some line) w = (record w { told = told }, Some line)
 
-abbrev pub line_tried : (is_there : Bool) → ℕ → LineTold → Note → LineWatch
+abbrev pub is_away : Presence → Bool
+is_away Away = true
+is_away presence = false
+
+abbrev pub line_tried : (is_away : Bool) → ℕ → LineTold → Note → LineWatch
     → LineWatch × Option Line
-line_tried true now told what w = line_told told (changed what w.there now).1
-    (record w { there = (changed what w.there now).0 })
-line_tried false now told what w = line_told told (changed what w.away now).1
+line_tried true now told what w = line_told told (changed what w.away now).1
     (record w { away = (changed what w.away now).0 })
+line_tried false now told what w = line_told told (changed what w.there now).1
+    (record w { there = (changed what w.there now).0 })
 
-abbrev pub line_changed : Option (LineTold × Note) → (is_there : Bool) → ℕ → LineWatch
+abbrev pub line_changed : Option (LineTold × Note) → (is_away : Bool) → ℕ → LineWatch
     → LineWatch × Option Line
-line_changed None is_there now w = (w, None)
-line_changed (Some (told, what)) is_there now w = line_tried is_there now told what w
+line_changed None is_away now w = (w, None)
+line_changed (Some (told, what)) is_away now w = line_tried is_away now told what w
 
-abbrev pub line_seen : (is_there : Bool) → ℕ → LineWatch → LineWatch × Option Line
-line_seen is_there now w = line_changed (line_change w.told is_there) is_there now w
+abbrev pub line_seen : Presence → ℕ → LineWatch → LineWatch × Option Line
+line_seen presence now w =
+    line_changed (line_change w.told presence (is_minute_after w.away.told now)) (is_away presence)
+    now w
 
 -- Those who aren't let in
 

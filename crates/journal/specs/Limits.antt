@@ -10,6 +10,11 @@ is_free_after (Some told) now = nat_le 1000 (now - told)
 abbrev pub is_free : Limit → ℕ → Bool
 is_free limit now = is_free_after limit.told now
 
+-- a minute has passed since a line was told, if one was
+abbrev pub is_minute_after : Option ℕ → ℕ → Bool
+is_minute_after None now = true
+is_minute_after (Some told) now = nat_le 60000 (now - told)
+
 -- a number that stays at the greatest of its type
 abbrev pub one_more : ℕ → ℕ
 one_more n = min (n + 1) (2 ^ 64 - 1)

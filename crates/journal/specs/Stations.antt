@@ -1,20 +1,20 @@
 -- What is told of the stations, by the requests that go out to them (IEC 60870-5-2; the lines are
 -- this gateway's own profile).
-use Rattle.std.specs.Prelude.{◌≡◌, ℕ, ◌+◌, ◌*◌, ◌==◌, nat_lt, Bool, true, false, not, List, [], ◌∷◌, length, map, slice_get, slice_index, Option, Some, None, if◌then◌else◌}
+use Rattle.std.specs.Prelude.{◌≡◌, ℕ, ◌+◌, ◌*◌, ◌==◌, nat_lt, Bool, true, false, not, List, [], ◌∷◌, length, map, slice_get, slice_index, Option, Some, None, is_none, if◌then◌else◌}
 use Rattle.std.specs.Bool.{beq}
 use Rattle.ft12.specs.declared.frame.LinkSize.{LinkSize}
 use Rattle.ft12.specs.declared.frame.LinkSize.TheVariants.{One, Two}
 use Rattle.link.specs.Control.{is_primary, fcb_bit, fcv_bit, function_code, primary_code}
 use Rattle.link.specs.declared.control.PrimaryFunction.TheVariants.{LinkStatus}
 use Rattle.journal.specs.Ends.{changed, happened, new_limit}
-use Rattle.journal.specs.Limits.{one_more}
+use Rattle.journal.specs.Limits.{one_more, is_minute_after}
 use Rattle.journal.specs.declared.limit.Limit.{Limit}
 use Rattle.journal.specs.declared.note.Line.{Line}
 use Rattle.journal.specs.declared.note.Note.TheVariants as note
 use Rattle.journal.specs.declared.stations.Asking.{Asking}
 use Rattle.journal.specs.declared.stations.Asking.TheVariants.{Status, Counted, Other, Missed}
 use Rattle.journal.specs.declared.stations.StationTold.{StationTold}
-use Rattle.journal.specs.declared.stations.StationTold.TheVariants.{Nothing, Asked, Up, Silent, Down}
+use Rattle.journal.specs.declared.stations.StationTold.TheVariants.{Nothing, Asked, Up, Silent, Down, Unheard}
 use Rattle.journal.specs.declared.stations.StationWatch.{StationWatch}
 
 -- the octet at this place, or 0 where there is none
@@ -46,7 +46,7 @@ abbrev pub new_station : (tries : ℕ) → ℕ → StationWatch
 new_station tries address = record {
   address = address;
   tries = tries;
-  bit = false;
+  bit = None;
   sent = 0;
   told = Nothing;
   asked = new_limit;
@@ -73,9 +73,9 @@ abbrev pub told_down : ℕ → StationWatch → StationWatch × Option Line
 told_down now w = let told = changed (note.Down w.address) w.down now in
     station_told Down told.1 (record w { down = told.0 })
 
-abbrev pub told_silent : ℕ → StationWatch → StationWatch × Option Line
-told_silent now w = let told = changed (note.Silent w.address) w.silent now in
-    station_told Silent told.1 (record w { silent = told.0 })
+abbrev pub told_silent : StationTold → ℕ → StationWatch → StationWatch × Option Line
+told_silent next now w = let told = changed (note.Silent w.address) w.silent now in
+    station_told next told.1 (record w { silent = told.0 })
 
 abbrev pub told_again : ℕ → StationWatch → StationWatch × Option Line
 told_again now w = let told = changed (note.Again w.address) w.again now in
@@ -85,36 +85,58 @@ abbrev pub told_missed : ℕ → StationWatch → StationWatch × Option Line
 told_missed now w = let told = happened (note.Gap w.address) w.gap now in
     (record w { gap = told.0 }, told.1)
 
--- A counted request with the bit of the one before is that request again (IEC 60870-5-2, 5.1.2);
--- after a reset of the link, or a request for its status, the next one is new.
+-- this bit again
+abbrev pub is_again : Option Bool → Bool → Bool
+is_again None bit = false
+is_again (Some before) bit = beq before bit
+
+-- A counted request with the bit of the one before is that request again (IEC 60870-5-2, 5.1.2).
+-- Requests for the status are counted from the last counted request on: a station that answers them
+-- has its link reset, and then gets counted requests.
 abbrev pub counting : Asking → StationWatch → StationWatch
 counting (Counted bit) w =
-    record w { bit = bit; sent = if beq w.bit bit then one_more w.sent else 1 }
-counting Status w = record w { sent = 0 }
-counting Other w = record w { sent = 0 }
+    record w { bit = Some bit; sent = if is_again w.bit bit then one_more w.sent else 1 }
+counting Status w =
+    record w { bit = None; sent = if is_none w.bit then one_more w.sent else 1 }
+counting Other w = w
 counting Missed w = w
 
 -- a request went out more often than a station that is there lets it
 abbrev pub is_unanswered : StationWatch → Bool
 is_unanswered w = nat_lt w.tries w.sent
 
-abbrev pub up_by : (is_unanswered : Bool) → ℕ → StationWatch → StationWatch × Option Line
-up_by true now w = told_silent now w
-up_by false now w = (w, None)
+-- that it doesn't answer is told
+abbrev pub silent_by : (is_unanswered : Bool) → StationTold → ℕ → StationWatch
+    → StationWatch × Option Line
+silent_by true next now w = told_silent next now w
+silent_by false next now w = (w, None)
 
-abbrev pub silent_by : (is_unanswered : Bool) → ℕ → StationWatch → StationWatch × Option Line
-silent_by true now w = (w, None)
-silent_by false now w = told_again now w
+-- and again a minute after it was told last
+abbrev pub still_silent : StationTold → ℕ → StationWatch → StationWatch × Option Line
+still_silent next now w = silent_by (is_minute_after w.silent.told now) next now w
+
+abbrev pub unheard_by : (is_unanswered : Bool) → ℕ → StationWatch → StationWatch × Option Line
+unheard_by true now w = still_silent Unheard now w
+unheard_by false now w = (w, None)
+
+abbrev pub again_by : (is_unanswered : Bool) → ℕ → StationWatch → StationWatch × Option Line
+again_by true now w = still_silent Silent now w
+again_by false now w = told_again now w
 
 -- A station that is asked for its status is told once; one that gets counted requests is up, and
--- down once it is asked again. One that doesn't answer is told, and that it answers again.
+-- down once it is asked again. One that doesn't answer is told, be it up or not, again each minute,
+-- and that it answers again.
 abbrev pub station_by : StationTold → Asking → ℕ → StationWatch → StationWatch × Option Line
 station_by Nothing Status now w = told_asked now w
 station_by Nothing (Counted bit) now w = told_up now w
+station_by Asked Status now w = silent_by (is_unanswered w) Unheard now w
 station_by Asked (Counted bit) now w = told_up now w
+station_by Down Status now w = silent_by (is_unanswered w) Unheard now w
 station_by Down (Counted bit) now w = told_up now w
-station_by Up (Counted bit) now w = up_by (is_unanswered w) now w
-station_by Silent (Counted bit) now w = silent_by (is_unanswered w) now w
+station_by Unheard Status now w = unheard_by (is_unanswered w) now w
+station_by Unheard (Counted bit) now w = told_up now w
+station_by Up (Counted bit) now w = silent_by (is_unanswered w) Silent now w
+station_by Silent (Counted bit) now w = again_by (is_unanswered w) now w
 station_by Up Status now w = told_down now w
 station_by Silent Status now w = told_down now w
 station_by told Missed now w = told_missed now w

@@ -8,6 +8,7 @@ use Rattle.gateway.specs.declared.ports.Next.{Next}
 use Rattle.gateway.specs.declared.ports.Next.TheVariants as next
 use Rattle.gateway.specs.declared.settings.Station.{Station}
 use Rattle.live.specs.declared.watched.Sight.{Sight}
+use Rattle.live.specs.declared.wires.Presence.TheVariants.{Away}
 use Rattle.journal.specs.Ends.{new_limit, changed, new_line, new_door, new_connection, line_seen, door_seen, connection_opened, connection_cut, connection_sent, connection_closed}
 use Rattle.journal.specs.Stations as stations
 use Rattle.journal.specs.Stations.{new_station}
@@ -96,7 +97,7 @@ unless_told s (w, Some line) = (w, Some line)
 unless_told s (w, None) = with_door (door_seen s.sent_away w.moment w.door) w
 
 abbrev pub seen : Sight → Watching → Watching × Option Line
-seen s w = unless_told s (with_line (line_seen s.is_line_there w.moment w.line) w)
+seen s w = unless_told s (with_line (line_seen s.line w.moment w.line) w)
 
 abbrev pub at : ℕ → Watching → Watching
 at now w = record w { moment = now }
@@ -109,7 +110,7 @@ heard (next.Line now len) s w = seen s (at now w)
 heard (next.Bytes now len) s w = seen s (at now w)
 heard (next.Tick now) s w = seen s (at now w)
 heard (next.Wall now number) s w = seen s (at now w)
-heard next.Fault s w = with_line (line_seen false w.moment w.line) w
+heard next.Fault s w = with_line (line_seen Away w.moment w.line) w
 heard next.Done s w = (w, None)
 
 -- An action: a request to a station, an APDU, the close of the connection, or a gap in what a

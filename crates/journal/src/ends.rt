@@ -4,7 +4,7 @@ ghost use Rattle.journal.specs.Ends as spec;
 
 use crate::limit::Limit;
 use crate::note::{Line, Note};
-use live::{CutCause, SentAway};
+use live::{CutCause, Presence, SentAway};
 use session::Close;
 use std::net::IpAddr;
 
@@ -64,32 +64,40 @@ impl LineWatch {
         }
     }
 
-    /// The line is there, or isn't.
-    pub(crate) fn see(&mut self, is_there: bool, now: u64) -> Option<Line>
-        ensures { (self.new, result) ≡ spec.line_seen is_there now self.old }
+    /// The line is seen so.
+    pub(crate) fn see(&mut self, presence: Presence, now: u64) -> Option<Line>
+        ensures { (self.new, result) ≡ spec.line_seen presence now self.old }
     {
-        let (told, note) = line_change(self.told, is_there)?;
-        let line = if is_there {
-            changed(note, &mut self.there, now)?
-        } else {
+        let is_minute = self.away.is_minute_after(now);
+        let (told, note) = line_change(self.told, presence, is_minute)?;
+        let line = if matches!(presence, Presence::Away) {
             changed(note, &mut self.away, now)?
+        } else {
+            changed(note, &mut self.there, now)?
         };
         self.told = told;
         Some(line)
     }
 }
 
-/// What is to be told next of a line of which this was told last.
-fn line_change(told: LineTold, is_there: bool) -> Option<(LineTold, Note)>
-    ensures { result ≡ spec.line_change told is_there }
+/// What is to be told next of a line of which this was told last, and, if it was, that it isn't
+/// there, a minute ago or not.
+fn line_change(told: LineTold, presence: Presence, is_minute: bool) -> Option<(LineTold, Note)>
+    ensures { result ≡ spec.line_change told presence is_minute }
 {
-    match (told, is_there) {
-        (LineTold::Nothing, false) => Some((LineTold::NotThere, Note::LineNotThere)),
-        (LineTold::Nothing, true) => Some((LineTold::There, Note::LineReached)),
-        (LineTold::NotThere, true) => Some((LineTold::There, Note::LineReached)),
-        (LineTold::Lost, true) => Some((LineTold::There, Note::LineReachedAgain)),
-        (LineTold::There, false) => Some((LineTold::Lost, Note::LineLost)),
-        _ => None,
+    match (told, presence) {
+        (_, Presence::Untried) => None,
+        (LineTold::Nothing, Presence::Away) => Some((LineTold::NotThere, Note::LineNotThere)),
+        (LineTold::There, Presence::Away) => Some((LineTold::Lost, Note::LineLost)),
+        (LineTold::NotThere, Presence::Away) | (LineTold::Lost, Presence::Away) => {
+            is_minute.then_some((told, Note::LineNotThere))
+        }
+        (LineTold::There, _) => None,
+        (LineTold::Lost, Presence::There) if !is_minute => None,
+        (LineTold::Lost, _) => Some((LineTold::There, Note::LineReachedAgain)),
+        (LineTold::Nothing, _) | (LineTold::NotThere, _) => {
+            Some((LineTold::There, Note::LineReached))
+        }
     }
 }
 

@@ -3,6 +3,7 @@ ghost use Rattle.std.specs.Prelude.{◌≡◌, ◌∷◌, [], codes, true, false
 ghost use Rattle.ft12.specs.declared.frame.LinkSize.TheVariants.{One, Two};
 ghost use Rattle.gateway.specs.declared.counts.Counts.{Counts};
 ghost use Rattle.live.specs.declared.wires.CutCause.TheVariants as cut;
+ghost use Rattle.live.specs.declared.wires.Presence.TheVariants.{Untried, Away, There, Heard};
 ghost use Rattle.session.specs.declared.kinds.Close.TheVariants as close;
 ghost use Rattle.journal.specs.Ends.{new_line, new_door, new_connection, door_seen, connection_sent};
 ghost use Rattle.journal.specs.Examples.{at, lines_of_looks, lines_of_requests};
@@ -14,8 +15,9 @@ ghost use Rattle.journal.specs.declared.note.Trouble.TheVariants as trouble;
 ghost use Rattle.journal.specs.declared.stations.Asking.TheVariants.{Status, Counted, Other};
 
 /// What is told of stations, by the octets of requests to them (IEC 60870-5-2, 5.1.2): whose they
-/// are, what they ask for, and the lines of a station that is asked, reset, polled, silent, polled
-/// again and asked once more. Another station's requests tell nothing of it.
+/// are, what they ask for, the lines of a station that is asked, reset, polled, silent, polled again
+/// and asked once more, and those of one that never answered. Another station's requests tell
+/// nothing of it.
 pub fn stations_by_example()
     ensures addresses { (address_of One (0x10 ∷ 0x49 ∷ 0x07 ∷ 0x50 ∷ 0x16 ∷ []) ≡ 7)
         × (address_of Two (0x10 ∷ 0x49 ∷ 0x02 ∷ 0x01 ∷ 0x4C ∷ 0x16 ∷ []) ≡ 258)
@@ -31,10 +33,19 @@ pub fn stations_by_example()
     ensures life { lines_of_requests One ((0, 0x10 ∷ 0x49 ∷ 0x07 ∷ [])
         ∷ (1000, 0x10 ∷ 0x40 ∷ 0x07 ∷ []) ∷ (2000, 0x10 ∷ 0x7B ∷ 0x07 ∷ [])
         ∷ (3000, 0x10 ∷ 0x7B ∷ 0x07 ∷ []) ∷ (4000, 0x10 ∷ 0x7B ∷ 0x07 ∷ [])
-        ∷ (5000, 0x10 ∷ 0x5B ∷ 0x07 ∷ []) ∷ (6000, 0x10 ∷ 0x49 ∷ 0x07 ∷ []) ∷ [])
+        ∷ (63999, 0x10 ∷ 0x7B ∷ 0x07 ∷ []) ∷ (64000, 0x10 ∷ 0x7B ∷ 0x07 ∷ [])
+        ∷ (65000, 0x10 ∷ 0x5B ∷ 0x07 ∷ []) ∷ (66000, 0x10 ∷ 0x49 ∷ 0x07 ∷ []) ∷ [])
         (new_station 2 7 ∷ [])
         ≡ at 0 (note.Asked 7) ∷ at 2000 (note.Up 7) ∷ at 4000 (note.Silent 7)
-        ∷ at 5000 (note.Again 7) ∷ at 6000 (note.Down 7) ∷ [] }
+        ∷ at 64000 (note.Silent 7) ∷ at 65000 (note.Again 7) ∷ at 66000 (note.Down 7) ∷ [] }
+    // One that never answered is told, and each minute; it may be up then.
+    ensures unheard { lines_of_requests One ((0, 0x10 ∷ 0x49 ∷ 0x07 ∷ [])
+        ∷ (200, 0x10 ∷ 0x49 ∷ 0x07 ∷ []) ∷ (400, 0x10 ∷ 0x49 ∷ 0x07 ∷ [])
+        ∷ (60399, 0x10 ∷ 0x49 ∷ 0x07 ∷ []) ∷ (60400, 0x10 ∷ 0x49 ∷ 0x07 ∷ [])
+        ∷ (60600, 0x10 ∷ 0x40 ∷ 0x07 ∷ []) ∷ (60700, 0x10 ∷ 0x7B ∷ 0x07 ∷ []) ∷ [])
+        (new_station 2 7 ∷ [])
+        ≡ at 0 (note.Asked 7) ∷ at 400 (note.Silent 7) ∷ at 60400 (note.Silent 7)
+        ∷ at 60700 (note.Up 7) ∷ [] }
     ensures others { (asked One (0x10 ∷ 0x49 ∷ 0x08 ∷ []) 0 (new_station 2 7 ∷ [])
         ≡ (new_station 2 7 ∷ [], None))
         × ((gap 1 5 (new_station 2 7 ∷ new_station 2 8 ∷ [])).1 ≡ Some (at 5 (note.Gap 8)))
@@ -45,10 +56,16 @@ pub fn stations_by_example()
 /// counts, and when.
 pub fn moments_by_example()
     ensures line { lines_of_looks
-        ((0, false) ∷ (500, false) ∷ (1000, true) ∷ (2000, false) ∷ (3000, true) ∷ (3500, false)
-        ∷ (4000, false) ∷ []) new_line
-        ≡ at 0 note.LineNotThere ∷ at 1000 note.LineReached ∷ at 2000 note.LineLost
+        ((0, Untried) ∷ (100, Away) ∷ (500, Away) ∷ (1000, There) ∷ (2000, Away) ∷ (3000, Heard)
+        ∷ (3500, Away) ∷ (4000, Away) ∷ []) new_line
+        ≡ at 100 note.LineNotThere ∷ at 1000 note.LineReached ∷ at 2000 note.LineLost
         ∷ at 3000 note.LineReachedAgain ∷ at 3500 note.LineLost ∷ [] }
+    // A server that accepts and closes: one line a minute.
+    ensures flicker { lines_of_looks
+        ((0, There) ∷ (10, Away) ∷ (2000, There) ∷ (2010, Away) ∷ (6000, There) ∷ (6010, Away)
+        ∷ (60009, Away) ∷ (60010, Away) ∷ (120009, There) ∷ (120010, There) ∷ []) new_line
+        ≡ at 0 note.LineReached ∷ at 10 note.LineLost ∷ at 60010 note.LineNotThere
+        ∷ at 120010 note.LineReachedAgain ∷ [] }
     ensures door { ((door_seen (record { count = 3; last = None }) 7 new_door).1
         ≡ Some (at 7 (note.SentAway 3 None)))
         × ((door_seen (record { count = 5; last = None }) 1007

@@ -1,9 +1,12 @@
 //! A line a second.
 ghost use Rattle.std.specs.Prelude.{◌≡◌, None};
-ghost use Rattle.journal.specs.Limits.{asked, is_free};
+ghost use Rattle.journal.specs.Limits.{asked, is_free, is_minute_after};
 
 /// How long after a line the next one of its kind may follow, in ms.
 const APART_MS: u64 = 1000;
+
+/// How long after a line of what lasts it is told again, in ms.
+const MINUTE_MS: u64 = 60_000;
 
 /// When a line of a kind was told last, in ms, and how many have been left out since.
 #[derive(Clone, Copy, Debug, PartialEq, Eq)]
@@ -30,6 +33,16 @@ impl Limit {
         match self.told {
             None => true,
             Some(told) => APART_MS <= now.saturating_sub(told),
+        }
+    }
+
+    /// A minute has passed since a line was told, if one was.
+    pub fn is_minute_after(&self, now: u64) -> bool
+        ensures { result ≡ is_minute_after self.now.told now }
+    {
+        match self.told {
+            None => true,
+            Some(told) => MINUTE_MS <= now.saturating_sub(told),
         }
     }
 

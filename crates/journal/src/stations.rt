@@ -1,5 +1,6 @@
 //! What is told of the stations, by the requests that go out to them.
-ghost use Rattle.std.specs.Prelude.{◌≡◌, ◌≤◌, map};
+ghost use Rattle.std.specs.Prelude.{◌≡◌, ◌≤◌, map, if◌then◌else◌};
+ghost use Rattle.journal.specs.Limits.{one_more};
 ghost use Rattle.journal.specs.Stations as spec;
 
 use crate::ends::{changed, happened};
@@ -26,9 +27,11 @@ pub(crate) enum StationTold {
     Nothing,
     Asked,
     Up,
-    /// It doesn't answer any more.
+    /// It was up, and doesn't answer any more.
     Silent,
     Down,
+    /// It is asked for its status, and doesn't answer.
+    Unheard,
 }
 
 /// What is told of a station.
@@ -38,8 +41,9 @@ pub(crate) struct StationWatch {
     address: u16,
     /// How often a request goes out before one that isn't answered counts as unanswered.
     tries: u64,
-    /// The frame count bit of the latest counted request, and how often that went out.
-    bit: bool,
+    /// The frame count bit of the latest counted request; none where its status was asked since.
+    bit: Option<bool>,
+    /// How often that request went out, or its status was asked since.
     sent: u64,
     told: StationTold,
     asked: Limit,
@@ -102,7 +106,7 @@ impl StationWatch {
         StationWatch {
             address,
             tries,
-            bit: false,
+            bit: None,
             sent: 0,
             told: StationTold::Nothing,
             asked: Limit::new(),
@@ -123,42 +127,75 @@ impl StationWatch {
         }
     }
 
-    /// How often the latest counted request has gone out.
+    /// How often the latest request has gone out.
     fn count(&mut self, asking: Asking)
         ensures { self.new ≡ spec.counting asking self.old }
     {
         match asking {
             Asking::Counted(bit) => {
-                self.sent = if self.bit == bit {
-                    self.sent.saturating_add(1)
-                } else {
-                    1
+                let is_again = match self.bit {
+                    None => false,
+                    Some(before) => before == bit,
                 };
-                self.bit = bit;
+                self.sent = self.sent_once_more(is_again);
+                self.bit = Some(bit);
             }
-            Asking::Status | Asking::Other => self.sent = 0,
-            Asking::Missed => {}
+            Asking::Status => {
+                self.sent = self.sent_once_more(self.bit.is_none());
+                self.bit = None;
+            }
+            Asking::Other | Asking::Missed => {}
         }
     }
 
-    /// It is up, and a counted request goes out to it.
-    fn ask_up(&mut self, now: u64) -> Option<Line>
-        ensures { (self.new, result) ≡ spec.up_by (spec.is_unanswered self.old) now self.old }
+    /// How often a request has gone out, which is the one before or another one.
+    fn sent_once_more(&self, is_again: bool) -> u64
+        ensures { result ≡ (if is_again then one_more self.now.sent else 1) }
     {
-        if self.sent <= self.tries {
+        if is_again {
+            self.sent.saturating_add(1)
+        } else {
+            1
+        }
+    }
+
+    /// A request went out more often than a station that is there lets it.
+    fn is_unanswered(&self) -> bool
+        ensures { result ≡ spec.is_unanswered self.now }
+    {
+        self.sent > self.tries
+    }
+
+    /// That it doesn't answer, where it doesn't.
+    fn silence(&mut self, is_silent: bool, told: StationTold, now: u64) -> Option<Line>
+        ensures { (self.new, result) ≡ spec.silent_by is_silent told now self.old }
+    {
+        if !is_silent {
             return None;
         }
         let line = changed(Note::Silent(self.address), &mut self.silent, now)?;
-        self.told = StationTold::Silent;
+        self.told = told;
         Some(line)
+    }
+
+    /// It was told that it doesn't answer, and its status is asked.
+    fn ask_unheard(&mut self, now: u64) -> Option<Line>
+        ensures { (self.new, result) ≡ spec.unheard_by (spec.is_unanswered self.old) now self.old }
+    {
+        if !self.is_unanswered() {
+            return None;
+        }
+        let is_minute = self.silent.is_minute_after(now);
+        self.silence(is_minute, StationTold::Unheard, now)
     }
 
     /// It didn't answer any more, and a counted request goes out to it.
     fn ask_silent(&mut self, now: u64) -> Option<Line>
-        ensures { (self.new, result) ≡ spec.silent_by (spec.is_unanswered self.old) now self.old }
+        ensures { (self.new, result) ≡ spec.again_by (spec.is_unanswered self.old) now self.old }
     {
-        if self.sent > self.tries {
-            return None;
+        if self.is_unanswered() {
+            let is_minute = self.silent.is_minute_after(now);
+            return self.silence(is_minute, StationTold::Silent, now);
         }
         let line = changed(Note::Again(self.address), &mut self.again, now)?;
         self.told = StationTold::Up;
@@ -182,11 +219,18 @@ impl StationWatch {
                 self.told = StationTold::Down;
                 Some(line)
             }
-            (StationTold::Up, Asking::Counted(_)) => self.ask_up(now),
+            (StationTold::Asked, Asking::Status) | (StationTold::Down, Asking::Status) => {
+                self.silence(self.is_unanswered(), StationTold::Unheard, now)
+            }
+            (StationTold::Unheard, Asking::Status) => self.ask_unheard(now),
+            (StationTold::Up, Asking::Counted(_)) => {
+                self.silence(self.is_unanswered(), StationTold::Silent, now)
+            }
             (StationTold::Silent, Asking::Counted(_)) => self.ask_silent(now),
             (StationTold::Nothing, Asking::Counted(_))
             | (StationTold::Asked, Asking::Counted(_))
-            | (StationTold::Down, Asking::Counted(_)) => {
+            | (StationTold::Down, Asking::Counted(_))
+            | (StationTold::Unheard, Asking::Counted(_)) => {
                 let line = changed(Note::Up(address), &mut self.up, now)?;
                 self.told = StationTold::Up;
                 Some(line)

@@ -9,7 +9,7 @@ use crate::queue::QueueWatch;
 use crate::stations::{StationWatch, ask, gap};
 use ft12::LinkSize;
 use gateway::{Action, Config, Counts, Next};
-use live::Sight;
+use live::{Presence, Sight};
 use std::alloc::{AllocError, Global};
 use std::marker::Model;
 
@@ -107,7 +107,7 @@ impl Watch {
                 self.moment = now;
                 self.see(sight)
             }
-            Next::Fault => self.line.see(false, self.moment),
+            Next::Fault => self.line.see(Presence::Away, self.moment),
             Next::Done => None,
         }
     }
@@ -117,7 +117,7 @@ impl Watch {
         ensures { (self.new, result) ≡ spec.seen sight.now self.old }
     {
         let now = self.moment;
-        match self.line.see(sight.is_line_there, now) {
+        match self.line.see(sight.line, now) {
             Some(line) => Some(line),
             None => self.door.see(sight.sent_away, now),
         }

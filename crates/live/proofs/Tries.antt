@@ -1,31 +1,75 @@
 -- A wire that is reached again.
-use Rattle.std.proofs.Common.{◌≡◌, ℕ, true, false, None, List, sym, ap, ◌∙◌}
-use Rattle.live.specs.Redial.{Redial, is_due, told_at, tried_by, looked_by, IsTried, IsRedialled}
+use Rattle.std.proofs.Common.{◌≡◌, ℕ, true, false, Some, None, List, refl, sym, ap, subst, ◌∙◌}
+use Rattle.live.specs.Wires.{History, IsNew, Visits}
+use Rattle.live.specs.Redial.{Redial, ended, IfReached, dialled_map, is_due, told_at, settled, answered, begun_by, tried_by, looked_by, IsAnswered, IsTriedOn, IsRedialled}
+use Rattle.live.specs.declared.redial.Dialled.{Dialled}
+use Rattle.live.specs.declared.redial.Dialled.TheVariants.{Reached, Pending, Failed}
 use Rattle.live.specs.declared.wires.Got.TheVariants.{Quiet}
 
--- a look while it is away, where a try is due
-pub away_due : (now : ℕ) (buf : List ℕ) (old mid new : Redial) → old.wire ≡ None → is_due old.tried now ≡ true
-    → mid ≡ told_at now old
-    → IsTried now mid new → IsRedialled old Quiet buf new
-away_due now buf old mid new away due told t = record {
-  now = now;
-  reached = new.wire;
-  is_new = t.is_new;
-  found = Quiet;
-  looked = ap (λ r. (Quiet, r)) (t.tried ∙ ap (tried_by true now new.wire) told)
-      ∙ sym (ap (λ w. looked_by w now new.wire Quiet buf old) away
-      ∙ ap (λ b. (Quiet, tried_by b now new.wire (told_at now old))) due);
+ended_map : {A : Type 0} (f : A → History) (t : Visits) (d : Dialled A) → ended t (dialled_map f d) ≡ ended t d
+ended_map f t (Reached wire) = refl
+ended_map f t Pending = refl
+ended_map f t Failed = refl
+
+new_map : {A : Type 0} (f : A → History) (d : Dialled A) → IfReached d (λ wire. IsNew (f wire))
+    → IfReached (dialled_map f d) IsNew
+new_map f (Reached wire) fresh = fresh
+new_map f Pending fresh = tt
+new_map f Failed fresh = tt
+
+-- what has become of a try
+answered_so : {A : Type 0} (f : A → History) (d : Dialled A) (tries : Visits) (old new : Redial)
+    → IfReached d (λ wire. IsNew (f wire)) → tries ≡ ended old.tries d
+    → new ≡ settled (dialled_map f d) (record old { tries = tries }) → IsAnswered old new
+answered_so f d tries old new fresh told done = record {
+  answer = dialled_map f d;
+  is_new = new_map f d fresh;
+  done = done
+      ∙ ap (λ t. settled (dialled_map f d) (record old { tries = t })) (told ∙ sym (ended_map f old.tries d));
 }
 
--- and where none is
-pub away_wait : (now : ℕ) (buf : List ℕ) (old new : Redial) → old.wire ≡ None → is_due old.tried now ≡ false
-    → new ≡ told_at now old
-    → IsRedialled old Quiet buf new
-away_wait now buf old new away due told = record {
-  now = now;
-  reached = None;
-  is_new = tt;
-  found = Quiet;
-  looked = ap (λ r. (Quiet, r)) told ∙ sym (ap (λ w. looked_by w now None Quiet buf old) away
-      ∙ ap (λ b. (Quiet, tried_by b now None (told_at now old))) due);
+pub answered_from : {A : Type 0} (f : A → History) (d : Dialled A) (tries : Visits) (seen old new : Redial)
+    → seen ≡ old → IfReached d (λ wire. IsNew (f wire)) → tries ≡ ended seen.tries d
+    → new ≡ settled (dialled_map f d) (record seen { tries = tries }) → IsAnswered old new
+answered_from f d tries seen old new same fresh told done =
+    let P : Redial → Type 0 = λ r. IsAnswered r new in
+    subst P same (answered_so f d tries seen new fresh told done)
+
+-- the try that goes on, of which it was asked
+pub tried_asked : (now : ℕ) (old new : Redial) → old.is_trying ≡ true → IsAnswered old new → IsTriedOn now old new
+tried_asked now old new trying a = record {
+  answer = a.answer;
+  is_new = a.is_new;
+  done = a.done ∙ sym (ap (λ b. tried_by b now a.answer old) trying);
 }
+
+-- one that begins
+pub tried_due : (now : ℕ) (old new : Redial) → old.is_trying ≡ false → is_due old now ≡ true
+    → IsAnswered (record old { tried = Some now }) new → IsTriedOn now old new
+tried_due now old new trying due a = record {
+  answer = a.answer;
+  is_new = a.is_new;
+  done = a.done
+      ∙ sym (ap (λ b. tried_by b now a.answer old) trying ∙ ap (λ b. begun_by b now a.answer old) due);
+}
+
+-- and where none is due
+pub tried_not : (now : ℕ) (old new : Redial) → old.is_trying ≡ false → is_due old now ≡ false → new ≡ old
+    → IsTriedOn now old new
+tried_not now old new trying due same = record {
+  answer = Pending;
+  is_new = tt;
+  done = same ∙ sym (ap (λ b. tried_by b now Pending old) trying ∙ ap (λ b. begun_by b now Pending old) due);
+}
+
+pub looked_away : (now : ℕ) (buf : List ℕ) (old mid new : Redial) → old.wire ≡ None → mid ≡ told_at now old
+    → IsTriedOn now mid new → IsRedialled old Quiet buf new
+looked_away now buf old mid new away told t =
+    let P : Redial → Type 0 = λ r. IsTriedOn now r new in
+    let u = subst P told t in record {
+      now = now;
+      answer = u.answer;
+      is_new = u.is_new;
+      found = Quiet;
+      looked = ap (λ r. (Quiet, r)) u.done ∙ sym (ap (λ w. looked_by w now u.answer Quiet buf old) away);
+    }

@@ -30,8 +30,10 @@
 //! open connection gave and were handed ([`the_log_tells_what_passed`]).
 //!
 //! [`Redialled`] is a wire that is reached again where it has gone: proved, for any dialler that
-//! tells its tries, is that it is quiet and takes nothing while it is away, is tried at once and
-//! then every second, and begins as a new wire each time.
+//! tells its tries, is that it is quiet and takes nothing while it is away; that a try begins at
+//! once and then every second, after each wire that was reached and gave nothing at twice the
+//! distance, up to 30 s; that no try begins while one goes on, and a look waits for none; and that
+//! it begins as a new wire each time.
 //!
 //! One call to a stream of the system is read as one fact about its answer: octets, quiet or gone,
 //! and taken only where all was taken. What sockets do beyond that is no matter of a proof.
@@ -63,7 +65,7 @@ pub use laws::{
     what_the_centre_sent_is_told_in_time,
 };
 pub use port::Live;
-pub use redial::{Dialler, Redialled};
+pub use redial::{Dialled, Dialler, Redialled};
 pub use sockets::{CentreListener, CentreSocket, LineDialler, LineSocket, SystemClock};
 pub use watched::{Sight, Watched};
-pub use wires::{Clock, CutCause, Door, Got, Reached, SentAway, Visitor, Wire};
+pub use wires::{Clock, CutCause, Door, Got, Presence, Reached, SentAway, Visitor, Wire};

@@ -13,7 +13,7 @@ use crate::guests::Guests;
 use crate::source::Source;
 use crate::timing::Timing;
 use crate::walled::Walled;
-use crate::wires::{Clock, CutCause, Door, Got, Reached, SentAway, Visitor, Wire};
+use crate::wires::{Clock, CutCause, Door, Got, Presence, Reached, SentAway, Visitor, Wire};
 use gateway::{Action, History, Next, Port};
 use session::Close;
 use std::marker::Model;
@@ -357,9 +357,9 @@ impl<L: Wire, D: Door + Drop, C: Clock + Drop> Live<L, D, C> {
 }
 
 impl<L: Wire + Reached, D: Door + Drop, C: Clock + Drop> Live<L, D, C> {
-    /// The line is there.
-    pub(crate) fn is_line_there(&self) -> bool {
-        self.line.is_reached()
+    /// Whether the line is there.
+    pub(crate) fn line_presence(&self) -> Presence {
+        self.line.presence()
     }
 }
 

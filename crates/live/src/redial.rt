@@ -1,29 +1,49 @@
 //! A wire that comes back.
-ghost use Rattle.std.specs.Prelude.{◌≡◌, ◌≢◌, ℕ, List, None, IfSome, is_some};
-ghost use Rattle.live.specs.Wires.{FitsBuffer, IsNew};
-ghost use Rattle.live.specs.Redial.{IsRedialled, IsTried, IsPut, is_due, told_at};
+ghost use Rattle.std.specs.Prelude.{◌≡◌, ◌≢◌, ℕ, List, None, false};
+ghost use Rattle.live.specs.Wires.{FitsBuffer};
+ghost use Rattle.live.specs.Redial.{IsRedialled, IsPut, IsTriedOn, IsAnswered, dialled_map, is_due, grown, settled, told_at};
 ghost use Rattle.live.specs.declared.wires.Got.TheVariants.{Quiet, Gone};
+ghost use Rattle.live.specs.declared.wires.Presence.TheVariants.{Untried};
 
-use crate::wires::{Clock, Got, Reached, Wire};
+use crate::wires::{Clock, Got, Presence, Reached, Wire};
 use std::marker::Model;
 
-/// How long after a try the next one follows, in ms.
+/// How long after a try began the next one follows, in ms.
 const RETRY_MS: u64 = 1000;
 
-/// Reaches a wire. One that tells its tries adds each.
+/// The same at the most, where wires are reached again and again and give nothing.
+const LONGEST_RETRY_MS: u64 = 30_000;
+
+/// What has become of a try to reach a wire.
+#[derive(Debug, Drop)]
+pub enum Dialled<W> {
+    /// This wire was reached.
+    Reached(W),
+    /// The try goes on.
+    Pending,
+    Failed,
+}
+
+/// Reaches a wire. One that tells its tries adds each that ended. Nothing has happened yet at a
+/// wire that it reaches.
 pub trait Dialler {
-    ghost use Rattle.live.specs.Wires.{Visits, IsNew, visited};
-    ghost use Rattle.std.specs.Option.{is_some};
+    ghost use Rattle.live.specs.Wires.{Visits, IsNew};
+    ghost use Rattle.live.specs.Redial.{ended, IfReached};
 
     type Wire: Wire;
 
-    /// Whether each try reached a wire, the newest first, where it tells that.
+    /// Whether each try that ended reached a wire, the newest first, where it tells that.
     ghost tries: { Self → Visits };
 
-    /// Tries once to reach a wire, at which nothing has happened yet.
-    fn dial(&mut self) -> Option<Self::Wire>
-        ensures fresh { IfSome result (λ wire. IsNew (Self.Wire.history wire)) }
-        ensures told { tries self.new ≡ visited (tries self.old) (is_some result) };
+    /// Begins a try to reach a wire, and doesn't wait for it.
+    fn dial(&mut self) -> Dialled<Self::Wire>
+        ensures fresh { IfReached result (λ wire. IsNew (Self.Wire.history wire)) }
+        ensures told { tries self.new ≡ ended (tries self.old) result };
+
+    /// What has become of the try that goes on, without a wait.
+    fn ask(&mut self) -> Dialled<Self::Wire>
+        ensures fresh { IfReached result (λ wire. IsNew (Self.Wire.history wire)) }
+        ensures told { tries self.new ≡ ended (tries self.old) result };
 
     /// Waits for as long as a look at a quiet wire does, so that who looks at a wire that is away
     /// doesn't spin.
@@ -31,15 +51,21 @@ pub trait Dialler {
         ensures { tries self.new ≡ tries self.old };
 }
 
-/// A wire that is reached again where it has gone: at once, then every second. While it is away it
-/// is quiet and takes nothing, and it begins with an empty stream each time.
+/// A wire that is reached again where it has gone: a try begins at once, then every second; after
+/// each wire that was reached and gave nothing at twice the distance, up to 30 s. While it is away
+/// it is quiet and takes nothing, and it begins with an empty stream each time.
 #[derive(Drop)]
 pub struct Redialled<D: Dialler + Drop, C: Clock + Drop> {
     dialler: D,
     clock: C,
     wire: Option<D::Wire>,
-    /// When it was tried last, in ms.
+    /// When the last try began, in ms.
     tried: Option<u64>,
+    /// That try goes on.
+    is_trying: bool,
+    /// How long after it the next one begins, in ms.
+    wait: u64,
+    presence: Presence,
 }
 
 impl<D: Dialler + Drop, C: Clock + Drop> Model for Redialled<D, C> {
@@ -53,6 +79,9 @@ impl<D: Dialler + Drop, C: Clock + Drop> Model for Redialled<D, C> {
       clock = C.moments a.clock;
       wire = option_map (λ wire. D.Wire.history wire) a.wire;
       tried = a.tried;
+      is_trying = a.is_trying;
+      wait = a.wait;
+      presence = a.presence;
     } };
 }
 
@@ -64,6 +93,9 @@ impl<D: Dialler + Drop, C: Clock + Drop> Redialled<D, C> {
           clock = C.moments clock;
           wire = None;
           tried = None;
+          is_trying = false;
+          wait = 1000;
+          presence = Untried;
         } }
     {
         Redialled {
@@ -71,33 +103,71 @@ impl<D: Dialler + Drop, C: Clock + Drop> Redialled<D, C> {
             clock,
             wire: None,
             tried: None,
+            is_trying: false,
+            wait: RETRY_MS,
+            presence: Presence::Untried,
         }
     }
 
     /// A try is due at this moment.
     fn is_due(&self, now: u64) -> bool
-        ensures { result ≡ is_due self.now.tried now }
+        ensures { result ≡ is_due self.now now }
     {
-        match self.tried {
-            None => true,
-            Some(last) => RETRY_MS <= now.saturating_sub(last),
+        match (self.is_trying, self.tried) {
+            (true, _) => false,
+            (false, None) => true,
+            (false, Some(last)) => self.wait <= now.saturating_sub(last),
         }
     }
 
     /// Looks at it while it is away.
-    #[tactic(auto, using(crate::proofs::Tries::away_due, crate::proofs::Tries::away_wait))]
+    #[tactic(auto, using(crate::proofs::Tries::looked_away))]
     fn look_away(&mut self) -> Got
         requires { self.old.wire ≡ None }
         ensures quiet { result ≡ Quiet }
         ensures redialled { (buf : List ℕ) → IsRedialled self.old result buf self.new }
     {
         let now = self.read_clock();
-        if self.is_due(now) {
-            self.dial(now);
-        } else {
-            self.dialler.pause();
-        }
+        self.try_on(now);
+        self.pause();
         Got::Quiet
+    }
+
+    /// Asks what has become of the try that goes on, or begins one that is due.
+    #[tactic(auto, using(crate::proofs::Tries::tried_asked, crate::proofs::Tries::tried_due, crate::proofs::Tries::tried_not))]
+    fn try_on(&mut self, now: u64)
+        ensures { IsTriedOn now self.old self.new }
+    {
+        if self.is_trying {
+            self.ask();
+        } else if self.is_due(now) {
+            // From the try's beginning, so that tries are a second apart however long each takes.
+            self.tried = Some(now);
+            self.dial();
+        }
+    }
+
+    /// Asks what has become of the try that goes on.
+    fn ask(&mut self)
+        ensures { IsAnswered self.old self.new }
+    {
+        let answer = self.dialler.ask();
+        self.settle(answer);
+    }
+
+    /// Begins a try.
+    fn dial(&mut self)
+        ensures { IsAnswered self.old self.new }
+    {
+        let answer = self.dialler.dial();
+        self.settle(answer);
+    }
+
+    /// Waits as long as a look at a quiet wire does.
+    fn pause(&mut self)
+        ensures { self.new ≡ self.old }
+    {
+        self.dialler.pause();
     }
 
     fn read_clock(&mut self) -> u64
@@ -106,24 +176,38 @@ impl<D: Dialler + Drop, C: Clock + Drop> Redialled<D, C> {
         self.clock.now_ms()
     }
 
-    /// Tries once.
-    fn dial(&mut self, now: u64)
-        ensures { IsTried now self.old self.new }
+    /// What has become of a try.
+    fn settle(&mut self, answer: Dialled<D::Wire>)
+        ensures { self.new ≡ settled (dialled_map (λ wire. D.Wire.history wire) answer) self.old }
     {
-        // From the try's beginning, so that tries are a second apart however long each takes.
-        self.tried = Some(now);
-        match self.dialler.dial() {
-            Some(wire) => self.wire = Some(wire),
-            None => self.wire = None,
+        match answer {
+            Dialled::Reached(wire) => {
+                self.wire = Some(wire);
+                self.is_trying = false;
+                self.wait = grown(self.wait);
+                self.presence = Presence::There;
+            }
+            Dialled::Pending => self.is_trying = true,
+            Dialled::Failed => {
+                self.is_trying = false;
+                self.presence = Presence::Away;
+            }
         }
     }
 }
 
+/// How long after a try the next one begins, where its wire gives nothing.
+fn grown(wait: u64) -> u64
+    ensures { result ≡ grown wait }
+{
+    wait.saturating_mul(2).min(LONGEST_RETRY_MS)
+}
+
 impl<D: Dialler + Drop, C: Clock + Drop> Reached for Redialled<D, C> {
-    fn is_reached(&self) -> bool
-        ensures { result ≡ is_some self.now.wire }
+    fn presence(&self) -> Presence
+        ensures { result ≡ self.now.presence }
     {
-        self.wire.is_some()
+        self.presence
     }
 }
 
@@ -142,10 +226,15 @@ impl<D: Dialler + Drop, C: Clock + Drop> Wire for Redialled<D, C> {
             return self.look_away();
         };
         match wire.read(buf) {
-            Got::Octets(len) => Got::Octets(len),
+            Got::Octets(len) => {
+                self.wait = RETRY_MS;
+                self.presence = Presence::Heard;
+                Got::Octets(len)
+            }
             Got::Quiet => Got::Quiet,
             Got::Gone => {
                 self.wire = None;
+                self.presence = Presence::Away;
                 Got::Quiet
             }
         }

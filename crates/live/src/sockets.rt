@@ -6,12 +6,12 @@
 ghost use Rattle.std.specs.Prelude.{None};
 
 use crate::guests::Guests;
-use crate::redial::Dialler;
+use crate::redial::{Dialled, Dialler};
 use crate::stream::{drop_waiting, read_once, write_once, write_some};
-use crate::wires::{Clock, Door, Got, Reached, SentAway, Visitor, Wire};
+use crate::wires::{Clock, Door, Got, Presence, Reached, SentAway, Visitor, Wire};
 use std::io::{Eprint, ErrorKind};
 use std::net::{
-    IpAddr, Net, OpenListener, OpenStream, SocketAddr, TcpListener, TcpStream, ToSocketAddrs,
+    HostAddrs, IpAddr, Net, OpenListener, OpenStream, SocketAddr, TcpListener, TcpStream, ToSocketAddrs,
 };
 use std::os::unix::net::UnixStream;
 use std::time::{Duration, Instant, SystemTime};
@@ -26,11 +26,9 @@ const LOOK_MS: u64 = 1;
 // Far below the time of an answer on a serial line: a peer that takes nothing holds up no other.
 const WRITE_MS: u64 = 20;
 
-/// How long it is tried to reach the line, in ms, before a run begins.
+/// How long it is tried to reach the line, in ms, at each address of its host.
+// A connect that is lost is sent again by the system after one second and after three.
 const REACH_MS: u64 = 5000;
-
-/// The same in mid-run, where a control centre waits meanwhile.
-const REDIAL_MS: u64 = 500;
 
 /// How many visitors are taken in at the most at one look at the door.
 // An end where somebody knocks without a pause; who is left comes in at the next look.
@@ -53,16 +51,8 @@ impl LineSocket {
     ///
     /// Those of the system, and `InvalidInput` where the text is neither.
     pub fn reach<R: Net<Stream = TcpStream>>(rt: &R, place: &str) -> io::Result<LineSocket> {
-        LineSocket::reach_within(rt, place, Duration::from_millis(REACH_MS))
-    }
-
-    fn reach_within<R: Net<Stream = TcpStream>>(
-        rt: &R,
-        place: &str,
-        time: Duration,
-    ) -> io::Result<LineSocket> {
         if let Some(address) = place.strip_prefix("tcp:") {
-            return LineSocket::over_tcp(connect_within(rt, address, time)?);
+            return LineSocket::over_tcp(connect(rt, address)?);
         }
         let Some(path) = place.strip_prefix("unix:") else {
             return Err(io::Error::from(ErrorKind::InvalidInput));
@@ -85,16 +75,12 @@ impl LineSocket {
     }
 }
 
-/// Connects to the first address that answers, each within this time.
-fn connect_within<R: Net<Stream = TcpStream>>(
-    rt: &R,
-    address: &str,
-    time: Duration,
-) -> io::Result<TcpStream> {
+/// Connects to the first address that answers, each in its time.
+fn connect<R: Net<Stream = TcpStream>>(rt: &R, place: &str) -> io::Result<TcpStream> {
     // What is told of a name that has no address.
     let mut last = io::Error::from(ErrorKind::NotFound);
-    for address in address.to_socket_addrs(rt)? {
-        match TcpStream::connect_timeout(rt, &address, time) {
+    for address in place.to_socket_addrs(rt)? {
+        match TcpStream::connect_timeout(rt, &address, Duration::from_millis(REACH_MS)) {
             Ok(stream) => return Ok(stream),
             Err(fault) => last = fault,
         }
@@ -130,23 +116,91 @@ impl Wire for LineSocket {
 }
 
 impl Reached for LineSocket {
-    fn is_reached(&self) -> bool {
-        true
+    fn presence(&self) -> Presence {
+        Presence::There
     }
 }
 
-/// Reaches the line at `tcp:HOST:PORT` or `unix:PATH` again and again, within half a second for
-/// each address that HOST has. A name is looked up at each try.
+/// A connect that goes on.
+#[derive(Drop)]
+struct Knock {
+    stream: mio::net::TcpStream,
+    /// When it began.
+    since: Instant,
+}
+
+/// Reaches the line at `tcp:HOST:PORT` or `unix:PATH` again and again, without a wait: a connect
+/// goes on between the looks, for some seconds at each address that HOST has. A name is looked up
+/// at each try, for which the system may wait.
 #[derive(Drop)]
 pub struct LineDialler<'a, R> {
     rt: &'a R,
     place: &'a str,
+    /// The addresses of its host that are still to be tried.
+    addresses: Option<HostAddrs>,
+    knock: Option<Knock>,
 }
 
-impl<'a, R> LineDialler<'a, R> {
+impl<'a, R: Net<Stream = TcpStream> + std::rt::Clock> LineDialler<'a, R> {
     /// One for the line at this place.
     pub fn new(rt: &'a R, place: &'a str) -> LineDialler<'a, R> {
-        LineDialler { rt, place }
+        LineDialler {
+            rt,
+            place,
+            addresses: None,
+            knock: None,
+        }
+    }
+
+    /// Begins a connect to the next address that lets it.
+    fn knock_next(&mut self) -> Dialled<LineSocket> {
+        let Some(addresses) = &mut self.addresses else {
+            return Dialled::Failed;
+        };
+        for address in addresses {
+            if let Ok(knock) = knock_at(self.rt, address) {
+                self.knock = Some(knock);
+                return Dialled::Pending;
+            }
+        }
+        Dialled::Failed
+    }
+
+    /// Its time is over.
+    fn is_over(&self, knock: &Knock) -> bool {
+        match knock.since.elapsed(self.rt) {
+            Ok(passed) => passed > Duration::from_millis(REACH_MS),
+            Err(_) => true,
+        }
+    }
+}
+
+fn knock_at<R: Net + std::rt::Clock>(rt: &R, address: SocketAddr) -> io::Result<Knock> {
+    Ok(Knock {
+        stream: mio::net::TcpStream::connect(rt, address)?,
+        since: Instant::now(rt)?,
+    })
+}
+
+/// A connect that came through, as a line.
+fn line_of(stream: mio::net::TcpStream) -> io::Result<LineSocket> {
+    let stream = TcpStream::from(stream);
+    stream.set_nonblocking(false)?;
+    LineSocket::over_tcp(stream)
+}
+
+/// A line at this path.
+fn line_at<R: Net>(rt: &R, path: &str) -> io::Result<LineSocket> {
+    let stream = UnixStream::from(mio::net::UnixStream::connect(rt, path)?);
+    stream.set_nonblocking(false)?;
+    LineSocket::over_unix(stream)
+}
+
+/// What became of a try that has ended.
+fn dialled(line: io::Result<LineSocket>) -> Dialled<LineSocket> {
+    match line {
+        Ok(line) => Dialled::Reached(line),
+        Err(_) => Dialled::Failed,
     }
 }
 
@@ -155,8 +209,32 @@ impl<R: Net<Stream = TcpStream> + std::rt::Clock> Dialler for LineDialler<'_, R>
 
     ghost tries = { λ _. None };
 
-    fn dial(&mut self) -> Option<LineSocket> {
-        LineSocket::reach_within(self.rt, self.place, Duration::from_millis(REDIAL_MS)).ok()
+    fn dial(&mut self) -> Dialled<LineSocket> {
+        if let Some(path) = self.place.strip_prefix("unix:") {
+            return dialled(line_at(self.rt, path));
+        }
+        let Some(place) = self.place.strip_prefix("tcp:") else {
+            return Dialled::Failed;
+        };
+        self.addresses = place.to_socket_addrs(self.rt).ok();
+        self.knock_next()
+    }
+
+    fn ask(&mut self) -> Dialled<LineSocket> {
+        let Some(knock) = self.knock.take() else {
+            return Dialled::Failed;
+        };
+        // The system tells a failure once.
+        if matches!(knock.stream.take_error(), Ok(None)) {
+            if knock.stream.peer_addr().is_ok() {
+                return dialled(line_of(knock.stream));
+            }
+            if !self.is_over(&knock) {
+                self.knock = Some(knock);
+                return Dialled::Pending;
+            }
+        }
+        self.knock_next()
     }
 
     fn pause(&mut self) {

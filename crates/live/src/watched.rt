@@ -3,15 +3,15 @@ ghost use Rattle.std.specs.Prelude.{◌≡◌, option_map};
 ghost use Rattle.live.specs.Ends.{Peer};
 
 use crate::port::Live;
-use crate::wires::{Clock, CutCause, Door, Reached, SentAway, Wire};
+use crate::wires::{Clock, CutCause, Door, Presence, Reached, SentAway, Wire};
 use gateway::Port;
 use std::net::IpAddr;
 
 /// What is seen of a port's ends.
 #[derive(Clone, Copy, Debug, PartialEq, Eq)]
 pub struct Sight {
-    /// The line is there.
-    pub is_line_there: bool,
+    /// Whether the line is there.
+    pub line: Presence,
     /// Whose connection is open.
     pub peer: Option<IpAddr>,
     /// Why the latest connection that was cut was cut.
@@ -31,7 +31,7 @@ impl<L: Wire + Reached, D: Door + Drop, C: Clock + Drop> Watched for Live<L, D, 
         ensures { result.peer ≡ option_map (λ (p : Peer). p.address) self.now.connection }
     {
         Sight {
-            is_line_there: self.is_line_there(),
+            line: self.line_presence(),
             peer: self.peer(),
             why_cut: self.why_cut(),
             sent_away: self.sent_away(),

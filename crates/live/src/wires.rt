@@ -46,10 +46,22 @@ pub enum CutCause {
     Restarted,
 }
 
+/// Whether a wire is there.
+#[derive(Clone, Copy, Debug, PartialEq, Eq)]
+pub enum Presence {
+    /// It isn't known yet: no try to reach it has ended.
+    Untried,
+    Away,
+    /// It is there, and nothing has come from it yet.
+    There,
+    /// It is there, and octets have come from it.
+    Heard,
+}
+
 /// A wire that may be away.
 pub trait Reached {
-    /// It is there.
-    fn is_reached(&self) -> bool;
+    /// Whether it is there.
+    fn presence(&self) -> Presence;
 }
 
 /// Who came through a door.

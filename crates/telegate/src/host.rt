@@ -15,6 +15,9 @@ use std::io::Read;
 use std::net::{Net, TcpListener, TcpStream};
 use std::rt::{Clock, Files};
 
+/// A file that has nothing, which each system has.
+const NOWHERE: &str = "/dev/null";
+
 /// Why the octets of a file aren't had.
 #[derive(Clone, Copy, Debug, PartialEq, Eq)]
 pub(crate) enum Unread {
@@ -127,8 +130,22 @@ where
     }
 
     fn run(&self, config: &[u8], wishes: Wishes) -> Result<(), Fault> {
+        // Held until the run is over.
+        let Ok(_held) = standard_descriptors(self.rt) else {
+            return Err(Fault::Device);
+        };
         run_live(self.rt, config, wishes)
     }
+}
+
+/// Files at those of the descriptors 0, 1 and 2 that were closed when the process began, since the
+/// system gives the lowest numbers that are free. Else an end of the run would get one of them, and
+/// the text of the log or of the record would go out on it. They are opened for reading alone, so
+/// that what is written there fails, as it does where they are closed.
+fn standard_descriptors<R: Files>(rt: &R) -> io::Result<(R::File, R::File, R::File)> {
+    let first = File::open(rt, NOWHERE)?;
+    let second = File::open(rt, NOWHERE)?;
+    Ok((first, second, File::open(rt, NOWHERE)?))
 }
 
 /// A file of a host, as a text that is opened anew each time.

@@ -86,9 +86,10 @@ fn begun(
 ) -> Result<(Start, Option<Resumed>), Fault> {
     let mut gateway = Gateway::new(alloc, config)?;
     let resumed = start_of(alloc, &mut gateway, octets_of(&earlier))?;
-    let moment = match &resumed {
-        Some(resumed) => Some(resumed.moment),
-        None => None,
+    // Nothing goes on behind an empty record: no connection was open, so that none is cut.
+    let moment = match (&resumed, &earlier) {
+        (Some(resumed), Some(octets)) if !octets.is_empty() => Some(resumed.moment),
+        _ => None,
     };
     let start = Start {
         gateway,
@@ -113,9 +114,10 @@ fn scribes_of<'a, R: Clock + Print + Eprint + AllocGlobal>(
 }
 
 /// Runs the gateway on the line and at the door that a file of settings names. The settings are
-/// judged first, then the record of an earlier run, if there is one, then the line is reached, then
-/// the door is opened. A line that is to be reached again every second is tried first once the
-/// gateway looks at it.
+/// judged first, then the record of an earlier run, if there is one, then the door is opened, then
+/// the line is reached: a second process that is started by mistake ends at the door, and leaves
+/// the line of the first alone. A line that is to be reached again and again is tried first once
+/// the gateway looks at it.
 pub(crate) fn run_live<R>(rt: &R, config: &[u8], wishes: Wishes) -> Result<(), Fault>
 where
     R: Net<Listener = TcpListener, Stream = TcpStream> + Clock + Print + Eprint + AllocGlobal,
@@ -123,44 +125,70 @@ where
     let (config, places) = read_live(rt.alloc(), config)?;
     let (start, resumed) = begun(rt.alloc(), &config, wishes.earlier)?;
     let pen = pen_of(rt, wishes.record, resumed);
-    let scribes = scribes_of(rt, &config, wishes.log, pen)?;
+    let mut scribes = scribes_of(rt, &config, wishes.log, pen)?;
+    let door = door_at(rt, places.listen.as_str(), &mut scribes.teller)?;
+    let line = places.line.as_str();
     if wishes.redial {
-        run_redialled(rt, &config, &places, wishes.guests, start, scribes)
+        run_redialled(rt, &config, line, door, wishes.guests, start, scribes)
     } else {
-        run_once(rt, &config, &places, wishes.guests, start, scribes)
+        run_once(rt, &config, line, door, wishes.guests, start, scribes)
     }
 }
 
+/// The door, opened at this place.
+fn door_at<'a, R, S: Sink + Drop>(
+    rt: &'a R,
+    place: &str,
+    teller: &mut Teller<S>,
+) -> Result<CentreListener<'a, R>, Stop>
+where
+    R: Net<Listener = TcpListener, Stream = TcpStream> + Eprint,
+{
+    let door = match CentreListener::listen(rt, place) {
+        Ok(door) => door,
+        Err(fault) => {
+            teller.note(Note::Trouble(port_trouble(&fault)));
+            return Err(stop_of(fault));
+        }
+    };
+    if let Ok(address) = door.address() {
+        teller.note(Note::Listening(address));
+    }
+    Ok(door)
+}
+
 /// Runs the gateway on a line that is reached again where it ends.
-fn run_redialled<R, S: Sink + Drop, W: Sheet + Drop>(
+fn run_redialled<R, D: Door + Drop, S: Sink + Drop, W: Sheet + Drop>(
     rt: &R,
     config: &Config,
-    places: &LiveSettings,
+    place: &str,
+    door: D,
     guests: Guests,
     start: Start,
     scribes: Scribes<S, W>,
 ) -> Result<(), Fault>
 where
-    R: Net<Listener = TcpListener, Stream = TcpStream> + Clock + Eprint,
+    R: Net<Listener = TcpListener, Stream = TcpStream> + Clock,
 {
-    let line = redialled(rt, places.line.as_str()).map_err(stop_of)?;
-    Ok(open(rt, config, places, line, guests, start, scribes)?)
+    let line = redialled(rt, place).map_err(stop_of)?;
+    Ok(serve_from(rt, config, line, door, guests, start, scribes)?)
 }
 
 /// Runs the gateway on a line, which has to be there, until it ends.
-fn run_once<R, S: Sink + Drop, W: Sheet + Drop>(
+fn run_once<R, D: Door + Drop, S: Sink + Drop, W: Sheet + Drop>(
     rt: &R,
     config: &Config,
-    places: &LiveSettings,
+    place: &str,
+    door: D,
     guests: Guests,
     start: Start,
     mut scribes: Scribes<S, W>,
 ) -> Result<(), Fault>
 where
-    R: Net<Listener = TcpListener, Stream = TcpStream> + Clock + Eprint,
+    R: Net<Listener = TcpListener, Stream = TcpStream> + Clock,
 {
-    match LineSocket::reach(rt, places.line.as_str()) {
-        Ok(line) => Ok(open(rt, config, places, line, guests, start, scribes)?),
+    match LineSocket::reach(rt, place) {
+        Ok(line) => Ok(serve_from(rt, config, line, door, guests, start, scribes)?),
         Err(fault) => {
             scribes.teller.note(Note::Trouble(line_trouble(&fault)));
             Err(Fault::from(stop_of(fault)))
@@ -208,32 +236,23 @@ where
     Ok(Redialled::new(LineDialler::new(rt, place), tries))
 }
 
-/// Opens the door, and runs the gateway between it and a line.
-fn open<R, L, S, W>(
+/// Runs the gateway between these ends, by the system's clock.
+fn serve_from<R, L, D, S, W>(
     rt: &R,
     config: &Config,
-    places: &LiveSettings,
     line: L,
+    door: D,
     guests: Guests,
     start: Start,
-    mut scribes: Scribes<S, W>,
+    scribes: Scribes<S, W>,
 ) -> Result<(), Stop>
 where
-    R: Net<Listener = TcpListener, Stream = TcpStream> + Clock + Eprint,
+    R: Clock,
     L: Wire + Reached,
+    D: Door + Drop,
     S: Sink + Drop,
     W: Sheet + Drop,
 {
-    let door = match CentreListener::listen(rt, places.listen.as_str()) {
-        Ok(door) => door,
-        Err(fault) => {
-            scribes.teller.note(Note::Trouble(port_trouble(&fault)));
-            return Err(stop_of(fault));
-        }
-    };
-    if let Ok(address) = door.address() {
-        scribes.teller.note(Note::Listening(address));
-    }
     let clock = SystemClock::start_at(rt, start.resumed.unwrap_or(0)).map_err(stop_of)?;
     serve_live(config, line, door, clock, guests, start, scribes)
 }

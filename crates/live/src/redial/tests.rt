@@ -1,16 +1,34 @@
 //! A wire in memory that goes and comes back.
-use super::{Dialler, Redialled};
+use super::{Dialled, Dialler, Redialled};
 use crate::memory::MemoryWire;
 use crate::timed::{Time, TimedClock};
-use crate::wires::{Got, Wire};
+use crate::wires::{Got, Presence, Reached, Wire};
 use std::process::Abort;
 
-/// Reaches a wire, but for the tries that fail first.
+/// Reaches a wire, but for the tries that fail first, each once it was asked so often.
 #[derive(Drop)]
 struct MemoryDialler<'a> {
     time: &'a Time,
     failing_tries: u32,
     tries: u32,
+    /// How often it is asked of a try before that ends.
+    asks: u32,
+    asked: u32,
+    /// Which read of a wire finds that it is gone.
+    failing_read: u32,
+}
+
+impl<'a> MemoryDialler<'a> {
+    fn new(time: &'a Time, failing_tries: u32, asks: u32, failing_read: u32) -> MemoryDialler<'a> {
+        MemoryDialler {
+            time,
+            failing_tries,
+            tries: 0,
+            asks,
+            asked: 0,
+            failing_read,
+        }
+    }
 }
 
 impl<'a> Dialler for MemoryDialler<'a> {
@@ -20,14 +38,23 @@ impl<'a> Dialler for MemoryDialler<'a> {
 
     ghost tries = { λ _. None };
 
-    fn dial(&mut self) -> Option<MemoryWire> {
+    fn dial(&mut self) -> Dialled<MemoryWire> {
         self.tries = self.tries.saturating_add(1);
+        self.asked = 0;
+        self.ask()
+    }
+
+    fn ask(&mut self) -> Dialled<MemoryWire> {
+        if self.asked < self.asks {
+            self.asked = self.asked.saturating_add(1);
+            return Dialled::Pending;
+        }
         if self.tries <= self.failing_tries {
-            return None;
+            return Dialled::Failed;
         }
         let mut wire = MemoryWire::busy();
-        wire.failing_read = 2;
-        Some(wire)
+        wire.failing_read = self.failing_read;
+        Dialled::Reached(wire)
     }
 
     fn pause(&mut self) {
@@ -56,21 +83,22 @@ fn is_away(rt: &impl Abort, wire: &mut Wires<'_>, time: &Time, until: u64, tries
 #[test]
 fn it_is_tried_at_once_and_then_every_second(rt: HostRuntime) {
     let time = Time::new(0, 0);
-    let dialler = MemoryDialler {
-        time: &time,
-        failing_tries: 2,
-        tries: 0,
-    };
+    let dialler = MemoryDialler::new(&time, 2, 0, 2);
     let mut wire = Redialled::new(dialler, TimedClock(&time));
+    assert_eq!(rt; wire.presence(), Presence::Untried);
     is_away(&rt, &mut wire, &time, 1000, 1);
+    assert_eq!(rt; wire.presence(), Presence::Away);
     is_away(&rt, &mut wire, &time, 2000, 2);
     // The third try reaches it.
     assert_eq!(rt; look(&mut wire), Got::Quiet);
+    assert_eq!(rt; wire.presence(), Presence::There);
     assert!(rt; wire.write(&[0xE5]));
     assert_eq!(rt; look(&mut wire), Got::Octets(1));
+    assert_eq!(rt; wire.presence(), Presence::Heard);
     // It goes, and is tried again a second after the try before.
     time.pass(300);
     assert_eq!(rt; look(&mut wire), Got::Quiet);
+    assert_eq!(rt; wire.presence(), Presence::Away);
     is_away(&rt, &mut wire, &time, 3000, 3);
     assert_eq!(rt; look(&mut wire), Got::Quiet);
     assert_eq!(rt; wire.dialler.tries, 4);
@@ -80,5 +108,37 @@ fn it_is_tried_at_once_and_then_every_second(rt: HostRuntime) {
     assert_eq!(rt; look(&mut wire), Got::Quiet);
     assert_eq!(rt; look(&mut wire), Got::Quiet);
     assert_eq!(rt; wire.dialler.tries, 5);
+    assert_eq!(rt; look(&mut wire), Got::Octets(1));
+}
+
+/// A server that accepts and closes is tried at twice the distance each time.
+#[test]
+fn a_line_that_gives_nothing_is_tried_more_rarely(rt: HostRuntime) {
+    let time = Time::new(0, 0);
+    let mut wire = Redialled::new(MemoryDialler::new(&time, 0, 0, 1), TimedClock(&time));
+    assert_eq!(rt; look(&mut wire), Got::Quiet);
+    let mut begun = time.now();
+    for wait in [2000, 4000, 8000, 16_000, 30_000, 30_000] {
+        let tries = wire.dialler.tries;
+        assert_eq!(rt; look(&mut wire), Got::Quiet);
+        time.pass(begun.saturating_add(wait).saturating_sub(2).saturating_sub(time.now()));
+        assert_eq!(rt; look(&mut wire), Got::Quiet);
+        assert_eq!(rt; wire.dialler.tries, tries);
+        time.pass(1);
+        begun = time.now();
+        assert_eq!(rt; look(&mut wire), Got::Quiet);
+        assert_eq!(rt; wire.dialler.tries, tries.saturating_add(1));
+    }
+}
+
+/// A try that goes on holds nobody, and no other begins.
+#[test]
+fn a_try_goes_on_between_the_looks(rt: HostRuntime) {
+    let time = Time::new(0, 0);
+    let mut wire = Redialled::new(MemoryDialler::new(&time, 0, 3000, 2), TimedClock(&time));
+    is_away(&rt, &mut wire, &time, 1500, 1);
+    assert_eq!(rt; wire.presence(), Presence::Untried);
+    is_away(&rt, &mut wire, &time, 3000, 1);
+    assert_eq!(rt; look(&mut wire), Got::Quiet);
     assert_eq!(rt; look(&mut wire), Got::Octets(1));
 }

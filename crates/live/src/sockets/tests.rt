@@ -123,6 +123,8 @@ fn a_line_comes_back(rt: HostRuntime) -> Result<(), Fail> {
     assert_eq!(rt; line.read(&mut buf), Got::Quiet);
     let (mut station, _) = server.accept()?;
     station.write_all(&[0xE5])?;
+    // The look that finds it connected is quiet.
+    assert_eq!(rt; line.read(&mut buf), Got::Quiet);
     assert_eq!(rt; line.read(&mut buf), Got::Octets(1));
     assert!(rt; line.write(&[0xE5]));
     drop(station);

@@ -4,6 +4,9 @@ use Rattle.journal.proofs.examples.moments_by_example.Goals as goal
 pub returns-clause-line : goal.returns-clause-line
 returns-clause-line c = refl
 
+pub returns-clause-flicker : goal.returns-clause-flicker
+returns-clause-flicker c = refl
+
 pub returns-clause-door : goal.returns-clause-door
 returns-clause-door c = (refl, refl, refl, refl)
 
