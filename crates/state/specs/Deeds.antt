@@ -36,6 +36,16 @@ heard (Begun state ∷ deeds) = heard deeds
 heard (GivenUp ∷ deeds) = heard deeds
 heard (PutOut action ∷ deeds) = heard deeds
 
+-- what passed at the port: the events that were heard, and the actions that were handed out
+abbrev pub passed : Deeds → Log
+passed [] = []
+passed (Heard event ∷ deeds) = event ∷ passed deeds
+passed (Appended event ∷ deeds) = passed deeds
+passed (Synced ∷ deeds) = passed deeds
+passed (Begun state ∷ deeds) = passed deeds
+passed (GivenUp ∷ deeds) = passed deeds
+passed (PutOut action ∷ deeds) = action ∷ passed deeds
+
 -- the events that the log has, and before them those that led to the state at its head
 abbrev pub appended : Deeds → Log
 appended [] = []
@@ -104,14 +114,17 @@ span (event ∷ log) = moment_of event - oldest event log
 abbrev pub IsAllOnDisk : Deeds → Type 0
 IsAllOnDisk deeds = (is_kept deeds ≡ true) × (on_disk deeds ≡ heard deeds)
 
+-- no event waits for the disk while others are heard for a second
+abbrev pub IsInTime : Deeds → Type 0
+IsInTime deeds = (is_given_up deeds ≡ true) ⊎ (span (waiting deeds) < 1000)
+
 -- When a deed may be done, behind these. An action is handed out where all events that were heard
--- are on the disk, or where the store has failed and that may be borne. No event waits for the disk
--- for a second while others are heard. A log whose store has failed is neither appended to nor
--- synced again.
+-- are on the disk, or where the store has failed and that is borne. None is heard while one waits
+-- for the disk for a second. A log whose store has failed is neither appended to nor synced again.
 abbrev pub MayBe : (bears : Bool) → Deed → Deeds → Type 0
 MayBe bears (PutOut action) deeds =
     IsAllOnDisk deeds ⊎ ((is_given_up deeds ≡ true) × (bears ≡ true))
-MayBe bears (Heard event) deeds = (is_given_up deeds ≡ true) ⊎ (span (waiting deeds) < 1000)
+MayBe bears (Heard event) deeds = IsInTime deeds
 MayBe bears (Appended event) deeds = is_kept deeds ≡ true
 MayBe bears Synced deeds = is_kept deeds ≡ true
 MayBe bears (Begun state) deeds = Unit {0}
