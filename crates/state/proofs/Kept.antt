@@ -15,6 +15,12 @@ kept_in Synced deeds stands other = stands.disk.0
 kept_in (Waiting since) deeds stands other = stands.kept
 kept_in GivenUp deeds stands other = absurd (other refl)
 
+pub not_synced : (s : Standing) → s ≡ Synced → s ≡ GivenUp → ⊥
+not_synced s one other = let both : Synced ≡ GivenUp = sym one ∙ other in absurd (cc)
+
+pub not_waiting : (s : Standing) (since : ℕ) → s ≡ Waiting since → s ≡ GivenUp → ⊥
+not_waiting s since one other = let both : Waiting since ≡ GivenUp = sym one ∙ other in absurd (cc)
+
 -- the log whose events were kept is kept when one more is heard
 pub still_kept : (s : Standing) (news : Log) (deeds : Deeds) → HasHeard s news deeds → (s ≡ GivenUp → ⊥)
     → is_kept deeds ≡ true

@@ -1,15 +1,16 @@
 //! A port whose events are kept on a disk before anything goes out on them.
-ghost use Rattle.std.specs.Prelude.{◌≡◌, ◌+◌, ◌<◌, ◌≤◌, ◌∷◌, [], ◌++◌, ◌⊎◌, ◌&&◌, not, if◌then◌else◌};
+ghost use Rattle.std.specs.Prelude.{◌≡◌, ◌+◌, ◌<◌, ◌≤◌, ◌∷◌, [], ◌++◌, ◌⊎◌, true, if◌then◌else◌};
 ghost use Rattle.gateway.specs.Log.{Went, tell};
 ghost use Rattle.gateway.specs.Ports.{FitsBuffer, faults_of, output_of, told_by};
 ghost use Rattle.gateway.specs.declared.ports.Next.TheVariants.{Done};
-ghost use Rattle.state.specs.Deeds.{AreRight, Begun, GivenUp, IsInTime, passed};
+ghost use Rattle.state.specs.Deeds.{AreRight, Begun, GivenUp, passed};
 ghost use Rattle.state.specs.Standings.{IsStanding};
 
 use crate::ends::Ends;
 use crate::keeping::{keep, settle};
 use crate::standing::Standing;
 use gateway::{Action, Gateway, Next, Port};
+use std::marker::Model;
 
 /// A port that passes each event and each action of another one on unchanged. The line of each
 /// event goes to the log of a store before the gateway hears it, and no action is handed out before
@@ -23,10 +24,23 @@ pub struct Keeper<E: Ends + Drop> {
     bears_loss: bool,
     /// How often nothing was asked of the port, since the store has failed.
     stops: u64,
-    ghost stands: { IsStanding standing (E.deeds ends) },
-    ghost time: { IsInTime (E.deeds ends) },
-    ghost right: { AreRight bears_loss (E.deeds ends) },
-    ghost few: { E.failed ends + stops ≤ u64.MAX },
+}
+
+impl<E: Ends + Drop> Model for Keeper<E> {
+    ghost use Rattle.state.specs.Keeping.{IsKeeping, Keeping};
+    ghost use Rattle.std.specs.Prelude.{◌+◌};
+
+    ghost Value = { Keeping E };
+
+    ghost view = { λ k. record {
+      ends = k.ends;
+      standing = k.standing;
+      bears_loss = k.bears_loss;
+      stops = k.stops;
+    } };
+
+    ghost invariant = { λ k. IsKeeping (E.deeds k.ends) k.standing k.bears_loss
+        (E.failed k.ends + k.stops) };
 }
 
 impl<E: Ends + Drop> Keeper<E> {
