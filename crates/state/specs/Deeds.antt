@@ -120,13 +120,14 @@ IsInTime deeds = (is_given_up deeds ≡ true) ⊎ (span (waiting deeds) < 1000)
 
 -- When a deed may be done, behind these. An action is handed out where all events that were heard
 -- are on the disk, or where the store has failed and that is borne. None is heard while one waits
--- for the disk for a second. A log whose store has failed is neither appended to nor synced again.
+-- for the disk for a second. A log whose store has failed is neither appended to nor synced again,
+-- and none is synced for nothing.
 abbrev pub MayBe : (bears : Bool) → Deed → Deeds → Type 0
 MayBe bears (PutOut action) deeds =
     IsAllOnDisk deeds ⊎ ((is_given_up deeds ≡ true) × (bears ≡ true))
 MayBe bears (Heard event) deeds = IsInTime deeds
 MayBe bears (Appended event) deeds = is_kept deeds ≡ true
-MayBe bears Synced deeds = is_kept deeds ≡ true
+MayBe bears Synced deeds = (is_kept deeds ≡ true) × (waiting deeds ≡ [] → ⊥)
 MayBe bears (Begun state) deeds = Unit {0}
 MayBe bears GivenUp deeds = Unit {0}
 

@@ -1,3 +1,5 @@
 pub mod Deeds
 pub mod Standings
 pub mod Keeping
+pub mod Stores
+pub mod Both

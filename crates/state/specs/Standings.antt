@@ -1,5 +1,5 @@
 -- How far the events that were heard are on the disk, as a keeper knows it (profile).
-use Rattle.std.specs.Prelude.{◌≡◌, ℕ, Bool, true, List, [], ◌∷◌, ◌++◌, map, Option, Some, None}
+use Rattle.std.specs.Prelude.{◌≡◌, ℕ, Bool, true, false, not, List, [], ◌∷◌, ◌++◌, map, Option, Some, None}
 use Rattle.gateway.specs.Log.{Log}
 use Rattle.state.specs.Deeds.{Deed, Deeds, Heard, IsAllOnDisk, appended, heard, is_given_up, is_kept, moment_of, oldest, waiting}
 use Rattle.state.specs.declared.standing.Standing.{Standing}
@@ -26,6 +26,12 @@ abbrev pub IsStanding : Standing → Deeds → Type 0
 IsStanding standings.Synced deeds = IsSynced deeds
 IsStanding (standings.Waiting since) deeds = IsWaiting since deeds
 IsStanding standings.GivenUp deeds = is_given_up deeds ≡ true
+
+-- the store has failed, and that isn't borne
+abbrev pub is_stopped : Standing → (bears : Bool) → Bool
+is_stopped standings.Synced bears = false
+is_stopped (standings.Waiting moment) bears = false
+is_stopped standings.GivenUp bears = not bears
 
 -- none waits
 abbrev pub IsSettled : Standing → Type 0

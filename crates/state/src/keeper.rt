@@ -1,10 +1,10 @@
 //! A port whose events are kept on a disk before anything goes out on them.
-ghost use Rattle.std.specs.Prelude.{◌≡◌, ◌+◌, ◌<◌, ◌≤◌, ◌∷◌, [], ◌++◌, ◌⊎◌, true, if◌then◌else◌};
+ghost use Rattle.std.specs.Prelude.{◌≡◌, ◌+◌, ◌<◌, ◌≤◌, ◌∷◌, [], ◌++◌, ◌⊎◌, true, false, if◌then◌else◌};
 ghost use Rattle.gateway.specs.Log.{Went, tell};
 ghost use Rattle.gateway.specs.Ports.{FitsBuffer, faults_of, output_of, told_by};
 ghost use Rattle.gateway.specs.declared.ports.Next.TheVariants.{Done};
 ghost use Rattle.state.specs.Deeds.{AreRight, Begun, GivenUp, passed};
-ghost use Rattle.state.specs.Standings.{IsStanding};
+ghost use Rattle.state.specs.Standings.{IsStanding, is_stopped};
 
 use crate::ends::Ends;
 use crate::keeping::{keep, settle};
@@ -77,8 +77,13 @@ impl<E: Ends + Drop> Keeper<E> {
     }
 
     /// The store has failed, and that isn't borne: the run is to end.
-    fn is_stopped(&self) -> bool {
-        self.standing == Standing::GivenUp && !self.bears_loss
+    fn is_stopped(&self) -> bool
+        ensures { result ≡ is_stopped self.now.standing self.now.bears_loss }
+    {
+        match self.standing {
+            Standing::GivenUp => !self.bears_loss,
+            Standing::Synced | Standing::Waiting(_) => false,
+        }
     }
 }
 
@@ -105,6 +110,9 @@ impl<E: Ends + Drop> Port for Keeper<E> {
         ensures script { E.script self.new.ends ≡ E.script self.old.ends }
         ensures cause { E.failed self.new.ends + self.new.stops
             ≡ E.failed self.old.ends + self.old.stops + faults_of result }
+        // The port is asked unless the store has failed, and that isn't borne.
+        ensures asks { is_stopped self.old.standing self.old.bears_loss ≡ false →
+            self.new.stops ≡ self.old.stops }
     {
         if self.is_stopped() {
             self.stops += 1;
@@ -127,6 +135,8 @@ impl<E: Ends + Drop> Port for Keeper<E> {
         ensures script { E.script self.new.ends ≡ E.script self.old.ends }
         ensures cause { E.failed self.new.ends + self.new.stops
             ≡ E.failed self.old.ends + self.old.stops + (if result then 0 else 1) }
+        ensures asks { is_stopped self.new.standing self.old.bears_loss ≡ false →
+            self.new.stops ≡ self.old.stops }
     {
         self.standing = settle(&mut self.ends, self.standing);
         if self.is_stopped() {

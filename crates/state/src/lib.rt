@@ -4,10 +4,14 @@
 mod ends;
 mod keeper;
 mod keeping;
+mod pair;
 mod standing;
+mod store;
 mod trail;
 
 pub use ends::Ends;
 pub use keeper::Keeper;
+pub use pair::Pair;
 pub use standing::Standing;
+pub use store::Store;
 pub use trail::{Done, Trail};
