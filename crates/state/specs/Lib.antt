@@ -3,3 +3,4 @@ pub mod Standings
 pub mod Keeping
 pub mod Stores
 pub mod Both
+pub mod Replays
