@@ -6,37 +6,10 @@ use Rattle.gateway.specs.Ports.{faults_of}
 use Rattle.gateway.specs.declared.ports.Next.{Next}
 use Rattle.gateway.specs.declared.ports.Next.TheVariants as answers
 use Rattle.state.specs.Deeds.{Deeds, AreRight, IsInTime, MayBe, Appended, Heard, PutOut, is_kept, waiting}
-use Rattle.state.specs.Standings.{HasHeard, IsMomentOf, IsSettled, IsStanding, IsWaiting, is_stopped, since_of}
+use Rattle.state.specs.Keeping.{IsOrderly}
+use Rattle.state.specs.Standings.{HasHeard, IsSettled, IsStanding, is_stopped, since_of}
 use Rattle.state.specs.declared.standing.Standing.{Standing}
 use Rattle.state.specs.declared.standing.Standing.TheVariants.{Synced, Waiting, GivenUp}
-
-kept_hearing : (news : Log) (deeds : Deeds) → is_kept (map Heard news ++ deeds) ≡ is_kept deeds
-kept_hearing [] deeds = refl
-kept_hearing (event ∷ news) deeds = kept_hearing news deeds
-
-kept_in : (s : Standing) (deeds : Deeds) → IsStanding s deeds → (s ≡ GivenUp → ⊥) → is_kept deeds ≡ true
-kept_in Synced deeds stands other = stands.disk.0
-kept_in (Waiting since) deeds stands other = stands.kept
-kept_in GivenUp deeds stands other = absurd (other refl)
-
-pub not_synced : (s : Standing) → s ≡ Synced → s ≡ GivenUp → ⊥
-not_synced s one other = let both : Synced ≡ GivenUp = sym one ∙ other in absurd (cc)
-
-pub not_waiting : (s : Standing) (since : ℕ) → s ≡ Waiting since → s ≡ GivenUp → ⊥
-not_waiting s since one other = let both : Waiting since ≡ GivenUp = sym one ∙ other in absurd (cc)
-
--- the log whose events were kept is kept when one more is heard
-pub still_kept : (s : Standing) (news : Log) (deeds : Deeds) → HasHeard s news deeds → (s ≡ GivenUp → ⊥)
-    → is_kept deeds ≡ true
-still_kept s news deeds h other =
-    ap is_kept h.heard ∙ kept_hearing news h.earlier ∙ kept_in s h.earlier h.stood other
-
--- the line of the event that was heard is appended
-pub appended_right : (bears : Bool) (now : ℕ) (news : Log) (old new : Deeds) → IsMomentOf (Some now) news
-    → new ≡ map Appended news ++ old → is_kept old ≡ true → AreRight bears old → AreRight bears new
-appended_right bears now [] old new moment is kept right = absurd moment
-appended_right bears now (event ∷ news) old new moment is kept right =
-    subst (AreRight bears) (sym (is ∙ ap (λ n. map Appended (event ∷ n) ++ old) moment.1)) (kept, right)
 
 -- where an event waits, it is there
 pub some_waits : (deeds : Deeds) (moment : ℕ) → since_of (waiting deeds) ≡ Some moment → waiting deeds ≡ [] → ⊥
@@ -57,6 +30,11 @@ heard_right bears news old new is time right = subst (AreRight bears) (sym is) (
     all [] = right
     all (event ∷ news) = (in_time news old time, all news)
 
+-- it stood so before they were heard
+pub heard_stands : (s : Standing) (news : Log) (old new : Deeds) → IsStanding s old → new ≡ map Heard news ++ old
+    → HasHeard s news new
+heard_stands s news old new stands is = record { earlier = old; stood = stands; heard = is }
+
 pub few_faults : (n : Next) → faults_of n ≤ 1
 few_faults (answers.Line now len) = omega arith
 few_faults (answers.Open now) = omega arith
@@ -66,6 +44,8 @@ few_faults (answers.Tick now) = omega arith
 few_faults (answers.Wall now number) = omega arith
 few_faults answers.Done = omega arith
 few_faults answers.Fault = omega arith
+
+-- how often a port failed stays countable
 
 pub few_more : (first next last stops n : ℕ) → last ≡ next → next ≡ first + n → n ≤ 1
     → first + stops < 18446744073709551615 → last + stops < 2 ^ 64
@@ -97,19 +77,13 @@ may_put bears (Waiting moment) action deeds settled goes stands = absurd settled
 may_put true GivenUp action deeds settled goes stands = inr (stands, refl)
 may_put false GivenUp action deeds settled goes stands = absurd (cc)
 
--- what holds of the history and its standing
-pub record Holds (bears : Bool) (s : Standing) (deeds : Deeds) : Type 0 where
-  pub stands : IsStanding s deeds
-  pub time : IsInTime deeds
-  pub right : AreRight bears deeds
-
-pub put_holds : (gone bears : Bool) (s : Standing) (action : LogEntry) (old new : Deeds)
-    → new ≡ (if gone then PutOut action ∷ [] else []) ++ old → IsSettled s → is_stopped s bears ≡ false
-    → Holds bears s old → Holds bears s new
-put_holds true bears s action old new is settled goes h =
-    subst (Holds bears s) (sym is) (record {
+pub put_orderly : (gone bears : Bool) (s : Standing) (action : LogEntry) (old new : Deeds)
+    → new ≡ (if gone then PutOut action ∷ [] else []) ++ old → IsSettled s → false ≡ is_stopped s bears
+    → IsOrderly bears s old → IsOrderly bears s new
+put_orderly true bears s action old new is settled goes h =
+    subst (IsOrderly bears s) (sym is) (record {
       stands = put_stands s action old h.stands;
       time = h.time;
-      right = (may_put bears s action old settled goes h.stands, h.right);
+      right = (may_put bears s action old settled (sym goes) h.stands, h.right);
     })
-put_holds false bears s action old new is settled goes h = subst (Holds bears s) (sym is) h
+put_orderly false bears s action old new is settled goes h = subst (IsOrderly bears s) (sym is) h

@@ -12,10 +12,15 @@ pub record Keeping (E : Type 0) : Type 0 where
   pub bears_loss : Bool
   pub stops : ℕ
 
--- what always holds of it: its history, how that stands, and how often its port failed
-pub record IsKeeping (deeds : Deeds) (standing : Standing) (bears_loss : Bool) (failed : ℕ) :
-    Type 0 where
+-- what always holds of a history: how far the events are on the disk, that none waited too long,
+-- and that each deed might be done when it was
+pub record IsOrderly (bears_loss : Bool) (standing : Standing) (deeds : Deeds) : Type 0 where
   pub stands : IsStanding standing deeds
   pub time : IsInTime deeds
   pub right : AreRight bears_loss deeds
+
+-- what always holds of a keeper
+pub record IsKeeping (deeds : Deeds) (standing : Standing) (bears_loss : Bool) (failed : ℕ) :
+    Type 0 where
+  pub orderly : IsOrderly bears_loss standing deeds
   pub few : failed < 2 ^ 64

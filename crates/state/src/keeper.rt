@@ -3,11 +3,12 @@ ghost use Rattle.std.specs.Prelude.{◌≡◌, ◌+◌, ◌<◌, ◌≤◌, ◌�
 ghost use Rattle.gateway.specs.Log.{Went, tell};
 ghost use Rattle.gateway.specs.Ports.{FitsBuffer, faults_of, output_of, told_by};
 ghost use Rattle.gateway.specs.declared.ports.Next.TheVariants.{Done};
-ghost use Rattle.state.specs.Deeds.{AreRight, Begun, GivenUp, passed};
-ghost use Rattle.state.specs.Standings.{IsStanding, is_stopped};
+ghost use Rattle.state.specs.Deeds.{Begun, GivenUp, passed};
+ghost use Rattle.state.specs.Keeping.{IsOrderly};
+ghost use Rattle.state.specs.Standings.{is_stopped};
 
 use crate::ends::Ends;
-use crate::keeping::{keep, settle};
+use crate::keeping::{is_stopped, keep, settle};
 use crate::standing::Standing;
 use gateway::{Action, Gateway, Next, Port};
 use std::marker::Model;
@@ -70,20 +71,9 @@ impl<E: Ends + Drop> Keeper<E> {
 
     /// How far the events that were heard are on the disk.
     pub fn standing(&self) -> Standing
-        ensures stands { IsStanding result (E.deeds self.now.ends) }
-        ensures right { AreRight self.now.bears_loss (E.deeds self.now.ends) }
+        ensures { IsOrderly self.now.bears_loss result (E.deeds self.now.ends) }
     {
         self.standing
-    }
-
-    /// The store has failed, and that isn't borne: the run is to end.
-    fn is_stopped(&self) -> bool
-        ensures { result ≡ is_stopped self.now.standing self.now.bears_loss }
-    {
-        match self.standing {
-            Standing::GivenUp => !self.bears_loss,
-            Standing::Synced | Standing::Waiting(_) => false,
-        }
     }
 }
 
@@ -114,7 +104,7 @@ impl<E: Ends + Drop> Port for Keeper<E> {
         ensures asks { is_stopped self.old.standing self.old.bears_loss ≡ false →
             self.new.stops ≡ self.old.stops }
     {
-        if self.is_stopped() {
+        if is_stopped(self.standing, self.bears_loss) {
             self.stops += 1;
             return Next::Fault;
         }
@@ -139,7 +129,7 @@ impl<E: Ends + Drop> Port for Keeper<E> {
             self.new.stops ≡ self.old.stops }
     {
         self.standing = settle(&mut self.ends, self.standing);
-        if self.is_stopped() {
+        if is_stopped(self.standing, self.bears_loss) {
             self.stops += 1;
             return false;
         }

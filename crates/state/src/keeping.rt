@@ -1,8 +1,9 @@
 //! What is appended and when it is synced.
 ghost use Rattle.std.specs.Prelude.{◌≡◌, ℕ, Bool, List};
 ghost use Rattle.gateway.specs.Ports.{FitsBuffer, told_by};
-ghost use Rattle.state.specs.Deeds.{AreRight, IsInTime, passed};
-ghost use Rattle.state.specs.Standings.{HasHeard, IsMomentOf, IsPortLeft, IsSettled, IsStanding};
+ghost use Rattle.state.specs.Deeds.{AreRight, passed};
+ghost use Rattle.state.specs.Keeping.{IsOrderly};
+ghost use Rattle.state.specs.Standings.{HasHeard, IsMomentOf, IsPortLeft, IsSettled, IsStanding, is_stopped};
 
 use crate::ends::Ends;
 use crate::standing::Standing;
@@ -25,11 +26,9 @@ fn moment_of(next: Next) -> Option<u64>
 /// Syncs the log, if an event waits for that.
 pub(crate) fn settle<E: Ends>(ends: &mut E, standing: Standing) -> Standing
     requires { IsStanding standing (E.deeds ends.old) }
-    ensures stands { IsStanding result (E.deeds ends.new) }
+    ensures orderly { (bears : Bool) → AreRight bears (E.deeds ends.old) →
+        IsOrderly bears result (E.deeds ends.new) }
     ensures settled { IsSettled result }
-    ensures time { IsInTime (E.deeds ends.new) }
-    ensures right { (bears : Bool) → AreRight bears (E.deeds ends.old) →
-        AreRight bears (E.deeds ends.new) }
     ensures passed { passed (E.deeds ends.new) ≡ passed (E.deeds ends.old) }
     ensures port { IsPortLeft E.log E.failed E.ended E.script ends.old ends.new }
 {
@@ -57,10 +56,8 @@ pub(crate) fn keep<E: Ends>(
 ) -> Standing
     requires heard { HasHeard standing (told_by next buf.now) (E.deeds ends.old) }
     requires fits { FitsBuffer next }
-    ensures stands { IsStanding result (E.deeds ends.new) }
-    ensures time { IsInTime (E.deeds ends.new) }
-    ensures right { (bears : Bool) → AreRight bears (E.deeds ends.old) →
-        AreRight bears (E.deeds ends.new) }
+    ensures orderly { (bears : Bool) → AreRight bears (E.deeds ends.old) →
+        IsOrderly bears result (E.deeds ends.new) }
     ensures passed { passed (E.deeds ends.new) ≡ passed (E.deeds ends.old) }
     ensures port { IsPortLeft E.log E.failed E.ended E.script ends.old ends.new }
 {
@@ -76,8 +73,21 @@ pub(crate) fn keep<E: Ends>(
         return Standing::GivenUp;
     }
     if now.saturating_sub(since) < LONGEST_WAIT_MS {
-        Standing::Waiting(since)
+        return Standing::Waiting(since);
+    }
+    if ends.sync() {
+        Standing::Synced
     } else {
-        settle(ends, Standing::Waiting(since))
+        Standing::GivenUp
+    }
+}
+
+/// The store has failed, and that isn't borne: the run is to end.
+pub(crate) fn is_stopped(standing: Standing, bears_loss: bool) -> bool
+    ensures { result ≡ is_stopped standing bears_loss }
+{
+    match standing {
+        Standing::GivenUp => !bears_loss,
+        Standing::Synced | Standing::Waiting(_) => false,
     }
 }
