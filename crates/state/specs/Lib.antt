@@ -1,0 +1,6 @@
+pub mod Deeds
+pub mod Standings
+pub mod Keeping
+pub mod Stores
+pub mod Both
+pub mod Replays

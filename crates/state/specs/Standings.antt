@@ -1,0 +1,60 @@
+-- How far the events that were heard are on the disk, as a keeper knows it (profile).
+use Rattle.std.specs.Prelude.{◌≡◌, ℕ, Bool, true, false, not, List, [], ◌∷◌, ◌++◌, map, Option, Some, None}
+use Rattle.gateway.specs.Log.{Log}
+use Rattle.state.specs.Deeds.{Deed, Deeds, Heard, IsAllOnDisk, appended, heard, is_given_up, is_kept, moment_of, oldest, waiting}
+use Rattle.state.specs.declared.standing.Standing.{Standing}
+use Rattle.state.specs.declared.standing.Standing.TheVariants as standings
+
+-- the moment of the oldest of these, if there is one
+abbrev pub since_of : Log → Option ℕ
+since_of [] = None
+since_of (event ∷ log) = Some (oldest event log)
+
+-- the log has all events that were heard, and some wait for the disk since this moment
+pub record IsWaiting (moment : ℕ) (deeds : Deeds) : Type 0 where
+  pub kept : is_kept deeds ≡ true
+  pub whole : appended deeds ≡ heard deeds
+  pub since : since_of (waiting deeds) ≡ Some moment
+
+-- all of them are on the disk
+pub record IsSynced (deeds : Deeds) : Type 0 where
+  pub disk : IsAllOnDisk deeds
+  pub whole : appended deeds ≡ heard deeds
+  pub none : waiting deeds ≡ []
+
+abbrev pub IsStanding : Standing → Deeds → Type 0
+IsStanding standings.Synced deeds = IsSynced deeds
+IsStanding (standings.Waiting since) deeds = IsWaiting since deeds
+IsStanding standings.GivenUp deeds = is_given_up deeds ≡ true
+
+-- the store has failed, and that isn't borne
+abbrev pub is_stopped : Standing → (bears : Bool) → Bool
+is_stopped standings.Synced bears = false
+is_stopped (standings.Waiting moment) bears = false
+is_stopped standings.GivenUp bears = not bears
+
+-- none waits
+abbrev pub IsSettled : Standing → Type 0
+IsSettled standings.Synced = Unit {0}
+IsSettled (standings.Waiting since) = ⊥
+IsSettled standings.GivenUp = Unit {0}
+
+-- the moment of an answer's event, if it tells one
+abbrev pub IsMomentOf : Option ℕ → Log → Type 0
+IsMomentOf None news = news ≡ []
+IsMomentOf (Some now) [] = ⊥
+IsMomentOf (Some now) (event ∷ news) = (moment_of event ≡ now) × (news ≡ [])
+
+-- it stood so, and then these events were heard
+pub record HasHeard (standing : Standing) (news : Log) (deeds : Deeds) : Type 0 where
+  pub earlier : Deeds
+  pub stood : IsStanding standing earlier
+  pub heard : deeds ≡ map Heard news ++ earlier
+
+-- what a call on the store leaves of the port beside it
+pub record IsPortLeft {S F : Type 0} (log : S → Option Log) (failed : S → ℕ) (ended : S → Bool)
+    (script : S → F) (old new : S) : Type 0 where
+  pub told : log new ≡ log old
+  pub cause : failed new ≡ failed old
+  pub over : ended new ≡ ended old
+  pub fixed : script new ≡ script old

@@ -1,0 +1,77 @@
+//! What a keeper stands between: a port, and a store for what it hears.
+
+use gateway::{Action, Gateway, Next};
+
+/// A port and a store, with one history of what is done at both.
+pub trait Ends {
+    ghost use Rattle.gateway.specs.Log.{LogEntry, Went, tell};
+    ghost use Rattle.gateway.specs.Ports.{FitsBuffer, faults_of, output_of, told_by};
+    ghost use Rattle.gateway.specs.declared.ports.Next.TheVariants.{Done};
+    ghost use Rattle.state.specs.Deeds.{Appended, Begun, Deed, GivenUp, Heard, PutOut, Synced, is_kept};
+    ghost use Rattle.state.specs.Standings.{IsPortLeft};
+    ghost use Rattle.std.specs.Prelude.{◌≡◌, ℕ, ◌+◌, ◌<◌, Bool, true, List, [], ◌∷◌, ◌++◌, map, Option, if◌then◌else◌};
+
+    /// The log of the port, as a port tells it.
+    ghost log: { Self → Option (List LogEntry) };
+
+    ghost failed: { Self → ℕ };
+
+    ghost ended: { Self → Bool };
+
+    ghost Fixed: { Type 0 } = { List LogEntry };
+
+    ghost script: { Self → Fixed };
+
+    /// What was done, the newest first.
+    ghost deeds: { Self → List Deed };
+
+    /// The next event of the port.
+    fn next(&mut self, buf: &mut [u8; 1024]) -> Next
+        requires { failed self.old < u64.MAX }
+        ensures heard { deeds self.new ≡ map Heard (told_by result buf.new) ++ deeds self.old }
+        ensures told { log self.new ≡ tell (log self.old) (told_by result buf.new) }
+        ensures fits { FitsBuffer result }
+        ensures done { result ≡ Done → ended self.new ≡ true }
+        ensures script { script self.new ≡ script self.old }
+        ensures cause { failed self.new ≡ failed self.old + faults_of result };
+
+    /// Puts an action out at the port, at a moment. `false` says that its device failed.
+    fn put(&mut self, now: u64, action: &Action<'_>) -> bool
+        requires { failed self.old < u64.MAX }
+        ensures put { deeds self.new
+            ≡ (if result then PutOut (Went now (output_of action.now)) ∷ [] else [])
+            ++ deeds self.old }
+        ensures told { log self.new
+            ≡ (if result then tell (log self.old) (Went now (output_of action.now) ∷ [])
+            else log self.old) }
+        ensures script { script self.new ≡ script self.old }
+        ensures cause { failed self.new ≡ failed self.old + (if result then 0 else 1) };
+
+    /// How often the port's device failed.
+    fn failures(&self) -> u64
+        ensures { result ≡ failed self.now };
+
+    /// Appends the line of an event to the log, whose octets are the front of the buffer. `false`
+    /// says that the store has failed: then this is told, and the log is marked as stale.
+    fn append(&mut self, next: Next, buf: &[u8; 1024]) -> bool
+        requires kept { is_kept (deeds self.old) ≡ true }
+        requires fits { FitsBuffer next }
+        ensures appended { deeds self.new
+            ≡ (if result then map Appended (told_by next buf.now) else GivenUp ∷ [])
+            ++ deeds self.old }
+        ensures port { IsPortLeft log failed ended script self.old self.new };
+
+    /// Syncs the log. `false` as of `append`: what is on the disk isn't known then.
+    fn sync(&mut self) -> bool
+        requires { is_kept (deeds self.old) ≡ true }
+        ensures synced { deeds self.new ≡ (if result then Synced else GivenUp) ∷ deeds self.old }
+        ensures port { IsPortLeft log failed ended script self.old self.new };
+
+    /// Begins a new log, with the state of the gateway at its head, which is the state that all
+    /// events so far have led to. Where `true` is answered it stands on the disk. `false` as of
+    /// `append`.
+    fn begin(&mut self, gateway: &Gateway) -> bool
+        ensures begun { deeds self.new
+            ≡ (if result then Begun gateway.now else GivenUp) ∷ deeds self.old }
+        ensures port { IsPortLeft log failed ended script self.old self.new };
+}

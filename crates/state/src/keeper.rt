@@ -1,0 +1,142 @@
+//! A port whose events are kept on a disk before anything goes out on them.
+ghost use Rattle.std.specs.Prelude.{◌≡◌, ◌+◌, ◌<◌, ◌≤◌, ◌∷◌, [], ◌++◌, ◌⊎◌, true, false, if◌then◌else◌};
+ghost use Rattle.gateway.specs.Log.{Went, tell};
+ghost use Rattle.gateway.specs.Ports.{FitsBuffer, faults_of, output_of, told_by};
+ghost use Rattle.gateway.specs.declared.ports.Next.TheVariants.{Done};
+ghost use Rattle.state.specs.Deeds.{Begun, GivenUp, passed};
+ghost use Rattle.state.specs.Keeping.{IsOrderly};
+ghost use Rattle.state.specs.Standings.{is_stopped};
+
+use crate::ends::Ends;
+use crate::keeping::{is_stopped, keep, settle};
+use crate::standing::Standing;
+use gateway::{Action, Gateway, Next, Port};
+use std::marker::Model;
+
+/// A port that passes each event and each action of another one on unchanged. The line of each
+/// event goes to the log of a store before the gateway hears it, and no action is handed out before
+/// all events that were heard are on the disk. Where the store has failed, the run goes on without
+/// it, if that is borne, or else the port has failed.
+#[derive(Drop)]
+pub struct Keeper<E: Ends + Drop> {
+    ends: E,
+    standing: Standing,
+    /// Where the store has failed the run goes on without it.
+    bears_loss: bool,
+    /// How often nothing was asked of the port, since the store has failed.
+    stops: u64,
+}
+
+impl<E: Ends + Drop> Model for Keeper<E> {
+    ghost use Rattle.state.specs.Keeping.{IsKeeping, Keeping};
+    ghost use Rattle.std.specs.Prelude.{◌+◌};
+
+    ghost Value = { Keeping E };
+
+    ghost view = { λ k. record {
+      ends = k.ends;
+      standing = k.standing;
+      bears_loss = k.bears_loss;
+      stops = k.stops;
+    } };
+
+    ghost invariant = { λ k. IsKeeping (E.deeds k.ends) k.standing k.bears_loss
+        (E.failed k.ends + k.stops) };
+}
+
+impl<E: Ends + Drop> Keeper<E> {
+    /// One over these ends, at which nothing was done: the log begins with this gateway's state.
+    pub fn new(mut ends: E, gateway: &Gateway, bears_loss: bool) -> Keeper<E>
+        requires nothing { E.deeds ends ≡ [] }
+        requires few { E.failed ends ≤ u64.MAX }
+        ensures log { E.log result.ends ≡ E.log ends }
+        ensures failed { E.failed result.ends + result.stops ≡ E.failed ends }
+        ensures script { E.script result.ends ≡ E.script ends }
+        ensures bears { result.bears_loss ≡ bears_loss }
+        ensures begun { (E.deeds result.ends ≡ Begun gateway.now ∷ [])
+            ⊎ (E.deeds result.ends ≡ GivenUp ∷ []) }
+    {
+        let standing = if ends.begin(gateway) {
+            Standing::Synced
+        } else {
+            Standing::GivenUp
+        };
+        Keeper {
+            ends,
+            standing,
+            bears_loss,
+            stops: 0,
+        }
+    }
+
+    /// How far the events that were heard are on the disk.
+    pub fn standing(&self) -> Standing
+        ensures { IsOrderly self.now.bears_loss result (E.deeds self.now.ends) }
+    {
+        self.standing
+    }
+}
+
+impl<E: Ends + Drop> Port for Keeper<E> {
+    ghost log = { λ k. E.log k.ends };
+
+    ghost failed = { λ k. E.failed k.ends + k.stops };
+
+    ghost ended = { λ k. E.ended k.ends };
+
+    ghost Fixed = { E.Fixed };
+
+    ghost script = { λ k. E.script k.ends };
+
+    /// The event has been appended when it is passed on. Where no event comes any more, all that
+    /// came are on the disk.
+    fn next(&mut self, buf: &mut [u8; 1024]) -> Next
+        requires { E.failed self.old.ends + self.old.stops < u64.MAX }
+        ensures told { E.log self.new.ends ≡ tell (E.log self.old.ends) (told_by result buf.new) }
+        ensures passes { passed (E.deeds self.new.ends)
+            ≡ told_by result buf.new ++ passed (E.deeds self.old.ends) }
+        ensures fits { FitsBuffer result }
+        ensures done { result ≡ Done → E.ended self.new.ends ≡ true }
+        ensures script { E.script self.new.ends ≡ E.script self.old.ends }
+        ensures cause { E.failed self.new.ends + self.new.stops
+            ≡ E.failed self.old.ends + self.old.stops + faults_of result }
+        // The port is asked unless the store has failed, and that isn't borne.
+        ensures asks { is_stopped self.old.standing self.old.bears_loss ≡ false →
+            self.new.stops ≡ self.old.stops }
+    {
+        if is_stopped(self.standing, self.bears_loss) {
+            self.stops += 1;
+            return Next::Fault;
+        }
+        let next = self.ends.next(buf);
+        self.standing = keep(&mut self.ends, self.standing, next, buf);
+        next
+    }
+
+    /// Whatever waits is synced first.
+    fn put(&mut self, now: u64, action: &Action<'_>) -> bool
+        requires { E.failed self.old.ends + self.old.stops < u64.MAX }
+        ensures told { E.log self.new.ends
+            ≡ (if result then tell (E.log self.old.ends) (Went now (output_of action.now) ∷ [])
+            else E.log self.old.ends) }
+        ensures passes { passed (E.deeds self.new.ends)
+            ≡ (if result then Went now (output_of action.now) ∷ [] else [])
+            ++ passed (E.deeds self.old.ends) }
+        ensures script { E.script self.new.ends ≡ E.script self.old.ends }
+        ensures cause { E.failed self.new.ends + self.new.stops
+            ≡ E.failed self.old.ends + self.old.stops + (if result then 0 else 1) }
+        ensures asks { is_stopped self.new.standing self.old.bears_loss ≡ false →
+            self.new.stops ≡ self.old.stops }
+    {
+        self.standing = settle(&mut self.ends, self.standing);
+        if is_stopped(self.standing, self.bears_loss) {
+            self.stops += 1;
+            return false;
+        }
+        self.ends.put(now, action)
+    }
+
+    fn failures(&self) -> u64 {
+        self.ends.failures() + self.stops
+    }
+}

@@ -1,0 +1,93 @@
+//! What is appended and when it is synced.
+ghost use Rattle.std.specs.Prelude.{◌≡◌, ℕ, Bool, List};
+ghost use Rattle.gateway.specs.Ports.{FitsBuffer, told_by};
+ghost use Rattle.state.specs.Deeds.{AreRight, passed};
+ghost use Rattle.state.specs.Keeping.{IsOrderly};
+ghost use Rattle.state.specs.Standings.{HasHeard, IsMomentOf, IsPortLeft, IsSettled, IsStanding, is_stopped};
+
+use crate::ends::Ends;
+use crate::standing::Standing;
+use gateway::Next;
+
+/// How long an event may wait for the disk while others are heard, in ms.
+const LONGEST_WAIT_MS: u64 = 1_000;
+
+/// The moment of an event, if a port has one.
+fn moment_of(next: Next) -> Option<u64>
+    ensures { (buf : List ℕ) → IsMomentOf result (told_by next buf) }
+{
+    match next {
+        Next::Line(now, _) | Next::Bytes(now, _) | Next::Wall(now, _) => Some(now),
+        Next::Open(now) | Next::Cut(now) | Next::Tick(now) => Some(now),
+        Next::Done | Next::Fault => None,
+    }
+}
+
+/// Syncs the log, if an event waits for that.
+pub(crate) fn settle<E: Ends>(ends: &mut E, standing: Standing) -> Standing
+    requires { IsStanding standing (E.deeds ends.old) }
+    ensures orderly { (bears : Bool) → AreRight bears (E.deeds ends.old) →
+        IsOrderly bears result (E.deeds ends.new) }
+    ensures settled { IsSettled result }
+    ensures passed { passed (E.deeds ends.new) ≡ passed (E.deeds ends.old) }
+    ensures port { IsPortLeft E.log E.failed E.ended E.script ends.old ends.new }
+{
+    match standing {
+        Standing::Waiting(_) => {
+            if ends.sync() {
+                Standing::Synced
+            } else {
+                Standing::GivenUp
+            }
+        }
+        Standing::Synced => Standing::Synced,
+        Standing::GivenUp => Standing::GivenUp,
+    }
+}
+
+/// Keeps the event that was just heard, whose octets are the front of the buffer: its line is
+/// appended, and the log is synced where an event waits for that too long, or where none comes any
+/// more.
+pub(crate) fn keep<E: Ends>(
+    ends: &mut E,
+    standing: Standing,
+    next: Next,
+    buf: &[u8; 1024],
+) -> Standing
+    requires heard { HasHeard standing (told_by next buf.now) (E.deeds ends.old) }
+    requires fits { FitsBuffer next }
+    ensures orderly { (bears : Bool) → AreRight bears (E.deeds ends.old) →
+        IsOrderly bears result (E.deeds ends.new) }
+    ensures passed { passed (E.deeds ends.new) ≡ passed (E.deeds ends.old) }
+    ensures port { IsPortLeft E.log E.failed E.ended E.script ends.old ends.new }
+{
+    let Some(now) = moment_of(next) else {
+        return settle(ends, standing);
+    };
+    let since = match standing {
+        Standing::Synced => now,
+        Standing::Waiting(since) => since,
+        Standing::GivenUp => return Standing::GivenUp,
+    };
+    if !ends.append(next, buf) {
+        return Standing::GivenUp;
+    }
+    if now.saturating_sub(since) < LONGEST_WAIT_MS {
+        return Standing::Waiting(since);
+    }
+    if ends.sync() {
+        Standing::Synced
+    } else {
+        Standing::GivenUp
+    }
+}
+
+/// The store has failed, and that isn't borne: the run is to end.
+pub(crate) fn is_stopped(standing: Standing, bears_loss: bool) -> bool
+    ensures { result ≡ is_stopped standing bears_loss }
+{
+    match standing {
+        Standing::GivenUp => !bears_loss,
+        Standing::Synced | Standing::Waiting(_) => false,
+    }
+}

@@ -1,0 +1,133 @@
+//! A port, and a store beside it.
+ghost use Rattle.std.specs.Prelude.{◌≡◌, ◌++◌, true, []};
+ghost use Rattle.gateway.specs.Ports.{FitsBuffer, told_by};
+ghost use Rattle.traces.specs.Printed.{lines_of_log};
+
+use crate::ends::Ends;
+use crate::store::Store;
+use crate::trail::{Done, Trail};
+use gateway::{Action, Gateway, Next, Port};
+use std::alloc::Global;
+use std::marker::Model;
+use traces::append_event;
+
+/// A port, and a store beside it. What is done at both is one history, which only proofs read.
+#[derive(Drop)]
+pub struct Pair<P: Port + Drop, S: Store + Drop> {
+    alloc: Global,
+    port: P,
+    store: S,
+    trail: Trail,
+}
+
+impl<P: Port + Drop, S: Store + Drop> Model for Pair<P, S> {
+    ghost use Rattle.state.specs.Both.{Both};
+    ghost use Rattle.state.specs.Stores.{IsStored};
+
+    ghost Value = { Both P S };
+
+    ghost view = { λ p. record { port = p.port; store = p.store; deeds = p.trail.deeds } };
+
+    // While the state is kept the store has the events' lines, and nothing else.
+    ghost invariant = { λ p. IsStored p.trail.deeds (S.stored p.store) };
+}
+
+impl<P: Port + Drop, S: Store + Drop> Pair<P, S> {
+    ghost use Rattle.state.specs.Stores.{IsStored};
+
+    /// Both, at which nothing was done.
+    pub fn new(alloc: Global, port: P, store: S) -> Pair<P, S>
+        ensures { result ≡ record { port = port; store = store; deeds = [] } }
+    {
+        Pair {
+            alloc,
+            port,
+            store,
+            trail: Trail::new(),
+        }
+    }
+
+    /// The store.
+    pub fn store(&self) -> &S
+        ensures store { result.now ≡ self.now.store }
+        ensures stored { IsStored self.now.deeds (S.stored self.now.store) }
+    {
+        &self.store
+    }
+}
+
+/// Appends the line of an event to a store, if there is memory for it.
+fn take<S: Store>(alloc: Global, store: &mut S, next: Next, buf: &[u8; 1024]) -> bool
+    requires { FitsBuffer next }
+    ensures { result ≡ true → S.stored store.new ≡ record (S.stored store.old) {
+      text = (S.stored store.old).text ++ lines_of_log (told_by next buf.now);
+    } }
+{
+    let mut line = String::new(alloc);
+    if append_event(alloc, &mut line, next, buf).is_err() {
+        return false;
+    }
+    store.append(line.as_bytes())
+}
+
+impl<P: Port + Drop, S: Store + Drop> Ends for Pair<P, S> {
+    ghost log = { λ p. P.log p.port };
+
+    ghost failed = { λ p. P.failed p.port };
+
+    ghost ended = { λ p. P.ended p.port };
+
+    ghost Fixed = { P.Fixed };
+
+    ghost script = { λ p. P.script p.port };
+
+    ghost deeds = { λ p. p.deeds };
+
+    fn next(&mut self, buf: &mut [u8; 1024]) -> Next {
+        let next = self.port.next(buf);
+        self.trail = self.trail.with(&Done::Heard(next, buf));
+        next
+    }
+
+    fn put(&mut self, now: u64, action: &Action<'_>) -> bool {
+        let has_gone = self.port.put(now, action);
+        if has_gone {
+            self.trail = self.trail.with(&Done::PutOut(now, action));
+        }
+        has_gone
+    }
+
+    fn failures(&self) -> u64 {
+        self.port.failures()
+    }
+
+    fn append(&mut self, next: Next, buf: &[u8; 1024]) -> bool {
+        if take(self.alloc, &mut self.store, next, buf) {
+            self.trail = self.trail.with(&Done::Appended(next, buf));
+            return true;
+        }
+        self.store.give_up();
+        self.trail = self.trail.with(&Done::GivenUp);
+        false
+    }
+
+    fn sync(&mut self) -> bool {
+        if self.store.sync() {
+            self.trail = self.trail.with(&Done::Synced);
+            return true;
+        }
+        self.store.give_up();
+        self.trail = self.trail.with(&Done::GivenUp);
+        false
+    }
+
+    fn begin(&mut self, gateway: &Gateway) -> bool {
+        if self.store.begin(gateway) {
+            self.trail = self.trail.with(&Done::Begun(gateway));
+            return true;
+        }
+        self.store.give_up();
+        self.trail = self.trail.with(&Done::GivenUp);
+        false
+    }
+}

@@ -1,0 +1,254 @@
+//! A gateway hears again what it had heard.
+ghost use Rattle.std.specs.Prelude.{◌≡◌, ◌∷◌, [], Some, IfOk, OnOk, false};
+ghost use Rattle.gateway.specs.Agrees.{Follows, Rests};
+ghost use Rattle.gateway.specs.Reports.{Setup};
+ghost use Rattle.state.specs.Replays.{IsFirst, IsRepeating, IsReplayed, IsTold, events_in_front};
+ghost use Rattle.traces.specs.Trace.{lines_of, told};
+
+use checkpoint::StateFault;
+use gateway::{Action, End, Gateway, History, Next, Port, announce, drive_on};
+use std::alloc::Global;
+use std::marker::{Brand, Model, PhantomData};
+use traces::{TextFault, read_trace};
+
+/// Lines of events that come one after another.
+pub trait EventLines {
+    ghost use Rattle.std.specs.Prelude.{◌≡◌, ℕ, List, [], ◌∷◌, Ok, true, false};
+    ghost use Rattle.traces.specs.Trace.{lines_of};
+
+    /// The lines that are still to come, each without its line feed.
+    ghost coming: { Self → List (List ℕ) };
+
+    /// Puts the next line in place of this one. `false` says that none comes any more.
+    fn next_line(&mut self, line: &mut Vec<u8>) -> Result<bool, StateFault>
+        ensures some { result ≡ Ok true → coming self.old ≡ line.new.items ∷ coming self.new }
+        ensures one { result ≡ Ok true → lines_of line.new.items ≡ line.new.items ∷ [] }
+        ensures none { result ≡ Ok false → coming self.old ≡ [] };
+}
+
+/// The log before a replay, which no code holds.
+pub trait Lineage {
+    ghost use Rattle.gateway.specs.Log.{LogEntry};
+    ghost use Rattle.std.specs.Prelude.{List};
+
+    ghost log: { List LogEntry };
+}
+
+impl Lineage for Brand {
+    ghost use Rattle.std.specs.Prelude.{[]};
+
+    ghost log = { [] };
+}
+
+/// That log, and the events of the replay.
+trait Script {
+    ghost use Rattle.gateway.specs.Log.{LogEntry};
+    ghost use Rattle.std.specs.Prelude.{List};
+
+    ghost log: { List LogEntry };
+
+    ghost events: { List LogEntry };
+}
+
+impl Script for Brand {
+    ghost use Rattle.std.specs.Prelude.{[]};
+
+    ghost log = { [] };
+
+    ghost events = { [] };
+}
+
+/// A port that gives the events that lines tell, up to the first line that tells none, and puts no
+/// action out. A line that can't be read is a fault.
+#[derive(Drop)]
+struct Repeater<K: Script, L: EventLines + Drop> {
+    alloc: Global,
+    lines: L,
+    /// The line that was read last.
+    line: Vec<u8>,
+    is_over: bool,
+    history: History,
+    fault: StateFault,
+    failures: u64,
+    of: PhantomData<K>,
+}
+
+impl<K: Script, L: EventLines + Drop> Model for Repeater<K, L> {
+    ghost use Rattle.state.specs.Replays.{IsRepeating, Replaying};
+
+    ghost Value = { Replaying };
+
+    ghost view = { λ r. record {
+      coming = L.coming r.lines;
+      is_over = r.is_over;
+      news = r.history.entries;
+      earlier = K.log;
+      failed = r.failures;
+    } };
+
+    ghost invariant = { λ r. IsRepeating K.events (record {
+      coming = L.coming r.lines;
+      is_over = r.is_over;
+      news = r.history.entries;
+      earlier = K.log;
+      failed = r.failures;
+    }) };
+}
+
+/// Gives the event that a line tells, if it tells one, as a port does: its octets are put at the
+/// front of the buffer.
+#[tactic(auto, using(crate::proofs::Repeated::unannounced, crate::proofs::Repeated::wrongly_told))]
+fn announce_line(
+    alloc: Global,
+    line: &[u8],
+    buf: &mut [u8; 1024],
+) -> Result<Option<Next>, StateFault>
+    requires { lines_of line.now ≡ line.now ∷ [] }
+    ensures { IfOk result (λ found. IsTold (told line.now) found buf.new) }
+{
+    match read_trace(alloc, line) {
+        Ok(entries) => match entries.as_slice() {
+            [entry, ..] => Ok(Some(announce(entry, buf))),
+            [] => Ok(None),
+        },
+        Err(TextFault::NoMemory) => Err(StateFault::NoMemory),
+        Err(TextFault::Line(_)) => Ok(None),
+    }
+}
+
+/// Gives the event of the next line as a port does, or nothing where there is none.
+fn next_event<L: EventLines>(
+    alloc: Global,
+    lines: &mut L,
+    line: &mut Vec<u8>,
+    buf: &mut [u8; 1024],
+) -> Result<Option<Next>, StateFault>
+    ensures { IfOk result (λ found.
+        IsFirst (L.coming lines.old) (L.coming lines.new) found buf.new) }
+{
+    if !lines.next_line(line)? {
+        return Ok(None);
+    }
+    announce_line(alloc, line.as_slice(), buf)
+}
+
+impl<K: Script, L: EventLines + Drop> Repeater<K, L> {
+    /// One over these lines.
+    fn over(alloc: Global, lines: L) -> Repeater<K, L>
+        requires { events_in_front (L.coming lines) ≡ K.events }
+        ensures { result ≡ record {
+          coming = L.coming lines;
+          is_over = false;
+          news = [];
+          earlier = K.log;
+          failed = 0;
+        } }
+    {
+        Repeater {
+            alloc,
+            lines,
+            line: Vec::new(alloc),
+            is_over: false,
+            history: History::new(),
+            fault: StateFault::Wrong,
+            failures: 0,
+            of: PhantomData,
+        }
+    }
+
+    /// Why a line couldn't be read.
+    fn fault(&self) -> StateFault {
+        self.fault
+    }
+
+    /// Whether no event comes any more.
+    fn is_over(&self) -> bool
+        ensures over { result ≡ self.now.is_over }
+        ensures whole { IsRepeating K.events self.now }
+        ensures earlier { self.now.earlier ≡ K.log }
+    {
+        self.is_over
+    }
+}
+
+impl<K: Script, L: EventLines + Drop> Port for Repeater<K, L> {
+    ghost use Rattle.state.specs.Replays.{log_of};
+    ghost use Rattle.std.specs.Prelude.{Some};
+
+    ghost log = { λ r. Some (log_of r) };
+
+    ghost failed = { λ r. r.failed };
+
+    ghost ended = { λ r. r.is_over };
+
+    ghost Fixed = { Unit };
+
+    ghost script = { λ _. tt };
+
+    #[tactic(auto, using(crate::proofs::Repeated::one_more, crate::proofs::Repeated::no_more))]
+    fn next(&mut self, buf: &mut [u8; 1024]) -> Next {
+        if self.is_over {
+            return Next::Done;
+        }
+        match next_event(self.alloc, &mut self.lines, &mut self.line, buf) {
+            Ok(Some(next)) => {
+                self.history = self.history.came(&next, buf);
+                next
+            }
+            Ok(None) => {
+                self.is_over = true;
+                Next::Done
+            }
+            Err(fault) => {
+                self.fault = fault;
+                self.failures += 1;
+                Next::Fault
+            }
+        }
+    }
+
+    fn put(&mut self, now: u64, action: &Action<'_>) -> bool {
+        self.history = self.history.went(&now, action);
+        true
+    }
+
+    fn failures(&self) -> u64 {
+        self.failures
+    }
+}
+
+/// Brings a gateway to where these lines lead, whose events are known to proofs.
+fn repeat<K: Script, L: EventLines + Drop>(
+    alloc: Global,
+    gateway: &mut Gateway,
+    lines: L,
+) -> Result<(), StateFault>
+    requires { events_in_front (L.coming lines) ≡ K.events }
+    ensures { (p : Setup) → Follows p gateway.old (Some K.log) → Rests p (Some K.log) →
+        OnOk result (IsReplayed p K.log K.events gateway.new) }
+{
+    let mut port: Repeater<K, L> = Repeater::over(alloc, lines);
+    let end = drive_on(gateway, &mut port, u64::MAX);
+    match end {
+        End::Finished => {
+            let _is_over = port.is_over();
+            Ok(())
+        }
+        // No memory holds so many lines.
+        End::Turns => Err(StateFault::Wrong),
+        End::Device => Err(port.fault()),
+    }
+}
+
+/// Brings a gateway to where these lines lead: it hears their events again, up to the first line
+/// that tells none, and what it does goes nowhere. After an `Err` the gateway is given up.
+pub fn replay<K: Lineage, L: EventLines + Drop>(
+    alloc: Global,
+    gateway: &mut Gateway,
+    lines: L,
+) -> Result<(), StateFault>
+    ensures { (p : Setup) → Follows p gateway.old (Some K.log) → Rests p (Some K.log) →
+        OnOk result (IsReplayed p K.log (events_in_front (L.coming lines)) gateway.new) }
+{
+    repeat::<Brand, L>(alloc, gateway, lines)
+}

@@ -1,0 +1,12 @@
+//! How far the events that were heard are on the disk.
+
+/// How far the events that were heard are on the disk.
+#[derive(Clone, Copy, Debug, PartialEq, Eq)]
+pub enum Standing {
+    /// All of them are.
+    Synced,
+    /// The log has them, but since this moment, in ms, some wait for the disk.
+    Waiting(u64),
+    /// The store has failed.
+    GivenUp,
+}
