@@ -1,0 +1,14 @@
+use Rattle.std.proofs.Common.{◌∙◌}
+use Rattle.statetext.proofs.TextLemmas.{numbers_put, numbers_whole}
+use Rattle.statetext.proofs.sheet.TextSheetSheet.put.Goals as goal
+
+pub returns : goal.returns
+returns g c =
+    numbers_put c.append.result _ _ _ _ c.args.self.now.whole c.type_inv.line
+    (c.deref.ensures.value ∙ c.in_ok-spell_numbers.ensures) c.append.ensures.put
+
+pub invariant_of-self-2 : goal.invariant_of-self-2
+invariant_of-self-2 g c = record {
+  whole = numbers_whole c.append.result _ _ _ _ c.args.self.now.whole c.type_inv.line
+      (c.deref.ensures.value ∙ c.in_ok-spell_numbers.ensures) c.append.ensures.put c.append.ensures.none;
+}

@@ -1,0 +1,14 @@
+//! Lines of numbers and of octets as text.
+//!
+//! A line of numbers is these in decimal with one space between two; a line of octets is `x` and
+//! these in hexadecimal. Each line ends in a line feed. Proved: the lines that are read of a text
+//! are those that were put, whatever stands behind it ([`TextSheet::is_read_back`]).
+#![tactic(auto)]
+
+mod lines;
+mod sheet;
+mod sum;
+
+pub use lines::TextLines;
+pub use sheet::{Octets, TextSheet, put_hexadecimal};
+pub use sum::Sum;
