@@ -1,5 +1,5 @@
--- Which refusal is told for which octet, whatever stands behind it (this gateway's own profile). The
--- least place that decides counts, and the control octet decides on the length too.
+-- Which refusal is told for which octet, whatever stands behind it (this gateway's own profile).
+-- The least place that decides counts, and the control octet decides on the length too.
 use Rattle.std.specs.Prelude.{◌≡◌, ℕ, ◌%◌, ◌<◌, ◌≤◌, List, ◌∷◌, All, None}
 use Rattle.apci.specs.declared.apdu.Uf.{Uf}
 use Rattle.apci.specs.declared.apdu.Front.TheVariants.{Never}

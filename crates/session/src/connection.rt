@@ -469,12 +469,14 @@ impl Session {
     fn is_savable(&self)
         ensures { IsSavable self.now }
     {
+        // Reading it tells the proof what its type bounds.
         let _unconfirmed = self.unconfirmed;
     }
 
     /// Puts the line of the counters.
     fn put_counters(&self, line: &mut Vec<u64>) -> Result<(), AllocError>
-        ensures { OnOk result (line.new.items ≡ line.old.items ++ numbers_line (numbers_of self.now)) }
+        ensures { OnOk result (line.new.items
+            ≡ line.old.items ++ numbers_line (numbers_of self.now)) }
     {
         line.push(transfer_number(self.transfer))?;
         line.push(u64::from(self.next_sent))?;
