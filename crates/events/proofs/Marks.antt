@@ -5,7 +5,7 @@ use Rattle.std.proofs.Math.Seq.{set-append_seam}
 use Rattle.std.specs.Prelude.{Some, None, Result, Ok, Err, IsOk, OnOk, slice_get, slice_set}
 use Rattle.arrayvec.specs.ArrayVec.{ArrayVec}
 use Rattle.events.specs.Pieces.{AreAsdus, AreSendable}
-use Rattle.events.specs.Queue.{Queue, queue_of, octets_of, pushed, acknowledged, rewound, kept}
+use Rattle.events.specs.Queue.{Queue, queue_of, octets_of, acknowledged, rewound, kept}
 use Rattle.events.specs.Restored.{marked}
 
 abbrev pub queue_from : List (List ℕ) → List (List ℕ) → ℕ → Queue
@@ -42,8 +42,12 @@ queue_of-acknowledged xs m places n le =
     ∙ sym (drop-map (λ p. p.items) n (take m xs)))
     (ap octets_of (drop-drop (m - n) n xs ∙ ap (λ k. drop k xs) there))
 
+-- what `pushed` says, in a name of its own
+abbrev pub behind : List (List ℕ) → Queue → Queue
+behind pieces q = queue_from q.sent (q.unsent ++ pieces) q.places
+
 pub queue_of-pushed : (xs more : List (ArrayVec ℕ)) (m places : ℕ) → m ≤ length xs
-    → queue_of (xs ++ more) m places ≡ pushed (octets_of more) (queue_of xs m places)
+    → queue_of (xs ++ more) m places ≡ behind (octets_of more) (queue_of xs m places)
 queue_of-pushed xs more m places le = same_queue _ _ _ _ places
     (ap octets_of (take-append-le m xs more le))
     (ap octets_of (drop-append-le m xs more le) ∙ map-append (λ p. p.items) (drop m xs) more)

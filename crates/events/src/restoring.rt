@@ -5,7 +5,7 @@ ghost use Rattle.std.specs.List.{AllByRecursion};
 ghost use Rattle.checkpoint.specs.Octets.{IsOctetLine};
 ghost use Rattle.checkpoint.specs.declared.StateFault.TheVariants.{Wrong};
 ghost use Rattle.events.specs.Pieces.{IsSendable, AreSendable};
-ghost use Rattle.events.specs.Queue.{Queue, empty, kept, pushed};
+ghost use Rattle.events.specs.Queue.{Queue, empty, kept};
 ghost use Rattle.events.specs.Restored.{queue_lines, IsSavable, in_places, marked};
 
 use crate::Events;
@@ -92,7 +92,8 @@ impl Events {
         requires empty { self.old ≡ empty self.old.places }
         requires room { count ≤ self.old.places }
         // Of the lines that came so many are the queue's pieces.
-        ensures queue { OnOk result (self.new ≡ pushed self.new.unsent self.old) }
+        ensures sent { OnOk result (self.new.sent ≡ []) }
+        ensures places { OnOk result (self.new.places ≡ self.old.places) }
         ensures number { OnOk result (length self.new.unsent ≡ count) }
         ensures pieces { OnOk result (AreSendable self.new.unsent
             × AllByRecursion IsOctetLine self.new.unsent) }

@@ -2,8 +2,8 @@ use Rattle.std.proofs.Common.{◌≡◌, ◌<◌, ◌++◌, [], ◌∷◌, lengt
 use Rattle.std.proofs.lemmas.List.{length-map}
 use Rattle.circular_buffer.specs.Buffer.{buffer}
 use Rattle.arrayvec.specs.ArrayVec.{ArrayVec}
-use Rattle.events.specs.Queue.{Queue, kept, queue_of, pushed}
-use Rattle.events.proofs.Marks.{on_ok, written_there, queue_of-pushed, kept-queue_of}
+use Rattle.events.specs.Queue.{Queue, kept, queue_of}
+use Rattle.events.proofs.Marks.{behind, on_ok, written_there, queue_of-pushed, kept-queue_of}
 use Rattle.events.proofs.Events.append_next.Goals as goal
 
 pub returns-clause-queue : goal.returns-clause-queue
@@ -22,5 +22,5 @@ returns-clause-queue c =
     ap (λ xs. queue_of xs e.sent c.try_push_back.new.self.capacity) written
     ∙ ap (λ r. queue_of (ring.items ++ c.write_next.new.piece ∷ []) e.sent r.capacity) stored
     ∙ queue_of-pushed ring.items (c.write_next.new.piece ∷ []) e.sent ring.capacity c.self.invariant.within
-    ∙ ap (pushed (c.write_next.new.piece.items ∷ [])) c.self.view_is
-    ∙ ap (λ ps. pushed (take 1 ps) c.args.self.now) (sym c.write_next.ensures)
+    ∙ ap (behind (c.write_next.new.piece.items ∷ [])) c.self.view_is
+    ∙ ap (λ ps. behind (take 1 ps) c.args.self.now) (sym c.write_next.ensures)
