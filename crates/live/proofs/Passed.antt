@@ -198,7 +198,7 @@ held_tells n buf log g (octet ∷ octets) t a e guest same front h = (
   (
     h.0,
     centre_told e.is_cut_due e.held (take (length (octet ∷ octets)) buf) (centre_in log) (centre_out log) e.connection
-    (front ∙ sym same) h.1,
+        (front ∙ sym same) h.1,
     h.2,
   ),
   refl,
@@ -314,7 +314,7 @@ action_tells log moment (TcpOut octets) written taken e h =
     λ k. TellsCentre after.is_cut_due k (centre_in log) (octets ∷ centre_out log) after.connection in (
       subst P (sym (written_line octets taken e.is_cut_due e.connection e)) h.0,
       subst K (sym (written_held octets taken e.is_cut_due e.connection e))
-      (written_tells (centre_in log) (centre_out log) octets taken e.is_cut_due e.connection e refl refl h.1),
+          (written_tells (centre_in log) (centre_out log) octets taken e.is_cut_due e.connection e refl refl h.1),
       subst D (sym (written_door octets taken e.is_cut_due e.connection e)) h.2,
     )
 action_tells log moment (Closed cause) written taken e h = closed_tells log cause e h

@@ -172,13 +172,15 @@ sources_by false begun answers buf ends = held_by ends.held begun answers buf en
 -- a cut that is due comes before any source is looked at, as an event of the connection, which is
 -- no more
 abbrev pub turn_by : Bool → ℕ → Answers → (buf : List ℕ) → Ends → Option Found × Ends
-turn_by true begun answers buf ends =
-    (Some found.Cut, record ends {
-      connection = None;
-      held = [];
-      first = after Connection;
-      is_cut_due = false;
-    })
+turn_by true begun answers buf ends = (
+  Some found.Cut,
+  record ends {
+    connection = None;
+    held = [];
+    first = after Connection;
+    is_cut_due = false;
+  },
+)
 turn_by false begun answers buf ends =
     sources_by (is_behind ends.timing begun) begun answers buf ends
 

@@ -11,7 +11,8 @@ use crate::stream::{drop_waiting, read_once, write_in_two, write_once};
 use crate::wires::{Clock, Door, Got, Presence, Reached, SentAway, Visitor, Wire};
 use std::io::{Eprint, ErrorKind};
 use std::net::{
-    HostAddrs, IpAddr, Net, OpenListener, OpenStream, SocketAddr, TcpListener, TcpStream, ToSocketAddrs,
+    HostAddrs, IpAddr, Net, OpenListener, OpenStream, SocketAddr, TcpListener, TcpStream,
+    ToSocketAddrs,
 };
 use std::os::unix::net::UnixStream;
 use std::time::{Duration, Instant, SystemTime};

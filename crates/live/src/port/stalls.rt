@@ -147,7 +147,10 @@ fn a_stall_makes_no_selection_longer_and_cuts_nobody(rt: HostRuntime) {
     // What it sent in a stall within its look, while the line isn't heard out, is held until it is.
     let told = connected_after(&rt, 0, 2000);
     assert!(rt;
-        matches!(told, (Next::Tick(999), Next::Tick(2001), Next::Bytes(2001, 6)))
+        matches!(
+            told,
+            (Next::Tick(999), Next::Tick(2001), Next::Bytes(2001, 6))
+        )
     );
     // Up to 50 ms behind the clock are let through.
     let told = connected_after(&rt, 1049, 0);

@@ -71,7 +71,13 @@ fn fresh() -> Ends
     ensures told { (result.line ≡ Some []) × (result.door ≡ Some []) }
 {
     let door = MemoryDoor::new(None);
-    Live::awaiting(MemoryWire::quiet(), door, MemoryClock::new(0), Guests::Anyone, 1000)
+    Live::awaiting(
+        MemoryWire::quiet(),
+        door,
+        MemoryClock::new(0),
+        Guests::Anyone,
+        1000,
+    )
 }
 
 #[test]
