@@ -158,7 +158,7 @@ def a_restart(count, program, folder):
     station.limit = REPORTS // 2
     first = started(program, config, record)
     station.waits(REPORTS // 2)
-    time.sleep(0.3)
+    count.judge("the first reports are recorded", holds(record, report(REPORTS // 2).hex().upper()))
     count.judge("the first run says nothing", killed(first) == "")
     count.judge("the first record", audited(program, config, record)[0] == 0, audited(program, config, record))
     count.judge("what waits there", left(program, config, record) == (0, REPORTS // 2), left(program, config, record))

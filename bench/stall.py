@@ -67,6 +67,8 @@ class Outstation(threading.Thread):
         self.chance, self.loss, self.delay = chance, loss, delay
         self.given = 0
         self.requests = self.repeats = 0
+        # How many answers this machine made late, so that the request after may be a repeat.
+        self.late = 0
         # The longest time from an answer to the next request, in s: a whole round of the gateway.
         self.answered, self.longest = None, 0.0
         self.before, self.answer = None, b""
@@ -93,6 +95,7 @@ class Outstation(threading.Thread):
 
     def hear(self, stream, request):
         self.requests += 1
+        began = time.time()
         if self.answered:
             self.longest = max(self.longest, time.time() - self.answered)
         if request == self.before:
@@ -104,6 +107,7 @@ class Outstation(threading.Thread):
         if self.chance.random() >= self.loss:
             stream.sendall(self.answer)
             self.answered = time.time()
+            self.late += self.answered - began > 0.5
         else:
             self.answered = None
 
@@ -235,7 +239,7 @@ def stopped(program, seconds, loss):
     once(station, centre, faults)
     if centre.connections != 1:
         faults.append(f"a stall cut the connection {centre.connections - 1} times")
-    if loss == 0 and station.repeats:
+    if loss == 0 and station.repeats > station.late:
         faults.append(f"{station.repeats} of {station.requests} requests repeated, though the line answered in time")
     run.end()
     return faults, f"{stops} stops, {station.given} reports, {station.repeats} repeats, {centre.connections} connections"
@@ -273,7 +277,7 @@ def unread(program, seconds):
     settle(station, centre)
     centre.connections = visits + 1
     once(station, centre, faults)
-    if station.repeats:
+    if station.repeats > station.late:
         faults.append(f"{station.repeats} of {station.requests} requests repeated, though the line answered in time")
     run.end()
     told = f"{visits} that never read, {station.given} reports, {station.repeats} repeats"

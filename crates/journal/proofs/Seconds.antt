@@ -1,6 +1,6 @@
 -- Lines of one kind.
 use Rattle.std.proofs.Common.{◌≡◌, ℕ, ◌+◌, ◌-◌, ◌^◌, ◌<◌, ◌≤◌, Bool, true, false, List, [], ◌∷◌, length, Option, Some, None, nat_le, min, refl, arith}
-use Rattle.journal.specs.Limits.{is_free, is_free_after, asked, asked_by, one_more, told_by, told_in, IsSecondAfter, AreSecondsApart, told_of, left_in}
+use Rattle.journal.specs.Limits.{is_free, is_free_after, asked_by, one_more, told_by, told_in, IsSecondAfter, AreSecondsApart, told_of, left_in}
 use Rattle.journal.specs.declared.limit.Limit.{Limit}
 
 free_after : (told now : ℕ) → nat_le 1000 (now - told) ≡ true → told + 1000 ≤ now

@@ -31,7 +31,6 @@ close_words close.Replaced = codes "a new connection takes its place"
 abbrev pub cut_words : CutCause → List ℕ
 cut_words cut.Gone = codes "its other end has gone"
 cut_words cut.NotTaken = codes "it didn't take what was written"
-cut_words cut.Late = codes "what came would be told too late"
 cut_words cut.Restarted = codes "the gateway was started again"
 
 abbrev pub trouble_words : Trouble → List ℕ

@@ -1,6 +1,6 @@
 -- What is told of the stations, by the requests that go out to them (IEC 60870-5-2; the lines are
 -- this gateway's own profile).
-use Rattle.std.specs.Prelude.{◌≡◌, ℕ, ◌+◌, ◌*◌, ◌==◌, nat_lt, Bool, true, false, not, List, [], ◌∷◌, length, map, slice_get, slice_index, Option, Some, None, is_none, if◌then◌else◌}
+use Rattle.std.specs.Prelude.{ℕ, ◌+◌, ◌*◌, ◌==◌, nat_lt, Bool, true, false, not, List, [], ◌∷◌, length, map, slice_get, slice_index, Option, Some, None, is_none, if◌then◌else◌}
 use Rattle.std.specs.Bool.{beq}
 use Rattle.ft12.specs.declared.frame.LinkSize.{LinkSize}
 use Rattle.ft12.specs.declared.frame.LinkSize.TheVariants.{One, Two}
@@ -8,7 +8,6 @@ use Rattle.link.specs.Control.{is_primary, fcb_bit, fcv_bit, function_code, prim
 use Rattle.link.specs.declared.control.PrimaryFunction.TheVariants.{LinkStatus}
 use Rattle.journal.specs.Ends.{changed, happened, new_limit}
 use Rattle.journal.specs.Limits.{one_more, is_minute_after}
-use Rattle.journal.specs.declared.limit.Limit.{Limit}
 use Rattle.journal.specs.declared.note.Line.{Line}
 use Rattle.journal.specs.declared.note.Note.TheVariants as note
 use Rattle.journal.specs.declared.stations.Asking.{Asking}

@@ -1,5 +1,5 @@
 -- Which line follows from what passes the port (this gateway's own profile).
-use Rattle.std.specs.Prelude.{◌≡◌, ℕ, ◌+◌, ◌-◌, nat_le, nat_lt, Bool, true, false, List, map, Option, Some, None, if◌then◌else◌}
+use Rattle.std.specs.Prelude.{ℕ, ◌+◌, ◌-◌, nat_le, nat_lt, Bool, true, false, List, map, Option, Some, None, if◌then◌else◌}
 use Rattle.ft12.specs.declared.frame.LinkSize.{LinkSize}
 use Rattle.gateway.specs.Config.{Settings}
 use Rattle.gateway.specs.Log.{Output, LineOut, TcpOut, Closed, GapOut}
@@ -15,7 +15,6 @@ use Rattle.journal.specs.Stations.{new_station}
 use Rattle.journal.specs.declared.ends.LineWatch.{LineWatch}
 use Rattle.journal.specs.declared.ends.DoorWatch.{DoorWatch}
 use Rattle.journal.specs.declared.ends.ConnectionWatch.{ConnectionWatch}
-use Rattle.journal.specs.declared.limit.Limit.{Limit}
 use Rattle.journal.specs.declared.note.Line.{Line}
 use Rattle.journal.specs.declared.note.Note.{Note}
 use Rattle.journal.specs.declared.note.Note.TheVariants as note

@@ -119,7 +119,6 @@ pub fn log_lines_by_example()
     ensures cuts { (words (note.Cut cut.Gone) ≡ codes "connection cut: its other end has gone")
         × (words (note.Cut cut.NotTaken)
         ≡ codes "connection cut: it didn't take what was written")
-        × (words (note.Cut cut.Late) ≡ codes "connection cut: what came would be told too late")
         × (words (note.Cut cut.Restarted)
         ≡ codes "connection cut: the gateway was started again") }
     ensures closes { (words (note.Closed close.Grammar)

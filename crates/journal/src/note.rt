@@ -120,7 +120,6 @@ fn cut_words(cause: CutCause) -> &'static str
     match cause {
         CutCause::Gone => "its other end has gone",
         CutCause::NotTaken => "it didn't take what was written",
-        CutCause::Late => "what came would be told too late",
         CutCause::Restarted => "the gateway was started again",
     }
 }

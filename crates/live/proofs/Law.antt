@@ -1,11 +1,12 @@
 -- The laws of the port over live ends.
-use Rattle.std.proofs.Common.{◌≡◌, ℕ, ◌+◌, ◌-◌, ◌<◌, ◌≤◌, true, false, Bool, List, Option, Some, None, refl, sym, ap, subst, arith, nat_lt, if◌then◌else◌, inl, inr}
+use Rattle.std.proofs.Common.{◌≡◌, ℕ, ◌+◌, ◌-◌, ◌<◌, ◌≤◌, true, false, Bool, List, [], ◌∷◌, Option, Some, None, refl, sym, ap, subst, arith, nat_lt, if◌then◌else◌, ◌∙◌, inl, inr}
 use Rattle.gateway.specs.declared.ports.Next.{Next}
 use Rattle.live.specs.Timing.{Moments, read_at, moment_at, moment_by, is_heard_out, goes_on, is_behind, eve}
-use Rattle.live.specs.Ends.{Ends, Peer, Answers, Turns, LogsTurn, as_logged, looking, event_at, taken_by, told_at, turn_by, sources_by, round, look, unless_found, next_round, looked_at, found_at, after, nothing_more, let_in}
+use Rattle.live.specs.Ends.{Ends, Peer, Answers, Turns, LogsTurn, as_logged, looking, event_at, taken_by, told_at, turn_by, sources_by, held_by, round, look, unless_found, next_round, looked_at, found_at, after, nothing_more, let_in}
+use Rattle.live.proofs.Apart.{clock_of, clock_apart, taken_same}
 use Rattle.live.specs.declared.source.Source.{Source}
 use Rattle.live.specs.declared.source.Source.TheVariants.{Door, Connection, Line}
-use Rattle.live.specs.Law.{AtMoment, AtBytes, AtClock}
+use Rattle.live.specs.Law.{AtMoment, AtBytes, AtClock, IsHeardOut}
 use Rattle.live.specs.declared.found.Found.{Found}
 use Rattle.live.specs.declared.found.Found.TheVariants as found
 use Rattle.live.specs.declared.timing.Timing.{Timing}
@@ -63,6 +64,46 @@ at_clock : (told : Moments) (now : ℕ) (Holds : ℕ → Type 0) → Holds now �
 at_clock None now Holds h = tt
 at_clock (Some before) now Holds h = h
 
+-- the clock has told this
+clock_told : (now : ℕ) (b : Bool) (buf : List ℕ) (f : Option Found) (old new : Ends) (taken : Option Found)
+    → (taken, new) ≡ taken_by b buf f (told_at now old) → new.clock ≡ read_at old.clock now
+clock_told now b buf f old new taken is =
+    ap (λ (p : Option Found × Ends). clock_of p.1) is ∙ taken_same clock_of clock_apart b buf f (told_at now old)
+
+-- once the line was heard out, or before any request, the moment is the clock's
+out_by : (h : Bool) (t : Timing) (r : Request) (now : ℕ) → is_heard_out t r ≡ h → t.answer_ms ≤ t.heard - r.written
+    → (if h then now else (if goes_on t r now then now else eve t r)) ≡ now
+out_by true t r now heard long = refl
+out_by false t r now heard long = absurd (grind (arith, heard, long))
+
+clocks_by : (t : Timing) (q : Option Request) (now : ℕ) → IsHeardOut t q → moment_by t q now ≡ now
+clocks_by t None now out = refl
+clocks_by t (Some r) now out = out_by (is_heard_out t r) t r now refl out
+
+clocks_of : (old new : Ends) (event : Next) (buf : List ℕ) → Turns old event buf new
+    → IsHeardOut new.timing new.timing.request → AtClock new.clock (λ now. AtMoment event (λ moment. moment ≡ now))
+clocks_of old new event buf (inl t) out =
+    let P : Next → Type 0 = λ e. AtClock new.clock (λ now. AtMoment e (λ moment. moment ≡ now)) in
+    let m = moment_at old.timing t.begun in
+    let R : Moments → Type 0 = λ c. AtClock c (λ now. m ≡ now) in
+    let same : new.timing ≡ old.timing = ap (λ (e : Ends). e.timing) t.told.ends in
+    let Q : Timing → Type 0 = λ k. moment_at k t.begun ≡ t.begun in
+    let told = ap (λ (e : Ends). e.clock) t.told.ends in
+    subst P (sym t.told.told) (subst R (sym told) (at_clock old.clock t.begun (λ now. m ≡ now)
+    (subst Q same (clocks_by new.timing new.timing.request t.begun out))))
+clocks_of old new event buf (inr t) out =
+    let m = moment_at new.timing t.now in
+    let P : Next → Type 0 = λ e. AtClock new.clock (λ now. AtMoment e (λ moment. moment ≡ now)) in
+    let R : Moments → Type 0 = λ c. AtClock c (λ now. AtMoment (event_at m t.told.taken) (λ moment. moment ≡ now)) in
+    let told = clock_told t.now (is_behind t.found.timing t.now) buf t.f t.found new t.told.taken t.told.ends in
+    subst P (sym t.told.told) (subst R (sym told) (at_clock t.found.clock t.now
+    (λ now. AtMoment (event_at m t.told.taken) (λ moment. moment ≡ now))
+    (at_moment m t.told.taken (λ moment. moment ≡ t.now) (clocks_by new.timing new.timing.request t.now out))))
+
+pub clocks : (old new : Ends) (event : Next) (buf : List ℕ) → LogsTurn old event buf new
+    → IsHeardOut new.timing new.timing.request → AtClock new.clock (λ now. AtMoment event (λ moment. moment ≡ now))
+clocks old new event buf l out = clocks_of old (as_logged old.log new) event buf l.turns out
+
 -- what a control centre sent is at most 50 ms behind the clock
 InTime : ℕ → Option Found × Ends → Type 0
 InTime now p = AtClock p.1.clock (λ n. AtBytes (event_at (moment_at p.1.timing now) p.0) (λ m. n ≤ m + 50))
@@ -70,22 +111,22 @@ InTime now p = AtClock p.1.clock (λ n. AtBytes (event_at (moment_at p.1.timing 
 level_bound : (now m : ℕ) → nat_lt 50 (now - m) ≡ false → now ≤ m + 50
 level_bound now m level = grind (arith, level)
 
-timely : (b : Bool) (f : Option Found) (e : Ends) (now : ℕ) → is_behind e.timing now ≡ b
-    → InTime now (taken_by b f (told_at now e))
+timely : (b : Bool) (buf : List ℕ) (f : Option Found) (e : Ends) (now : ℕ) → is_behind e.timing now ≡ b
+    → InTime now (taken_by b buf f (told_at now e))
 unfolding InTime
-timely true None e now behind = at_clock e.clock now (λ n. Unit {0}) tt
-timely true (Some found.Open) e now behind = at_clock e.clock now (λ n. Unit {0}) tt
-timely true (Some (found.Bytes len)) e now behind = at_clock e.clock now (λ n. Unit {0}) tt
-timely true (Some found.Cut) e now behind = at_clock e.clock now (λ n. Unit {0}) tt
-timely true (Some (found.Line len)) e now behind = at_clock e.clock now (λ n. Unit {0}) tt
-timely true (Some found.Fault) e now behind = at_clock e.clock now (λ n. Unit {0}) tt
-timely false None e now behind = at_clock e.clock now (λ n. Unit {0}) tt
-timely false (Some found.Open) e now behind = at_clock e.clock now (λ n. Unit {0}) tt
-timely false (Some (found.Bytes len)) e now behind = at_clock e.clock now (λ n. n ≤ moment_at e.timing now + 50)
+timely true buf None e now behind = at_clock e.clock now (λ n. Unit {0}) tt
+timely true buf (Some found.Open) e now behind = at_clock e.clock now (λ n. Unit {0}) tt
+timely true buf (Some (found.Bytes len)) e now behind = at_clock e.clock now (λ n. Unit {0}) tt
+timely true buf (Some found.Cut) e now behind = at_clock e.clock now (λ n. Unit {0}) tt
+timely true buf (Some (found.Line len)) e now behind = at_clock e.clock now (λ n. Unit {0}) tt
+timely true buf (Some found.Fault) e now behind = at_clock e.clock now (λ n. Unit {0}) tt
+timely false buf None e now behind = at_clock e.clock now (λ n. Unit {0}) tt
+timely false buf (Some found.Open) e now behind = at_clock e.clock now (λ n. Unit {0}) tt
+timely false buf (Some (found.Bytes len)) e now behind = at_clock e.clock now (λ n. n ≤ moment_at e.timing now + 50)
     (level_bound now (moment_at e.timing now) behind)
-timely false (Some found.Cut) e now behind = at_clock e.clock now (λ n. Unit {0}) tt
-timely false (Some (found.Line len)) e now behind = at_clock e.clock now (λ n. Unit {0}) tt
-timely false (Some found.Fault) e now behind = at_clock e.clock now (λ n. Unit {0}) tt
+timely false buf (Some found.Cut) e now behind = at_clock e.clock now (λ n. Unit {0}) tt
+timely false buf (Some (found.Line len)) e now behind = at_clock e.clock now (λ n. Unit {0}) tt
+timely false buf (Some found.Fault) e now behind = at_clock e.clock now (λ n. Unit {0}) tt
 
 in_time_by : (old new : Ends) (event : Next) (buf : List ℕ) → Turns old event buf new
     → AtClock new.clock (λ now. AtBytes event (λ moment. now ≤ moment + 50))
@@ -99,7 +140,7 @@ in_time_by old new event buf (inr t) =
     let P : Next → Type 0 = λ e. AtClock new.clock (λ now. AtBytes e (λ moment. now ≤ moment + 50)) in
     let Q : Option Found × Ends → Type 0 = λ p. InTime t.now p in
     subst P (sym t.told.told) (subst Q (sym t.told.ends)
-    (timely (is_behind t.found.timing t.now) t.f t.found t.now refl))
+    (timely (is_behind t.found.timing t.now) buf t.f t.found t.now refl))
 
 pub in_time : (old new : Ends) (event : Next) (buf : List ℕ) → LogsTurn old event buf new
     → AtClock new.clock (λ now. AtBytes event (λ moment. now ≤ moment + 50))
@@ -159,26 +200,31 @@ round_keeps k t a buf e h =
     (λ x. look (after e.first) t a buf x (λ y. look (after (after e.first)) t a buf y nothing_more))
     second e h
 
+held_keeps : (k : Timing) (held : List ℕ) (t : ℕ) (a : Answers) (buf : List ℕ) (e : Ends) → Keeps k e.timing
+    → Keeps k (held_by held t a buf e).1.timing
+held_keeps k [] t a buf e h = round_keeps k t a buf e h
+held_keeps k (octet ∷ octets) t a buf e h = h
+
 sources_keeps : (k : Timing) (b : Bool) (t : ℕ) (a : Answers) (buf : List ℕ) (e : Ends) → Keeps k e.timing
     → Keeps k (sources_by b t a buf e).1.timing
 unfolding IsKeeping
 sources_keeps k true t a buf e h = look_keeps k Line t a buf nothing_more (nothing_keeps k) e h
-sources_keeps k false t a buf e h = round_keeps k t a buf e h
+sources_keeps k false t a buf e h = held_keeps k e.held t a buf e h
 
 turn_keeps : (k : Timing) (d : Bool) (t : ℕ) (a : Answers) (buf : List ℕ) (e : Ends) → Keeps k e.timing
     → Keeps k (turn_by d t a buf e).1.timing
 turn_keeps k true t a buf e h = h
 turn_keeps k false t a buf e h = sources_keeps k (is_behind e.timing t) t a buf e h
 
-taken_keeps : (k : Timing) (b : Bool) (f : Option Found) (e : Ends) → Keeps k e.timing
-    → Keeps k (taken_by b f e).1.timing
-taken_keeps k false f e h = h
-taken_keeps k true None e h = h
-taken_keeps k true (Some found.Open) e h = h
-taken_keeps k true (Some (found.Bytes len)) e h = h
-taken_keeps k true (Some found.Cut) e h = h
-taken_keeps k true (Some (found.Line len)) e h = h
-taken_keeps k true (Some found.Fault) e h = h
+taken_keeps : (k : Timing) (b : Bool) (buf : List ℕ) (f : Option Found) (e : Ends) → Keeps k e.timing
+    → Keeps k (taken_by b buf f e).1.timing
+taken_keeps k false buf f e h = h
+taken_keeps k true buf None e h = h
+taken_keeps k true buf (Some found.Open) e h = h
+taken_keeps k true buf (Some (found.Bytes len)) e h = h
+taken_keeps k true buf (Some found.Cut) e h = h
+taken_keeps k true buf (Some (found.Line len)) e h = h
+taken_keeps k true buf (Some found.Fault) e h = h
 
 kept_by : (old new : Ends) (event : Next) (buf : List ℕ) → Turns old event buf new
     → (new.timing.request ≡ old.timing.request) × (new.timing.answer_ms ≡ old.timing.answer_ms)
@@ -191,7 +237,7 @@ kept_by old new event buf (inr t) =
     let found : Keeps old.timing t.found.timing = subst Q (sym t.turn.turned)
     (turn_keeps old.timing old.is_cut_due t.begun t.turn.answers buf (looking (told_at t.begun old)) (refl, refl))
     in
-    subst Q (sym t.told.ends) (taken_keeps old.timing (is_behind t.found.timing t.now) t.f
+    subst Q (sym t.told.ends) (taken_keeps old.timing (is_behind t.found.timing t.now) buf t.f
     (told_at t.now t.found) found)
 
 pub kept : (old new : Ends) (event : Next) (buf : List ℕ) → LogsTurn old event buf new

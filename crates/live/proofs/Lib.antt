@@ -1,5 +1,8 @@
+pub mod Apart
 pub mod Turns
 pub mod Puts
+pub mod Closes
+pub mod Writes
 pub mod Tries
 pub mod Law
 pub mod Strangers

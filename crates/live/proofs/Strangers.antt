@@ -1,11 +1,11 @@
 -- Nobody but a guest comes in.
-use Rattle.std.proofs.Common.{◌≡◌, ℕ, true, false, Bool, List, Option, Some, None, IfSome, option_map, refl, sym, ap, subst, inl, inr}
+use Rattle.std.proofs.Common.{◌≡◌, ℕ, true, false, Bool, List, [], ◌∷◌, Option, Some, None, IfSome, option_map, refl, sym, ap, subst, inl, inr}
 use Rattle.std.specs.declared.net.ip_addr.IpAddr.{IpAddr}
 use Rattle.gateway.specs.Log.{Log}
 use Rattle.gateway.specs.declared.ports.Next.{Next}
 use Rattle.gateway.specs.declared.ports.Next.TheVariants as next
 use Rattle.live.specs.Timing.{is_behind, moment_at}
-use Rattle.live.specs.Ends.{Ends, Peer, IsGuest, Answers, Turns, LogsTurn, as_logged, looking, event_at, taken_by, told_at, turn_by, sources_by, round, look, unless_found, next_round, looked_at, after, nothing_more, let_in, of_visitor, of_open, of_line, read_from}
+use Rattle.live.specs.Ends.{Ends, Peer, IsGuest, Answers, Turns, LogsTurn, as_logged, looking, event_at, taken_by, told_at, turn_by, sources_by, held_by, round, look, unless_found, next_round, looked_at, after, nothing_more, let_in, of_visitor, of_open, of_line, read_from}
 use Rattle.live.specs.Law.{IsOfGuest, IsSameOrNone, peer_of, KeepsOut}
 use Rattle.live.specs.declared.found.Found.{Found}
 use Rattle.live.specs.declared.found.Found.TheVariants as found
@@ -80,11 +80,17 @@ round_out g b t a buf e guest h =
     (λ x. look (after e.first) t a buf x (λ y. look (after (after e.first)) t a buf y nothing_more))
     guest second e h
 
+held_out : (g : Guests) (b : Option IpAddr) (h : List ℕ) (t : ℕ) (a : Answers) (buf : List ℕ) (e : Ends)
+    → IfSome a.visitor (IsGuest g) → IsSameOrNone b e.connection → Out g b (held_by h t a buf e)
+unfolding Out IsKeptOut
+held_out g b [] t a buf e guest h = round_out g b t a buf e guest h
+held_out g b (octet ∷ octets) t a buf e guest h = h
+
 sources_out : (g : Guests) (b : Option IpAddr) (is_late : Bool) (t : ℕ) (a : Answers) (buf : List ℕ) (e : Ends)
     → IfSome a.visitor (IsGuest g) → IsSameOrNone b e.connection → Out g b (sources_by is_late t a buf e)
 unfolding KeepsOn
 sources_out g b true t a buf e guest h = look_out g b Line t a buf nothing_more guest (nothing_out g b) e h
-sources_out g b false t a buf e guest h = round_out g b t a buf e guest h
+sources_out g b false t a buf e guest h = held_out g b e.held t a buf e guest h
 
 turn_out : (g : Guests) (b : Option IpAddr) (is_due : Bool) (t : ℕ) (a : Answers) (buf : List ℕ) (e : Ends)
     → IfSome a.visitor (IsGuest g) → IsSameOrNone b e.connection → Out g b (turn_by is_due t a buf e)
@@ -92,16 +98,16 @@ unfolding Out IsKeptOut
 turn_out g b true t a buf e guest h = tt
 turn_out g b false t a buf e guest h = sources_out g b (is_behind e.timing t) t a buf e guest h
 
-taken_out : (g : Guests) (b : Option IpAddr) (is_late : Bool) (f : Option Found) (e : Ends)
-    → IsKeptOut g b f e.connection → Out g b (taken_by is_late f e)
+taken_out : (g : Guests) (b : Option IpAddr) (is_late : Bool) (buf : List ℕ) (f : Option Found) (e : Ends)
+    → IsKeptOut g b f e.connection → Out g b (taken_by is_late buf f e)
 unfolding Out IsKeptOut
-taken_out g b false f e h = h
-taken_out g b true None e h = h
-taken_out g b true (Some found.Open) e h = h
-taken_out g b true (Some (found.Bytes len)) e h = tt
-taken_out g b true (Some found.Cut) e h = h
-taken_out g b true (Some (found.Line len)) e h = h
-taken_out g b true (Some found.Fault) e h = h
+taken_out g b false buf f e h = h
+taken_out g b true buf None e h = h
+taken_out g b true buf (Some found.Open) e h = h
+taken_out g b true buf (Some (found.Bytes len)) e h = h
+taken_out g b true buf (Some found.Cut) e h = h
+taken_out g b true buf (Some (found.Line len)) e h = h
+taken_out g b true buf (Some found.Fault) e h = h
 
 told_out : (old new : Ends) (now : ℕ) (f : Option Found) → IsKeptOut old.guests (peer_of old) f new.connection
     → KeepsOut old (event_at now f) new
@@ -130,7 +136,8 @@ kept_out_by old new event buf (inr t) =
     let turned = turn_out old.guests (peer_of old) old.is_cut_due t.begun t.turn.answers buf
     (looking (told_at t.begun old)) t.turn.visitor (as_it_was old.connection) in
     let found : IsKeptOut old.guests (peer_of old) t.f t.found.connection = subst Q (sym t.turn.turned) turned in
-    let taken = taken_out old.guests (peer_of old) (is_behind t.found.timing t.now) t.f (told_at t.now t.found) found in
+    let taken = taken_out old.guests (peer_of old) (is_behind t.found.timing t.now) buf t.f
+    (told_at t.now t.found) found in
     let told : IsKeptOut old.guests (peer_of old) t.told.taken new.connection = subst Q (sym t.told.ends) taken in
     subst P (sym t.told.told) (told_out old new (moment_at new.timing t.now) t.told.taken told)
 

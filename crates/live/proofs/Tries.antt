@@ -1,7 +1,7 @@
 -- A wire that is reached again.
 use Rattle.std.proofs.Common.{◌≡◌, ℕ, true, false, Some, None, List, refl, sym, ap, subst, ◌∙◌}
 use Rattle.live.specs.Wires.{History, IsNew, Visits}
-use Rattle.live.specs.Redial.{Redial, ended, IfReached, dialled_map, is_due, told_at, settled, answered, begun_by, tried_by, looked_by, IsAnswered, IsTriedOn, IsRedialled}
+use Rattle.live.specs.Redial.{Redial, ended, IfReached, dialled_map, is_due, told_at, settled, begun_by, tried_by, looked_by, IsAnswered, IsTriedOn, IsRedialled}
 use Rattle.live.specs.declared.redial.Dialled.{Dialled}
 use Rattle.live.specs.declared.redial.Dialled.TheVariants.{Reached, Pending, Failed}
 use Rattle.live.specs.declared.wires.Got.TheVariants.{Quiet}

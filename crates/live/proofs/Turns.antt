@@ -1,8 +1,8 @@
 -- A turn from its looks. Each source answers at its look; a turn is told by the answers of all three.
-use Rattle.std.proofs.Common.{◌≡◌, ℕ, true, false, List, Option, Some, None, IfSome, refl, sym, ap, subst, ◌∙◌, inl, inr}
+use Rattle.std.proofs.Common.{◌≡◌, ℕ, arith, ◌==◌, true, false, Bool, List, [], ◌∷◌, length, take, Option, Some, None, IfSome, refl, sym, ap, subst, ◌∙◌, inl, inr}
 use Rattle.live.specs.declared.guests.Guests.{Guests}
 use Rattle.live.specs.Timing.{is_behind, moment_at}
-use Rattle.live.specs.Ends.{Ends, Peer, IsGuest, let_in, Answers, after, found_at, looked_at, read_from, next_round, unless_found, look, nothing_more, round, turn, turn_by, sources_by, taken_by, told_at, looking, IsTurn, IsTold, IsWallTold, Turns, TurnsToWall, TurnsToEnds, event_at}
+use Rattle.live.specs.Ends.{Ends, Peer, IsGuest, let_in, Answers, after, found_at, looked_at, read_from, next_round, unless_found, look, nothing_more, round, turn, turn_by, held_by, sources_by, IsFront, taken_by, told_at, looking, IsTurn, IsTold, IsWallTold, Turns, TurnsToWall, TurnsToEnds, event_at}
 use Rattle.gateway.specs.declared.ports.Next.{Next}
 use Rattle.live.specs.Looks.{Looks, answers_for}
 use Rattle.live.specs.Walls.{is_wall_due}
@@ -103,13 +103,28 @@ look_of : (s : Source) (t : ℕ) (a : Answers) (buf : List ℕ) (e n : Ends) (f 
     → look s t a buf e others ≡ unless_found f n others
 look_of s t a buf e n f others found ends = rw (ends, ← found) refl
 
+-- what the buffer begins with
+front_by : (a b : Bool) (h buf : List ℕ) → take (length h) buf ≡ h → IsFront a b h buf
+front_by true b h buf x = tt
+front_by false true h buf x = tt
+front_by false false h buf x = x
+
+none_of : (h : List ℕ) → (length h == 0) ≡ true → h ≡ []
+none_of [] empty = refl
+none_of (x ∷ h) empty = absurd (grind (arith, empty))
+
+front_none : (a b : Bool) (h buf : List ℕ) → h ≡ [] → IsFront a b h buf
+front_none a b h buf none =
+    let P : List ℕ → Type 0 = λ h. take (length h) buf ≡ h in front_by a b h buf (subst P (sym none) refl)
+
 -- the cut that is due
 pub due_turn : (t : ℕ) (buf : List ℕ) (old new : Ends) → old.is_cut_due ≡ true
-    → new ≡ record old { connection = None; first = after Connection; is_cut_due = false }
+    → new ≡ record old { connection = None; held = []; first = after Connection; is_cut_due = false }
     → IsTurn t old (Some Cut) buf new
 due_turn t buf old new due done = record {
   answers = record { visitor = None; connection = Quiet; line = Quiet };
   visitor = tt;
+  front = let P : Bool → Type 0 = λ d. IsFront d (is_behind old.timing t) old.held buf in subst P (sym due) tt;
   turned = rw (due, done) refl;
 }
 
@@ -134,12 +149,33 @@ look_3 : (s : Source) (t : ℕ) (a b c : Answers) (buf : List ℕ) (e n : Ends) 
 look_3 s t a b c buf e n f others found ends = look_of (after (after s)) t (joined s a b c) buf e n f others (found
     ∙ sym (found_3 s a b c e)) (ends ∙ ap (next_round (after (after s)) f) (sym (ends_3 s t a b c buf e)))
 
--- no cut is due, and no moment too far behind
+-- no cut is due, no moment too far behind, and nothing is held
 plain : (t : ℕ) (answers : Answers) (buf : List ℕ) (old : Ends) → old.is_cut_due ≡ false
-    → is_behind old.timing t ≡ false
+    → is_behind old.timing t ≡ false → (length old.held == 0) ≡ true
     → turn t answers buf old ≡ round t answers buf old
-plain t answers buf old due level = ap (λ b. turn_by b t answers buf old) due
-    ∙ ap (λ b. sources_by b t answers buf old) level
+plain t answers buf old due level none = ap (λ b. turn_by b t answers buf old) due
+    ∙ (ap (λ b. sources_by b t answers buf old) level
+    ∙ ap (λ h. held_by h t answers buf old) (none_of old.held none))
+
+-- octets that are held
+held_some : (h : List ℕ) (t : ℕ) (a : Answers) (buf : List ℕ) (e : Ends) → (length h == 0) ≡ false
+    → (Some (Bytes (length h)), record e { held = []; first = after Connection }) ≡ held_by h t a buf e
+held_some [] t a buf e some = absurd (cc)
+held_some (x ∷ h) t a buf e some = refl
+
+pub held_turn : (t : ℕ) (buf : List ℕ) (old new : Ends) (f : Found) → old.is_cut_due ≡ false
+    → is_behind old.timing t ≡ false → (length old.held == 0) ≡ false → f ≡ Bytes (length old.held)
+    → take (length old.held) buf ≡ old.held → new ≡ record old { held = []; first = after Connection }
+    → IsTurn t old (Some f) buf new
+held_turn t buf old new f due level some is front done =
+    let a : Answers = record { visitor = None; connection = Quiet; line = Quiet } in
+    record {
+      answers = a;
+      visitor = tt;
+      front = front_by old.is_cut_due (is_behind old.timing t) old.held buf front;
+      turned = rw (is, done) (held_some old.held t a buf old some
+          ∙ sym (ap (λ b. turn_by b t a buf old) due ∙ ap (λ b. sources_by b t a buf old) level));
+    }
 
 last_look : (f : Option Found) (n : Ends) → unless_found f n nothing_more ≡ (f, n)
 last_look None n = refl
@@ -153,27 +189,32 @@ line_turn t buf old new f due behind l =
     record {
       answers = a;
       visitor = l.visitor;
+      front = let P : Bool → Type 0 = λ d. IsFront d (is_behind old.timing t) old.held buf in
+          let Q : Bool → Type 0 = λ b. IsFront false b old.held buf in
+          subst P (sym due) (subst Q (sym behind) tt);
       turned = sym (ap (λ b. turn_by b t a buf old) due ∙ (ap (λ b. sources_by b t a buf old) behind
           ∙ (look_of Line t a buf old new f nothing_more l.found l.ends ∙ last_look f new)));
     }
 
 -- the first look finds something
 pub first_turn : (t : ℕ) (buf : List ℕ) (old new : Ends) (f : Found) → old.is_cut_due ≡ false
-    → is_behind old.timing t ≡ false → Looks old.first t old (Some f) buf new → IsTurn t old (Some f) buf new
-first_turn t buf old new f due level l =
+    → is_behind old.timing t ≡ false → (length old.held == 0) ≡ true → Looks old.first t old (Some f) buf new
+    → IsTurn t old (Some f) buf new
+first_turn t buf old new f due level none l =
     let a = answers_for (Some f) new in
     record {
       answers = joined old.first a a a;
       visitor = visitor_of old.guests old.first a a a l.visitor l.visitor l.visitor;
-      turned = sym (plain t (joined old.first a a a) buf old due level
+      front = front_none old.is_cut_due (is_behind old.timing t) old.held buf (none_of old.held none);
+      turned = sym (plain t (joined old.first a a a) buf old due level none
           ∙ look_1 old.first t a a a buf old new (Some f) _ l.found l.ends);
     }
 
 -- the second look finds something
 pub second_turn : (t : ℕ) (before buf : List ℕ) (old mid new : Ends) (f : Found) → old.is_cut_due ≡ false
-    → is_behind old.timing t ≡ false → Looks old.first t old None before mid
+    → is_behind old.timing t ≡ false → (length old.held == 0) ≡ true → Looks old.first t old None before mid
     → Looks (after old.first) t mid (Some f) buf new → IsTurn t old (Some f) buf new
-second_turn t before buf old mid new f due level first m =
+second_turn t before buf old mid new f due level none first m =
     let a = answers_for None mid in
     let b = answers_for (Some f) new in
     let l = quiet old.first t old mid before buf first in
@@ -182,17 +223,18 @@ second_turn t before buf old mid new f due level first m =
     record {
       answers = joined old.first a b b;
       visitor = visitor_of old.guests old.first a b b l.visitor second second;
-      turned = sym (plain t (joined old.first a b b) buf old due level
+      front = front_none old.is_cut_due (is_behind old.timing t) old.held buf (none_of old.held none);
+      turned = sym (plain t (joined old.first a b b) buf old due level none
           ∙ (look_1 old.first t a b b buf old mid None _ l.found l.ends
           ∙ look_2 old.first t a b b buf mid new (Some f) _ m.found m.ends));
     }
 
 -- the third look tells the turn
 pub third_turn : (t : ℕ) (before then buf : List ℕ) (old mid more new : Ends) (f : Option Found)
-    → old.is_cut_due ≡ false → is_behind old.timing t ≡ false → Looks old.first t old None before mid
-    → Looks (after old.first) t mid None then more → Looks (after (after old.first)) t more f buf new
+    → old.is_cut_due ≡ false → is_behind old.timing t ≡ false → (length old.held == 0) ≡ true
+    → Looks old.first t old None before mid → Looks (after old.first) t mid None then more → Looks (after (after old.first)) t more f buf new
     → IsTurn t old f buf new
-third_turn t before then buf old mid more new f due level first second n =
+third_turn t before then buf old mid more new f due level none first second n =
     let a = answers_for None mid in
     let b = answers_for None more in
     let c = answers_for f new in
@@ -206,35 +248,37 @@ third_turn t before then buf old mid more new f due level first second n =
     record {
       answers = joined old.first a b c;
       visitor = visitor_of old.guests old.first a b c l.visitor at_second at_third;
-      turned = sym (plain t (joined old.first a b c) buf old due level
+      front = front_none old.is_cut_due (is_behind old.timing t) old.held buf (none_of old.held none);
+      turned = sym (plain t (joined old.first a b c) buf old due level none
           ∙ (look_1 old.first t a b c buf old mid None _ l.found l.ends
           ∙ (look_2 old.first t a b c buf mid more None _ m.found m.ends
           ∙ (look_3 old.first t a b c buf more new f _ n.found n.ends ∙ last_look f new))));
     }
 
 -- octets that came too far behind the clock
-pub told_cut : (now : ℕ) (old new : Ends) (len : ℕ) (event : Next) → is_behind old.timing now ≡ true
-    → new ≡ record old { connection = None } → event ≡ event_at (moment_at new.timing now) (Some Cut)
-    → IsTold now old (Some (Bytes len)) event new
-told_cut now old new len event behind done told = record {
-  taken = Some Cut;
-  ends = ap (λ e. (Some Cut, e)) done ∙ sym (ap (λ b. taken_by b (Some (Bytes len)) old) behind);
-  told = told;
-}
+pub told_held : (now : ℕ) (old new : Ends) (len : ℕ) (event : Next) (buf : List ℕ) → is_behind old.timing now ≡ true
+    → new ≡ record old { held = take len buf } → event ≡ event_at (moment_at new.timing now) None
+    → IsTold now old (Some (Bytes len)) event buf new
+told_held now old new len event buf behind done told =
+    let nothing : Option Found = None in record {
+      taken = nothing;
+      ends = ap (λ e. (nothing, e)) done ∙ sym (ap (λ b. taken_by b buf (Some (Bytes len)) old) behind);
+      told = told;
+    }
 
 -- octets that came in time
-pub told_level : (now : ℕ) (old : Ends) (f : Option Found) (event : Next) → is_behind old.timing now ≡ false
-    → event ≡ event_at (moment_at old.timing now) f → IsTold now old f event old
-told_level now old f event level told = record {
+pub told_level : (now : ℕ) (old : Ends) (f : Option Found) (event : Next) (buf : List ℕ)
+    → is_behind old.timing now ≡ false → event ≡ event_at (moment_at old.timing now) f → IsTold now old f event buf old
+told_level now old f event buf level told = record {
   taken = f;
-  ends = sym (ap (λ b. taken_by b f old) level);
+  ends = sym (ap (λ b. taken_by b buf f old) level);
   told = told;
 }
 
 -- a turn, with its event
 pub turned : (old found new : Ends) (begun now : ℕ) (f : Option Found) (event : Next) (buf : List ℕ) →
     is_wall_due old.walled begun ≡ false → IsTurn begun (looking (told_at begun old)) f buf found →
-    IsTold now (told_at now found) f event new → Turns old event buf new
+    IsTold now (told_at now found) f event buf new → Turns old event buf new
 turned old found new begun now f event buf due turn told =
     let t : TurnsToEnds old event buf new =
     record { begun = begun; due = due; now = now; f = f; found = found; turn = turn; told = told } in

@@ -1,9 +1,11 @@
 -- The ends are looked at between two events that tell the wall clock.
-use Rattle.std.proofs.Common.{◌≡◌, ℕ, true, false, List, Option, Some, None, refl, sym, ap, ◌∙◌, inl, inr}
+use Rattle.std.proofs.Common.{◌≡◌, ◌≢◌, ℕ, ◌+◌, ◌<◌, true, false, List, Option, Some, None, IfSome, arith, refl, sym, ap, subst, ◌∙◌, inl, inr}
 use Rattle.gateway.specs.declared.ports.Next.{Next}
-use Rattle.live.specs.Timing.{moment_at}
-use Rattle.live.specs.Walls.{is_wall, is_wall_due}
-use Rattle.live.specs.Ends.{Ends, Turns, LogsTurn, as_logged, TurnsToWall, TurnsToEnds, event_at}
+use Rattle.live.specs.Timing.{Moments, read_at, moment_at, is_behind}
+use Rattle.live.specs.Walls.{is_wall, is_wall_due, is_due_since}
+use Rattle.live.specs.Law.{AtBegun}
+use Rattle.live.proofs.Apart.{walled_of, walled_apart, clock_of, clock_apart, turn_same, taken_same}
+use Rattle.live.specs.Ends.{Ends, Turns, LogsTurn, as_logged, TurnsToWall, TurnsToEnds, event_at, looking, told_at}
 use Rattle.live.specs.declared.found.Found.{Found}
 use Rattle.live.specs.declared.found.Found.TheVariants as found
 use Rattle.live.specs.declared.walled.Walled.{Walled}
@@ -39,3 +41,72 @@ pub apart : (a b c : Ends) (first second : Next) (buf more : List ℕ) → LogsT
     → is_wall first ≡ true → is_wall second ≡ false
 apart a b c first second buf more l m =
     apart_by a (as_logged a.log b) b (as_logged b.log c) first second buf more refl l.turns m.turns
+
+-- an event that isn't the wall clock comes of looks, before which it wasn't due
+since : (told : Option ℕ) (begun : ℕ) → is_due_since told true begun ≡ false
+    → IfSome told (λ t. begun < t + 1000)
+since None begun undue = tt
+since (Some t) begun undue = grind (arith, undue)
+
+some_since : (told : Option ℕ) (begun : ℕ) → is_due_since told true begun ≡ false → told ≢ None
+some_since None begun undue = λ none. absurd (cc)
+some_since (Some t) begun undue = λ none. absurd (cc)
+
+looked_walled : (old new : Ends) (event : Next) (buf : List ℕ) → TurnsToEnds old event buf new
+    → new.walled ≡ record old.walled { has_looked = true }
+looked_walled old new event buf t =
+    ap (λ (p : Option Found × Ends). walled_of p.1) t.told.ends
+    ∙ (taken_same walled_of walled_apart (is_behind t.found.timing t.now) buf t.f (told_at t.now t.found)
+    ∙ (ap (λ (p : Option Found × Ends). walled_of p.1) t.turn.turned
+    ∙ turn_same walled_of walled_apart old.is_cut_due t.begun t.turn.answers buf (looking (told_at t.begun old))))
+
+-- so behind one such event it is due by when it was told alone
+undue_since : (a b c d : Ends) (first second : Next) (buf more : List ℕ) → b.walled ≡ c.walled
+    → TurnsToEnds a first buf b → (u : TurnsToEnds c second more d) → is_due_since b.walled.told true u.begun ≡ false
+undue_since a b c d first second buf more same t u =
+    let was = looked_walled a b first buf t in
+    let looked : b.walled.has_looked ≡ true = ap (λ (w : Walled). w.has_looked) was in
+    ap (λ h. is_due_since b.walled.told h u.begun) (sym looked)
+    ∙ (ap (λ (w : Walled). is_wall_due w u.begun) same ∙ u.due)
+
+wall_of : (a b : Ends) (first : Next) (buf : List ℕ) → TurnsToWall a first b → is_wall first ≡ true
+wall_of a b first buf t = ap is_wall t.told.told
+
+at_begun : (told : Moments) (begun now : ℕ) (Holds : ℕ → Type 0) → Holds begun
+    → AtBegun (read_at (read_at told begun) now) Holds
+at_begun None begun now Holds h = tt
+at_begun (Some before) begun now Holds h = h
+
+begun_clock : (old new : Ends) (event : Next) (buf : List ℕ) (t : TurnsToEnds old event buf new) (Holds : ℕ → Type 0)
+    → Holds t.begun → AtBegun new.clock Holds
+begun_clock old new event buf t Holds h =
+    let told : new.clock ≡ read_at (read_at old.clock t.begun) t.now =
+    ap (λ (p : Option Found × Ends). clock_of p.1) t.told.ends
+    ∙ (taken_same clock_of clock_apart (is_behind t.found.timing t.now) buf t.f (told_at t.now t.found)
+    ∙ ap (λ c. read_at c t.now) (ap (λ (p : Option Found × Ends). clock_of p.1) t.turn.turned
+    ∙ turn_same clock_of clock_apart old.is_cut_due t.begun t.turn.answers buf (looking (told_at t.begun old)))) in
+    let P : Moments → Type 0 = λ c. AtBegun c Holds in
+    subst P (sym told) (at_begun old.clock t.begun t.now Holds h)
+
+second_by : (a b c d : Ends) (first second : Next) (buf more : List ℕ) → b.walled ≡ c.walled → Turns a first buf b
+    → Turns c second more d → is_wall first ≡ false → is_wall second ≡ false
+    → AtBegun d.clock (λ begun. IfSome b.walled.told (λ t. begun < t + 1000)) × (b.walled.told ≢ None)
+second_by a b c d first second buf more same (inl t) u dark other =
+    let wrong : false ≡ true = sym dark ∙ wall_of a b first buf t in absurd (cc)
+second_by a b c d first second buf more same (inr t) (inl u) dark other =
+    let wrong : false ≡ true = sym other ∙ wall_of c d second more u in absurd (cc)
+second_by a b c d first second buf more same (inr t) (inr u) dark other =
+    let undue = undue_since a b c d first second buf more same t u in
+    let Holds : ℕ → Type 0 = λ begun. IfSome b.walled.told (λ t. begun < t + 1000) in
+    (begun_clock c d second more u Holds (since b.walled.told u.begun undue), some_since b.walled.told u.begun undue)
+
+pub each_second : (a b c : Ends) (first second : Next) (buf more : List ℕ) → LogsTurn a first buf b
+    → LogsTurn b second more c → is_wall first ≡ false → is_wall second ≡ false
+    → AtBegun c.clock (λ begun. IfSome b.walled.told (λ t. begun < t + 1000))
+each_second a b c first second buf more l m dark other =
+    (second_by a (as_logged a.log b) b (as_logged b.log c) first second buf more refl l.turns m.turns dark other).0
+
+pub was_told : (a b c : Ends) (first second : Next) (buf more : List ℕ) → LogsTurn a first buf b
+    → LogsTurn b second more c → is_wall first ≡ false → is_wall second ≡ false → b.walled.told ≢ None
+was_told a b c first second buf more l m dark other =
+    (second_by a (as_logged a.log b) b (as_logged b.log c) first second buf more refl l.turns m.turns dark other).1

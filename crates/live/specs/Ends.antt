@@ -1,5 +1,5 @@
 -- The ends of a live run, and what its port does with them (this gateway's own profile).
-use Rattle.std.specs.Prelude.{ℕ, ◌+◌, ◌-◌, ◌≤◌, ◌⊎◌, List, ◌∷◌, ◌++◌, Bool, true, false, not, Option, Some, None, IfSome, ◌≡◌}
+use Rattle.std.specs.Prelude.{ℕ, ◌+◌, ◌-◌, ◌≤◌, ◌⊎◌, List, [], ◌∷◌, ◌++◌, length, take, Bool, true, false, not, Option, Some, None, IfSome, ◌≡◌}
 use Rattle.gateway.specs.Log.{Log, Went, Output, LineOut, TcpOut, Closed, GapOut}
 use Rattle.gateway.specs.Ports.{told_by}
 use Rattle.gateway.specs.declared.ports.Next.{Next}
@@ -31,14 +31,15 @@ pub record IsGuest (guests : Guests) (peer : Peer) : Type 0 where
   pub is_new : IsNew peer.wire
   pub lets_in : LetsIn guests peer.address
 
--- Who may come in; what happened at the line, at the connection, if there is one, at the door, and
--- what the clock told; the source that is looked at first; whether a write to the connection
+-- Who may come in; what happened at the line, at the connection, if there is one, and at the door;
+-- octets of that connection that came and haven't been told; what the clock told; the source that is looked at first; whether a write to the connection
 -- failed, so that a cut is due; how often the line was gone; what tells the moment of an event;
 -- what the wall clock showed, and when it was told last; and the log, the newest entry first.
 pub record Ends : Type 0 where
   pub guests : Guests
   pub line : History
   pub connection : Option Peer
+  pub held : List ℕ
   pub door : Visits
   pub clock : Moments
   pub first : Source
@@ -89,11 +90,11 @@ found_at Door answers ends = of_visitor answers.visitor
 found_at Connection answers ends = of_open ends.connection answers.connection
 found_at Line answers ends = of_line answers.line
 
--- a visitor takes the place of the connection that was
+-- a visitor takes the place of the connection that was, with its octets
 abbrev pub let_in : Option Peer → Ends → Ends
 let_in None ends = record ends { door = visited ends.door false }
 let_in (Some visitor) ends =
-    record ends { door = visited ends.door true; connection = Some visitor }
+    record ends { door = visited ends.door true; connection = Some visitor; held = [] }
 
 -- a connection that is gone is none any more
 abbrev pub read_open : History → Got → (buf : List ℕ) → Option History
@@ -155,29 +156,49 @@ round begun answers buf ends =
     (λ e. look (after ends.first) begun answers buf e
     (λ e. look (after (after ends.first)) begun answers buf e nothing_more))
 
+-- octets that are held come before any look, as an event of the connection
+abbrev pub held_by : (held : List ℕ) → ℕ → Answers → (buf : List ℕ) → Ends → Option Found × Ends
+held_by [] begun answers buf ends = round begun answers buf ends
+held_by (octet ∷ octets) begun answers buf ends = (
+  Some (found.Bytes (length (octet ∷ octets))),
+  record ends { held = []; first = after Connection },
+)
+
 -- Where the moment of an event would be too far behind the clock, the line alone is looked at.
 abbrev pub sources_by : Bool → ℕ → Answers → (buf : List ℕ) → Ends → Option Found × Ends
 sources_by true begun answers buf ends = look Line begun answers buf ends nothing_more
-sources_by false begun answers buf ends = round begun answers buf ends
+sources_by false begun answers buf ends = held_by ends.held begun answers buf ends
 
 -- a cut that is due comes before any source is looked at, as an event of the connection, which is
 -- no more
 abbrev pub turn_by : Bool → ℕ → Answers → (buf : List ℕ) → Ends → Option Found × Ends
-turn_by true begun answers buf ends =
-    let cut = record ends { connection = None; first = after Connection; is_cut_due = false } in
-    (Some found.Cut, cut)
+turn_by true begun answers buf ends = (
+  Some found.Cut,
+  record ends {
+    connection = None;
+    held = [];
+    first = after Connection;
+    is_cut_due = false;
+  },
+)
 turn_by false begun answers buf ends =
     sources_by (is_behind ends.timing begun) begun answers buf ends
 
 abbrev pub turn : ℕ → Answers → (buf : List ℕ) → Ends → Option Found × Ends
 turn begun answers buf ends = turn_by ends.is_cut_due begun answers buf ends
 
--- Octets of the connection that would bear a moment too far behind the clock aren't taken: the
--- connection is cut.
-abbrev pub taken_by : Bool → Option Found → Ends → Option Found × Ends
-taken_by true (Some (found.Bytes len)) ends = (Some found.Cut, record ends { connection = None })
-taken_by true f ends = (f, ends)
-taken_by false f ends = (f, ends)
+-- the buffer begins with the octets that were held, where they are told
+abbrev pub IsFront : (is_cut_due is_behind : Bool) → (held buf : List ℕ) → Type 0
+IsFront true is_behind held buf = Unit {0}
+IsFront false true held buf = Unit {0}
+IsFront false false held buf = take (length held) buf ≡ held
+
+-- Octets of the connection that would bear a moment too far behind the clock are held: they are told
+-- once no moment is that far behind.
+abbrev pub taken_by : Bool → (buf : List ℕ) → Option Found → Ends → Option Found × Ends
+taken_by true buf (Some (found.Bytes len)) ends = (None, record ends { held = take len buf })
+taken_by true buf f ends = (f, ends)
+taken_by false buf f ends = (f, ends)
 
 -- only a line that is gone is a failure
 abbrev pub faults_in : Option Found → ℕ
@@ -210,6 +231,7 @@ pub record IsTurn (begun : ℕ) (old : Ends) (f : Option Found) (buf : List ℕ)
     : Type 0 where
   pub answers : Answers
   pub visitor : IfSome answers.visitor (IsGuest old.guests)
+  pub front : IsFront old.is_cut_due (is_behind old.timing begun) old.held buf
   pub turned : (f, new) ≡ turn begun answers buf old
 
 -- the clock tells this moment
@@ -217,10 +239,10 @@ abbrev pub told_at : ℕ → Ends → Ends
 told_at now ends = record ends { clock = read_at ends.clock now }
 
 -- what was found when the clock was read again, as an event
-pub record IsTold (now : ℕ) (old : Ends) (f : Option Found) (event : Next) (new : Ends)
-    : Type 0 where
+pub record IsTold (now : ℕ) (old : Ends) (f : Option Found) (event : Next) (buf : List ℕ)
+    (new : Ends) : Type 0 where
   pub taken : Option Found
-  pub ends : (taken, new) ≡ taken_by (is_behind old.timing now) f old
+  pub ends : (taken, new) ≡ taken_by (is_behind old.timing now) buf f old
   pub told : event ≡ event_at (moment_at new.timing now) taken
 
 -- the wall clock shows this, and is told at this moment of the clock
@@ -255,7 +277,7 @@ pub record TurnsToEnds (old : Ends) (event : Next) (buf : List ℕ) (new : Ends)
   pub f : Option Found
   pub found : Ends
   pub turn : IsTurn begun (looking (told_at begun old)) f buf found
-  pub told : IsTold now (told_at now found) f event new
+  pub told : IsTold now (told_at now found) f event buf new
 
 abbrev pub Turns : Ends → Next → (buf : List ℕ) → Ends → Type 0
 Turns old event buf new = TurnsToWall old event new ⊎ TurnsToEnds old event buf new
@@ -285,11 +307,11 @@ pub record IsWritten (old : Ends) (octets : List ℕ) (new : Ends) : Type 0 wher
   pub taken : Bool
   pub done : new ≡ written_open old.is_cut_due octets taken old.connection old
 
--- A close ends the connection, and with it a cut that was due. That of a connection which another
+-- A close ends the connection, and with it its octets and a cut that was due. That of a connection which another
 -- has replaced has nothing more to end.
 abbrev pub closed_by : Close → Ends → Ends
 closed_by Replaced ends = ends
-closed_by _ ends = record ends { connection = None; is_cut_due = false }
+closed_by _ ends = record ends { connection = None; held = []; is_cut_due = false }
 
 -- The ends after an action of this moment, where the wire that it goes to took the octets, or not:
 -- a write to the connection that failed makes a cut due, one to the line loses a request. Once a

@@ -1,9 +1,11 @@
 -- Words of the laws (this gateway's own profile).
-use Rattle.std.specs.Prelude.{◌≡◌, ℕ, [], ◌∷◌, Option, Some, None, option_map}
+use Rattle.std.specs.Prelude.{◌≡◌, ℕ, ◌-◌, ◌≤◌, [], ◌∷◌, Option, Some, None, option_map}
 use Rattle.std.specs.declared.net.ip_addr.IpAddr.{IpAddr}
 use Rattle.live.specs.Ends.{Ends, Peer}
 use Rattle.live.specs.Guests.{LetsIn}
 use Rattle.live.specs.Timing.{Moments}
+use Rattle.live.specs.declared.timing.Timing.{Timing}
+use Rattle.live.specs.declared.timing.Request.{Request}
 use Rattle.live.specs.declared.guests.Guests.{Guests}
 use Rattle.gateway.specs.declared.ports.Next.{Next}
 use Rattle.gateway.specs.declared.ports.Next.TheVariants as next
@@ -35,6 +37,17 @@ abbrev pub AtClock : Moments → (ℕ → Type 0) → Type 0
 AtClock None Holds = Unit {0}
 AtClock (Some []) Holds = Unit {0}
 AtClock (Some (now ∷ before)) Holds = Holds now
+
+-- the line has been looked at for answer_ms since the latest request was written, if one was
+abbrev pub IsHeardOut : Timing → Option Request → Type 0
+IsHeardOut t None = Unit {0}
+IsHeardOut t (Some r) = t.answer_ms ≤ t.heard - r.written
+
+-- this holds of what the clock told before it told the newest moment, where it tells that
+abbrev pub AtBegun : Moments → (ℕ → Type 0) → Type 0
+AtBegun None Holds = Unit {0}
+AtBegun (Some (now ∷ (begun ∷ before))) Holds = Holds begun
+AtBegun _ Holds = Unit {0}
 
 -- a connection is open, and it is one of a guest
 abbrev pub IsOfGuest : Guests → Option Peer → Type 0

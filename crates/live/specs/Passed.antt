@@ -71,16 +71,18 @@ abbrev pub TellsWritten : (is_cut_due : Bool) → (went handed taken : List (Lis
 TellsWritten true went handed taken = Unit {0}
 TellsWritten false went handed taken = (went ≡ handed) × (went ≡ taken)
 
--- the wire of a connection gave these octets, and took these APDUs
-abbrev pub TellsWire : (is_cut_due : Bool) → List ℕ → List (List ℕ) → History → Type 0
-TellsWire is_cut_due came went None = Unit {0}
-TellsWire is_cut_due came went (Some happened) =
-    (came ≡ given happened)
+-- the wire of a connection gave these octets, with those that are held, and took these APDUs
+abbrev pub TellsWire : (is_cut_due : Bool) → (held came : List ℕ) → List (List ℕ) → History
+    → Type 0
+TellsWire is_cut_due held came went None = Unit {0}
+TellsWire is_cut_due held came went (Some happened) =
+    (came ++ held ≡ given happened)
     × TellsWritten is_cut_due went (handed happened) (taken_of happened)
 
-abbrev pub TellsCentre : (is_cut_due : Bool) → List ℕ → List (List ℕ) → Option Peer → Type 0
-TellsCentre is_cut_due came went None = Unit {0}
-TellsCentre is_cut_due came went (Some peer) = TellsWire is_cut_due came went peer.wire
+abbrev pub TellsCentre : (is_cut_due : Bool) → (held came : List ℕ) → List (List ℕ) → Option Peer
+    → Type 0
+TellsCentre is_cut_due held came went None = Unit {0}
+TellsCentre is_cut_due held came went (Some peer) = TellsWire is_cut_due held came went peer.wire
 
 -- each connection that was opened is one that the door let in
 abbrev pub TellsDoor : ℕ → Visits → Type 0
@@ -91,7 +93,7 @@ TellsDoor count (Some before) = count ≡ let_in_at before
 abbrev pub TellsEnds : Log → Ends → Type 0
 TellsEnds log ends =
     TellsLine (line_in log) (line_out log) ends.line
-    × TellsCentre ends.is_cut_due (centre_in log) (centre_out log) ends.connection
+    × TellsCentre ends.is_cut_due ends.held (centre_in log) (centre_out log) ends.connection
     × TellsDoor (opened_in log) ends.door
 
 -- nobody has been at the door yet

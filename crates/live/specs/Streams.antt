@@ -1,5 +1,5 @@
 -- What the answer of one call to a stream means (this gateway's own profile).
-use Rattle.std.specs.Prelude.{◌≡◌, ◌≢◌, ℕ, ◌==◌, ◌⊎◌, List, ◌∷◌, length, Bool, false, Option, Some, None, Result, Ok, Err, MatchResult, if◌then◌else◌}
+use Rattle.std.specs.Prelude.{◌≡◌, ◌≢◌, ℕ, ◌==◌, ◌⊎◌, List, [], ◌∷◌, ◌++◌, length, take, Bool, false, Option, Some, None, Result, Ok, Err, MatchResult, if◌then◌else◌}
 use Rattle.std.specs.declared.io.Error.{Error}
 use Rattle.std.specs.declared.io.ErrorKind.{ErrorKind}
 use Rattle.std.specs.declared.io.ErrorKind.TheVariants.{WouldBlock, TimedOut, Interrupted}
@@ -7,13 +7,19 @@ use Rattle.std.specs.IoError.{error_kind}
 use Rattle.live.specs.declared.wires.Got.{Got}
 use Rattle.live.specs.declared.wires.Got.TheVariants.{Octets, Quiet, Gone}
 
--- what the system answered to each call of a stream, the newest first, where the stream tells that
-abbrev pub Calls : Type 0
-Calls = Option (List (Result ℕ Error))
+-- a call of a stream, and what the system answered: how many octets came, or how many of those that
+-- were handed to it were taken, from the front
+pub data Call : Type 0 where
+  Received : (answer : Result ℕ Error) → Call
+  Sent : (octets : List ℕ) → (answer : Result ℕ Error) → Call
 
-abbrev pub called : Calls → Result ℕ Error → Calls
-called None answer = None
-called (Some before) answer = Some (answer ∷ before)
+-- the calls of a stream, the newest first, where it tells them
+abbrev pub Calls : Type 0
+Calls = Option (List Call)
+
+abbrev pub called : Calls → Call → Calls
+called None call = None
+called (Some before) call = Some (call ∷ before)
 
 -- A wait that ended without octets and an interruption are quiet; every other failure is the wire's
 -- end.
@@ -31,7 +37,7 @@ MeansGot answer got =
 -- one call, and what its answer means
 pub record ReadsOnce (old : Calls) (got : Got) (new : Calls) : Type 0 where
   pub answer : Result ℕ Error
-  pub asked : new ≡ called old answer
+  pub asked : new ≡ called old (Received answer)
   pub means : MeansGot answer got
 
 -- how many octets were taken
@@ -40,9 +46,9 @@ taken_of (Ok count) = count
 taken_of (Err fault) = 0
 
 -- one call, and how many of the octets it took
-pub record WritesOnce (old : Calls) (taken : ℕ) (new : Calls) : Type 0 where
+pub record WritesOnce (old : Calls) (octets : List ℕ) (taken : ℕ) (new : Calls) : Type 0 where
   pub answer : Result ℕ Error
-  pub asked : new ≡ called old answer
+  pub asked : new ≡ called old (Sent octets answer)
   pub means : taken ≡ taken_of answer
 
 -- a part of the octets is not the whole
@@ -53,5 +59,25 @@ takes_all (Err fault) size = false
 -- one call, and whether it took all octets
 pub record WritesAll (old : Calls) (octets : List ℕ) (is_taken : Bool) (new : Calls) : Type 0 where
   pub answer : Result ℕ Error
-  pub asked : new ≡ called old answer
+  pub asked : new ≡ called old (Sent octets answer)
   pub means : is_taken ≡ takes_all answer (length octets)
+
+-- the octets that a stream took, in their order
+abbrev pub took : List Call → List ℕ
+took [] = []
+took (Received answer ∷ before) = took before
+took (Sent octets answer ∷ before) = took before ++ take (taken_of answer) octets
+
+-- since then the stream took these octets
+abbrev pub Took : Calls → List ℕ → Calls → Type 0
+Took None octets None = Unit {0}
+Took None octets (Some after) = ⊥
+Took (Some before) octets None = ⊥
+Took (Some before) octets (Some after) = took after ≡ took before ++ octets
+
+-- The stream took a beginning of the octets, once and in their order, and whether it took them all.
+pub record WritesFront (old : Calls) (octets : List ℕ) (is_taken : Bool) (new : Calls)
+    : Type 0 where
+  pub count : ℕ
+  pub taken : Took old (take count octets) new
+  pub all : is_taken ≡ (count == length octets)

@@ -1,9 +1,12 @@
 //! Laws of the port over live ends, in the terms of the clock, the requests and the looks at the
 //! line.
-ghost use Rattle.std.specs.Prelude.{◌≡◌, ◌+◌, ◌-◌, ◌<◌, ◌≤◌, ℕ, List, [], ◌∷◌, Some, true, false};
+ghost use Rattle.std.specs.Prelude.{◌≡◌, ◌≢◌, IfSome, None, ◌+◌, ◌-◌, ◌<◌, ◌≤◌, ℕ, List, [], ◌∷◌, Some, true, false};
 ghost use Rattle.gateway.specs.declared.ports.Next.{Next};
-ghost use Rattle.live.specs.Ends.{Ends, LogsTurn};
-ghost use Rattle.live.specs.Law.{AtMoment, AtBytes, AtClock, KeepsOut};
+ghost use Rattle.live.specs.Ends.{Ends, LogsTurn, LogsPut};
+ghost use Rattle.live.specs.Law.{AtMoment, AtBytes, AtClock, AtBegun, IsHeardOut, KeepsOut};
+ghost use Rattle.gateway.specs.Log.{Closed};
+ghost use Rattle.session.specs.declared.kinds.Close.{Close};
+ghost use Rattle.session.specs.declared.kinds.Close.TheVariants.{Replaced};
 ghost use Rattle.live.specs.Passed.{IsFresh, Run, TellsEnds, line_in, line_out, centre_in, centre_out, opened_in, let_in_at, given, handed, taken_of, example_log, example_line};
 ghost use Rattle.live.specs.Walls.{is_wall};
 ghost use Rattle.live.specs.declared.timing.Request.{Request};
@@ -17,6 +20,33 @@ pub fn no_exchange_ends_unheard()
         LogsTurn old event buf new → new.timing.request ≡ Some r → 0 < new.timing.answer_ms →
         AtMoment event (λ moment. r.moment + new.timing.answer_ms ≤ moment →
         new.timing.answer_ms ≤ new.timing.heard - r.written) }
+{}
+
+/// Once the line has been looked at for `answer_ms` since the latest request was written, and before
+/// any request, an event bears the moment that the clock told last: so an exchange without an answer
+/// ends.
+pub fn a_line_that_is_heard_out_holds_no_moment()
+    ensures { (old new : Ends) (event : Next) (buf : List ℕ) → LogsTurn old event buf new →
+        IsHeardOut new.timing new.timing.request →
+        AtClock new.clock (λ now. AtMoment event (λ moment. moment ≡ now)) }
+{}
+
+/// Behind a close no connection is open, but where another has replaced the one that was.
+pub fn a_close_shuts_the_connection()
+    ensures { (old new : Ends) (moment : ℕ) (cause : Close) →
+        LogsPut old moment (Closed cause) new → cause ≢ Replaced → new.connection ≡ None }
+{}
+
+/// Of two events that follow each other, neither of which tells the wall clock, the looks for the
+/// second begin less than a second after the wall clock was told: so it is told each second.
+pub fn the_wall_clock_is_told_each_second()
+    ensures second { (a b c : Ends) (first second : Next) (buf more : List ℕ) →
+        LogsTurn a first buf b → LogsTurn b second more c → is_wall first ≡ false →
+        is_wall second ≡ false →
+        AtBegun c.clock (λ begun. IfSome b.walled.told (λ told. begun < told + 1000)) }
+    ensures told { (a b c : Ends) (first second : Next) (buf more : List ℕ) →
+        LogsTurn a first buf b → LogsTurn b second more c → is_wall first ≡ false →
+        is_wall second ≡ false → b.walled.told ≢ None }
 {}
 
 /// An event that bears what a control centre sent bears a moment at most 50 ms before the one that

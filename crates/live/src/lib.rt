@@ -12,18 +12,20 @@
 //! after a write to the connection that failed the next event but the wall clock is a cut, no end
 //! is looked at before, and nothing more is written to it; a close ends the connection and that
 //! cut; who comes through the door takes the place of the connection, and stays when the gateway
-//! closes the one before; a request that the line doesn't take is lost and no failure; the line's
-//! end alone is one.
+//! closes the one before ([`a_close_shuts_the_connection`]); a request that the line doesn't take
+//! is lost and no failure; the line's end alone is one.
 //!
 //! And of time, whatever the gateway stalls: an event bears the clock's moment after the looks, but
 //! none that ends an exchange whose line hasn't been looked at for `answer_ms` since the request
-//! was written ([`no_exchange_ends_unheard`]); where that moment is more than 50 ms behind the
+//! was written ([`no_exchange_ends_unheard`]), and once it has been, the clock's
+//! ([`a_line_that_is_heard_out_holds_no_moment`]); where that moment is more than 50 ms behind the
 //! clock, the line alone is looked at, and octets of a control centre that would bear such a moment
-//! are not taken: the connection is cut ([`what_the_centre_sent_is_told_in_time`]).
+//! are held ([`what_the_centre_sent_is_told_in_time`]).
 //!
 //! The wall clock is told at the first call, and again where a second has passed since and the ends
-//! have been looked at in between ([`the_ends_are_looked_at_between_wall_moments`]): as it stood at
-//! the moment that the event bears. A wall clock that is set is told as it then shows.
+//! have been looked at in between ([`the_ends_are_looked_at_between_wall_moments`],
+//! [`the_wall_clock_is_told_each_second`]): as it stood at the moment that the event bears. A wall
+//! clock that is set is told as it then shows.
 //!
 //! It tells its log, and stores none of it: each event that it gave and each action that it put
 //! out. Where the ends tell what happens at them, the log's octets are those that the line and the
@@ -36,13 +38,15 @@
 //! it begins as a new wire each time.
 //!
 //! One call to a stream of the system is read as one fact about its answer: octets, quiet or gone,
-//! and taken only where all was taken. What sockets do beyond that is no matter of a proof.
+//! and taken only where all was taken; of a write in two calls a stream takes the octets once, in
+//! their order. What sockets do beyond that is no matter of a proof.
 #![tactic(auto)]
 
 #[cfg(test)]
 mod configured;
 mod found;
 mod guests;
+mod held;
 mod laws;
 #[cfg(test)]
 mod memory;
@@ -60,8 +64,10 @@ mod wires;
 
 pub use guests::Guests;
 pub use laws::{
-    looks_ask_nothing, no_exchange_ends_unheard, nobody_but_guests_comes_in,
-    the_ends_are_looked_at_between_wall_moments, the_log_tells_what_passed, what_passed_by_example,
+    a_close_shuts_the_connection, a_line_that_is_heard_out_holds_no_moment, looks_ask_nothing,
+    no_exchange_ends_unheard, nobody_but_guests_comes_in,
+    the_ends_are_looked_at_between_wall_moments, the_log_tells_what_passed,
+    the_wall_clock_is_told_each_second, what_passed_by_example,
     what_the_centre_sent_is_told_in_time,
 };
 pub use port::Live;

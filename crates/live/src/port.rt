@@ -1,7 +1,7 @@
 //! The port over live ends.
-ghost use Rattle.std.specs.Prelude.{◌≡◌, ◌≢◌, ℕ, ◌+◌, ◌<◌, true, false, List, [], ◌∷◌, ◌++◌, Some, None, IfSome, option_map};
+ghost use Rattle.std.specs.Prelude.{◌≡◌, ◌≢◌, ℕ, ◌+◌, ◌<◌, ◌≤◌, true, false, List, [], ◌∷◌, ◌++◌, length, take, Some, None, IfSome, option_map};
 ghost use Rattle.gateway.specs.Ports.{FitsBuffer, faults_of, output_of, told_by};
-ghost use Rattle.live.specs.Ends.{Ends, Peer, told_at, IsTurn, IsTold, IsWallTold, Turns, Puts, LogsTurn, LogsPut, as_logged, FitsFound, IsWritten, faults_in};
+ghost use Rattle.live.specs.Ends.{Ends, Peer, after, told_at, IsTurn, IsTold, IsWallTold, Turns, Puts, LogsTurn, LogsPut, as_logged, FitsFound, IsWritten, faults_in};
 ghost use Rattle.live.specs.Timing.{is_behind, moment_at};
 ghost use Rattle.live.specs.Looks.{Looks, LooksAt};
 ghost use Rattle.live.specs.Walls.{untold};
@@ -10,11 +10,12 @@ ghost use Rattle.gateway.specs.declared.ports.Next.TheVariants.{Done};
 
 use crate::found::{Found, event_at};
 use crate::guests::Guests;
+use crate::held::Held;
 use crate::source::Source;
 use crate::timing::Timing;
 use crate::walled::Walled;
 use crate::wires::{Clock, CutCause, Door, Got, Presence, Reached, SentAway, Visitor, Wire};
-use gateway::{Action, History, Next, Port};
+use gateway::{Action, Config, History, Next, Port};
 use session::Close;
 use std::marker::Model;
 use std::net::IpAddr;
@@ -28,6 +29,8 @@ pub struct Live<L: Wire, D: Door + Drop, C: Clock + Drop> {
     clock: C,
     guests: Guests,
     connection: Option<Visitor<D::Wire>>,
+    /// Octets of that connection that came and haven't been told.
+    held: Held,
     /// The source that is looked at first.
     first: Source,
     /// A write to the connection failed, so that the next event is a cut.
@@ -54,6 +57,7 @@ impl<L: Wire, D: Door + Drop, C: Clock + Drop> Model for Live<L, D, C> {
         address = v.address;
         wire = D.Wire.history v.wire;
       }) a.connection;
+      held = a.held;
       door = D.visits a.door;
       clock = C.moments a.clock;
       first = a.first;
@@ -68,14 +72,37 @@ impl<L: Wire, D: Door + Drop, C: Clock + Drop> Model for Live<L, D, C> {
 
 impl<L: Wire, D: Door + Drop, C: Clock + Drop> Live<L, D, C> {
     ghost use Rattle.live.specs.declared.source.Source.TheVariants as sources;
+    ghost use Rattle.live.specs.declared.found.Found.TheVariants as found;
 
     /// A port over these ends, with no connection yet. Nobody but these guests comes in. An answer
-    /// of the line is awaited for `answer_ms`, in ms, as in the gateway's settings.
-    pub fn new(line: L, door: D, clock: C, guests: Guests, answer_ms: u64) -> Live<L, D, C>
+    /// of the line is awaited as long as by a gateway with these settings.
+    pub fn new(line: L, door: D, clock: C, guests: Guests, config: &Config) -> Live<L, D, C>
         ensures { result ≡ record {
           guests = guests;
           line = L.history line;
           connection = None;
+          held = [];
+          door = D.visits door;
+          clock = C.moments clock;
+          first = sources.Door;
+          is_cut_due = false;
+          failed = 0;
+          timing = record { answer_ms = config.now.line.answer_ms; heard = 0; request = None };
+          walls = C.walls clock;
+          walled = untold;
+          log = [];
+        } }
+    {
+        Live::awaiting(line, door, clock, guests, config.line().answer_ms)
+    }
+
+    /// The same, where an answer is awaited for so long, in ms.
+    fn awaiting(line: L, door: D, clock: C, guests: Guests, answer_ms: u64) -> Live<L, D, C>
+        ensures { result ≡ record {
+          guests = guests;
+          line = L.history line;
+          connection = None;
+          held = [];
           door = D.visits door;
           clock = C.moments clock;
           first = sources.Door;
@@ -93,6 +120,7 @@ impl<L: Wire, D: Door + Drop, C: Clock + Drop> Live<L, D, C> {
             door,
             clock,
             connection: None,
+            held: Held::new(),
             first: Source::Door,
             is_cut_due: false,
             why_cut: CutCause::Gone,
@@ -146,7 +174,7 @@ impl<L: Wire, D: Door + Drop, C: Clock + Drop> Live<L, D, C> {
     /// What a turn finds, which the clock begins at this moment: the cut that is due, else the
     /// first thing in one round over the sources, or, where the moment of an event would be too far
     /// behind the clock, on the line alone.
-    #[tactic(auto, using(crate::proofs::Turns::due_turn, crate::proofs::Turns::line_turn, crate::proofs::Turns::first_turn, crate::proofs::Turns::second_turn, crate::proofs::Turns::third_turn))]
+    #[tactic(auto, using(crate::proofs::Turns::due_turn, crate::proofs::Turns::line_turn, crate::proofs::Turns::held_turn, crate::proofs::Turns::first_turn, crate::proofs::Turns::second_turn, crate::proofs::Turns::third_turn))]
     fn turn(&mut self, begun: u64, buf: &mut [u8; 1024]) -> Option<Found>
         requires { self.old.failed < u64.MAX }
         ensures fits { IfSome result FitsFound }
@@ -155,13 +183,16 @@ impl<L: Wire, D: Door + Drop, C: Clock + Drop> Live<L, D, C> {
     {
         if self.is_cut_due {
             self.is_cut_due = false;
-            self.connection = None;
+            self.end_connection();
             // A cut is an event of the connection: the round goes on behind that.
             self.first = Source::Connection.after();
             return Some(Found::Cut);
         }
         if self.timing.is_behind(begun) {
             return self.look(Source::Line, begun, buf);
+        }
+        if !self.held.is_empty() {
+            return Some(self.take_held(buf));
         }
         // From where the last round ended: no source that always has something hides another.
         let first = self.first;
@@ -173,6 +204,28 @@ impl<L: Wire, D: Door + Drop, C: Clock + Drop> Live<L, D, C> {
             return Some(found);
         }
         self.look(second.after(), begun, buf)
+    }
+
+    /// The connection is no more, and with it its octets.
+    fn end_connection(&mut self)
+        ensures { self.new ≡ record self.old { connection = None; held = [] } }
+    {
+        self.connection = None;
+        self.held = Held::new();
+    }
+
+    /// The octets that are held, as what was found on the connection.
+    fn take_held(&mut self, buf: &mut [u8; 1024]) -> Found
+        requires { 1 ≤ length self.old.held }
+        ensures fits { FitsFound result }
+        ensures value { result ≡ found.Bytes (length self.old.held) }
+        ensures front { take (length self.old.held) buf.new ≡ self.old.held }
+        ensures ends { self.new ≡ record self.old { held = []; first = after sources.Connection } }
+    {
+        let len = self.held.put(buf);
+        self.held = Held::new();
+        self.first = Source::Connection.after();
+        Found::Bytes(len)
     }
 
     /// Looks once at a source. Where something is found, the next round begins with the source
@@ -194,7 +247,7 @@ impl<L: Wire, D: Door + Drop, C: Clock + Drop> Live<L, D, C> {
         found
     }
 
-    /// Who comes through the door takes the place of the connection.
+    /// Who comes through the door takes the place of the connection, with its octets.
     fn look_at_door(&mut self) -> Option<Found>
         ensures fits { IfSome result FitsFound }
         ensures failed { self.new.failed ≡ self.old.failed + faults_in result }
@@ -203,6 +256,7 @@ impl<L: Wire, D: Door + Drop, C: Clock + Drop> Live<L, D, C> {
         match self.door.accept(&self.guests) {
             Some(visitor) => {
                 self.connection = Some(visitor);
+                self.held = Held::new();
                 Some(Found::Open)
             }
             None => None,
@@ -247,21 +301,22 @@ impl<L: Wire, D: Door + Drop, C: Clock + Drop> Live<L, D, C> {
     }
 
     /// What was found, as an event of the moment that is due now. Octets of the connection whose
-    /// moment would be too far behind the clock are not taken: the connection is cut, since an
-    /// execute among them could come in time by that moment alone.
-    #[tactic(auto, using(crate::proofs::Turns::told_cut, crate::proofs::Turns::told_level))]
-    fn tell(&mut self, now: u64, found: Option<Found>) -> Next
+    /// moment would be too far behind the clock are held, since an execute among them could come in
+    /// time by that moment alone: they are told once no moment is that far behind.
+    #[tactic(auto, using(crate::proofs::Turns::told_held, crate::proofs::Turns::told_level))]
+    fn tell(&mut self, now: u64, found: Option<Found>, buf: &[u8; 1024]) -> Next
         requires { IfSome found FitsFound }
         ensures fits { FitsBuffer result }
         ensures failed { faults_of result ≡ faults_in found }
         ensures same { self.new.failed ≡ self.old.failed }
-        ensures told { IsTold now self.old found result self.new }
+        ensures told { IsTold now self.old found result buf.now self.new }
     {
         let mut taken = found;
-        if self.timing.is_behind(now) && matches!(found, Some(Found::Bytes(_))) {
-            self.connection = None;
-            self.why_cut = CutCause::Late;
-            taken = Some(Found::Cut);
+        if self.timing.is_behind(now) {
+            if let Some(Found::Bytes(len)) = found {
+                self.held = Held::of(&buf[..len]);
+                taken = None;
+            }
         }
         event_at(self.timing.moment(now), taken)
     }
@@ -313,7 +368,7 @@ impl<L: Wire, D: Door + Drop, C: Clock + Drop> Live<L, D, C> {
         self.walled.look();
         let found = self.turn(begun, buf);
         let now = self.read_clock();
-        self.tell(now, found)
+        self.tell(now, found, buf)
     }
 
     /// Puts an action out. What an end doesn't take is lost.
@@ -332,7 +387,7 @@ impl<L: Wire, D: Door + Drop, C: Clock + Drop> Live<L, D, C> {
             // Its wire went when another took its place.
             Action::Close(Close::Replaced) => {}
             Action::Close(_) => {
-                self.connection = None;
+                self.end_connection();
                 self.is_cut_due = false;
             }
             // Nobody at the ends is told of a gap.

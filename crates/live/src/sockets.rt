@@ -7,11 +7,12 @@ ghost use Rattle.std.specs.Prelude.{None};
 
 use crate::guests::Guests;
 use crate::redial::{Dialled, Dialler};
-use crate::stream::{drop_waiting, read_once, write_once, write_some};
+use crate::stream::{drop_waiting, read_once, write_in_two, write_once};
 use crate::wires::{Clock, Door, Got, Presence, Reached, SentAway, Visitor, Wire};
 use std::io::{Eprint, ErrorKind};
 use std::net::{
-    HostAddrs, IpAddr, Net, OpenListener, OpenStream, SocketAddr, TcpListener, TcpStream, ToSocketAddrs,
+    HostAddrs, IpAddr, Net, OpenListener, OpenStream, SocketAddr, TcpListener, TcpStream,
+    ToSocketAddrs,
 };
 use std::os::unix::net::UnixStream;
 use std::time::{Duration, Instant, SystemTime};
@@ -251,17 +252,10 @@ impl CentreSocket {
     fn new(stream: TcpStream) -> io::Result<CentreSocket> {
         stream.set_nodelay(true)?;
         stream.set_write_timeout(Some(Duration::from_millis(WRITE_MS)))?;
+        // Of use only where a write had waited and the stream then refused to wait no more.
+        stream.set_read_timeout(Some(Duration::from_millis(LOOK_MS)))?;
         stream.set_nonblocking(true)?;
         Ok(CentreSocket(stream))
-    }
-
-    /// Writes, and for that time may wait.
-    fn write_in_time(&mut self, octets: &[u8]) -> io::Result<bool> {
-        self.0.set_nonblocking(false)?;
-        let is_taken = write_once(&mut self.0, octets);
-        // At once, since a read of it never waits.
-        self.0.set_nonblocking(true)?;
-        Ok(is_taken)
     }
 }
 
@@ -273,12 +267,7 @@ impl Wire for CentreSocket {
     }
 
     fn write(&mut self, octets: &[u8]) -> bool {
-        // Nearly every APDU goes out so, without two calls more.
-        let taken = write_some(&mut self.0, octets);
-        if taken == octets.len() {
-            return true;
-        }
-        self.write_in_time(&octets[taken..]).unwrap_or(false)
+        write_in_two(&mut self.0, octets)
     }
 }
 

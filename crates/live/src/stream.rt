@@ -1,7 +1,7 @@
 //! One call to a stream of the system, and what its answer means.
 ghost use Rattle.std.specs.Prelude.{◌≤◌, length};
 ghost use Rattle.live.specs.Wires.{FitsBuffer};
-ghost use Rattle.live.specs.Streams.{ReadsOnce, WritesOnce, WritesAll};
+ghost use Rattle.live.specs.Streams.{ReadsOnce, WritesOnce, WritesAll, WritesFront};
 
 use crate::wires::Got;
 use std::io;
@@ -16,20 +16,20 @@ const STALE_READS: u32 = 64;
 /// Octets both ways, as the system has them. A stream that tells its calls adds the answer of each.
 pub(crate) trait Stream {
     ghost use Rattle.std.specs.Prelude.{◌≡◌, ◌≤◌, length, IfOk};
-    ghost use Rattle.live.specs.Streams.{Calls, called};
+    ghost use Rattle.live.specs.Streams.{Calls, Received, Sent, called};
 
-    /// What the system answered to each call, the newest first, where it tells that.
+    /// Its calls, with what the system answered, the newest first, where it tells them.
     ghost calls: { Self → Calls };
 
     /// Octets that came, at the front of the buffer; 0 at the stream's end.
     fn receive(&mut self, buf: &mut [u8; 1024]) -> io::Result<usize>
         ensures bound { IfOk result (λ len. len ≤ 1024) }
-        ensures told { calls self.new ≡ called (calls self.old) result };
+        ensures told { calls self.new ≡ called (calls self.old) (Received result) };
 
     /// How many octets were taken, from the front.
     fn send(&mut self, octets: &[u8]) -> io::Result<usize>
         ensures bound { IfOk result (λ count. count ≤ length octets.now) }
-        ensures told { calls self.new ≡ called (calls self.old) result };
+        ensures told { calls self.new ≡ called (calls self.old) (Sent octets.now result) };
 
     /// Says whether its calls wait, each as long as its timeout says.
     fn set_waiting(&mut self, is_waiting: bool) -> io::Result<()>
@@ -102,9 +102,29 @@ pub(crate) fn write_once<S: Stream>(stream: &mut S, octets: &[u8]) -> bool
 /// Writes in one call, and answers how many octets were taken.
 pub(crate) fn write_some<S: Stream>(stream: &mut S, octets: &[u8]) -> usize
     ensures bound { result ≤ length octets.now }
-    ensures writes { WritesOnce (S.calls stream.old) result (S.calls stream.new) }
+    ensures writes { WritesOnce (S.calls stream.old) octets.now result (S.calls stream.new) }
 {
     stream.send(octets).unwrap_or(0)
+}
+
+/// Writes what the stream takes without a wait, and then, within its timeout, what is left. Answers
+/// whether all octets were taken.
+#[tactic(auto, using(crate::proofs::Writes::written_whole, crate::proofs::Writes::written_part))]
+pub(crate) fn write_in_two<S: Stream>(stream: &mut S, octets: &[u8]) -> bool
+    ensures { WritesFront (S.calls stream.old) octets.now result (S.calls stream.new) }
+{
+    // Nearly every APDU goes out so, without two calls more.
+    let taken = write_some(stream, octets);
+    if taken == octets.len() {
+        return true;
+    }
+    if stream.set_waiting(true).is_err() {
+        return false;
+    }
+    let is_taken = write_once(stream, &octets[taken..]);
+    // A stream that refuses this has gone, as the next look at it tells.
+    let _ = stream.set_waiting(false);
+    is_taken
 }
 
 /// Drops what has come and wasn't read, without a wait.

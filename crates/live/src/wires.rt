@@ -40,8 +40,6 @@ pub enum CutCause {
     Gone,
     /// It didn't take what was written to it.
     NotTaken,
-    /// What came on it would have been told too late.
-    Late,
     /// The run goes on after a restart, which it didn't outlive.
     Restarted,
 }

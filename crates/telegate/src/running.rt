@@ -274,7 +274,7 @@ where
     S: Sink + Drop,
     W: Sheet + Drop,
 {
-    let mut port = Live::new(line, door, clock, guests, config.line().answer_ms);
+    let mut port = Live::new(line, door, clock, guests, config);
     if start.resumed.is_some() {
         port = port.cut_first();
     }

@@ -123,9 +123,9 @@ fn a_stall_is_no_late_answer(rt: HostRuntime) {
     assert!(rt; matches!(both, (Next::Tick(1201), Next::Open(_))));
 }
 
-/// The next event of a connected port after a request at 0, after which the gateway stalls for so
-/// long, and so long in its look at the connection.
-fn connected_after(rt: &impl Abort, stall_ms: u64, look_ms: u64) -> (Next, Next) {
+/// The next three events of a connected port after a request at 0, after which the gateway stalls
+/// for so long, and so long in its look at the connection.
+fn connected_after(rt: &impl Abort, stall_ms: u64, look_ms: u64) -> (Next, Next, Next) {
     let time = Time::new(0, 0);
     let mut port = ends(&time, 60000, true);
     assert!(rt; matches!(next(rt, &mut port), Next::Open(0)));
@@ -135,20 +135,26 @@ fn connected_after(rt: &impl Abort, stall_ms: u64, look_ms: u64) -> (Next, Next)
         centre.wire.look_ms = look_ms;
     }
     let first = next(rt, &mut port);
-    (first, next(rt, &mut port))
+    let second = next(rt, &mut port);
+    (first, second, next(rt, &mut port))
 }
 
 #[test]
-fn a_stall_makes_no_selection_longer(rt: HostRuntime) {
+fn a_stall_makes_no_selection_longer_and_cuts_nobody(rt: HostRuntime) {
     // What the control centre sent in a stall before the looks bears the moment after it.
-    let both = connected_after(&rt, 2000, 0);
-    assert!(rt; matches!(both, (Next::Tick(2001), Next::Bytes(2001, 6))));
-    // What it sent in a stall within its look, while the line isn't heard out, isn't taken.
-    let both = connected_after(&rt, 0, 2000);
-    assert!(rt; matches!(both, (Next::Cut(999), Next::Tick(2001))));
+    let told = connected_after(&rt, 2000, 0);
+    assert!(rt; matches!(told, (Next::Tick(2001), Next::Bytes(2001, 6), _)));
+    // What it sent in a stall within its look, while the line isn't heard out, is held until it is.
+    let told = connected_after(&rt, 0, 2000);
+    assert!(rt;
+        matches!(
+            told,
+            (Next::Tick(999), Next::Tick(2001), Next::Bytes(2001, 6))
+        )
+    );
     // Up to 50 ms behind the clock are let through.
-    let both = connected_after(&rt, 1049, 0);
-    assert!(rt; matches!(both, (Next::Bytes(999, 6), _)));
+    let told = connected_after(&rt, 1049, 0);
+    assert!(rt; matches!(told, (Next::Bytes(999, 6), _, _)));
 }
 
 /// Whether no request goes out twice, while the gateway stalls before each so manieth call to an

@@ -121,7 +121,12 @@ fn a_line_that_gives_nothing_is_tried_more_rarely(rt: HostRuntime) {
     for wait in [2000, 4000, 8000, 16_000, 30_000, 30_000] {
         let tries = wire.dialler.tries;
         assert_eq!(rt; look(&mut wire), Got::Quiet);
-        time.pass(begun.saturating_add(wait).saturating_sub(2).saturating_sub(time.now()));
+        time.pass(
+            begun
+                .saturating_add(wait)
+                .saturating_sub(2)
+                .saturating_sub(time.now()),
+        );
         assert_eq!(rt; look(&mut wire), Got::Quiet);
         assert_eq!(rt; wire.dialler.tries, tries);
         time.pass(1);

@@ -15,7 +15,7 @@ unfolding digits
 returns-clause-stations c = (refl, refl, refl, refl, refl, refl, refl)
 
 pub returns-clause-cuts : goal.returns-clause-cuts
-returns-clause-cuts c = (refl, refl, refl, refl)
+returns-clause-cuts c = (refl, refl, refl)
 
 pub returns-clause-closes : goal.returns-clause-closes
 returns-clause-closes c = (refl, refl, refl, refl, refl, refl, refl)

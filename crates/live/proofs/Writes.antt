@@ -1,0 +1,98 @@
+-- A write in two calls: what the first took isn't handed over again.
+use Rattle.std.proofs.Common.{◌≡◌, ℕ, ◌+◌, ◌-◌, ◌≤◌, ◌==◌, true, false, Bool, List, [], ◌++◌, length, take, drop, Some, None, Result, Ok, Err, arith, refl, sym, ap, subst, ◌∙◌}
+use Rattle.std.specs.declared.io.Error.{Error}
+use Rattle.std.proofs.Math.Seq.{take-add, take-append_seam}
+use Rattle.std.proofs.lemmas.List.{append_assoc, append-nil, length-drop}
+use Rattle.live.specs.Streams.{Calls, Sent, called, taken_of, takes_all, took, Took, WritesOnce, WritesAll, WritesFront}
+
+-- octets that one call more took
+took_once : (old : Calls) (octets : List ℕ) (answer : Result ℕ Error)
+    → Took old (take (taken_of answer) octets) (called old (Sent octets answer))
+took_once None octets answer = tt
+took_once (Some before) octets answer = refl
+
+took_by : (old new : Calls) (octets : List ℕ) (n : ℕ) → WritesOnce old octets n new → Took old (take n octets) new
+took_by old new octets n w =
+    let P : Calls → Type 0 = λ c. Took old (take n octets) c in
+    let Q : ℕ → Type 0 = λ k. Took old (take k octets) (called old (Sent octets w.answer)) in
+    subst P (sym w.asked) (subst Q (sym w.means) (took_once old octets w.answer))
+
+-- the first call took them all, or it took a part and nothing more was handed over
+pub written_whole : (old new : Calls) (octets : List ℕ) (n : ℕ) → WritesOnce old octets n new → n ≡ length octets
+    → WritesFront old octets true new
+written_whole old new octets n w all = record {
+  count = n;
+  taken = took_by old new octets n w;
+  all = grind (arith, all);
+}
+
+pub written_part : (old new : Calls) (octets : List ℕ) (n : ℕ) → WritesOnce old octets n new → n ≤ length octets
+    → (n == length octets) ≡ false → WritesFront old octets false new
+written_part old new octets n w some part = record {
+  count = n;
+  taken = took_by old new octets n w;
+  all = sym part;
+}
+
+-- octets that two calls took, one after the other
+took_both : (old mid new : Calls) (first second : List ℕ) → Took old first mid → Took mid second new
+    → Took old (first ++ second) new
+took_both None None None first second t u = tt
+took_both None None (Some c) first second t u = u
+took_both None (Some b) new first second t u = absurd t
+took_both (Some a) None new first second t u = absurd t
+took_both (Some a) (Some b) None first second t u = u
+took_both (Some a) (Some b) (Some c) first second t u =
+    u ∙ (ap (λ x. x ++ second) t ∙ append_assoc (took a) first second)
+
+eq_by : (a b : Bool) → (a ≡ true → b ≡ true) → (b ≡ true → a ≡ true) → a ≡ b
+eq_by true true f g = refl
+eq_by false false f g = refl
+eq_by true false f g = let wrong : false ≡ true = f refl in absurd (cc)
+eq_by false true f g = let wrong : false ≡ true = g refl in absurd (cc)
+
+all_by : (answer : Result ℕ Error) (n : ℕ) (octets : List ℕ) → n ≤ length octets → (n == length octets) ≡ false
+    → takes_all answer (length (drop n octets)) ≡ (n + taken_of answer == length octets)
+all_by (Ok count) n octets some part = eq_by (count == length (drop n octets)) (n + count == length octets)
+    (λ e. grind (arith, e, some, length-drop n octets)) (λ e. grind (arith, e, some, length-drop n octets))
+all_by (Err fault) n octets some part =
+    let none : n + 0 ≡ n = omega arith in sym (ap (λ k. k == length octets) none ∙ part)
+
+unequal : (n l : ℕ) → (n ≡ l → ⊥) → (n == l) ≡ false
+unequal n l other = eq_by (n == l) false (λ e. absurd (other (grind (arith, e))))
+    (λ e. let wrong : false ≡ true = e in absurd (cc))
+
+-- the second call took the rest, or a part of it
+written_rest : (old mid again last new : Calls) (octets : List ℕ) (n : ℕ) (is_taken : Bool)
+    → WritesOnce old octets n mid → n ≤ length octets → (n ≡ length octets → ⊥) → again ≡ mid
+    → WritesAll again (drop n octets) is_taken last → new ≡ last → WritesFront old octets is_taken new
+written_rest old mid again last new octets n is_taken w some part same v stays =
+    let m = taken_of v.answer in
+    let rest = drop n octets in
+    let P : Calls → Type 0 = λ c. Took mid (take m rest) c in
+    let Q : Calls → Type 0 = λ c. Took c (take m rest) (called c (Sent rest v.answer)) in
+    let R : List ℕ → Type 0 = λ xs. Took old xs new in
+    let second : Took mid (take m rest) new =
+    subst P (sym (stays ∙ (v.asked ∙ ap (λ c. called c (Sent rest v.answer)) same)))
+    (took_once mid rest v.answer) in
+    record {
+      count = n + m;
+      taken = subst R (sym (take-add n m octets))
+          (took_both old mid new (take n octets) (take m rest) (took_by old mid octets n w) second);
+      all = v.means ∙ all_by v.answer n octets some (unequal n (length octets) part);
+    }
+
+-- the rest as a slice
+rest_is : (n : ℕ) (xs : List ℕ) → take (length xs - n) (drop n xs) ≡ drop n xs
+rest_is n xs =
+    let rest = drop n xs in
+    ap (λ k. take k rest) (sym (length-drop n xs))
+    ∙ (ap (λ ys. take (length rest) ys) (sym (append-nil rest)) ∙ take-append_seam rest [])
+
+pub written_slice : (old mid again last new : Calls) (octets : List ℕ) (n : ℕ) (is_taken : Bool)
+    → WritesOnce old octets n mid → n ≤ length octets → (n ≡ length octets → ⊥) → again ≡ mid
+    → WritesAll again (take (length octets - n) (drop n octets)) is_taken last → new ≡ last
+    → WritesFront old octets is_taken new
+written_slice old mid again last new octets n is_taken w some part same v stays =
+    let P : List ℕ → Type 0 = λ rest. WritesAll again rest is_taken last in
+    written_rest old mid again last new octets n is_taken w some part same (subst P (rest_is n octets) v) stays

@@ -1,0 +1,58 @@
+//! Octets that came and haven't been told yet.
+ghost use Rattle.std.specs.Prelude.{◌≡◌, ◌≤◌, [], length, take, ◌==◌};
+
+use arrayvec::ArrayVec;
+use std::marker::Model;
+
+/// Octets of the connection that came and haven't been told yet: at most 1,024.
+#[derive(Debug, Drop)]
+pub(crate) struct Held {
+    octets: ArrayVec<u8, 1024>,
+}
+
+impl Model for Held {
+    ghost use Rattle.std.specs.Prelude.{List, ℕ};
+
+    ghost Value = { List ℕ };
+
+    ghost view = { λ h. h.octets.items };
+}
+
+impl Held {
+    /// No octets.
+    pub(crate) fn new() -> Held
+        ensures { result ≡ [] }
+    {
+        Held {
+            octets: ArrayVec::new(),
+        }
+    }
+
+    /// These octets.
+    pub(crate) fn of(octets: &[u8]) -> Held
+        requires { length octets.now ≤ 1024 }
+        ensures { result ≡ octets.now }
+    {
+        Held {
+            octets: ArrayVec::try_from(octets).unwrap(),
+        }
+    }
+
+    /// There are none.
+    pub(crate) fn is_empty(&self) -> bool
+        ensures { result ≡ (length self.now == 0) }
+    {
+        self.octets.is_empty()
+    }
+
+    /// Puts them at the front of the buffer, and answers how many they are.
+    pub(crate) fn put(&self, buf: &mut [u8; 1024]) -> usize
+        ensures len { result ≡ length self.now }
+        ensures most { result ≤ 1024 }
+        ensures front { take (length self.now) buf.new ≡ self.now }
+    {
+        let len = self.octets.len();
+        buf[..len].copy_from_slice(&self.octets);
+        len
+    }
+}
