@@ -94,7 +94,9 @@ fn reports_all(session: &mut Session) -> bool {
         } else {
             None
         };
-        if session.take(&report(ns, 0), 6) != Taken::Asdu || session.pull(6) != due {
+        if session.take(&report(ns, 0), 6) != Taken::Asdu
+            || session.pull(6) != due.map(|frame| frame.to_apdu())
+        {
             return false;
         }
     }
@@ -111,7 +113,7 @@ fn answers(session: &mut Session, step: &Step) -> bool {
             return session.take(&report(*ns, *nr), *now) == *taken;
         }
         Step::Acked(queue, own) => return session.acked() == (*queue, *own),
-        Step::Confirm(apdu) => return session.confirm() == *apdu,
+        Step::Confirm(apdu) => return session.confirm() == apdu.map(|frame| frame.to_apdu()),
         Step::Send(kind, now, ns, nr) => {
             return sends(session, *kind, *now, (*ns, *nr));
         }
@@ -120,7 +122,7 @@ fn answers(session: &mut Session, step: &Step) -> bool {
         Step::AcknowledgeEach => return acknowledges_each(session),
         Step::ReportAll => return reports_all(session),
         Step::Holds => return !session.may_send(),
-        Step::Pull(now, apdu) => return session.pull(*now) == *apdu,
+        Step::Pull(now, apdu) => return session.pull(*now) == apdu.map(|frame| frame.to_apdu()),
         Step::Due(now, close) => return session.due(*now) == *close,
         Step::Runs(runs) => return session.is_transferring() == *runs,
         Step::IsOpen(open) => return session.is_open() == *open,
