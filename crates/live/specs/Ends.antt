@@ -32,9 +32,10 @@ pub record IsGuest (guests : Guests) (peer : Peer) : Type 0 where
   pub lets_in : LetsIn guests peer.address
 
 -- Who may come in; what happened at the line, at the connection, if there is one, and at the door;
--- octets of that connection that came and haven't been told; what the clock told; the source that is looked at first; whether a write to the connection
--- failed, so that a cut is due; how often the line was gone; what tells the moment of an event;
--- what the wall clock showed, and when it was told last; and the log, the newest entry first.
+-- octets of that connection that came and haven't been told; what the clock told; the source that
+-- is looked at first; whether a write to the connection failed, so that a cut is due; how often the
+-- line was gone; what tells the moment of an event; what the wall clock showed, and when it was
+-- told last; and the log, the newest entry first.
 pub record Ends : Type 0 where
   pub guests : Guests
   pub line : History
@@ -193,8 +194,8 @@ IsFront true is_behind held buf = Unit {0}
 IsFront false true held buf = Unit {0}
 IsFront false false held buf = take (length held) buf ≡ held
 
--- Octets of the connection that would bear a moment too far behind the clock are held: they are told
--- once no moment is that far behind.
+-- Octets of the connection that would bear a moment too far behind the clock are held: they are
+-- told once no moment is that far behind.
 abbrev pub taken_by : Bool → (buf : List ℕ) → Option Found → Ends → Option Found × Ends
 taken_by true buf (Some (found.Bytes len)) ends = (None, record ends { held = take len buf })
 taken_by true buf f ends = (f, ends)
@@ -307,8 +308,8 @@ pub record IsWritten (old : Ends) (octets : List ℕ) (new : Ends) : Type 0 wher
   pub taken : Bool
   pub done : new ≡ written_open old.is_cut_due octets taken old.connection old
 
--- A close ends the connection, and with it its octets and a cut that was due. That of a connection which another
--- has replaced has nothing more to end.
+-- A close ends the connection, and with it its octets and a cut that was due. That of a connection
+-- which another has replaced has nothing more to end.
 abbrev pub closed_by : Close → Ends → Ends
 closed_by Replaced ends = ends
 closed_by _ ends = record ends { connection = None; held = []; is_cut_due = false }

@@ -19,7 +19,7 @@ const ANSWER_MS: u64 = 1000;
 fn ends<'a>(time: &'a Time, answer_ms: u64, has_centre: bool) -> Ends<'a> {
     let line = TimedLine::new(time, answer_ms, 0);
     let door = TimedDoor::new(time, has_centre);
-    Live::new(line, door, TimedClock(time), Guests::Anyone, ANSWER_MS)
+    Live::awaiting(line, door, TimedClock(time), Guests::Anyone, ANSWER_MS)
 }
 
 /// The next event of a port that never fails.
@@ -163,7 +163,7 @@ fn runs_without_repeat(alloc: Global, every: u64, stall_ms: u64) -> Result<bool,
     let time = Time::new(every, stall_ms);
     let line = TimedLine::new(&time, 300, 650);
     let door = TimedDoor::new(&time, true);
-    let mut port = Live::new(line, door, TimedClock(&time), Guests::Anyone, ANSWER_MS);
+    let mut port = Live::awaiting(line, door, TimedClock(&time), Guests::Anyone, ANSWER_MS);
     let config = config(alloc, ANSWER_MS)?;
     let Ok(mut gateway) = Gateway::new(alloc, &config) else {
         return Ok(false);

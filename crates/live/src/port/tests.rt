@@ -1,7 +1,4 @@
 //! The port over ends in memory, rule by rule.
-ghost use Rattle.std.specs.Prelude.{◌≡◌, [], Some};
-ghost use Rattle.live.specs.Passed.{IsFresh};
-
 use super::Live;
 use crate::guests::Guests;
 use crate::memory::{MemoryClock, MemoryDoor, MemoryWire};
@@ -59,34 +56,10 @@ fn ends(line: Ways, visitor: Option<Ways>) -> Ends {
         Some(ways) => Some(wire(ways)),
         None => None,
     };
-    let door = MemoryDoor::new(visitor);
-    let mut port = Live::awaiting(wire(line), door, MemoryClock::new(0), Guests::Anyone, 1000);
+    let door = MemoryDoor { visitor };
+    let mut port = Live::awaiting(wire(line), door, MemoryClock(0), Guests::Anyone, 1000);
     port.walled.tell(0);
     port
-}
-
-/// A port over ends that tell what happens at them: of it the laws say what passed.
-fn fresh() -> Ends
-    ensures fresh { IsFresh result }
-    ensures told { (result.line ≡ Some []) × (result.door ≡ Some []) }
-{
-    let door = MemoryDoor::new(None);
-    Live::awaiting(
-        MemoryWire::quiet(),
-        door,
-        MemoryClock::new(0),
-        Guests::Anyone,
-        1000,
-    )
-}
-
-#[test]
-fn the_laws_have_an_instance(rt: HostRuntime) {
-    let mut port = fresh();
-    assert!(rt; port.failures() < 9);
-    assert_eq!(rt; shown(port.next(&mut [0; 1024])), ('W', 1, 0));
-    assert!(rt; port.failures() < 9);
-    assert_eq!(rt; shown(port.next(&mut [0; 1024])), ('T', 3, 0));
 }
 
 /// The letter of an event, its moment, and how many octets it has.
