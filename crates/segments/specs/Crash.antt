@@ -1,0 +1,42 @@
+-- What a crash may leave of a file whose text is appended to (profile).
+use Rattle.std.specs.Prelude.{◌≡◌, ◌≢◌, ℕ, ◌<◌, ◌≤◌, ◌++◌, ◌==◌, if◌then◌else◌, List, [], ◌∷◌, length, take, slice_index}
+
+-- each outcome has this length
+abbrev pub HasLength : (List ℕ → Type 0) → ℕ → Type 0
+HasLength outcomes size = (c : List ℕ) → outcomes c → length c ≡ size
+
+-- each outcome begins with so many octets of the text
+abbrev pub BeginsWith : (List ℕ → Type 0) → ℕ → List ℕ → Type 0
+BeginsWith outcomes n text =
+    (c : List ℕ) → outcomes c → (i : ℕ) → i < n → slice_index c i ≡ slice_index text i
+
+-- each octet of an outcome that isn't 0 is the text's octet of that place
+abbrev pub HasNoOther : (List ℕ → Type 0) → List ℕ → Type 0
+HasNoOther outcomes text =
+    (c : List ℕ) → outcomes c → (i : ℕ) → slice_index c i ≢ 0 → slice_index c i ≡ slice_index text i
+
+-- from this place on there are zeros alone
+abbrev pub IsBlankFrom : ℕ → List ℕ → Type 0
+IsBlankFrom n file = (i : ℕ) → n ≤ i → slice_index file i ≡ 0
+
+-- each outcome is shut: its first octet is 0
+abbrev pub IsShut : (List ℕ → Type 0) → Type 0
+IsShut outcomes = (c : List ℕ) → outcomes c → slice_index c 0 ≡ 0
+
+-- each outcome has at least one octet
+abbrev pub IsLong : (List ℕ → Type 0) → Type 0
+IsLong outcomes = (c : List ℕ) → outcomes c → 0 < length c
+
+-- each outcome that may be a segment, since it begins with `t` (116) and has more octets, is one of
+-- the older ones
+abbrev pub IsOldIfOpen : (List ℕ → Type 0) → (List ℕ → Type 0) → Type 0
+IsOldIfOpen old new = (c : List ℕ) → new c → 1 < length c → slice_index c 0 ≡ 116 → old c
+
+-- each outcome that may be a segment is this text
+abbrev pub IsWholeIfOpen : (List ℕ → Type 0) → List ℕ → Type 0
+IsWholeIfOpen outcomes text = (c : List ℕ) → outcomes c → slice_index c 0 ≡ 116 → c ≡ text
+
+-- each outcome that may be a segment begins with this text, and there are zeros alone behind it
+abbrev pub IsTextIfOpen : (List ℕ → Type 0) → List ℕ → Type 0
+IsTextIfOpen outcomes text = (c : List ℕ) → outcomes c → slice_index c 0 ≡ 116
+    → (take (length text) c ≡ text) × IsBlankFrom (length text) c

@@ -1,0 +1,17 @@
+-- The first line of a segment (profile).
+use Rattle.std.specs.Prelude.{ℕ, List, [], ◌∷◌, ◌++◌, codes, length}
+use Rattle.std.specs.Int.{w32, w64, to_be_bytes}
+use Rattle.statetext.specs.Sum.{sum_of}
+use Rattle.hex.specs.Hex.{encode_lower}
+use Rattle.segments.specs.declared.head.Head.{Head}
+
+-- the form and the rules; then the segment's number, how many octets the checkpoint behind this
+-- line has, and the sum CRC-32 of these, each with all its digits in hexadecimal
+abbrev pub head_of : Head → List ℕ
+head_of h = codes "telegate state 1 rules 1 segment " ++ encode_lower (to_be_bytes w64 h.number)
+    ++ codes " octets " ++ encode_lower (to_be_bytes w64 h.octets)
+    ++ codes " sum " ++ encode_lower (to_be_bytes w32 h.sum) ++ 10 ∷ []
+
+-- the text of a segment with this checkpoint, before its first line of events
+unfoldable pub whole_text : ℕ → List ℕ → List ℕ
+whole_text number body = head_of (record { number = number; octets = length body; sum = sum_of body }) ++ body

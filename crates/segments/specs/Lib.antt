@@ -1,0 +1,6 @@
+pub mod Crash
+pub mod Written
+pub mod Zeroed
+pub mod Segment
+pub mod Head
+pub mod Writer

@@ -1,0 +1,88 @@
+//! The first line of a segment.
+ghost use Rattle.std.specs.Prelude.{◌≡◌, length, slice_index, IfOk, IfSome};
+ghost use Rattle.segments.specs.Head.{head_of};
+
+use crate::gate::HEAD;
+use hex::decode_to_slice;
+use statetext::put_hexadecimal;
+use std::alloc::{AllocError, Global};
+
+/// What the first line of a segment tells.
+#[derive(Clone, Copy, Debug, PartialEq, Eq)]
+pub struct Head {
+    /// Which segment it is: they count up.
+    pub number: u64,
+    /// How many octets the checkpoint behind the line has.
+    pub octets: u64,
+    /// The sum CRC-32 of these.
+    pub sum: u32,
+}
+
+/// The text of the line, and how long it is.
+pub(crate) fn print(alloc: Global, head: &Head) -> Result<Vec<u8>, AllocError>
+    ensures text { IfOk result (λ row. row.items ≡ head_of head.now) }
+    ensures octets { IfOk result (λ row. length row.items ≡ 87) }
+    ensures first { IfOk result (λ row. slice_index row.items 0 ≡ 116) }
+{
+    let row = spell(alloc, head)?;
+    Ok(row)
+}
+
+/// The text of the line.
+fn spell(alloc: Global, head: &Head) -> Result<Vec<u8>, AllocError>
+    ensures { IfOk result (λ row. row.items ≡ head_of head.now) }
+{
+    let mut row = Vec::from_slice(alloc, b"telegate state 1 rules 1 segment ")?;
+    put_hexadecimal(&mut row, &head.number.to_be_bytes())?;
+    row.extend_from_slice(b" octets ")?;
+    put_hexadecimal(&mut row, &head.octets.to_be_bytes())?;
+    row.extend_from_slice(b" sum ")?;
+    put_hexadecimal(&mut row, &head.sum.to_be_bytes())?;
+    row.push(b'\n')?;
+    Ok(row)
+}
+
+/// Eight octets as a number, which is spelled in 16 digits in hexadecimal.
+fn number_of(digits: &[u8]) -> Option<u64> {
+    let mut octets = [0; 8];
+    match decode_to_slice(digits, &mut octets) {
+        Ok(()) => Some(u64::from_be_bytes(octets)),
+        Err(_) => None,
+    }
+}
+
+/// Four octets as a number, which is spelled in 8 digits in hexadecimal.
+fn sum_of(digits: &[u8]) -> Option<u32> {
+    let mut octets = [0; 4];
+    match decode_to_slice(digits, &mut octets) {
+        Ok(()) => Some(u32::from_be_bytes(octets)),
+        Err(_) => None,
+    }
+}
+
+/// What a line tells, if it is the first one of a segment: then it is printed anew as it was.
+pub(crate) fn parse(alloc: Global, text: &[u8]) -> Result<Option<Head>, AllocError>
+    ensures { IfOk result (λ found. IfSome found (λ head. text.now ≡ head_of head)) }
+{
+    if text.len() != HEAD {
+        return Ok(None);
+    }
+    let (Some(number), Some(octets), Some(sum)) = (
+        number_of(&text[33..49]),
+        number_of(&text[57..73]),
+        sum_of(&text[78..86]),
+    ) else {
+        return Ok(None);
+    };
+    let head = Head {
+        number,
+        octets,
+        sum,
+    };
+    let row = print(alloc, &head)?;
+    if row.as_slice() == text {
+        Ok(Some(head))
+    } else {
+        Ok(None)
+    }
+}

@@ -1,0 +1,30 @@
+//! A log of lines on disk in two files, which are written in turn.
+//!
+//! A segment is a first line ([`Head`]: its number, how many octets its checkpoint has, and their
+//! sum), the checkpoint, lines that are appended, and zeros to the file's end.
+//!
+//! - A start looks at both files ([`Start`]): the segment of the higher number counts, if it is
+//!   whole. Its checkpoint is read into memory, its lines one by one. It isn't appended to: behind
+//!   a torn line older ones may stand.
+//! - The next segment goes into the other file ([`Writer`]). That file is shut first: its first
+//!   octet is 0, and that is synced. Then come the checkpoint, the zeros and the first line without
+//!   its first octet; that is synced; then the first octet, and a sync again. So a crash leaves no
+//!   segment there, or the whole one, and the segment of the other file as it is.
+//! - Lines are appended and synced ([`Segment`]). Whatever a crash leaves begins with what was
+//!   synced ([`Segment::survives`]).
+//!
+//! A file whose sync failed is used no more: each later call fails. It must be opened anew.
+#![tactic(auto)]
+
+mod fault;
+mod gate;
+mod head;
+mod segment;
+mod start;
+mod writer;
+
+pub use fault::SegmentFault;
+pub use head::Head;
+pub use segment::Segment;
+pub use start::Start;
+pub use writer::{Failed, Writer};

@@ -1,0 +1,232 @@
+//! The segment whose lines are appended.
+ghost use Rattle.std.specs.Prelude.{◌≡◌, ◌≢◌, ◌+◌, ◌<◌, ◌≤◌, ◌^◌, ◌++◌, ℕ, List, [], length, slice_index, IsTrue, OnOk, OnErr, IfOk, IfErr, Err, true, false};
+ghost use Rattle.segments.specs.declared.fault.SegmentFault.TheVariants.{Device, NoMemory};
+ghost use Rattle.segments.specs.Crash.{HasLength, BeginsWith, HasNoOther, IsBlankFrom};
+ghost use Rattle.segments.specs.Written.{text_in};
+ghost use Rattle.sqlite_disk.specs.Disk.{Only};
+
+use crate::SegmentFault;
+use sqlite_disk::Disk;
+use std::alloc::Global;
+
+/// How many octets are held at most before they are written.
+const PAGE: usize = 65_536;
+
+/// A segment whose lines are appended. Its file was zeroed to its full length and synced before.
+#[derive(Drop)]
+pub struct Segment<D: Disk> {
+    file: D,
+    /// How many octets of the text stand in the file. Zeros stand behind them.
+    stored: usize,
+    /// How many of these are synced.
+    durable: usize,
+    /// How long the file is.
+    size: usize,
+    /// The octets of the text that are still to be written.
+    page: Vec<u8>,
+    /// No write or sync has failed.
+    is_open: bool,
+    /// The disk has said that a crash leaves each octet below a file's end old or new.
+    mixes: bool,
+    ghost ordered: { durable ≤ stored },
+    ghost within: { stored + length page.items ≤ size },
+    ghost sized: { length (D.Disk.seen file) ≡ size },
+    ghost usable: { IsTrue is_open → IsTrue (D.Disk.is_usable file) },
+    ghost blank: { IsTrue is_open → IsBlankFrom stored (D.Disk.seen file) },
+    ghost long: { HasLength (D.Disk.may_leave file) size },
+    ghost kept: { BeginsWith (D.Disk.may_leave file) durable (text_in stored (D.Disk.seen file) page.items) },
+    ghost mixed: { IsTrue mixes → HasNoOther (D.Disk.may_leave file) (text_in stored (D.Disk.seen file) page.items) },
+}
+
+/// Whether both are true.
+fn both(first: bool, second: bool) -> bool
+    ensures first { IsTrue result → IsTrue first }
+    ensures second { IsTrue result → IsTrue second }
+    ensures both { IsTrue first → IsTrue second → IsTrue result }
+{
+    first && second
+}
+
+/// Writes octets where zeros stand.
+fn store<D: Disk>(file: &mut D, at: usize, page: &[u8]) -> Result<usize, SegmentFault>
+    requires usable { IsTrue (D.Disk.is_usable file.old) }
+    requires some { 0 < length page.now }
+    requires within { at + length page.now ≤ length (D.Disk.seen file.old) }
+    requires small { at + length page.now < 2 ^ 64 }
+    requires blank { IsBlankFrom at (D.Disk.seen file.old) }
+    ensures end { IfOk result (λ end. end ≡ at + length page.now) }
+    ensures text { OnOk result (text_in (at + length page.now) (D.Disk.seen file.new) []
+        ≡ text_in at (D.Disk.seen file.old) page.now) }
+    ensures blank { OnOk result (IsBlankFrom (at + length page.now) (D.Disk.seen file.new)) }
+    ensures before { text_in at (D.Disk.seen file.new) page.now ≡ text_in at (D.Disk.seen file.old) page.now }
+    ensures sized { length (D.Disk.seen file.new) ≡ length (D.Disk.seen file.old) }
+    ensures usable { IsTrue (D.Disk.is_usable file.new) }
+    ensures long { HasLength (D.Disk.may_leave file.old) (length (D.Disk.seen file.old))
+        → HasLength (D.Disk.may_leave file.new) (length (D.Disk.seen file.old)) }
+    ensures kept { (n : ℕ) (text : List ℕ) → n ≤ at
+        → HasLength (D.Disk.may_leave file.old) (length (D.Disk.seen file.old))
+        → BeginsWith (D.Disk.may_leave file.old) n text → BeginsWith (D.Disk.may_leave file.new) n text }
+    ensures mixing { D.Disk.is_mixing file.new ≡ D.Disk.is_mixing file.old }
+    ensures mixed { IsTrue (D.Disk.is_mixing file.old)
+        → HasLength (D.Disk.may_leave file.old) (length (D.Disk.seen file.old))
+        → HasNoOther (D.Disk.may_leave file.old) (text_in at (D.Disk.seen file.old) page.now)
+        → HasNoOther (D.Disk.may_leave file.new) (text_in at (D.Disk.seen file.old) page.now) }
+{
+    match file.write_at(at, page) {
+        Ok(()) => Ok(at + page.len()),
+        Err(_) => Err(SegmentFault::Device),
+    }
+}
+
+impl<D: Disk> Segment<D> {
+    ghost use Rattle.segments.specs.Segment.{text_of, durable_of, size_of, is_open, mixes, outcomes_of};
+
+    /// A segment in a file that is synced: the text ends there, zeros stand behind it.
+    pub(crate) fn begun(alloc: Global, file: D, end: usize, size: usize) -> Segment<D>
+        requires usable { IsTrue (D.Disk.is_usable file) }
+        requires within { end ≤ size }
+        requires sized { length (D.Disk.seen file) ≡ size }
+        requires synced { Only (D.Disk.seen file) (D.Disk.may_leave file) }
+        requires blank { IsBlankFrom end (D.Disk.seen file) }
+        ensures text { text_of result ≡ text_in end (D.Disk.seen file) [] }
+        ensures durable { durable_of result ≡ end }
+        ensures size { size_of result ≡ size }
+        ensures open { is_open result ≡ true }
+    {
+        let mixes = file.mixes();
+        Segment {
+            file,
+            stored: end,
+            durable: end,
+            size,
+            page: Vec::new(alloc),
+            is_open: true,
+            mixes,
+        }
+    }
+
+    /// The file, with what is held given up.
+    pub fn into_file(self) -> D {
+        let Segment { file, .. } = self;
+        file
+    }
+
+    /// Whatever a crash leaves now begins with the text that is synced; and where a crash leaves
+    /// each octet old or new, there is nothing behind that but octets of the text, and zeros.
+    pub fn survives(&self)
+        ensures long { HasLength (outcomes_of self.now) (size_of self.now) }
+        ensures kept { BeginsWith (outcomes_of self.now) (durable_of self.now) (text_of self.now) }
+        ensures durable { durable_of self.now ≤ length (text_of self.now) }
+        ensures mixed { IsTrue (mixes self.now) → HasNoOther (outcomes_of self.now) (text_of self.now) }
+    {
+        let _ = &self.file;
+    }
+
+    /// No write or sync has failed.
+    pub fn is_open(&self) -> bool
+        ensures { result ≡ is_open self.now }
+    {
+        self.is_open
+    }
+
+    /// The octets of the text.
+    pub fn octets(&self) -> usize
+        ensures { result ≡ length (text_of self.now) }
+    {
+        self.stored + self.page.len()
+    }
+
+    /// For how many octets there is room.
+    pub fn room(&self) -> usize
+        ensures { length (text_of self.now) + result ≡ size_of self.now }
+    {
+        self.size - self.stored - self.page.len()
+    }
+
+    /// Appends octets. They are on the disk once a `sync` has answered `Ok`. An `Err` says that
+    /// none was appended: `Full`, that there is no room; `Device`, that a write failed, now or before.
+    pub fn append(&mut self, octets: &[u8]) -> Result<(), SegmentFault>
+        ensures text { OnOk result (text_of self.new ≡ text_of self.old ++ octets.now) }
+        ensures none { OnErr result (text_of self.new ≡ text_of self.old) }
+        ensures durable { durable_of self.new ≡ durable_of self.old }
+        ensures size { size_of self.new ≡ size_of self.old }
+        ensures shut { is_open self.old ≡ false → result ≡ Err Device }
+    {
+        if !self.is_open {
+            return Err(SegmentFault::Device);
+        }
+        if octets.len() > self.room() {
+            return Err(SegmentFault::Full);
+        }
+        if self.page.len() > PAGE {
+            self.write()?;
+        }
+        self.hold(octets)
+    }
+
+    /// Holds octets behind those that are held.
+    fn hold(&mut self, octets: &[u8]) -> Result<(), SegmentFault>
+        requires { length (text_of self.old) + length octets.now ≤ size_of self.old }
+        ensures text { OnOk result (text_of self.new ≡ text_of self.old ++ octets.now) }
+        ensures none { OnErr result (text_of self.new ≡ text_of self.old) }
+        ensures durable { durable_of self.new ≡ durable_of self.old }
+        ensures size { size_of self.new ≡ size_of self.old }
+        ensures fault { IfErr result (λ e. e ≡ NoMemory) }
+    {
+        match self.page.extend_from_slice(octets) {
+            Ok(()) => Ok(()),
+            Err(_) => Err(SegmentFault::NoMemory),
+        }
+    }
+
+    /// Writes what is held.
+    fn write(&mut self) -> Result<(), SegmentFault>
+        requires open { IsTrue (is_open self.old) }
+        ensures text { text_of self.new ≡ text_of self.old }
+        ensures durable { durable_of self.new ≡ durable_of self.old }
+        ensures size { size_of self.new ≡ size_of self.old }
+        ensures open { OnOk result (IsTrue (is_open self.new)) }
+        ensures shut { OnErr result (is_open self.new ≡ false) }
+        ensures held { OnOk result (self.new.page.items ≡ []) }
+    {
+        if self.page.is_empty() {
+            return Ok(());
+        }
+        let _size = self.size;
+        self.is_open = false;
+        self.mixes = both(self.mixes, self.file.mixes());
+        match store(&mut self.file, self.stored, &self.page) {
+            Ok(end) => {
+                self.stored = end;
+                self.page.clear();
+                self.is_open = true;
+                Ok(())
+            }
+            Err(fault) => Err(fault),
+        }
+    }
+
+    /// Writes what is held, and syncs: then all of the text is on the disk. After an `Err` nothing
+    /// more can be done with the file: each later call fails.
+    pub fn sync(&mut self) -> Result<(), SegmentFault>
+        ensures synced { OnOk result (durable_of self.new ≡ length (text_of self.new)) }
+        ensures text { text_of self.new ≡ text_of self.old }
+        ensures least { durable_of self.old ≤ durable_of self.new }
+        ensures size { size_of self.new ≡ size_of self.old }
+        ensures shut { OnErr result (is_open self.new ≡ false) }
+    {
+        if !self.is_open {
+            return Err(SegmentFault::Device);
+        }
+        self.write()?;
+        self.is_open = false;
+        match self.file.sync() {
+            Ok(()) => {
+                self.durable = self.stored;
+                self.is_open = true;
+                Ok(())
+            }
+            Err(_) => Err(SegmentFault::Device),
+        }
+    }
+}
