@@ -59,7 +59,7 @@ class Picture:
 
 def report():
     """The life of a report, where it can be lost, and what tells of it."""
-    p = Picture("report", 1000, 330, "The life of a report")
+    p = Picture("report", 1000, 260, "The life of a report")
     places = [
         (20, "outstation", "keeps it until\nit is asked", "far"),
         (230, "line", "answer to a poll", "far"),
@@ -75,15 +75,13 @@ def report():
     p.text(710, 24, "N(R): the piece leaves the queue", "small")
     p.way([(300, 60), (300, 30), (90, 30), (90, 60)], "back")
     p.text(195, 24, "no answer: the same request, the same bit", "small")
-    p.box(440, 200, 140, 60, "state on disk", "synced before anything\ngoes out on it", "disk")
-    p.way([(510, 130), (510, 200)])
     p.way([(650, 110), (610, 110), (610, 165), (555, 165), (555, 130)], "back")
     p.text(640, 160, "cut: all kept pieces\nare unsent again", "small", "start")
     p.text(98, 160, "It is lost here where the\noutstation's own buffer is full,\nor where its link is reset:", "loss")
     p.text(98, 208, "`station A gap: reports of it\nmay be lost`", "loss")
     p.text(300, 160, "Octets that can't be read:\n`skipped`, `spoilt` in\n`counts`", "loss")
-    p.text(510, 285, "Where the queue is full nothing is polled, and reports\nwait in the outstations: `queue full`", "small")
-    p.text(800, 200, "Nothing is lost on this side: what wasn't\nacknowledged goes out again on the\nnext connection, from the first one on.", "small")
+    p.text(510, 205, "Where the queue is full nothing is polled, and reports\nwait in the outstations: `queue full`.\nWhat it holds ends with the process.", "small")
+    p.text(820, 205, "Nothing is lost on this side: what wasn't\nacknowledged goes out again on the\nnext connection, from the first one on.", "small")
     p.save()
 
 
