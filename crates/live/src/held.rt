@@ -28,14 +28,20 @@ impl Held {
         }
     }
 
-    /// These octets.
-    pub(crate) fn of(octets: &[u8]) -> Held
+    /// These octets, and no others.
+    pub(crate) fn hold(&mut self, octets: &[u8])
         requires { length octets.now ≤ 1024 }
-        ensures { result ≡ octets.now }
+        ensures { self.new ≡ octets.now }
     {
-        Held {
-            octets: ArrayVec::try_from(octets).unwrap(),
-        }
+        self.octets.clear();
+        self.octets.try_extend_from_slice(octets).unwrap();
+    }
+
+    /// No octets any more.
+    pub(crate) fn clear(&mut self)
+        ensures { self.new ≡ [] }
+    {
+        self.octets.clear();
     }
 
     /// There are none.

@@ -211,7 +211,7 @@ impl<L: Wire, D: Door + Drop, C: Clock + Drop> Live<L, D, C> {
         ensures { self.new ≡ record self.old { connection = None; held = [] } }
     {
         self.connection = None;
-        self.held = Held::new();
+        self.held.clear();
     }
 
     /// The octets that are held, as what was found on the connection.
@@ -223,7 +223,7 @@ impl<L: Wire, D: Door + Drop, C: Clock + Drop> Live<L, D, C> {
         ensures ends { self.new ≡ record self.old { held = []; first = after sources.Connection } }
     {
         let len = self.held.put(buf);
-        self.held = Held::new();
+        self.held.clear();
         self.first = Source::Connection.after();
         Found::Bytes(len)
     }
@@ -256,7 +256,7 @@ impl<L: Wire, D: Door + Drop, C: Clock + Drop> Live<L, D, C> {
         match self.door.accept(&self.guests) {
             Some(visitor) => {
                 self.connection = Some(visitor);
-                self.held = Held::new();
+                self.held.clear();
                 Some(Found::Open)
             }
             None => None,
@@ -314,7 +314,7 @@ impl<L: Wire, D: Door + Drop, C: Clock + Drop> Live<L, D, C> {
         let mut taken = found;
         if self.timing.is_behind(now) {
             if let Some(Found::Bytes(len)) = found {
-                self.held = Held::of(&buf[..len]);
+                self.held.hold(&buf[..len]);
                 taken = None;
             }
         }
