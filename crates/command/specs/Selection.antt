@@ -68,6 +68,10 @@ lasts_from z Sent = z.came
 lasts_from z Accepted = z.came
 lasts_from z (Live since) = since
 
+-- its time has passed
+abbrev pub has_passed : ℕ → ℕ → Selection → Bool
+has_passed select_ms now z = nat_le select_ms (now - lasts_from z z.stage)
+
 -- what a sign leaves of a selection
 abbrev pub advanced : ℕ → Sign → Selection → Option Selection
 advanced select_ms (sign.Sending station) z =
@@ -84,17 +88,17 @@ advanced select_ms (sign.Con target element now) z =
     then Some (with_stage (Live now) z)
     else Some z
 advanced select_ms (sign.Time now) z =
-    if nat_le select_ms (now - lasts_from z z.stage) then None else Some z
+    if has_passed select_ms now z then None else Some z
 
--- the sign may change it: it is of its station before that accepted it, or of its target, or its time
--- has passed
+-- the sign may change it: it is of its station, which hasn't accepted it yet, or of its target, or its
+-- time has passed
 abbrev pub hears : ℕ → Sign → Selection → Bool
 hears select_ms (sign.Sending station) z = z.station == station && not (is_accepted z.stage)
 hears select_ms (sign.Acceptance station) z = z.station == station && not (is_accepted z.stage)
 hears select_ms (sign.Loss station) z = z.station == station && not (is_accepted z.stage)
 hears select_ms (sign.Over target) z = same_target (target_of z.command) target
 hears select_ms (sign.Con target element now) z = same_target (target_of z.command) target
-hears select_ms (sign.Time now) z = nat_le select_ms (now - lasts_from z z.stage)
+hears select_ms (sign.Time now) z = has_passed select_ms now z
 
 -- it is confirmed, less than select_ms ago
 abbrev pub is_live : ℕ → ℕ → Stage → Bool

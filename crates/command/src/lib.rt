@@ -21,8 +21,14 @@
 //! answer that is made here is the ASDU that came with its cause octet replaced, and bears no
 //! object that is passed on as a station's report; own answers go out first in, first out, 16 of
 //! them at most wait; what waits for a station stays what is next until it goes out; and the
-//! settings stay. These laws speak of octets, in words of their own (specs/Standard) that no call
-//! is built of; a table of worked examples holds too. Only `new` takes memory.
+//! settings stay. Places come back: what waits is what was forwarded less what went out. These laws
+//! speak of octets, in words of their own (specs/Standard) that no call is built of; a table of
+//! worked examples holds too.
+//!
+//! What is kept is put as lines of numbers ([`Commands::put_state`]) and made again of them
+//! ([`Commands::read_state`]). Proved: each state that a `Commands` has is one that can be saved
+//! (`IsSavable`), and its lines, with the settings, give that state and are never refused as wrong.
+//! `new` and `read_state` take memory, and a line grows where it is too short; no other call does.
 #![tactic(auto)]
 
 mod act;

@@ -1,6 +1,6 @@
 //! Selections.
 ghost use Rattle.std.specs.Prelude.{◌≡◌, ◌&&◌};
-ghost use Rattle.command.specs.Selection.{same_target as are_same_targets, same_element as are_same_elements, with_stage as staged, after_sending as sending, after_acceptance as acceptance, after_loss as loss, is_accepted as accepted, is_live as live, lasts_from as running_from, hears as may_change, advanced as next_of, lets_through as through, target_of};
+ghost use Rattle.command.specs.Selection.{same_target as are_same_targets, same_element as are_same_elements, with_stage as staged, after_sending as sending, after_acceptance as acceptance, after_loss as loss, is_accepted as accepted, is_live as live, lasts_from as running_from, has_passed as passed, hears as may_change, advanced as next_of, lets_through as through, target_of};
 ghost use Rattle.command.specs.declared.selection.Sign.TheVariants.{Con as ConSign, Time as TimeSign};
 
 use crate::content::{Command, Element, Target};
@@ -128,6 +128,13 @@ impl Selection {
         }
     }
 
+    /// Whether its time has passed.
+    fn has_passed(self, select_ms: u64, now: u64) -> bool
+        ensures { result ≡ passed select_ms now self }
+    {
+        now.saturating_sub(self.lasts_from()) >= select_ms
+    }
+
     /// Whether the sign may change it.
     pub(crate) fn hears(&self, select_ms: u64, sign: &Sign) -> bool
         ensures { result ≡ may_change select_ms sign.now self.now }
@@ -139,7 +146,7 @@ impl Selection {
             Sign::Over(target) | Sign::Con(target, _, _) => {
                 same_target(self.command.target(), *target)
             }
-            Sign::Time(now) => now.saturating_sub(self.lasts_from()) >= select_ms,
+            Sign::Time(now) => self.has_passed(select_ms, *now),
         }
     }
 
@@ -205,7 +212,7 @@ impl Selection {
     fn after_time(self, select_ms: u64, now: u64) -> Option<Selection>
         ensures { result ≡ next_of select_ms (TimeSign now) self }
     {
-        if now.saturating_sub(self.lasts_from()) >= select_ms {
+        if self.has_passed(select_ms, now) {
             None
         } else {
             Some(self)
