@@ -1,7 +1,8 @@
 -- Each call keeps what was pushed and isn't acknowledged.
-use Rattle.std.proofs.Common.{◌≡◌, ℕ, ◌+◌, ◌≤◌, List, [], ◌∷◌, ◌++◌, length, take, drop, refl, ap, sym, subst, ◌∙◌, arith}
+use Rattle.std.proofs.Common.{◌≡◌, ℕ, ◌+◌, ◌-◌, ◌≤◌, List, [], ◌∷◌, ◌++◌, length, take, drop, refl, ap, sym, subst, ◌∙◌, arith}
 use Rattle.std.proofs.lemmas.List.{append_assoc, take-append-drop, drop-append-le, drop-drop, length-append, length-take, length-drop}
-use Rattle.events.specs.Queue.{Queue, kept, pushed, marked_sent, acknowledged}
+use Rattle.std.proofs.Math.Seq.{drop-append_seam}
+use Rattle.events.specs.Queue.{Queue, kept, free_places, pushed, marked_sent, acknowledged}
 use Rattle.events.specs.Runs.{Call, Push, MarkSent, Acknowledge, Rewind, run, MayCome, AreMade, all_pushed, acknowledged_count, sent_count, KeepsAll}
 
 -- what each call leaves, and that no more was acknowledged than was pushed
@@ -81,7 +82,29 @@ kept_by : (places : ℕ) (calls : List Call) → AreMade places calls → Kept p
 kept_by places [] made = record { places_are = refl; pieces = refl; few = omega arith; sent = refl; room = omega arith }
 kept_by places (call ∷ earlier) made = after places call earlier made.0 (kept_by places earlier made.1)
 
+-- what isn't sent stands behind what is
+behind_sent : (places : ℕ) (calls : List Call) → Kept places calls
+    → (run places calls).unsent ≡ drop (acknowledged_count calls + sent_count calls) (all_pushed calls)
+behind_sent places calls k =
+    let q = run places calls in
+    sym (drop-append_seam q.sent q.unsent) ∙ ap (λ n. drop n (kept q)) k.sent
+    ∙ ap (drop (sent_count calls)) k.pieces ∙ drop-drop (sent_count calls) (acknowledged_count calls) (all_pushed calls)
+
+all_free : (places : ℕ) (calls : List Call) → Kept places calls
+    → free_places (run places calls) ≡ places - (length (all_pushed calls) - acknowledged_count calls)
+all_free places calls k =
+    let there = k.places_are in
+    let pieces = ap (λ (ps : List (List ℕ)). length ps) k.pieces in
+    let left = length-drop (acknowledged_count calls) (all_pushed calls) in
+    omega arith
+
 pub all_kept : (places : ℕ) (calls : List Call) → AreMade places calls → KeepsAll places calls
 all_kept places calls made =
     let k = kept_by places calls made in
-    record { pieces = k.pieces; sent = k.sent; room = k.room }
+    record {
+      pieces = k.pieces;
+      sent = k.sent;
+      unsent = behind_sent places calls k;
+      room = k.room;
+      free = all_free places calls k;
+    }

@@ -1,12 +1,11 @@
 -- A list with a mark, and the two lists round the mark.
-use Rattle.std.proofs.Common.{◌≡◌, ℕ, ◌+◌, ◌-◌, ◌≤◌, List, [], ◌∷◌, ◌++◌, length, take, drop, refl, ap, sym, subst, ◌∙◌, arith, suc, zero, Option, append_assoc, length-append}
+use Rattle.std.proofs.Common.{◌≡◌, ℕ, ◌+◌, ◌-◌, ◌≤◌, List, [], ◌∷◌, ◌++◌, length, take, drop, refl, ap, sym, subst, ◌∙◌, arith, suc, zero, append_assoc, length-append}
 use Rattle.std.proofs.lemmas.List.{map-append, take-append-drop, take-map, drop-map, drop-drop, drop-take, take-append-le, drop-append-le, take-take, length-map, length-take}
 use Rattle.std.proofs.Math.Seq.{set-append_seam}
-use Rattle.std.specs.List.{AllByRecursion}
 use Rattle.std.specs.Prelude.{Some, None, Result, Ok, Err, IsOk, OnOk, slice_get, slice_set}
 use Rattle.arrayvec.specs.ArrayVec.{ArrayVec}
-use Rattle.events.specs.Pieces.{AreAsdus}
-use Rattle.events.specs.Queue.{Queue, queue_of, octets_of, pushed, acknowledged, rewound, free_places, kept}
+use Rattle.events.specs.Pieces.{AreAsdus, AreSendable}
+use Rattle.events.specs.Queue.{Queue, queue_of, octets_of, acknowledged, rewound, kept}
 use Rattle.events.specs.Restored.{marked}
 
 abbrev pub queue_from : List (List ℕ) → List (List ℕ) → ℕ → Queue
@@ -43,8 +42,12 @@ queue_of-acknowledged xs m places n le =
     ∙ sym (drop-map (λ p. p.items) n (take m xs)))
     (ap octets_of (drop-drop (m - n) n xs ∙ ap (λ k. drop k xs) there))
 
+-- what `pushed` says, in a name of its own
+abbrev pub behind : List (List ℕ) → Queue → Queue
+behind pieces q = queue_from q.sent (q.unsent ++ pieces) q.places
+
 pub queue_of-pushed : (xs more : List (ArrayVec ℕ)) (m places : ℕ) → m ≤ length xs
-    → queue_of (xs ++ more) m places ≡ pushed (octets_of more) (queue_of xs m places)
+    → queue_of (xs ++ more) m places ≡ behind (octets_of more) (queue_of xs m places)
 queue_of-pushed xs more m places le = same_queue _ _ _ _ places
     (ap octets_of (take-append-le m xs more le))
     (ap octets_of (drop-append-le m xs more le) ∙ map-append (λ p. p.items) (drop m xs) more)
@@ -96,67 +99,34 @@ asdus-get (x ∷ xs) (suc m) p h e = asdus-get xs m p h.1 e
 
 -- ---- Pieces that are written one after another behind those that are kept
 
--- All are those that stand in the ring, and then those that are still to be written. Each can be
--- sent, and has a place.
-pub record IsWriting (all : List (List ℕ)) (places : ℕ) (xs : List (ArrayVec ℕ)) (left : List (List ℕ)) : Type 0 where
-  pub pieces : octets_of xs ++ left ≡ all
-  pub asdus : AreAsdus xs
-  pub lengths : AllByRecursion (λ p. (9 ≤ length p) × (length p ≤ 249)) left
-  pub room : length xs + length left ≤ places
-
-pub one_more : (all : List (List ℕ)) (places : ℕ) (xs ys : List (ArrayVec ℕ)) (p : ArrayVec ℕ)
-    (left rest : List (List ℕ)) → left ≡ p.items ∷ rest → ys ≡ xs ++ p ∷ [] → IsWriting all places xs left
-    → IsWriting all places ys rest
-one_more all places xs ys p left rest e1 e2 h =
-    let lengths = subst (λ ps. AllByRecursion (λ q. (9 ≤ length q) × (length q ≤ 249)) ps) e1 h.lengths in
-    let shorter = ap (λ (ps : List (List ℕ)). length ps) e1 in
-    let longer = ap (λ (zs : List (ArrayVec ℕ)). length zs) e2 in
-    let sum = length-append xs (p ∷ []) in
-    let room = h.room in
-    record {
-      pieces = ap (λ zs. octets_of zs ++ rest) e2 ∙ ap (λ ps. ps ++ rest) (map-append (λ q. q.items) xs (p ∷ []))
-          ∙ append_assoc (octets_of xs) (p.items ∷ []) rest ∙ ap (λ ps. octets_of xs ++ ps) (sym e1) ∙ h.pieces;
-      asdus = subst AreAsdus (sym e2) (asdus-append xs (p ∷ []) h.asdus (lengths.0, tt));
-      lengths = lengths.1;
-      room = omega arith;
-    }
-
--- the place behind the last one is there, and takes what is written
-get_seam : (xs : List (ArrayVec ℕ)) (y : ArrayVec ℕ) → slice_get (xs ++ y ∷ []) (length xs) ≡ Some y
-get_seam [] y = refl
-get_seam (x ∷ xs) y = get_seam xs y
-
-pub place_is_there : (o : Option (ArrayVec ℕ)) (xs ys : List (ArrayVec ℕ)) (y : ArrayVec ℕ) (n : ℕ) → o ≡ None
-    → o ≡ slice_get ys n → ys ≡ xs ++ y ∷ [] → n ≡ length xs → ⊥
-place_is_there o xs ys y n none is e at =
-    let some : None ≡ Some y =
-    sym none ∙ is ∙ ap (λ zs. slice_get zs n) e ∙ ap (slice_get (xs ++ y ∷ [])) at ∙ get_seam xs y in
-    cc
+pub sendable-drop : (n : ℕ) (ps : List (List ℕ)) → AreSendable ps → AreSendable (drop n ps)
+sendable-drop zero ps h = h
+sendable-drop (suc n) [] h = h
+sendable-drop (suc n) (p ∷ ps) h = sendable-drop n ps h.1
 
 pub written_there : (xs ys : List (ArrayVec ℕ)) (y p : ArrayVec ℕ) (n : ℕ) → ys ≡ xs ++ y ∷ [] → n ≡ length xs
     → slice_set ys n p ≡ xs ++ p ∷ []
 written_there xs ys y p n e at =
     ap (λ zs. slice_set zs n p) e ∙ ap (λ k. slice_set (xs ++ y ∷ []) k p) at ∙ set-append_seam xs y [] p
 
+module _ (left rest : List (List ℕ)) (q r : Queue) (unsent : r.unsent ≡ q.unsent ++ take 1 left)
+    (others : rest ≡ drop 1 left) where
+  pub unsent-next : r.unsent ++ rest ≡ q.unsent ++ left
+  unsent-next =
+      ap (λ ps. r.unsent ++ ps) others ∙ ap (λ ps. ps ++ drop 1 left) unsent
+      ∙ append_assoc q.unsent (take 1 left) (drop 1 left) ∙ ap (λ ps. q.unsent ++ ps) (take-append-drop 1 left)
+
+  -- they have as many places as before
+  pub room-next : r.sent ≡ q.sent → length (kept q) + length left ≡ length (kept r) + length rest
+  room-next sent =
+      let before = length-append q.sent q.unsent in
+      let after = length-append r.sent r.unsent in
+      let same = ap (λ (ps : List (List ℕ)). length ps) sent in
+      let longer = ap (λ (ps : List (List ℕ)). length ps) unsent-next in
+      let sum_before = length-append q.unsent left in
+      let sum_after = length-append r.unsent rest in
+      omega arith
+
 pub kept-queue_of : (xs : List (ArrayVec ℕ)) (m places : ℕ) → kept (queue_of xs m places) ≡ octets_of xs
 kept-queue_of xs m places =
     sym (map-append (λ p. p.items) (take m xs) (drop m xs)) ∙ ap octets_of (take-append-drop m xs)
-
-pub room_of : (xs : List (ArrayVec ℕ)) (m places : ℕ) (q : Queue) → queue_of xs m places ≡ q → 3 ≤ free_places q
-    → 3 + length xs ≤ places
-room_of xs m places q e h =
-    let here : 3 ≤ free_places (queue_of xs m places) = subst (λ r. 3 ≤ free_places r) (sym e) h in
-    let all = ap (λ (ps : List (List ℕ)). length ps) (kept-queue_of xs m places) in
-    let same = length-map xs (λ (p : ArrayVec ℕ). p.items) in
-    omega arith
-
-pub queue_of-behind : (xs ys : List (ArrayVec ℕ)) (more : List (List ℕ)) (m places : ℕ) → m ≤ length xs
-    → octets_of ys ≡ octets_of xs ++ more → queue_of ys m places ≡ pushed more (queue_of xs m places)
-queue_of-behind xs ys more m places le e =
-    let same = length-map xs (λ (p : ArrayVec ℕ). p.items) in
-    let within : m ≤ length (octets_of xs) = omega arith in
-    same_queue _ _ _ _ places
-    (sym (take-map (λ p. p.items) m ys) ∙ ap (take m) e ∙ take-append-le m (octets_of xs) more within
-    ∙ take-map (λ p. p.items) m xs)
-    (sym (drop-map (λ p. p.items) m ys) ∙ ap (drop m) e ∙ drop-append-le m (octets_of xs) more within
-    ∙ ap (λ ps. ps ++ more) (drop-map (λ p. p.items) m xs))

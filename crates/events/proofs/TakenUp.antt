@@ -7,7 +7,7 @@ use Rattle.std.specs.Prelude.{Result, Ok, Err, OnOk, IsErrAnd, Option, Some, Non
 use Rattle.arrayvec.specs.ArrayVec.{ArrayVec}
 use Rattle.checkpoint.specs.Octets.{IsOctetLine}
 use Rattle.events.specs.Pieces.{IsSendable, AreSendable, AreAsdus}
-use Rattle.events.specs.Queue.{Queue, queue_of, octets_of, kept, pushed, empty}
+use Rattle.events.specs.Queue.{Queue, queue_of, octets_of, kept}
 use Rattle.events.specs.Restored.{queue_lines, IsSavable, in_places, marked}
 use Rattle.events.proofs.Marks.{kept-queue_of, queue_from, same_queue}
 
@@ -84,7 +84,7 @@ two_numbers (x ∷ y ∷ z ∷ ns) least most = absurd (omega (arith, most))
 module _ (places count sent : ℕ) (before middle after pieces : List (List ℕ)) (line : List ℕ) (e : Queue)
     (came : before ≡ line ∷ middle) (numbers : line ≡ count ∷ sent ∷ []) (lines : middle ≡ pieces ++ after)
     (number : length pieces ≡ count) (few : sent ≤ count)
-    (is : e ≡ marked sent (pushed pieces (empty (max places count)))) where
+    (is : e ≡ marked sent (queue_from [] pieces (max places count))) where
   all : kept e ≡ pieces
   all = ap kept is ∙ take-append-drop sent pieces
 

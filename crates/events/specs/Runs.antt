@@ -54,8 +54,14 @@ sent_count (Rewind ∷ earlier) = 0
 sent_count (Push pieces ∷ earlier) = sent_count earlier
 
 -- Kept is what was pushed but for the acknowledged pieces, which were the oldest; of it the oldest
--- are the sent ones. It is never more than there are places.
+-- are the sent ones. So what goes out next is one pushed piece, as it was pushed: the one behind
+-- all that are acknowledged or sent. A place is taken by a piece that isn't acknowledged, and free
+-- else, so there are never more pieces than places.
 pub record KeepsAll (places : ℕ) (calls : List Call) : Type 0 where
   pub pieces : kept (run places calls) ≡ drop (acknowledged_count calls) (all_pushed calls)
   pub sent : length (run places calls).sent ≡ sent_count calls
+  pub unsent : (run places calls).unsent
+      ≡ drop (acknowledged_count calls + sent_count calls) (all_pushed calls)
   pub room : length (kept (run places calls)) ≤ places
+  pub free : free_places (run places calls)
+      ≡ places - (length (all_pushed calls) - acknowledged_count calls)

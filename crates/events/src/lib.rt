@@ -19,10 +19,10 @@
 
 ghost use Rattle.std.specs.Map.Iter.{TakesFirst, deref};
 ghost use Rattle.std.specs.Iterator.{at_most};
-ghost use Rattle.std.specs.Prelude.{◌≡◌, ◌<◌, ◌≤◌, ◌↔◌, [], ◌∷◌, length, drop, IfOk, IfSome, IfNone, IsTrue};
+ghost use Rattle.std.specs.Prelude.{◌≡◌, ◌<◌, ◌≤◌, ◌↔◌, [], ◌∷◌, length, take, drop, IfOk, IfSome, IfNone, IsTrue};
 ghost use Rattle.asdu.specs.Reading.{value_of};
 ghost use Rattle.asdu.specs.Translation.{report_pieces};
-ghost use Rattle.events.specs.Pieces.{IsSendable, AreAsdus};
+ghost use Rattle.events.specs.Pieces.{IsSendable, AreAsdus, AreSendable};
 
 mod laws;
 mod restoring;
@@ -115,15 +115,26 @@ impl Events {
         ensures { self.new ≡ pushed (report_pieces (value_of asdu.now)) self.old }
     {
         let mut left = Translation::new(asdu);
-        prove!(self.sent <= self.ring.len());
         while !left.is_over() {
-            let newest = self.ring.len();
-            let _ = self.ring.try_push_back(Piece::new());
-            let Some(piece) = self.ring.get_mut(newest) else {
-                unreachable!();
-            };
-            left.write_next(piece);
+            self.append_next(&mut left);
         }
+    }
+
+    /// Writes a report's next piece where it will stand, unsent.
+    #[inline(always)]
+    fn append_next(&mut self, left: &mut Translation)
+        requires room { 1 ≤ free_places self.old }
+        requires some { 1 ≤ length left.old }
+        requires lengths { AreSendable left.old }
+        ensures queue { self.new ≡ pushed (take 1 left.old) self.old }
+        ensures others { left.new ≡ drop 1 left.old }
+    {
+        let newest = self.ring.len();
+        let _ = self.ring.try_push_back(Piece::new());
+        let Some(piece) = self.ring.get_mut(newest) else {
+            unreachable!();
+        };
+        left.write_next(piece);
     }
 
     /// The oldest piece that isn't sent, of 9 to 249 octets.

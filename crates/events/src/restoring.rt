@@ -5,7 +5,7 @@ ghost use Rattle.std.specs.List.{AllByRecursion};
 ghost use Rattle.checkpoint.specs.Octets.{IsOctetLine};
 ghost use Rattle.checkpoint.specs.declared.StateFault.TheVariants.{Wrong};
 ghost use Rattle.events.specs.Pieces.{IsSendable, AreSendable};
-ghost use Rattle.events.specs.Queue.{Queue, empty, kept, pushed};
+ghost use Rattle.events.specs.Queue.{Queue, empty, kept};
 ghost use Rattle.events.specs.Restored.{queue_lines, IsSavable, in_places, marked};
 
 use crate::Events;
@@ -16,7 +16,8 @@ use std::alloc::Global;
 impl Events {
     /// Puts the queue's lines. `line` is room for one of them.
     pub fn put_state<S: Sheet>(&self, sheet: &mut S, line: &mut Vec<u64>) -> Result<(), StateFault>
-        ensures lines { OnOk result (S.written sheet.new ≡ S.written sheet.old ++ queue_lines self.now) }
+        ensures lines { OnOk result
+            (S.written sheet.new ≡ S.written sheet.old ++ queue_lines self.now) }
         ensures savable { OnOk result (IsSavable self.now) }
     {
         line.clear();
@@ -27,7 +28,8 @@ impl Events {
 
     /// Puts a line for each piece, the oldest first.
     fn put_pieces<S: Sheet>(&self, sheet: &mut S) -> Result<(), StateFault>
-        ensures lines { OnOk result (S.written sheet.new ≡ S.written sheet.old ++ kept self.now) }
+        ensures lines { OnOk result
+            (S.written sheet.new ≡ S.written sheet.old ++ kept self.now) }
         ensures octets { OnOk result (AllByRecursion IsOctetLine (kept self.now)) }
     {
         let mut left = self.kept();
@@ -38,9 +40,10 @@ impl Events {
         Ok(())
     }
 
-    /// Reads a queue from its lines, with so many places, or as many as it keeps pieces where those
-    /// are more. `line` and `octets` are room for one line. `Wrong` says that what comes is no
-    /// queue, `NoMemory` that its places found none.
+    /// Reads a queue from its lines. It has so many places, or as many as there are pieces where
+    /// those are more: then nothing is lost, and it is full until enough have left. `line` and
+    /// `octets` are room for one line. `Wrong` says that what comes are no queue's lines,
+    /// `NoMemory` that there is none for the places.
     pub fn read_state<L: Lines>(
         alloc: Global,
         places: usize,
@@ -52,11 +55,12 @@ impl Events {
         ensures read { IfOk result (λ e. IsSavable e
             × (e ≡ in_places places e)
             × (L.coming lines.old ≡ queue_lines e ++ L.coming lines.new)) }
-        // The lines of a queue give that queue, and are never refused as wrong.
+        // The lines of a queue give its pieces with their mark, and are never refused as wrong.
         ensures back { (q : Queue) (rest : List (List ℕ)) → IsSavable q →
             L.coming lines.old ≡ queue_lines q ++ rest →
             MatchResult result (λ e. (e ≡ in_places places q) × (L.coming lines.new ≡ rest))
             (λ fault. fault ≡ Wrong → ⊥) }
+        // They give that very queue where it had so many places.
         ensures same { (q : Queue) (rest : List (List ℕ)) → IsSavable q → q.places ≡ places →
             L.coming lines.old ≡ queue_lines q ++ rest →
             MatchResult result (λ e. (e ≡ q) × (L.coming lines.new ≡ rest))
@@ -88,7 +92,8 @@ impl Events {
         requires empty { self.old ≡ empty self.old.places }
         requires room { count ≤ self.old.places }
         // Of the lines that came so many are the queue's pieces.
-        ensures queue { OnOk result (self.new ≡ pushed self.new.unsent self.old) }
+        ensures sent { OnOk result (self.new.sent ≡ []) }
+        ensures places { OnOk result (self.new.places ≡ self.old.places) }
         ensures number { OnOk result (length self.new.unsent ≡ count) }
         ensures pieces { OnOk result (AreSendable self.new.unsent
             × AllByRecursion IsOctetLine self.new.unsent) }
@@ -106,7 +111,7 @@ impl Events {
         Ok(())
     }
 
-    /// The so many oldest pieces, all unsent, were sent.
+    /// The so many oldest unsent pieces were sent.
     fn mark_first(&mut self, count: usize)
         requires { count ≤ length self.old.unsent }
         ensures { self.new ≡ marked count self.old }

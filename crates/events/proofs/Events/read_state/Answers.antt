@@ -1,6 +1,7 @@
-use Rattle.std.proofs.Common.{◌≡◌, ◌∙◌, get_or, ap, sym}
-use Rattle.events.specs.Queue.{empty, pushed}
+use Rattle.std.proofs.Common.{◌≡◌, ◌∙◌, ℕ, List, [], get_or, ap, sym}
+use Rattle.events.specs.Queue.{Queue, empty}
 use Rattle.events.specs.Restored.{marked}
+use Rattle.events.proofs.Marks.{queue_from}
 use Rattle.events.proofs.TakenUp.{two_numbers, read_is, back_is, same_is, IsRead}
 use Rattle.events.proofs.Events.read_state.Goals as goal
 
@@ -15,8 +16,10 @@ read g c =
     c.in_ok-next.ensures.some
     (sym c.as_slice.ensures.value ∙ two_numbers line c.in-len2.len_at_least c.in-len2.len_below)
     c.in_ok-read_pieces.ensures.lines c.in_ok-read_pieces.ensures.number c.if-kept-sent.false
-    (c.mark_first.ensures ∙ ap (marked (get_or line 1 0)) (c.in_ok-read_pieces.ensures.queue
-    ∙ ap (pushed pieces) (begun ∙ ap empty c.max.ensures)))
+    (c.mark_first.ensures ∙ ap (marked (get_or line 1 0))
+    (ap (λ (ps : List (List ℕ)). queue_from ps pieces c.read_pieces.new.self.places) c.in_ok-read_pieces.ensures.sent
+    ∙ ap (queue_from [] pieces)
+    (c.in_ok-read_pieces.ensures.places ∙ ap (λ (q : Queue). q.places) begun ∙ c.max.ensures)))
     c.in_ok-read_pieces.ensures.pieces.0 c.in_ok-read_pieces.ensures.pieces.1
 
 pub returns-clause-read : goal.returns-clause-read
