@@ -6,3 +6,5 @@ pub mod Assembly
 pub mod Control
 pub mod Progress
 pub mod Examples
+pub mod Refusals
+pub mod Places

@@ -7,6 +7,8 @@ ghost use Rattle.apci.specs.declared.assembling.Heard.{Heard};
 ghost use Rattle.apci.specs.Spelling.{Fits, IsApdu, spelling};
 ghost use Rattle.apci.specs.Assembly.{Assembly, Hears, IsHeardWhole};
 ghost use Rattle.apci.specs.Reading.{IsFront};
+ghost use Rattle.apci.specs.Places.{HavePlaces};
+ghost use Rattle.apci.specs.Refusals.{RefuseOctets};
 ghost use Rattle.std.specs.List.{AllByRecursion};
 ghost use Rattle.apci.specs.Examples.{IsSpelledSo, TellFormats, IsRefusedSo, spelling_examples, refusal_examples};
 
@@ -43,6 +45,16 @@ pub fn formats_are_told_apart()
 pub fn apdus_are_heard_one_after_another()
     ensures { (a : Apdu) (more : List ℕ) (n : ℕ) (heard : Heard) (after : Assembly) →
         Fits a → Hears [] (spelling a ++ more) n heard after → IsHeardWhole a n heard after }
+{}
+
+/// Sequence numbers, length and ASDU have their places (IEC 60870-5-104, 5 and 5.1).
+pub fn fields_have_places()
+    ensures { HavePlaces }
+{}
+
+/// Octets that begin no APDU are refused for this, whatever stands behind them.
+pub fn refusals_are_told()
+    ensures { RefuseOctets }
 {}
 
 /// APDUs worked by hand from the standard have these octets, and octets that begin none are refused

@@ -9,8 +9,9 @@
 //! Proved: an APDU and its octets are one relation, `IsApdu`. What is written is the one spelling.
 //! `front` answers the whole APDU exactly where one stands there, that more is due exactly where
 //! the octets begin one, and else the refusal of the least place that decides. `feed` hears what
-//! `front` finds in the joined octets, takes exactly the APDU's, and looks at no octet twice. No
-//! call takes memory.
+//! `front` finds in the joined octets, takes exactly the APDU's, and looks at no octet twice. What
+//! an assembler has so far can be put as numbers, and an assembler that is fed them goes on alike.
+//! No call but `put_so_far` takes memory.
 #![tactic(auto)]
 
 mod apdu;
@@ -23,8 +24,9 @@ mod writing;
 pub use apdu::{Apdu, ApduRef, Front, FrontRef, Short, Uf, Why};
 pub use assembling::{Assembler, Heard};
 pub use laws::{
-    apdus_are_heard_one_after_another, formats_are_told_apart, no_spelling_begins_another,
-    one_front, one_spelling, spellings_cancel, worked_examples_hold,
+    apdus_are_heard_one_after_another, fields_have_places, formats_are_told_apart,
+    no_spelling_begins_another, one_front, one_spelling, refusals_are_told, spellings_cancel,
+    worked_examples_hold,
 };
 pub use reading::{front, front_ref};
 pub use writing::{encode, write_information};

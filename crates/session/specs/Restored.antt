@@ -37,15 +37,15 @@ moment_numbers None = []
 moment_numbers (Some moment) = moment ∷ []
 
 -- the line of the counters
-abbrev pub counter_line : Session → List ℕ
-counter_line s =
-    transfer_number s.transfer ∷ s.next_sent ∷ s.next_received ∷ s.acked_queue ∷ s.acked_own ∷ []
+abbrev pub numbers_line : Numbers → List ℕ
+numbers_line n =
+    transfer_number n.transfer ∷ n.next_sent ∷ n.next_received ∷ n.acked_queue ∷ n.acked_own ∷ []
 
 -- the line of what is due, and of how many frame lines follow
-abbrev pub due_line : Session → List ℕ
-due_line s =
-    length s.unacknowledged ∷ s.unconfirmed ∷ s.unconfirmed_since ∷ s.last_frame
-    ∷ reply_number s.reply ∷ moment_numbers s.test_sent
+abbrev pub dues_line : Dues → List ℕ
+dues_line d =
+    d.frames ∷ d.unconfirmed ∷ d.unconfirmed_since ∷ d.last_frame ∷ reply_number d.reply
+    ∷ moment_numbers d.test_sent
 
 -- the line of an unacknowledged frame
 abbrev pub frame_line : Unacknowledged → List ℕ
@@ -55,26 +55,7 @@ abbrev pub frame_lines : List Unacknowledged → List (List ℕ)
 frame_lines [] = []
 frame_lines (frame ∷ frames) = frame_line frame ∷ frame_lines frames
 
--- the lines of the whole state but the settings, which stand elsewhere
-abbrev pub session_lines : Session → List (List ℕ)
-session_lines s = counter_line s ∷ due_line s ∷ frame_lines s.unacknowledged
-
--- What holds of each session, and is needed to read it back.
-pub record IsSavable (s : Session) : Type 0 where
-  pub few : length s.unacknowledged ≤ s.k
-  pub sent_small : s.next_sent < 32768
-  pub received_small : s.next_received < 32768
-  pub unconfirmed_small : s.unconfirmed < 65536
-
--- its settings are these
-pub record HasSettings (s : Session) (k w t1 t2 t3 : ℕ) : Type 0 where
-  pub k_is : s.k ≡ k
-  pub w_is : s.w ≡ w
-  pub t1_is : s.t1 ≡ t1
-  pub t2_is : s.t2 ≡ t2
-  pub t3_is : s.t3 ≡ t3
-
--- what its two first lines say
+-- what the two first lines of a session say
 abbrev pub numbers_of : Session → Numbers
 numbers_of s = record {
   transfer = s.transfer;
@@ -93,6 +74,26 @@ dues_of s = record {
   reply = s.reply;
   test_sent = s.test_sent;
 }
+
+-- the lines of the whole state but the settings, which stand elsewhere
+abbrev pub session_lines : Session → List (List ℕ)
+session_lines s =
+    numbers_line (numbers_of s) ∷ dues_line (dues_of s) ∷ frame_lines s.unacknowledged
+
+-- What holds of each session, and is needed to read it back.
+pub record IsSavable (s : Session) : Type 0 where
+  pub few : length s.unacknowledged ≤ s.k
+  pub sent_small : s.next_sent < 32768
+  pub received_small : s.next_received < 32768
+  pub unconfirmed_small : s.unconfirmed < 65536
+
+-- its settings are these
+pub record HasSettings (s : Session) (k w t1 t2 t3 : ℕ) : Type 0 where
+  pub k_is : s.k ≡ k
+  pub w_is : s.w ≡ w
+  pub t1_is : s.t1 ≡ t1
+  pub t2_is : s.t2 ≡ t2
+  pub t3_is : s.t3 ≡ t3
 
 -- ---- what is read
 

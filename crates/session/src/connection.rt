@@ -9,7 +9,7 @@ ghost use Rattle.session.specs.Ends.{IsConfirmed};
 ghost use Rattle.std.specs.Prelude.{ℕ, List, ◌++◌, OnOk, MatchResult};
 ghost use Rattle.checkpoint.specs.declared.StateFault.TheVariants.{Wrong};
 ghost use Rattle.session.specs.Session.{Session as Machine};
-ghost use Rattle.session.specs.Restored.{session_lines, counter_line, due_line, IsSavable, HasSettings};
+ghost use Rattle.session.specs.Restored.{session_lines, numbers_line, numbers_of, dues_line, dues_of, IsSavable, HasSettings};
 
 use crate::kinds::{Close, Kind, Taken, Transfer, Unacknowledged};
 use crate::saving::{
@@ -469,12 +469,14 @@ impl Session {
     fn is_savable(&self)
         ensures { IsSavable self.now }
     {
+        // Reading it tells the proof what its type bounds.
         let _unconfirmed = self.unconfirmed;
     }
 
     /// Puts the line of the counters.
     fn put_counters(&self, line: &mut Vec<u64>) -> Result<(), AllocError>
-        ensures { OnOk result (line.new.items ≡ line.old.items ++ counter_line self.now) }
+        ensures { OnOk result (line.new.items
+            ≡ line.old.items ++ numbers_line (numbers_of self.now)) }
     {
         line.push(transfer_number(self.transfer))?;
         line.push(u64::from(self.next_sent))?;
@@ -486,7 +488,7 @@ impl Session {
 
     /// Puts the line of what is due.
     fn put_dues(&self, line: &mut Vec<u64>) -> Result<(), AllocError>
-        ensures { OnOk result (line.new.items ≡ line.old.items ++ due_line self.now) }
+        ensures { OnOk result (line.new.items ≡ line.old.items ++ dues_line (dues_of self.now)) }
     {
         line.push(self.unacknowledged.len() as u64)?;
         line.push(u64::from(self.unconfirmed))?;
@@ -531,6 +533,9 @@ impl Session {
             HasSettings s k w t1 t2 t3 → L.coming lines.old ≡ session_lines s ++ rest →
             MatchResult result (λ r. (r ≡ s) × (L.coming lines.new ≡ rest))
             (λ fault. fault ≡ Wrong → ⊥) }
+        // So what isn't the lines of a session is refused.
+        ensures exact { IfOk result (λ r.
+            L.coming lines.old ≡ session_lines r ++ L.coming lines.new) }
         ensures settings { IfOk result (λ r. HasSettings r k w t1 t2 t3) }
     {
         let numbers = read_numbers(lines, line)?;

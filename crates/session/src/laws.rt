@@ -3,16 +3,16 @@
 //! The history of a connection has what came and what went out. Each law says what a session's
 //! calls answer by what the standard makes of that history.
 
-ghost use Rattle.std.specs.Prelude.{◌≡◌, ℕ, ◌%◌, ◌<◌, ◌≤◌, ◌&&◌, ◌++◌, List, true, None, nat_lt, length, option_to_list};
+ghost use Rattle.std.specs.Prelude.{◌≡◌, ℕ, ◌%◌, ◌<◌, ◌≤◌, ◌&&◌, ◌++◌, List, [], true, false, None, nat_lt, length, option_to_list};
 ghost use Rattle.apci.specs.declared.apdu.Apdu.{Apdu};
 ghost use Rattle.session.specs.declared.kinds.Kind.{Kind};
 ghost use Rattle.session.specs.declared.kinds.Unacknowledged.{Unacknowledged};
-ghost use Rattle.session.specs.Session.{Session, is_transferring, may_send, outcome_of, timed_out, confirmed, pulled, sent, taken};
+ghost use Rattle.session.specs.Session.{Session, is_open, is_transferring, may_send, refuses, outcome_of, timed_out, confirmed, pulled, sent, taken};
 ghost use Rattle.session.specs.History.{IsNumbered, sent_frames, received_count, reached, still_unacknowledged, is_started, verdict_on, confirmation_of, confirmation_owed, confirmations_due, confirmations_sent, has_timed_out, frame_due};
-ghost use Rattle.session.specs.Laws.{AfterEachRun, Acknowledges};
+ghost use Rattle.session.specs.Laws.{AfterEachRun, Acknowledges, TellsAcknowledged};
 ghost use Rattle.session.specs.Rules.{KeepsRules};
 ghost use Rattle.session.specs.SessionLaws.{SessionLaws};
-ghost use Rattle.session.specs.Ends.{after_confirm, after_pull, IsConfirmed, IsInTime, AreInOrder};
+ghost use Rattle.session.specs.Ends.{after_confirm, after_pull, IsConfirmed, IsInTime, IsSilent, AreInOrder};
 
 /// N(R) is judged by the least number that isn't below the acknowledged count and equals it modulo
 /// 32768.
@@ -43,6 +43,16 @@ pub fn frames_are_judged()
     ensures verdict { AfterEachRun (λ p s h.
         (frame : Apdu) → outcome_of s frame ≡ verdict_on frame h) }
     ensures acknowledged { AfterEachRun (λ p s h. Acknowledges s h) }
+    ensures refused { (frame : Apdu) (now : ℕ) (s : Session) → refuses s frame ≡ true →
+        TellsAcknowledged [] (taken frame now s) }
+{}
+
+/// A frame neither opens nor closes a connection, and without one nothing is due and nothing goes
+/// out.
+pub fn connections_begin_by_open()
+    ensures take { (frame : Apdu) (now : ℕ) (s : Session) →
+        is_open (taken frame now s) ≡ is_open s }
+    ensures without { (now : ℕ) (s : Session) → is_open s ≡ false → IsSilent now s }
 {}
 
 /// Data transfer runs where the latest STARTDT act or STOPDT act is a STARTDT act. Each STARTDT act

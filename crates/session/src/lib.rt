@@ -13,7 +13,9 @@
 //! and equals it modulo 32768 is at most the sent count; S frames, TESTFR act and the close by t1
 //! come exactly when due; data transfer runs where the latest of STARTDT act and STOPDT act is a
 //! STARTDT act. Each entry of a history keeps these rules with what came before it, and calls that
-//! are made until they answer nothing come to an end. Only `new` takes memory.
+//! are made until they answer nothing come to an end. `put_state` puts a session as lines of
+//! numbers, and `read_state` makes the same session of them, and none of any others. Only `new` and
+//! `read_state` take memory for the session, and `put_state` and `read_state` for a line.
 #![tactic(auto)]
 
 mod connection;
@@ -24,7 +26,7 @@ mod saving;
 pub use connection::{NoMemory, Session};
 pub use kinds::{Close, Kind, Taken, Transfer, Unacknowledged};
 pub use laws::{
-    calls_come_to_an_end, frames_are_judged, frames_are_numbered, frames_stay_in_order,
-    histories_keep_the_rules, reached_is_least, session_keeps_the_standard, timers_are_kept,
-    transfer_is_controlled, window_is_kept,
+    calls_come_to_an_end, connections_begin_by_open, frames_are_judged, frames_are_numbered,
+    frames_stay_in_order, histories_keep_the_rules, reached_is_least, session_keeps_the_standard,
+    timers_are_kept, transfer_is_controlled, window_is_kept,
 };

@@ -4,7 +4,7 @@ ghost use Rattle.std.specs.Prelude.{◌≡◌, ℕ, ◌+◌, ◌<◌, ◌≤◌,
 ghost use Rattle.checkpoint.specs.declared.StateFault.TheVariants.{Wrong};
 ghost use Rattle.session.specs.declared.kinds.Unacknowledged.{Unacknowledged};
 ghost use Rattle.session.specs.Session.{Session};
-ghost use Rattle.session.specs.Restored.{transfer_number, transfer_from, kind_number, kind_from, reply_number, reply_from, moment_numbers, moment_from, counter_line, due_line, frame_line, frame_lines, frame_from, numbers_from, numbers_of, dues_from, dues_of, IsSavable};
+ghost use Rattle.session.specs.Restored.{transfer_number, transfer_from, kind_number, kind_from, reply_number, reply_from, moment_numbers, moment_from, numbers_line, dues_line, frame_line, frame_lines, frame_from, numbers_from, numbers_of, dues_from, dues_of, IsSavable};
 
 use crate::kinds::{Kind, Transfer, Unacknowledged};
 use apci::Uf;
@@ -218,9 +218,11 @@ pub(crate) fn read_numbers<L: Lines>(
     line: &mut Vec<u64>,
 ) -> Result<Numbers, StateFault>
     ensures back { (s : Session) (rest : List (List ℕ)) → IsSavable s →
-        L.coming lines.old ≡ counter_line s ∷ rest →
+        L.coming lines.old ≡ numbers_line (numbers_of s) ∷ rest →
         MatchResult result (λ n. (n ≡ numbers_of s) × (L.coming lines.new ≡ rest))
         (λ fault. fault ≡ Wrong → ⊥) }
+    ensures exact { IfOk result (λ n.
+        L.coming lines.old ≡ numbers_line n ∷ L.coming lines.new) }
     ensures small { IfOk result (λ n. (n.next_sent < 32768) × (n.next_received < 32768)) }
 {
     lines.next(line)?;
@@ -232,10 +234,11 @@ pub(crate) fn read_numbers<L: Lines>(
 
 /// Reads the line of what is due.
 pub(crate) fn read_dues<L: Lines>(lines: &mut L, line: &mut Vec<u64>) -> Result<Dues, StateFault>
-    ensures { (s : Session) (rest : List (List ℕ)) → IsSavable s →
-        L.coming lines.old ≡ due_line s ∷ rest →
+    ensures back { (s : Session) (rest : List (List ℕ)) → IsSavable s →
+        L.coming lines.old ≡ dues_line (dues_of s) ∷ rest →
         MatchResult result (λ d. (d ≡ dues_of s) × (L.coming lines.new ≡ rest))
         (λ fault. fault ≡ Wrong → ⊥) }
+    ensures exact { IfOk result (λ d. L.coming lines.old ≡ dues_line d ∷ L.coming lines.new) }
 {
     lines.next(line)?;
     match dues_from(line.as_slice()) {
@@ -246,10 +249,11 @@ pub(crate) fn read_dues<L: Lines>(lines: &mut L, line: &mut Vec<u64>) -> Result<
 
 /// Reads the line of a frame.
 fn read_frame<L: Lines>(lines: &mut L, line: &mut Vec<u64>) -> Result<Unacknowledged, StateFault>
-    ensures { (frame : Unacknowledged) (rest : List (List ℕ)) →
+    ensures back { (frame : Unacknowledged) (rest : List (List ℕ)) →
         L.coming lines.old ≡ frame_line frame ∷ rest →
         MatchResult result (λ f. (f ≡ frame) × (L.coming lines.new ≡ rest))
         (λ fault. fault ≡ Wrong → ⊥) }
+    ensures exact { IfOk result (λ f. L.coming lines.old ≡ frame_line f ∷ L.coming lines.new) }
 {
     lines.next(line)?;
     match frame_from(line.as_slice()) {
@@ -271,8 +275,10 @@ pub(crate) fn read_frames<L: Lines>(
         MatchResult result
         (λ _. (frames.new.items ≡ frames.old.items ++ fs) × (L.coming lines.new ≡ rest))
         (λ fault. fault ≡ Wrong → ⊥) }
+    ensures exact { OnOk result ((fs : List Unacknowledged) × (length fs ≡ count)
+        × (frames.new.items ≡ frames.old.items ++ fs)
+        × (L.coming lines.old ≡ frame_lines fs ++ L.coming lines.new)) }
     ensures room { frames.new.capacity ≡ frames.old.capacity }
-    ensures few { length frames.new.items ≤ length frames.old.items + count }
 {
     for _i in 0..count {
         let frame = read_frame(lines, line)?;

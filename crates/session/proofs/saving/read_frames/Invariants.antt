@@ -1,6 +1,7 @@
-use Rattle.std.proofs.Common.{◌≡◌, ◌+◌, ◌≤◌, ◌++◌, take, drop, List, ℕ, length}
+use Rattle.std.proofs.Common.{◌≡◌, ◌++◌, take, drop, List, ℕ, length}
 use Rattle.session.specs.declared.kinds.Unacknowledged.{Unacknowledged}
 use Rattle.session.specs.Restored.{frame_lines}
+use Rattle.session.proofs.ReadBack.{Read}
 use Rattle.session.proofs.saving.read_frames.Given as goal
 
 abbrev pub invariant-loop-i : goal.invariant-loop-i
@@ -9,6 +10,6 @@ invariant-loop-i g l = record {
       → g.L.Lines.coming l.fn.lines ≡ frame_lines fs ++ rest
       → (l.frames.items ≡ l.fn.frames.items ++ take l._i fs)
       × (g.L.Lines.coming l.lines ≡ frame_lines (drop l._i fs) ++ rest);
+  exact : Read l.fn.frames.items l.frames.items (g.L.Lines.coming l.fn.lines) (g.L.Lines.coming l.lines) l._i;
   room : l.frames.capacity ≡ l.fn.frames.capacity;
-  few : length l.frames.items ≤ length l.fn.frames.items + l._i;
 }
