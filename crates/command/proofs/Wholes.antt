@@ -8,7 +8,10 @@ use Rattle.command.specs.declared.station.StationInfo.{StationInfo}
 use Rattle.command.specs.Octets.{answer}
 use Rattle.command.specs.Standard.{Rule, IsRefusal, first_cause, own_rules, cause_of_fault, negative_of, is_activation, is_deactivating, common_address, has_tag, tag_of, is_fresh, not_fresh, wants_select, must_be_selected, unknown_type, unknown_cause, unknown_station, unknown_object, malformed, not_permitted}
 use Rattle.command.specs.History.{Judged, Sent, Accepted, Refused, GivenUp, Mirrored, Offered, Answered, Ended, History, cause_given, on_line, GivesOwnAnswers, ExecutesAreSelected, AnswersWholly, IsGuarded}
+use Rattle.command.specs.Calls.{Call, run}
+use Rattle.command.proofs.Bridge.{executes_selected}
 use Rattle.command.proofs.Refusals.{refuses}
+use Rattle.command.proofs.Runs.{run_holds}
 use Rattle.command.proofs.Sendings.{same}
 
 -- ---- answers
@@ -141,3 +144,25 @@ any_age sizes stations age wall xs e =
     ap (λ (b : Bool). first_cause (unknown_type xs ∷ unknown_cause xs ∷ unknown_station stations xs
     ∷ unknown_object sizes xs ∷ malformed xs ∷ not_permitted xs ∷ record { applies = b; cause = negative_of xs } ∷ []))
     (fresh_off age wall xs e ∙ sym (fresh_off age None xs e))
+
+-- ---- every list of calls
+
+pub run_selected : (stations : List StationInfo) (sizes : Sizes) (select_ms max_age_ms : ℕ) (calls : List Call)
+    → ExecutesAreSelected sizes stations select_ms max_age_ms (run stations sizes select_ms max_age_ms calls).history
+run_selected stations sizes select_ms max_age_ms calls =
+    executes_selected sizes stations select_ms max_age_ms (run stations sizes select_ms max_age_ms calls).history
+    (run_holds sizes stations select_ms max_age_ms calls).keeps.rightly
+    (run_holds sizes stations select_ms max_age_ms calls).keeps.executes
+
+pub run_guarded : (stations : List StationInfo) (sizes : Sizes) (select_ms max_age_ms : ℕ) (calls : List Call) (k : ℕ)
+    (station : StationInfo) → slice_get stations k ≡ Some station → station.select ≡ true
+    → IsGuarded sizes stations select_ms max_age_ms station (run stations sizes select_ms max_age_ms calls).history
+run_guarded stations sizes select_ms max_age_ms calls k station stands guarded =
+    is_guarded sizes stations select_ms max_age_ms k station stands guarded
+    (run stations sizes select_ms max_age_ms calls).history (run_selected stations sizes select_ms max_age_ms calls)
+
+pub run_wholly : (stations : List StationInfo) (sizes : Sizes) (select_ms max_age_ms : ℕ) (calls : List Call)
+    → AnswersWholly sizes stations select_ms max_age_ms (run stations sizes select_ms max_age_ms calls).history
+run_wholly stations sizes select_ms max_age_ms calls =
+    answers_wholly sizes stations select_ms max_age_ms (run stations sizes select_ms max_age_ms calls).history
+    (run_holds sizes stations select_ms max_age_ms calls).keeps.rightly

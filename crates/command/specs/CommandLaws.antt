@@ -1,5 +1,5 @@
 -- What this crate proves of every list of calls, and of its calls, gathered for crates above.
-use Rattle.std.specs.Prelude.{◌≡◌, ℕ, ◌<◌, ◌≤◌, ◌++◌, ◌==◌, false, List, [], length, slice_index, Option, Some, option_map}
+use Rattle.std.specs.Prelude.{◌≡◌, ℕ, ◌<◌, ◌≤◌, ◌+◌, ◌&&◌, ◌++◌, ◌==◌, true, false, List, [], length, count_by, slice_get, slice_index, Option, Some, option_map}
 use Rattle.asdu.specs.Sizes.{tcp}
 use Rattle.asdu.specs.Asdu.{AsduValue}
 use Rattle.asdu.specs.InformationObjects.{monitor_objects_of}
@@ -8,7 +8,9 @@ use Rattle.command.specs.declared.station.StationInfo.{StationInfo}
 use Rattle.command.specs.State.{State, octets_waiting, line_of, refusal_of, sent}
 use Rattle.command.specs.Judging.{judged}
 use Rattle.command.specs.Mirrors.{mirrored, tag_for}
-use Rattle.command.specs.History.{ForwardsCommands, SendsFreshCommands, mirror_tag, ExecutesAreSelected, GivesOwnAnswers, KeepsOwnAnswers, own_kept, own_sent}
+use Rattle.command.specs.History.{ForwardsCommands, SendsFreshCommands, mirror_tag, ExecutesAreSelected, GivesOwnAnswers, AnswersWholly, IsGuarded, KeepsOwnAnswers, own_kept, own_sent, forwarded_in_all, sent_in_all}
+use Rattle.command.specs.Rules.{no_place}
+use Rattle.command.specs.Standard.{is_for_station, must_be_selected, selects}
 use Rattle.command.specs.Calls.{Call, Run, after_call, first_run}
 use Rattle.command.specs.Laws.{AfterEachRun, IsRun, OfEachRun}
 
@@ -63,6 +65,16 @@ pub record RunLaws : Type 0 where
       ForwardsCommands sizes stations select_ms max_age_ms h)
   pub selected : OfEachRun (λ stations sizes select_ms max_age_ms s h.
       ExecutesAreSelected sizes stations select_ms max_age_ms h)
+  pub each_station : OfEachRun (λ stations sizes select_ms max_age_ms s h. (k : ℕ)
+      (station : StationInfo) → slice_get stations k ≡ Some station → station.select ≡ true →
+      IsGuarded sizes stations select_ms max_age_ms station h)
+  pub wholly : OfEachRun (λ stations sizes select_ms max_age_ms s h.
+      AnswersWholly sizes stations select_ms max_age_ms h)
+  pub places : OfEachRun (λ stations sizes select_ms max_age_ms s h.
+      length s.waiting + sent_in_all h ≡ forwarded_in_all stations h)
+  pub room : OfEachRun (λ stations sizes select_ms max_age_ms s h. (xs : List ℕ) →
+      forwarded_in_all stations h + count_by (is_for_station xs) stations ≤ sent_in_all h + 64
+      → (must_be_selected stations xs && selects xs) ≡ false → (no_place xs s).applies ≡ false)
   pub right : OfEachRun (λ stations sizes select_ms max_age_ms s h.
       GivesOwnAnswers sizes stations select_ms max_age_ms h)
   pub fresh : OfEachRun (λ stations sizes select_ms max_age_ms s h.

@@ -1,6 +1,7 @@
 //! What one octet adds to the beginning of a frame.
 
-ghost use Rattle.std.specs.Prelude.{◌≡◌, ℕ, List, ◌+◌, ◌/◌, ◌%◌, ◌≤◌, ◌<◌, [], ◌∷◌, ◌++◌, length, OnOk};
+ghost use Rattle.std.specs.Prelude.{◌≡◌, ℕ, List, ◌+◌, ◌≤◌, ◌<◌, [], ◌∷◌, ◌++◌, length};
+ghost use Rattle.std.specs.Prelude.{◌/◌, ◌%◌, OnOk};
 ghost use Rattle.ft12.specs.declared.frame.LinkSize.{LinkSize};
 ghost use Rattle.ft12.specs.Spelling.{address_len, user};
 ghost use Rattle.ft12.specs.Stage.{fields_octets, IsFields, head, IsStage, so_far, Steps, is_end, IsInner, EndsNoFrame, summed_octets};

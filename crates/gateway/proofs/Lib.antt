@@ -38,3 +38,5 @@ pub mod Tallies
 pub mod Order
 pub mod Moments
 pub mod Between
+pub mod ReadBack
+pub mod Unchanging

@@ -34,3 +34,4 @@ pub mod Agrees
 pub mod Steps
 pub mod Judging
 pub mod Runs
+pub mod Restored

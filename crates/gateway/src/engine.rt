@@ -12,6 +12,8 @@ ghost use Rattle.gateway.specs.declared.settings.Station.{Station};
 ghost use Rattle.gateway.specs.State.{counts_of, first_state, at_moment, with_wall, wall_now};
 
 mod centre;
+mod restoring;
+mod saving;
 mod serial;
 mod tagging;
 

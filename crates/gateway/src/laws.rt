@@ -19,6 +19,7 @@ ghost use Rattle.gateway.specs.Tallies.{given_up_in, unpassed_in};
 ghost use Rattle.gateway.specs.Works.{tasks_of};
 ghost use Rattle.gateway.specs.State.{State, IsBetweenSteps};
 ghost use Rattle.gateway.specs.Agrees.{Follows};
+ghost use Rattle.gateway.specs.Restored.{HasSettings};
 ghost use Rattle.gateway.specs.Traffic.{HasCause};
 
 use apci::{one_front, spellings_cancel};
@@ -92,6 +93,15 @@ pub fn counts_tell_commands()
 pub fn steps_leave_nothing_open()
     ensures { (p : Setup) (s : State) (log : Log) → Follows p s (Some log) → IsBetweenSteps s }
 {}
+
+/// A gateway keeps its settings: a state that follows a log of a gateway with these settings has
+/// them.
+pub fn settings_are_kept()
+    ensures { (c : Settings) (s : State) (log : Log) → Follows (setup_of c) s (Some log) →
+        HasSettings c s }
+{
+    commands_keep_the_rules();
+}
 
 /// Each setting reaches the promises under its own name and with its own value: what a gateway with
 /// these settings promises (`setup_of`) speaks of these numbers, of these stations in their order,

@@ -44,7 +44,7 @@ pub use entries::{Entry, Told, announce, cause_number, keep};
 pub use history::History;
 pub use laws::{
     counts_tell_commands, courses_keep_commands, one_cause, one_course, one_reading,
-    settings_reach_the_promises, steps_leave_nothing_open,
+    settings_are_kept, settings_reach_the_promises, steps_leave_nothing_open,
 };
 pub use ordering::{moments_never_fall, steps_keep_their_order};
 pub use ports::{Action, Event, Next, Port};

@@ -1,6 +1,6 @@
 -- Over every list of calls the exchanges are visits, and no station waits for longer than all the others' visits.
 use Rattle.std.specs.Prelude.{◌==◌}
-use Rattle.std.proofs.Common.{◌≡◌, ℕ, zero, suc, ◌+◌, ◌-◌, ◌*◌, ◌<◌, ◌≤◌, nat_lt, Bool, true, false, List, [], ◌∷◌, ◌++◌, All, length, Option, None, refl, sym, ap, subst, ◌∙◌, ◌⊎◌, inl, inr, arith, if◌then◌else◌}
+use Rattle.std.proofs.Common.{◌≡◌, ℕ, zero, suc, ◌+◌, ◌-◌, ◌*◌, ◌<◌, ◌≤◌, nat_lt, Bool, true, false, List, [], ◌∷◌, ◌++◌, All, length, Option, None, Some, refl, sym, ap, subst, ◌∙◌, ◌⊎◌, inl, inr, arith, if◌then◌else◌}
 use Rattle.std.proofs.lemmas.Nat.{mul-le}
 use Rattle.std.proofs.lemmas.Bool.{cases_lt, cases_eq, lt-ltb, le-ltb, eqb-false}
 use Rattle.ft12.specs.Fronts.{front_of}
@@ -306,8 +306,8 @@ Waiting settings addresses k before p e =
 ask_waits : (settings : LinkSettings) (addresses : List ℕ) (p p' : Primary) (e e' : Exchanges) (may_poll : Bool)
     (many k before : ℕ) (s : Option Sending) →
     k < length addresses → Tells settings addresses p e → many ≤ most_of_visit settings →
-    (p.outstanding ≡ None → (may_poll ≡ true) ⊎ (IsLeftToPolls (station_at p.stations k) (station_at p.stations k).link
-    → ⊥)) →
+    ((z : Sending) → s ≡ Some z → (may_poll ≡ true)
+    ⊎ (IsLeftToPolls (station_at p.stations k) (station_at p.stations k).link → ⊥)) →
     Waits (most_of_visit settings) (length addresses) k before p.turn many →
     IsAsked (front_of settings.size) addresses p may_poll many p' e' s
     → Waiting settings addresses k (waited k before (station_in s)) p' e'
@@ -342,7 +342,7 @@ ask_waits settings addresses p p' e e' may_poll many k before s there t short wa
     round = subst (λ (j : ℕ). (j ≡ k)
         ⊎ (suc (distance (length p.stations) k p.turn) ≤ distance (length p.stations) k j)) (sym f.station)
         (nth_distance (length p.stations) k (subst (λ (n : ℕ). k < n) (sym t.count) there) f.steps p.turn t.fits.turn
-        (λ m less at. not_past p may_poll k (nth_after (length p.stations) p.turn (suc m)) (wants free)
+        (λ m less at. not_past p may_poll k (nth_after (length p.stations) p.turn (suc m)) (wants _ is)
         (f.nearer m less) at))
 
     far : (c.station ≡ k) ⊎ (suc (distance (length addresses) k p.turn) ≤ distance (length addresses) k c.station)

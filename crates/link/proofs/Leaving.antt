@@ -134,7 +134,7 @@ next p now false poll = inl (asked_without p now poll)
 -- ---- `octets` and `due`
 
 -- the station whose turn it is holds no poll
-set_none : (f : StationState → Bool) (stations : List StationState) (k : ℕ) (s : StationState) → f s ≡ false
+pub set_none : (f : StationState → Bool) (stations : List StationState) (k : ℕ) (s : StationState) → f s ≡ false
     → f no_station ≡ false →
     f (station_at (slice_set stations k s) k) ≡ false
 set_none f stations k s is none = go (cases_lt k (length stations))
@@ -294,7 +294,7 @@ offer p station asdu = go (may_offer p station)
         (with_offer (station_at p.stations station) (Some asdu)) refl p.turn) p.outstanding
     go false = refl
 
-without_links : (ss : List StationState) (i : ℕ) → (station_at (map without_offer ss) i).link ≡ (station_at ss i).link
+pub without_links : (ss : List StationState) (i : ℕ) → (station_at (map without_offer ss) i).link ≡ (station_at ss i).link
 without_links [] i = refl
 without_links (s ∷ ss) zero = refl
 without_links (s ∷ ss) (suc i) = without_links ss i

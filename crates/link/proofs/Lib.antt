@@ -40,3 +40,6 @@ pub mod Telltale
 pub mod Saved
 pub mod Fits
 pub mod RestoredBack
+pub mod Preceding
+pub mod Tabled
+pub mod Bursting

@@ -6,14 +6,15 @@ use Rattle.link.specs.Primary.{Primary, sending}
 use Rattle.link.specs.Leave.{IsLeftToPolls}
 use Rattle.link.specs.Runs.{Call, Next, called}
 
--- where something is left to be asked of the station
+-- Where a request goes out, something is left to be asked of the station, too: it may be polled, or
+-- it has more than polls.
 abbrev pub WantsAt : Primary → (station : ℕ) → Call → Type 0
 WantsAt p station (Next now may_poll) =
-    p.outstanding ≡ None → (may_poll ≡ true)
+    (s : Sending) → sending p may_poll ≡ Some s → (may_poll ≡ true)
     ⊎ (IsLeftToPolls (station_at p.stations station) (station_at p.stations station).link → ⊥)
 WantsAt p station call = Unit {0}
 
--- at each of these calls that asks for a request
+-- at each of these calls at which a request goes out
 abbrev pub AlwaysWants : Primary → (station : ℕ) → List Call → Type 0
 AlwaysWants p station [] = Unit {0}
 AlwaysWants p station (call ∷ calls) =

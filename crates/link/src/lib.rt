@@ -5,7 +5,8 @@
 //! ([`Master::due`]). [`Station`] is the other end, a secondary station. Neither reads a clock, nor
 //! a line: moments and octets are handed in, requests and answers are handed out. Left out are
 //! balanced mode, user data without reply, requests for access demand, and links without an
-//! address.
+//! address. The state of a [`Master`] is put as lines ([`Master::put_state`]) and read back from
+//! them ([`Master::read_state`]).
 //!
 //! Each call of [`Master`] is one function on a small machine (`specs/Primary.antt`), and of
 //! [`Station`] on another (`specs/Secondary.antt`). Above them stand laws, as public functions with
@@ -13,18 +14,23 @@
 //! - over every list of calls the exchanges of the line keep the frame count bit of each station
 //!   ([`frame_count_bits_are_kept`], [`master_tells_the_log`]), no request goes out while one is
 //!   outstanding ([`requests_wait_their_turn`]), turns go round the stations ([`turns_go_round`]),
-//!   a turn ends ([`turns_end`]) and no station starves ([`no_station_starves`]), polls and
-//!   commands go by ACD and DFC ([`flags_are_heeded`]), a command is sent for the first time once,
-//!   in order ([`commands_are_sent_in_order`]), what is offered waits until then ([`offers_wait`])
-//!   and is taken where no other is under way ([`one_command_at_a_time`]), what the caller is told
-//!   is what the exchanges show ([`outcomes_are_answers`], [`outcomes_bear_the_reports`]), and
-//!   those that closed with octets but no answer are counted ([`spoilt_exchanges_are_counted`]);
+//!   a turn ends ([`turns_end`]) and no station starves ([`no_station_starves`]), a command that
+//!   waits goes out before any new poll ([`commands_go_before_polls`]), polls and commands go by
+//!   ACD and DFC ([`flags_are_heeded`], [`class_1_polls_go_on`]), a command is sent for the first
+//!   time once, in order ([`commands_are_sent_in_order`]), what is offered waits until then
+//!   ([`offers_wait`]) and is taken where no other is under way ([`one_command_at_a_time`]), what
+//!   the caller is told is what the exchanges show ([`outcomes_are_answers`],
+//!   [`outcomes_bear_the_reports`]), and those that closed with octets but no answer are counted
+//!   ([`spoilt_exchanges_are_counted`]);
 //! - a reset that ends a session whose last report may be lost is told, and no other
 //!   ([`gaps_are_told`], [`gaps_are_ended_sessions`]);
 //! - what the crates above go by is one record ([`line_keeps_the_procedures`]);
 //! - a station runs as an outstation that hears each request to it ([`station_is_an_outstation`]),
 //!   and its answers say what waits there ([`station_tells_what_waits`]);
 //! - a control octet is a value ([`Control`], [`controls_are_octets`]);
+//! - each of the sixteen functions of a secondary station is an answer to a request, or none, and
+//!   is told as its table says ([`answers_are_whole`]), and the reserved bit isn't looked at
+//!   ([`reserved_bits_are_not_looked_at`]);
 //! - the tables of control octets, requests, answers, turns and outstations have worked examples
 //!   ([`controls_by_example`], [`answers_by_example`], [`requests_by_example`],
 //!   [`turns_by_example`], [`outstations_by_example`]);
@@ -38,6 +44,7 @@ mod answer;
 mod asdu;
 mod asking;
 mod awaited;
+mod bursts;
 mod control;
 mod examples;
 mod flags;
@@ -50,6 +57,7 @@ mod master;
 mod no_memory;
 mod offers;
 mod outcome;
+mod precedence;
 mod procedure;
 mod refinement;
 mod request;
@@ -59,12 +67,14 @@ mod service;
 mod session;
 mod settings;
 mod station;
+mod tables;
 mod turn;
 mod visits;
 
 pub use answer::Answer;
 pub use asdu::{Asdu, AsduRef, CommandOctets};
 pub use asking::next_changes_nothing;
+pub use bursts::class_1_polls_go_on;
 pub use control::{Control, PrimaryFunction, SecondaryFunction, controls_are_octets};
 pub use examples::{
     answers_by_example, controls_by_example, outstations_by_example, requests_by_example,
@@ -82,7 +92,8 @@ pub use life::{station_is_an_outstation, station_tells_what_waits};
 pub use master::Master;
 pub use no_memory::NoMemory;
 pub use offers::{offers_wait, one_command_at_a_time};
-pub use outcome::{Outcome, ReportRef};
+pub use outcome::{Outcome, OwnedOutcome, ReportRef};
+pub use precedence::commands_go_before_polls;
 pub use procedure::Link;
 pub use refinement::{
     commands_are_accepted, each_service_acts_once, reports_are_learnt, sessions_are_known,
@@ -97,4 +108,5 @@ pub use service::{Asked, Service};
 pub use session::SessionState;
 pub use settings::LinkSettings;
 pub use station::Station;
+pub use tables::{answers_are_whole, reserved_bits_are_not_looked_at};
 pub use visits::{no_station_starves, turns_end};

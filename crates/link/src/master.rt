@@ -7,6 +7,7 @@ ghost use Rattle.ft12.specs.Fronts.{front_of};
 ghost use Rattle.link.specs.Requests.{IsUserData, FitsAddress, FitsAsked};
 ghost use Rattle.link.specs.Primary.{start, choice, station_asked, after_choice, asked, sending, request_of, acd_of, dfc_of, phase_after, station_answered, heard_from, heard_outcome, received, received_outcome, station_unanswered, unanswered, miss_outcome, timed_out, due_outcome, is_sending_command, may_offer, offered_to, without_offer, withdrawn};
 ghost use Rattle.link.specs.Leave.{is_polling};
+ghost use Rattle.link.specs.Outcomes.{lent};
 ghost use Rattle.link.specs.declared.outcome.Outcome.TheVariants as outcome;
 ghost use Rattle.link.specs.Holding.{outstanding_of, IsFittingChoice, frame_after, so_far_after, is_at_front, noted, completed, gathered, MayEnd, MayComplete};
 
@@ -18,7 +19,7 @@ use crate::asdu::CommandOctets;
 use crate::awaited::Awaited;
 use crate::control::{shows_acd, shows_dfc};
 use crate::no_memory::NoMemory;
-use crate::outcome::{Outcome, told};
+use crate::outcome::{Outcome, OwnedOutcome, told};
 use crate::procedure::Link;
 use crate::request::Request;
 use crate::service::{Asked, Service};
@@ -415,9 +416,28 @@ impl Master {
         }
     }
 
-    /// Hears octets of the line with a whole frame at their front, where a request is outstanding
-    /// and these are the first octets that come: that is its answer. Else nothing is heard, and
-    /// nothing changes.
+    /// Hears octets of the line, in any pieces, and says what came of the exchange: its answer is
+    /// the frame at the front of its octets. Those that come while no request is outstanding, and
+    /// those after an answer or after what can't be one, are dropped. A report is copied; who wants
+    /// it lent calls the parts of this one: `hear_whole`, `gather_inner`, `gather` and `hear`, in
+    /// this order.
+    pub fn octets(&mut self, octets: &[u8]) -> OwnedOutcome
+        ensures state { self.new ≡ received (front_of self.old.settings.size) self.old octets.now }
+        ensures outcome { lent result
+            ≡ received_outcome (front_of self.old.settings.size) self.old octets.now }
+    {
+        if let Some(outcome) = self.hear_whole(octets) {
+            return outcome.to_owned_outcome();
+        }
+        match self.gather(octets) {
+            Some(frame) => self.hear(frame.lent()).to_owned_outcome(),
+            None => OwnedOutcome::None,
+        }
+    }
+
+    /// A part of `octets`. Hears octets of the line with a whole frame at their front, where a
+    /// request is outstanding and these are the first octets that come: that is its answer. Else
+    /// nothing is heard, and nothing changes.
     pub fn hear_whole<'a>(&mut self, octets: &'a [u8]) -> Option<Outcome<'a>>
         ensures whole { IfSome result (λ outcome.
             (self.new ≡ received (front_of self.old.settings.size) self.old octets.now)
@@ -446,10 +466,10 @@ impl Master {
         }
     }
 
-    /// Gathers octets of the line up to one that may be the last of the answer, and says how many:
-    /// all where none may. The others are to be gathered as well ([`Master::gather`]), and then
-    /// what is heard is what all of them say. It makes no place for a frame, so it is the first
-    /// call for octets that aren't a whole answer.
+    /// A part of `octets`. Gathers octets of the line up to one that may be the last of the answer,
+    /// and says how many: all where none may. The others are to be gathered as well
+    /// ([`Master::gather`]), and then what is heard is what all of them say. It makes no place for
+    /// a frame, so it is the first call for octets that aren't a whole answer.
     pub fn gather_inner(&mut self, octets: &[u8]) -> usize
         ensures within { result ≤ length octets.now }
         ensures all { result ≡ length octets.now → (self.new
@@ -473,10 +493,10 @@ impl Master {
         }
     }
 
-    /// Gathers octets of the line, in any pieces, up to the frame that is the answer: the one at
-    /// the front of the octets of the exchange. Those that come while no request is outstanding,
-    /// and those after an answer or after what can't be one, are dropped. The frame is to be heard
-    /// ([`Master::hear`]).
+    /// A part of `octets`. Gathers octets of the line, in any pieces, up to the frame that is the
+    /// answer: the one at the front of the octets of the exchange. Those that come while no request
+    /// is outstanding, and those after an answer or after what can't be one, are dropped. The frame
+    /// is to be heard ([`Master::hear`]).
     #[inline(never)]
     pub fn gather(&mut self, octets: &[u8]) -> Option<Frame>
         ensures frame { result ≡ completed (front_of self.old.settings.size) self.old octets.now }
@@ -496,8 +516,8 @@ impl Master {
         }
     }
 
-    /// Hears the frame that is the answer to the outstanding request, and says what came of the
-    /// exchange. Asks for at most 253 octets of data.
+    /// A part of `octets`. Hears the frame that is the answer to the outstanding request, and says
+    /// what came of the exchange. Asks for at most 253 octets of data.
     #[inline(always)]
     pub fn hear<'a>(&mut self, frame: FrameRef<'a>) -> Outcome<'a>
         requires { FitsMemory frame }

@@ -257,7 +257,8 @@ fn put_station<S: Sheet>(
     sheet: &mut S,
     line: &mut Vec<u64>,
 ) -> Result<(), StateFault>
-    ensures lines { OnOk result (S.written sheet.new ≡ S.written sheet.old ++ lines_of (station.now ∷ [])) }
+    ensures lines { OnOk result (S.written sheet.new
+        ≡ S.written sheet.old ++ lines_of (station.now ∷ [])) }
     ensures fits { OnOk result (FitsSavedStation station.now) }
 {
     line.clear();
@@ -275,7 +276,8 @@ fn put_station<S: Sheet>(
 /// Reads a station's three lines.
 fn read_station<L: Lines>(lines: &mut L, line: &mut Vec<u64>) -> Result<StationState, StateFault>
     ensures { (s : StationState) (rest : List (List ℕ)) → FitsSavedStation s →
-        L.coming lines.old ≡ flags_numbers s ∷ link_numbers s.link ∷ offered_numbers s.offered ∷ rest →
+        L.coming lines.old
+        ≡ flags_numbers s ∷ link_numbers s.link ∷ offered_numbers s.offered ∷ rest →
         MatchResult result (λ t. (t ≡ s) × (L.coming lines.new ≡ rest)) (λ e. e ≡ Wrong → ⊥) }
 {
     lines.next(line)?;
@@ -306,7 +308,8 @@ pub(crate) fn put_stations<S: Sheet>(
     sheet: &mut S,
     line: &mut Vec<u64>,
 ) -> Result<(), StateFault>
-    ensures lines { OnOk result (S.written sheet.new ≡ S.written sheet.old ++ lines_of stations.now) }
+    ensures lines { OnOk result (S.written sheet.new
+        ≡ S.written sheet.old ++ lines_of stations.now) }
     ensures fits { OnOk result (AllByRecursion FitsSavedStation stations.now) }
 {
     for station in stations {
@@ -322,9 +325,10 @@ pub(crate) fn read_stations<L: Lines>(
     lines: &mut L,
     line: &mut Vec<u64>,
 ) -> Result<Vec<StationState>, StateFault>
-    ensures { (ss : List StationState) (rest : List (List ℕ)) → length ss ≡ count → AllByRecursion FitsSavedStation ss →
-        L.coming lines.old ≡ lines_of ss ++ rest →
-        MatchResult result (λ v. (v.items ≡ ss) × (L.coming lines.new ≡ rest)) (λ e. e ≡ Wrong → ⊥) }
+    ensures { (ss : List StationState) (rest : List (List ℕ)) → length ss ≡ count →
+        AllByRecursion FitsSavedStation ss → L.coming lines.old ≡ lines_of ss ++ rest →
+        MatchResult result (λ v. (v.items ≡ ss) × (L.coming lines.new ≡ rest))
+        (λ e. e ≡ Wrong → ⊥) }
 {
     let mut stations = Vec::new(alloc);
     for _i in 0..count {

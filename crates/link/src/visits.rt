@@ -36,8 +36,10 @@ pub fn turns_end()
     front_is_computed();
 }
 
-/// From any moment on, a station of which something is left to be asked each time is asked before
-/// more requests have gone to the others than they have in one visit each.
+/// From any moment on, a station of which something is left to be asked each time that a request
+/// goes out is asked before more requests have gone to the others than they have in one visit each:
+/// between two of its visits each other station has at most one. Calls at which nothing goes out,
+/// as for want of leave, may come between, and change nothing of it.
 pub fn no_station_starves()
     ensures { (settings : LinkSettings) (addresses : List ℕ) (first later : List Call)
         (station : ℕ) →

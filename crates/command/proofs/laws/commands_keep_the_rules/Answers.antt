@@ -6,7 +6,9 @@ use Rattle.command.specs.History.{History}
 use Rattle.command.specs.Calls.{Run, run, after_call}
 use Rattle.command.specs.CommandLaws.{CommandLaws}
 use Rattle.command.specs.Laws.{AfterEachRun, OfEachRun}
+use Rattle.command.proofs.Places.{run_counts, has_room}
 use Rattle.command.proofs.Runs.{run_holds}
+use Rattle.command.proofs.Wholes.{run_guarded, run_wholly}
 use Rattle.command.proofs.Bridge.{executes_selected}
 use Rattle.command.proofs.Tagged.{run_fresh, run_tags}
 use Rattle.command.proofs.OwnAnswers.{of_judging, of_busy}
@@ -62,6 +64,12 @@ returns-clause-runs c = record {
       (run_holds sizes stations select_ms max_age_ms calls).same_age);
   forwarded = of_runs _ told.forwarded;
   selected = of_runs _ told.selected;
+  each_station = of_runs _ run_guarded;
+  wholly = of_runs _ run_wholly;
+  places = of_runs _ (λ stations sizes select_ms max_age_ms calls.
+      (run_counts stations sizes select_ms max_age_ms calls).waiting);
+  room = of_runs _ (λ stations sizes select_ms max_age_ms calls xs.
+      has_room stations sizes select_ms max_age_ms calls xs);
   right = of_runs _ told.right;
   fresh = of_runs _ told.fresh;
   tags = of_runs _ told.tags;

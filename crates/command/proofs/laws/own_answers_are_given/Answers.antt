@@ -1,7 +1,6 @@
-use Rattle.command.specs.Calls.{run}
 use Rattle.command.proofs.Refusals.{refuses}
 use Rattle.command.proofs.Runs.{run_holds}
-use Rattle.command.proofs.Wholes.{answers_wholly}
+use Rattle.command.proofs.Wholes.{run_wholly}
 use Rattle.command.proofs.laws.own_answers_are_given.Goals as goal
 
 pub returns-clause-right : goal.returns-clause-right
@@ -20,6 +19,4 @@ pub returns-clause-spelled : goal.returns-clause-spelled
 returns-clause-spelled c = refuses
 
 pub returns-clause-wholly : goal.returns-clause-wholly
-returns-clause-wholly c = λ stations sizes select_ms max_age_ms calls.
-    answers_wholly sizes stations select_ms max_age_ms (run stations sizes select_ms max_age_ms calls).history
-    (run_holds sizes stations select_ms max_age_ms calls).keeps.rightly
+returns-clause-wholly c = run_wholly

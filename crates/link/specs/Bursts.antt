@@ -1,0 +1,67 @@
+-- How long polls of class 1 go on (this gateway's own profile): while ACD is set they do, until
+-- `burst` of them went out.
+use Rattle.std.specs.Prelude.{◌≡◌, ℕ, suc, ◌<◌, ◌==◌, Bool, true, false, List, [], ◌∷◌, Option, Some, None, if◌then◌else◌}
+use Rattle.link.specs.Answers.{Class1, Class2, Asked, Counted}
+use Rattle.link.specs.Exchanges.{Sending}
+use Rattle.link.specs.Procedure.{Link, is_held}
+use Rattle.link.specs.Procedure as procedure
+use Rattle.link.specs.Turns.{station_at}
+use Rattle.link.specs.Primary.{Outstanding, Primary, sending}
+use Rattle.link.specs.Runs.{Call, Next, called}
+
+-- What the latest requests were: new polls of one station, the latest so many of them of class 1;
+-- a repeat to a station, from which on they aren't counted; or another request, or none.
+pub data Row : Type 0 where
+  Polls : (station many : ℕ) → Row
+  Repeat : (station : ℕ) → Row
+  Other : Row
+
+-- A new poll of class 1 goes out to the station.
+abbrev pub one_more : (station : ℕ) → Row → Row
+one_more station (Polls other many) =
+    if other == station then Polls station (suc many) else Polls station 1
+one_more station (Repeat other) = if other == station then Repeat station else Polls station 1
+one_more station Other = Polls station 1
+
+abbrev pub row_by_request : (is_repeat : Bool) → (station : ℕ) → Asked → Row → Row
+row_by_request true station request row = Repeat station
+row_by_request false station (Counted fcb Class1) row = one_more station row
+row_by_request false station (Counted fcb Class2) row = Polls station 0
+row_by_request false station request row = Other
+
+abbrev pub row_by : Primary → Option Sending → Row → Row
+row_by p None row = Other
+row_by p (Some s) row =
+    row_by_request (is_held (station_at p.stations s.station).link) s.station s.request row
+
+-- Nothing goes out while a request is outstanding.
+abbrev pub row_out : Primary → Option Outstanding → (may_poll : Bool) → Row → Row
+row_out p (Some o) may_poll row = row
+row_out p None may_poll row = row_by p (sending p may_poll) row
+
+abbrev pub row_after : Primary → Call → Row → Row
+row_after p (Next now may_poll) row = row_out p p.outstanding may_poll row
+row_after p call row = row
+
+-- The link is up, and its latest service is answered.
+abbrev pub is_answered : Link → Bool
+is_answered (procedure.Next fcb) = true
+is_answered link = false
+
+-- Where the latest poll of a station was answered with ACD set, and fewer than `burst` of class 1
+-- went out in a row, the next request is one more, if there is leave.
+abbrev pub PollsGoOn : Primary → Row → Call → Type 0
+PollsGoOn p (Polls station many) (Next now true) =
+    p.outstanding ≡ None → is_answered (station_at p.stations station).link ≡ true →
+    (station_at p.stations station).acd ≡ true → many < p.settings.burst →
+    (fcb : Bool) × (sending p true ≡ Some (record {
+      station = station;
+      request = Counted fcb Class1;
+    }))
+PollsGoOn p row call = Unit {0}
+
+-- at each of these calls
+abbrev pub BurstsGoOn : Primary → Row → List Call → Type 0
+BurstsGoOn p row [] = Unit {0}
+BurstsGoOn p row (call ∷ calls) =
+    PollsGoOn p row call × BurstsGoOn (called p call) (row_after p call row) calls
