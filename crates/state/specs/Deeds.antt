@@ -17,7 +17,7 @@ pub data Deed : Type 0 where
   Synced : Deed
   -- a new log stands on the disk, with this state at its head
   Begun : (state : State) → Deed
-  -- the store has failed: it was told, and the log was marked as stale
+  -- the store has failed, and the log was marked as stale
   GivenUp : Deed
   -- an action was handed out
   PutOut : (action : LogEntry) → Deed
@@ -113,6 +113,10 @@ span (event ∷ log) = moment_of event - oldest event log
 -- all events that were heard are on the disk
 abbrev pub IsAllOnDisk : Deeds → Type 0
 IsAllOnDisk deeds = (is_kept deeds ≡ true) × (on_disk deeds ≡ heard deeds)
+
+-- an action may go out: all events that were heard are on the disk, or the store has failed
+abbrev pub IsSafe : Deeds → Type 0
+IsSafe deeds = IsAllOnDisk deeds ⊎ (is_given_up deeds ≡ true)
 
 -- no event waits for the disk while others are heard for a second
 abbrev pub IsInTime : Deeds → Type 0

@@ -2,15 +2,18 @@
 use Rattle.std.specs.Prelude.{ℕ, ◌<◌, ◌^◌, Bool}
 use Rattle.state.specs.Deeds.{Deeds, AreRight, IsInTime}
 use Rattle.state.specs.Standings.{IsStanding}
+use Rattle.state.specs.declared.renewal.Patience.{Patience}
 use Rattle.state.specs.declared.standing.Standing.{Standing}
 
 -- the ends that it stands between; how far the events that were heard are on the disk; whether the
--- run goes on where the store has failed; and how often it was stopped for that
+-- run goes on where the store has failed; how often it was stopped for that; and what was tried and
+-- told while the state wasn't kept
 pub record Keeping (E : Type 0) : Type 0 where
   pub ends : E
   pub standing : Standing
   pub bears_loss : Bool
   pub stops : ℕ
+  pub patience : Patience
 
 -- what always holds of a history: how far the events are on the disk, that none waited too long,
 -- and that each deed might be done when it was

@@ -4,3 +4,5 @@ pub mod Keeping
 pub mod Stores
 pub mod Both
 pub mod Replays
+pub mod Renewals
+pub mod Starts

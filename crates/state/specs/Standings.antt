@@ -1,7 +1,8 @@
 -- How far the events that were heard are on the disk, as a keeper knows it (profile).
-use Rattle.std.specs.Prelude.{◌≡◌, ℕ, Bool, true, false, not, List, [], ◌∷◌, ◌++◌, map, Option, Some, None}
+use Rattle.std.specs.Prelude.{◌≡◌, ℕ, Bool, true, false, not, List, [], ◌∷◌, ◌++◌, map, Option, Some, None, ◌⊎◌}
 use Rattle.gateway.specs.Log.{Log}
-use Rattle.state.specs.Deeds.{Deed, Deeds, Heard, IsAllOnDisk, appended, heard, is_given_up, is_kept, moment_of, oldest, waiting}
+use Rattle.gateway.specs.State.{State}
+use Rattle.state.specs.Deeds.{Deed, Deeds, Begun, GivenUp, Heard, IsAllOnDisk, appended, heard, is_given_up, is_kept, moment_of, oldest, waiting}
 use Rattle.state.specs.declared.standing.Standing.{Standing}
 use Rattle.state.specs.declared.standing.Standing.TheVariants as standings
 
@@ -58,3 +59,12 @@ pub record IsPortLeft {S F : Type 0} (log : S → Option Log) (failed : S → �
   pub cause : failed new ≡ failed old
   pub over : ended new ≡ ended old
   pub fixed : script new ≡ script old
+
+abbrev pub is_lost : Standing → Bool
+is_lost standings.Synced = false
+is_lost (standings.Waiting moment) = false
+is_lost standings.GivenUp = true
+
+-- a new log was begun with this state, or the store failed to
+abbrev pub Renews : (old : Deeds) → State → (new : Deeds) → Type 0
+Renews old state new = (new ≡ Begun state ∷ old) ⊎ (new ≡ GivenUp ∷ old)

@@ -3,7 +3,7 @@ use Rattle.std.specs.Prelude.{◌≡◌, Bool, true, List, [], ◌∷◌, ℕ, O
 use Rattle.gateway.specs.Log.{Log}
 use Rattle.gateway.specs.State.{State}
 use Rattle.traces.specs.Printed.{lines_of_log}
-use Rattle.state.specs.Deeds.{Deeds, Deed, Heard, Appended, Synced, Begun, GivenUp, PutOut, is_kept}
+use Rattle.state.specs.Deeds.{Deeds, Deed, Heard, Appended, Synced, Begun, GivenUp, PutOut, heard, is_kept}
 
 -- the state at the head of the log
 abbrev pub head : Deeds → Option State
@@ -14,6 +14,16 @@ head (Synced ∷ deeds) = head deeds
 head (Begun state ∷ deeds) = Some state
 head (GivenUp ∷ deeds) = head deeds
 head (PutOut action ∷ deeds) = head deeds
+
+-- the events that led to it
+abbrev pub led_to_head : Deeds → Log
+led_to_head [] = []
+led_to_head (Heard event ∷ deeds) = led_to_head deeds
+led_to_head (Appended event ∷ deeds) = led_to_head deeds
+led_to_head (Synced ∷ deeds) = led_to_head deeds
+led_to_head (Begun state ∷ deeds) = heard deeds
+led_to_head (GivenUp ∷ deeds) = led_to_head deeds
+led_to_head (PutOut action ∷ deeds) = led_to_head deeds
 
 -- the events behind it
 abbrev pub written : Deeds → Log

@@ -7,7 +7,7 @@ pub trait Ends {
     ghost use Rattle.gateway.specs.Log.{LogEntry, Went, tell};
     ghost use Rattle.gateway.specs.Ports.{FitsBuffer, faults_of, output_of, told_by};
     ghost use Rattle.gateway.specs.declared.ports.Next.TheVariants.{Done};
-    ghost use Rattle.state.specs.Deeds.{Appended, Begun, Deed, GivenUp, Heard, PutOut, Synced, is_kept};
+    ghost use Rattle.state.specs.Deeds.{Appended, Begun, Deed, GivenUp, Heard, IsSafe, PutOut, Synced, is_kept};
     ghost use Rattle.state.specs.Standings.{IsPortLeft};
     ghost use Rattle.std.specs.Prelude.{◌≡◌, ℕ, ◌+◌, ◌<◌, Bool, true, List, [], ◌∷◌, ◌++◌, map, Option, if◌then◌else◌};
 
@@ -37,7 +37,8 @@ pub trait Ends {
 
     /// Puts an action out at the port, at a moment. `false` says that its device failed.
     fn put(&mut self, now: u64, action: &Action<'_>) -> bool
-        requires { failed self.old < u64.MAX }
+        requires few { failed self.old < u64.MAX }
+        requires safe { IsSafe (deeds self.old) }
         ensures put { deeds self.new
             ≡ (if result then PutOut (Went now (output_of action.now)) ∷ [] else [])
             ++ deeds self.old }
@@ -52,7 +53,7 @@ pub trait Ends {
         ensures { result ≡ failed self.now };
 
     /// Appends the line of an event to the log, whose octets are the front of the buffer. `false`
-    /// says that the store has failed: then this is told, and the log is marked as stale.
+    /// says that the store has failed: then the log is marked as stale.
     fn append(&mut self, next: Next, buf: &[u8; 1024]) -> bool
         requires kept { is_kept (deeds self.old) ≡ true }
         requires fits { FitsBuffer next }
@@ -66,6 +67,9 @@ pub trait Ends {
         requires { is_kept (deeds self.old) ≡ true }
         ensures synced { deeds self.new ≡ (if result then Synced else GivenUp) ∷ deeds self.old }
         ensures port { IsPortLeft log failed ended script self.old self.new };
+
+    /// A new log is due, as the present one has grown.
+    fn is_full(&self) -> bool;
 
     /// Begins a new log, with the state of the gateway at its head, which is the state that all
     /// events so far have led to. Where `true` is answered it stands on the disk. `false` as of

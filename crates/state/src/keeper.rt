@@ -5,10 +5,12 @@ ghost use Rattle.gateway.specs.Ports.{FitsBuffer, faults_of, output_of, told_by}
 ghost use Rattle.gateway.specs.declared.ports.Next.TheVariants.{Done};
 ghost use Rattle.state.specs.Deeds.{Begun, GivenUp, passed};
 ghost use Rattle.state.specs.Keeping.{IsOrderly};
-ghost use Rattle.state.specs.Standings.{is_stopped};
+ghost use Rattle.state.specs.Renewals.{after_notice, is_try_due, moment_after, notice_of};
+ghost use Rattle.state.specs.Standings.{IsPortLeft, Renews, is_lost, is_stopped};
 
 use crate::ends::Ends;
 use crate::keeping::{is_stopped, keep, settle};
+use crate::renewal::{Notice, Patience};
 use crate::standing::Standing;
 use gateway::{Action, Gateway, Next, Port};
 use std::marker::Model;
@@ -25,6 +27,7 @@ pub struct Keeper<E: Ends + Drop> {
     bears_loss: bool,
     /// How often nothing was asked of the port, since the store has failed.
     stops: u64,
+    patience: Patience,
 }
 
 impl<E: Ends + Drop> Model for Keeper<E> {
@@ -38,6 +41,7 @@ impl<E: Ends + Drop> Model for Keeper<E> {
       standing = k.standing;
       bears_loss = k.bears_loss;
       stops = k.stops;
+      patience = k.patience;
     } };
 
     ghost invariant = { λ k. IsKeeping (E.deeds k.ends) k.standing k.bears_loss
@@ -66,7 +70,61 @@ impl<E: Ends + Drop> Keeper<E> {
             standing,
             bears_loss,
             stops: 0,
+            patience: Patience::NEW,
         }
+    }
+
+    /// Looks at the gateway between two steps: begins a new log with its state, where that is due.
+    /// The state is that to which all events that were heard have led.
+    pub fn look(&mut self, gateway: &Gateway)
+        ensures port { IsPortLeft E.log E.failed E.ended E.script self.old.ends self.new.ends }
+        ensures left { (self.new.stops ≡ self.old.stops) × (self.new.bears_loss ≡ self.old.bears_loss) }
+        // Where the store has failed a new log is tried, if that is due, and none otherwise.
+        ensures tries { is_lost self.old.standing ≡ true → is_try_due self.old.patience ≡ true →
+            Renews (E.deeds self.old.ends) gateway.now (E.deeds self.new.ends) }
+        ensures waits { is_lost self.old.standing ≡ true → is_try_due self.old.patience ≡ false →
+            self.new ≡ self.old }
+        ensures looks { (self.new ≡ self.old)
+            ⊎ Renews (E.deeds self.old.ends) gateway.now (E.deeds self.new.ends) }
+    {
+        match self.standing {
+            Standing::GivenUp => {
+                if self.patience.is_try_due() {
+                    self.begin(gateway);
+                }
+            }
+            Standing::Synced | Standing::Waiting(_) => {
+                if self.ends.is_full() {
+                    self.begin(gateway);
+                }
+            }
+        }
+    }
+
+    /// Begins a new log.
+    fn begin(&mut self, gateway: &Gateway)
+        ensures port { IsPortLeft E.log E.failed E.ended E.script self.old.ends self.new.ends }
+        ensures left { (self.new.stops ≡ self.old.stops) × (self.new.bears_loss ≡ self.old.bears_loss) }
+        ensures renews { Renews (E.deeds self.old.ends) gateway.now (E.deeds self.new.ends) }
+    {
+        if self.ends.begin(gateway) {
+            self.standing = Standing::Synced;
+            self.patience.tried = None;
+        } else {
+            self.standing = Standing::GivenUp;
+            self.patience.tried = Some(self.patience.moment);
+        }
+    }
+
+    /// What is to be told of the state now, if anything: that it isn't kept, at once and each
+    /// minute, and that it is kept again.
+    pub fn notice(&mut self) -> Option<Notice>
+        ensures notice { result ≡ notice_of (is_lost self.old.standing) self.old.patience }
+        ensures after { self.new
+            ≡ record self.old { patience = after_notice result self.old.patience } }
+    {
+        self.patience
+            .notice(matches!(self.standing, Standing::GivenUp))
     }
 
     /// How far the events that were heard are on the disk.
@@ -100,6 +158,9 @@ impl<E: Ends + Drop> Port for Keeper<E> {
         ensures script { E.script self.new.ends ≡ E.script self.old.ends }
         ensures cause { E.failed self.new.ends + self.new.stops
             ≡ E.failed self.old.ends + self.old.stops + faults_of result }
+        ensures moment { self.new.patience ≡ record self.old.patience {
+          moment = moment_after (told_by result buf.new) self.old.patience.moment;
+        } }
         // The port is asked unless the store has failed, and that isn't borne.
         ensures asks { is_stopped self.old.standing self.old.bears_loss ≡ false →
             self.new.stops ≡ self.old.stops }
@@ -109,6 +170,7 @@ impl<E: Ends + Drop> Port for Keeper<E> {
             return Next::Fault;
         }
         let next = self.ends.next(buf);
+        self.patience.hear(next);
         self.standing = keep(&mut self.ends, self.standing, next, buf);
         next
     }

@@ -1,7 +1,7 @@
 //! What is appended and when it is synced.
 ghost use Rattle.std.specs.Prelude.{◌≡◌, ℕ, Bool, List};
 ghost use Rattle.gateway.specs.Ports.{FitsBuffer, told_by};
-ghost use Rattle.state.specs.Deeds.{AreRight, passed};
+ghost use Rattle.state.specs.Deeds.{AreRight, IsSafe, passed};
 ghost use Rattle.state.specs.Keeping.{IsOrderly};
 ghost use Rattle.state.specs.Standings.{HasHeard, IsMomentOf, IsPortLeft, IsSettled, IsStanding, is_stopped};
 
@@ -29,6 +29,7 @@ pub(crate) fn settle<E: Ends>(ends: &mut E, standing: Standing) -> Standing
     ensures orderly { (bears : Bool) → AreRight bears (E.deeds ends.old) →
         IsOrderly bears result (E.deeds ends.new) }
     ensures settled { IsSettled result }
+    ensures safe { IsSafe (E.deeds ends.new) }
     ensures passed { passed (E.deeds ends.new) ≡ passed (E.deeds ends.old) }
     ensures port { IsPortLeft E.log E.failed E.ended E.script ends.old ends.new }
 {

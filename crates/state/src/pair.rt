@@ -4,6 +4,7 @@ ghost use Rattle.gateway.specs.Ports.{FitsBuffer, told_by};
 ghost use Rattle.traces.specs.Printed.{lines_of_log};
 
 use crate::ends::Ends;
+use crate::renewal::is_renewal_due;
 use crate::store::Store;
 use crate::trail::{Done, Trail};
 use gateway::{Action, Gateway, Next, Port};
@@ -119,6 +120,10 @@ impl<P: Port + Drop, S: Store + Drop> Ends for Pair<P, S> {
         self.store.give_up();
         self.trail = self.trail.with(&Done::GivenUp);
         false
+    }
+
+    fn is_full(&self) -> bool {
+        is_renewal_due(self.store.head_octets(), self.store.event_octets())
     }
 
     fn begin(&mut self, gateway: &Gateway) -> bool {

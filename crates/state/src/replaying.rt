@@ -150,7 +150,7 @@ impl<K: Script, L: EventLines + Drop> Repeater<K, L> {
             line: Vec::new(alloc),
             is_over: false,
             history: History::new(),
-            fault: StateFault::Wrong,
+            fault: StateFault::NoMemory,
             failures: 0,
             of: PhantomData,
         }
@@ -235,7 +235,7 @@ fn repeat<K: Script, L: EventLines + Drop>(
             Ok(())
         }
         // No memory holds so many lines.
-        End::Turns => Err(StateFault::Wrong),
+        End::Turns => Err(StateFault::NoMemory),
         End::Device => Err(port.fault()),
     }
 }

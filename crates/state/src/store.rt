@@ -27,7 +27,13 @@ pub trait Store {
         ensures { result ≡ true → stored self.new
             ≡ record { head = Some gateway.now; text = []; safe = [] } };
 
-    /// It has failed: tells it, and marks the log as stale. Neither line nor sync comes until a new
+    /// How many octets the head of the log has, with the gateway's state.
+    fn head_octets(&self) -> u64;
+
+    /// How many octets the lines behind it have.
+    fn event_octets(&self) -> u64;
+
+    /// It has failed, and marks the log as stale. Neither line nor sync comes until a new
     /// log is begun.
     fn give_up(&mut self);
 }

@@ -17,7 +17,7 @@ pub enum Done<'a> {
     Synced,
     /// A new log stands on the disk, with the state of this gateway at its head.
     Begun(&'a Gateway),
-    /// The store has failed: it was told, and the log was marked as stale.
+    /// The store has failed, and the log was marked as stale.
     GivenUp,
     /// An action was handed out at a moment, in ms.
     PutOut(u64, &'a Action<'a>),

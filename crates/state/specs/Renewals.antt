@@ -1,0 +1,40 @@
+-- When a log is begun anew, and when it is told that none is kept (profile).
+use Rattle.std.specs.Prelude.{ℕ, ◌-◌, ◌≤◌, nat_le, nat_lt, ◌&&◌, Bool, true, false, if◌then◌else◌, Option, Some, None, [], ◌∷◌}
+use Rattle.gateway.specs.Log.{Log}
+use Rattle.state.specs.Deeds.{moment_of}
+use Rattle.state.specs.declared.renewal.Notice.{Notice}
+use Rattle.state.specs.declared.renewal.Notice.TheVariants.{NotKept, KeptAgain}
+use Rattle.state.specs.declared.renewal.Patience.{Patience}
+
+-- its events take more than 4 MiB, and more than its head
+abbrev pub is_renewal_due : (head events : ℕ) → Bool
+is_renewal_due head events = nat_lt 4194304 events && nat_lt head events
+
+-- the moment of the latest event, where this was it before these
+abbrev pub moment_after : Log → ℕ → ℕ
+moment_after [] moment = moment
+moment_after (event ∷ log) moment = moment_of event
+
+-- so many ms have passed since, if it was at all
+abbrev pub has_passed : (ms : ℕ) → (since : Option ℕ) → (now : ℕ) → Bool
+has_passed ms None now = true
+has_passed ms (Some since) now = nat_le ms (now - since)
+
+-- where the state isn't kept, a new log is tried at once and then each 10 s
+abbrev pub is_try_due : Patience → Bool
+is_try_due p = has_passed 10000 p.tried p.moment
+
+-- once it was told
+abbrev pub again : Option ℕ → Option Notice
+again None = None
+again (Some told) = Some KeptAgain
+
+-- it is told at once and then each minute, and told once when the state is kept again
+abbrev pub notice_of : (is_given_up : Bool) → Patience → Option Notice
+notice_of true p = if has_passed 60000 p.told p.moment then Some NotKept else None
+notice_of false p = again p.told
+
+abbrev pub after_notice : Option Notice → Patience → Patience
+after_notice None p = p
+after_notice (Some NotKept) p = record p { told = Some p.moment }
+after_notice (Some KeptAgain) p = record p { told = None }

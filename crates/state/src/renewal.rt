@@ -1,0 +1,103 @@
+//! When a log is begun anew, and when it is told that none is kept.
+ghost use Rattle.std.specs.Prelude.{◌≡◌, ℕ, List};
+ghost use Rattle.state.specs.Renewals.{after_notice, has_passed, is_renewal_due, is_try_due, moment_after, notice_of};
+ghost use Rattle.gateway.specs.Ports.{told_by};
+
+use gateway::Next;
+
+/// How many octets of events a log may have at least, 4 MiB.
+const MOST_OCTETS: u64 = 4_194_304;
+
+/// How long it takes until a new log is tried again, in ms.
+const RETRY_MS: u64 = 10_000;
+
+/// How long it takes until it is told again that the state isn't kept, in ms.
+const TELL_MS: u64 = 60_000;
+
+/// Whether a log is begun anew, whose head and whose events have so many octets: the events have
+/// more than 4 MiB, and more than the head.
+pub fn is_renewal_due(head: u64, events: u64) -> bool
+    ensures { result ≡ is_renewal_due head events }
+{
+    MOST_OCTETS < events && head < events
+}
+
+/// What is told of the state.
+#[derive(Clone, Copy, Debug, PartialEq, Eq)]
+pub enum Notice {
+    /// It isn't kept: what is polled now is lost if the gateway stops.
+    NotKept,
+    /// It is kept again.
+    KeptAgain,
+}
+
+/// What was tried and told while the state wasn't kept: moments in ms.
+#[derive(Clone, Copy)]
+pub struct Patience {
+    /// That of the latest event.
+    pub moment: u64,
+    /// When a new log was tried last, and couldn't be begun.
+    pub tried: Option<u64>,
+    /// When it was told last that the state isn't kept.
+    pub told: Option<u64>,
+}
+
+/// Whether so many ms have passed since, or it never was.
+fn has_passed(ms: u64, since: Option<u64>, now: u64) -> bool
+    ensures { result ≡ has_passed ms since now }
+{
+    match since {
+        None => true,
+        Some(since) => ms <= now.saturating_sub(since),
+    }
+}
+
+impl Patience {
+    /// Where nothing was tried and told.
+    pub const NEW: Patience = Patience {
+        moment: 0,
+        tried: None,
+        told: None,
+    };
+
+    /// An event came, if this tells one.
+    pub(crate) fn hear(&mut self, next: Next)
+        ensures { (buf : List ℕ) → self.new ≡ record self.old {
+          moment = moment_after (told_by next buf) self.old.moment;
+        } }
+    {
+        match next {
+            Next::Line(now, _) | Next::Bytes(now, _) | Next::Wall(now, _) => self.moment = now,
+            Next::Open(now) | Next::Cut(now) | Next::Tick(now) => self.moment = now,
+            Next::Done | Next::Fault => {}
+        }
+    }
+
+    /// Whether a new log is tried now, where the state isn't kept.
+    pub fn is_try_due(&self) -> bool
+        ensures { result ≡ is_try_due self.now }
+    {
+        has_passed(RETRY_MS, self.tried, self.moment)
+    }
+
+    /// What is to be told now, if anything.
+    pub fn notice(&mut self, is_given_up: bool) -> Option<Notice>
+        ensures notice { result ≡ notice_of is_given_up self.old }
+        ensures after { self.new ≡ after_notice result self.old }
+    {
+        if is_given_up {
+            if !has_passed(TELL_MS, self.told, self.moment) {
+                return None;
+            }
+            self.told = Some(self.moment);
+            return Some(Notice::NotKept);
+        }
+        match self.told {
+            None => None,
+            Some(_) => {
+                self.told = None;
+                Some(Notice::KeptAgain)
+            }
+        }
+    }
+}
