@@ -1,0 +1,236 @@
+//! A crash at each call of a script of appends, syncs and changes of the segment.
+use checkpoint::{Lines, Sheet};
+use segments::{Failed, Segment, Start, Writer};
+use sqlite_disk::{Crash, Disk, Files, Fuse, Memory};
+use statetext::TextSheet;
+use std::alloc::{AllocError, Global};
+use std::test::Fail;
+
+type File = Fuse<Memory>;
+
+/// How many events were appended, how many of them a sync or a checkpoint has put on the disk, and
+/// whether a segment was finished.
+#[derive(Clone, Copy, Debug)]
+struct Told {
+    appended: u64,
+    synced: u64,
+    is_begun: bool,
+}
+
+/// Writes a segment whose checkpoint is the number of events so far.
+fn next_segment(alloc: Global, spare: File, number: u64, told: u64) -> Result<Segment<File>, File> {
+    if !spare.may_be_used() {
+        return Err(spare);
+    }
+    let writer = match Writer::begin(alloc, spare) {
+        Ok(writer) => writer,
+        Err(Failed { file, .. }) => return Err(file),
+    };
+    let mut sheet = TextSheet::new(alloc, writer);
+    let is_put = sheet.put(&[told]).is_ok() && sheet.put_octets(b"checkpoint").is_ok();
+    let writer = sheet.into_octets();
+    if !is_put {
+        return Err(writer.into_file());
+    }
+    match writer.finish(alloc, number, 1) {
+        Ok(segment) => Ok(segment),
+        Err(Failed { file, .. }) => Err(file),
+    }
+}
+
+/// Appends an event, and syncs each other one.
+fn put_event(
+    alloc: Global,
+    segment: &mut Segment<File>,
+    told: &mut Told,
+) -> Result<bool, AllocError> {
+    let line = format!(in alloc; "event {}\n", told.appended)?;
+    if segment.append(line.as_bytes()).is_err() {
+        return Ok(false);
+    }
+    told.appended = told.appended.saturating_add(1);
+    if told.appended % 2 == 0 {
+        if segment.sync().is_err() {
+            return Ok(false);
+        }
+        told.synced = told.appended;
+    }
+    Ok(true)
+}
+
+/// Three segments with five events each, until the first call that fails.
+fn run(
+    alloc: Global,
+    first: File,
+    second: File,
+    told: &mut Told,
+) -> Result<(File, File), AllocError> {
+    let mut segment = match next_segment(alloc, first, 1, 0) {
+        Ok(segment) => segment,
+        Err(file) => return Ok((file, second)),
+    };
+    told.is_begun = true;
+    let mut spare = second;
+    for number in 2..5 {
+        for _ in 0..5 {
+            if !put_event(alloc, &mut segment, told)? {
+                return Ok((segment.into_file(), spare));
+            }
+        }
+        match next_segment(alloc, spare, number, told.appended) {
+            Ok(next) => {
+                spare = segment.into_file();
+                segment = next;
+                told.synced = told.appended;
+            }
+            Err(file) => return Ok((segment.into_file(), file)),
+        }
+    }
+    Ok((segment.into_file(), spare))
+}
+
+/// A file that has these octets, on the disk.
+fn file_of(alloc: Global, octets: &[u8]) -> Result<Memory, Fail> {
+    let mut file = Memory::new(alloc);
+    file.write_at(0, octets)?;
+    file.sync()?;
+    Ok(file)
+}
+
+/// What a start finds: how many events, or none where it finds no segment.
+fn found(alloc: Global, first: &[u8], second: &[u8]) -> Result<Option<u64>, Fail> {
+    let (log, db) = (file_of(alloc, first)?, file_of(alloc, second)?);
+    if !log.may_be_used() || !db.may_be_used() {
+        return Err("a file isn't usable".into());
+    }
+    let mut start = Start::open(alloc, Files { log, db })?;
+    let Some(mut lines) = start.checkpoint(alloc) else {
+        return Ok(None);
+    };
+    let (mut numbers, mut octets) = (Vec::new(alloc), Vec::new(alloc));
+    lines.next(&mut numbers)?;
+    lines.next_octets(&mut octets)?;
+    let [count] = numbers.as_slice() else {
+        return Err("another checkpoint".into());
+    };
+    if octets.as_slice() != b"checkpoint".as_slice() {
+        return Err("another checkpoint".into());
+    }
+    let mut count = *count;
+    let mut line = Vec::new(alloc);
+    for _ in 0..1000 {
+        if !start.next_line(&mut line)? {
+            break;
+        }
+        if line.as_slice() != format!(in alloc; "event {count}")?.as_bytes() {
+            return Err("another event".into());
+        }
+        count = count.saturating_add(1);
+    }
+    Ok(Some(count))
+}
+
+/// One of the contents that a crash may leave: of each sector of 512 octets what was synced or what
+/// was written, behind the synced end zeros, others or what was written.
+fn torn(
+    alloc: Global,
+    synced: &[u8],
+    written: &[u8],
+    chance: &mut u64,
+) -> Result<Vec<u8>, AllocError> {
+    let mut octets = Vec::new(alloc);
+    let most = synced.len().max(written.len());
+    let mut choice = 0;
+    for i in 0..most {
+        if i % 512 == 0 {
+            *chance ^= *chance << 13 & 0xffff_ffff_ffff;
+            *chance ^= *chance >> 7;
+            *chance ^= *chance << 17 & 0xffff_ffff_ffff;
+            choice = *chance % 3;
+        }
+        let octet = match (choice, synced.get(i), written.get(i)) {
+            (0, Some(old), _) => *old,
+            (1, None, _) => 0,
+            (2, None, _) => b'e',
+            (_, _, Some(new)) => *new,
+            (_, Some(old), None) => *old,
+            _ => 0,
+        };
+        octets.push(octet)?;
+    }
+    Ok(octets)
+}
+
+/// A copy of octets.
+fn copy_of(alloc: Global, octets: &[u8]) -> Result<Vec<u8>, AllocError> {
+    Vec::from_slice(alloc, octets)
+}
+
+#[test]
+fn loses_no_synced_event(rt: HostRuntime) -> Result<(), Fail> {
+    let alloc = rt.alloc();
+    let mut chance = 88_172_645_463_325_252;
+    let mut trials = 0u64;
+    for calls in 0..60 {
+        for is_first in [true, false] {
+            let most = 1_000_000;
+            let first = Fuse::new(Memory::new(alloc), if is_first { calls } else { most });
+            let second = Fuse::new(Memory::new(alloc), if is_first { most } else { calls });
+            let mut told = Told {
+                appended: 0,
+                synced: 0,
+                is_begun: false,
+            };
+            let (mut first, mut second) = run(alloc, first, second, &mut told)?;
+            let written = (
+                copy_of(alloc, first.inner().bytes())?,
+                copy_of(alloc, second.inner().bytes())?,
+            );
+            first.crash();
+            second.crash();
+            let synced = (first.inner().bytes(), second.inner().bytes());
+            for trial in 0..10 {
+                let left = match trial {
+                    0 => (copy_of(alloc, &written.0)?, copy_of(alloc, &written.1)?),
+                    1 => (copy_of(alloc, synced.0)?, copy_of(alloc, synced.1)?),
+                    _ => (
+                        torn(alloc, synced.0, &written.0, &mut chance)?,
+                        torn(alloc, synced.1, &written.1, &mut chance)?,
+                    ),
+                };
+                match found(alloc, &left.0, &left.1)? {
+                    None => assert!(rt; !told.is_begun, "nothing found at {calls}"),
+                    Some(count) => {
+                        assert!(rt; told.synced <= count, "lost at {calls}");
+                        assert!(rt; count <= told.appended, "made up at {calls}");
+                    }
+                }
+                trials = trials.saturating_add(1);
+            }
+        }
+    }
+    assert_eq!(rt; trials, 1_200);
+    Ok(())
+}
+
+/// Lines behind the first octet 0 aren't read, nor one that isn't whole.
+#[test]
+fn reads_whole_lines_alone(rt: HostRuntime) -> Result<(), Fail> {
+    let alloc = rt.alloc();
+    let empty = Fuse::new(Memory::new(alloc), 1_000);
+    let Ok(mut segment) = next_segment(alloc, empty, 1, 0) else {
+        return Err("no segment".into());
+    };
+    segment.append(b"event 0\nevent 1\0\nevent 2\n")?;
+    segment.sync()?;
+    assert_eq!(rt;
+        segment.append(&[b'e'; 5_000]),
+        Err(segments::SegmentFault::Full)
+    );
+    let file = segment.into_file();
+    assert_eq!(rt;
+        found(alloc, file.inner().bytes(), b"telegate state")?,
+        Some(1)
+    );
+    Ok(())
+}
