@@ -1,8 +1,8 @@
 //! What the state of a part is written to and read from: lines of numbers, and lines of octets.
 //!
 //! Each part of the gateway puts its state as lines onto a [`Sheet`], and is made again from the
-//! [`Lines`] that come. A part's contract says that what it reads is what was put; which text stands
-//! for a line is the affair of those that implement the two traits.
+//! [`Lines`] that come. A part's contract says that what it reads is what was put; which text
+//! stands for a line is the affair of those that implement the two traits.
 #![tactic(auto)]
 
 ghost use Rattle.std.specs.Prelude.{◌≡◌, ℕ, List, [], ◌∷◌, ◌++◌, OnOk, Err};

@@ -90,8 +90,8 @@ advanced select_ms (sign.Con target element now) z =
 advanced select_ms (sign.Time now) z =
     if has_passed select_ms now z then None else Some z
 
--- the sign may change it: it is of its station, which hasn't accepted it yet, or of its target, or its
--- time has passed
+-- the sign may change it: it is of its station, which hasn't accepted it yet, or of its target, or
+-- its time has passed
 abbrev pub hears : ℕ → Sign → Selection → Bool
 hears select_ms (sign.Sending station) z = z.station == station && not (is_accepted z.stage)
 hears select_ms (sign.Acceptance station) z = z.station == station && not (is_accepted z.stage)

@@ -492,8 +492,8 @@ impl Gateway {
     }
 
     /// Takes one event, and puts out what follows from it, then what the timers bring, then the
-    /// line's request, then what else may be sent to TCP. After `false` the device has failed, and the gateway is given
-    /// up.
+    /// line's request, then what else may be sent to TCP. After `false` the device has failed, and
+    /// the gateway is given up.
     pub fn step<P: Port>(&mut self, now: u64, event: Event<'_>, port: &mut P) -> bool
         requires { P.failed port.old < u64.MAX }
         ensures kept { (p : Setup) →

@@ -15,8 +15,8 @@ ghost use Rattle.journal.specs.declared.note.Trouble.TheVariants as trouble;
 ghost use Rattle.journal.specs.declared.stations.Asking.TheVariants.{Status, Counted, Other};
 
 /// What is told of stations, by the octets of requests to them (IEC 60870-5-2, 5.1.2): whose they
-/// are, what they ask for, the lines of a station that is asked, reset, polled, silent, polled again
-/// and asked once more, and those of one that never answered. Another station's requests tell
+/// are, what they ask for, the lines of a station that is asked, reset, polled, silent, polled
+/// again and asked once more, and those of one that never answered. Another station's requests tell
 /// nothing of it.
 pub fn stations_by_example()
     ensures addresses { (address_of One (0x10 ∷ 0x49 ∷ 0x07 ∷ 0x50 ∷ 0x16 ∷ []) ≡ 7)

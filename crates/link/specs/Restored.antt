@@ -146,7 +146,8 @@ abbrev pub asked_from : List ℕ → Option Asked
 asked_from [] = None
 asked_from (kind ∷ ns) = asked_by kind ns
 
-abbrev pub awaited_with : (deaf : Bool) → (since : ℕ) → Option Bool → Option Asked → Option (Option Awaited)
+abbrev pub awaited_with : (deaf : Bool) → (since : ℕ) → Option Bool → Option Asked
+    → Option (Option Awaited)
 awaited_with deaf since (Some has_octets) (Some request) =
     Some (Some (record { request = request; since = since; deaf = deaf; has_octets = has_octets }))
 awaited_with deaf since has_octets request = None

@@ -155,7 +155,8 @@ abbrev pub offered_from : List ℕ → Option (Option (List ℕ))
 offered_from [] = None
 offered_from (kind ∷ ns) = offered_by kind ns
 
-abbrev pub station_by : Option StationState → Option Link → Option (Option (List ℕ)) → Option StationState
+abbrev pub station_by : Option StationState → Option Link → Option (Option (List ℕ))
+    → Option StationState
 station_by (Some s) (Some link) (Some offered) = Some (record {
   address = s.address;
   link = link;

@@ -1,5 +1,5 @@
--- Which functions of a secondary station answer which request, by their numbers, and what the caller
--- is told of each (IEC 60870-5-2, 5.1.2: the function codes of a secondary station, and its
+-- Which functions of a secondary station answer which request, by their numbers, and what the
+-- caller is told of each (IEC 60870-5-2, 5.1.2: the function codes of a secondary station, and its
 -- procedures of unbalanced transmission; what E5 stands for is this gateway's own profile). A
 -- function that isn't in the row of a request is no answer to it.
 use Rattle.std.specs.Prelude.{ℕ, ◌==◌, List, [], ◌∷◌, Option, Some, None, if◌then◌else◌}

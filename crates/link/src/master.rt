@@ -300,7 +300,8 @@ impl Master {
         self.outstanding.is_some()
     }
 
-    /// Whether the outstanding request is a poll, or an unanswered poll is to be sent again at once.
+    /// Whether the outstanding request is a poll, or an unanswered poll is to be sent again at
+    /// once.
     pub fn is_polling(&self) -> bool
         ensures { result ≡ is_polling self.now }
     {

@@ -22,9 +22,9 @@ pub fn no_exchange_ends_unheard()
         new.timing.answer_ms ≤ new.timing.heard - r.written) }
 {}
 
-/// Once the line has been looked at for `answer_ms` since the latest request was written, and before
-/// any request, an event bears the moment that the clock told last: so an exchange without an answer
-/// ends.
+/// Once the line has been looked at for `answer_ms` since the latest request was written, and
+/// before any request, an event bears the moment that the clock told last: so an exchange without
+/// an answer ends.
 pub fn a_line_that_is_heard_out_holds_no_moment()
     ensures { (old new : Ends) (event : Next) (buf : List ℕ) → LogsTurn old event buf new →
         IsHeardOut new.timing new.timing.request →

@@ -14,4 +14,5 @@ head_of h = codes "telegate state 1 rules 1 segment " ++ encode_lower (to_be_byt
 
 -- the text of a segment with this checkpoint, before its first line of events
 unfoldable pub whole_text : ℕ → List ℕ → List ℕ
-whole_text number body = head_of (record { number = number; octets = length body; sum = sum_of body }) ++ body
+whole_text number body =
+    head_of (record { number = number; octets = length body; sum = sum_of body }) ++ body

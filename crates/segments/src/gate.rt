@@ -51,7 +51,8 @@ pub(crate) fn write_behind<D: Disk>(
     requires long { IsLong (D.Disk.may_leave file.old) }
     requires shut { IsShut (D.Disk.may_leave file.old) }
     ensures written { OnOk result (D.Disk.seen file.new ≡ D.Disk.seen file.old ++ page.now) }
-    ensures before { (held : List ℕ) → text_in at (D.Disk.seen file.new) held ≡ text_in at (D.Disk.seen file.old) held }
+    ensures before { (held : List ℕ) → text_in at (D.Disk.seen file.new) held
+        ≡ text_in at (D.Disk.seen file.old) held }
     ensures usable { IsTrue (D.Disk.is_usable file.new) }
     ensures long { IsLong (D.Disk.may_leave file.new) }
     ensures shut { IsShut (D.Disk.may_leave file.new) }
@@ -74,7 +75,8 @@ pub(crate) fn write_zeros<D: Disk>(
     requires small { at + blocks * 4096 < 2 ^ 64 }
     requires long { IsLong (D.Disk.may_leave file.old) }
     requires shut { IsShut (D.Disk.may_leave file.old) }
-    ensures before { OnOk result (text_in at (D.Disk.seen file.new) [] ≡ text_in at (D.Disk.seen file.old) []) }
+    ensures before { OnOk result (text_in at (D.Disk.seen file.new) []
+        ≡ text_in at (D.Disk.seen file.old) []) }
     ensures blank { OnOk result (IsBlankFrom at (D.Disk.seen file.new)) }
     ensures sized { OnOk result (length (D.Disk.seen file.new) ≡ at + blocks * 4096) }
     ensures usable { IsTrue (D.Disk.is_usable file.new) }
@@ -95,10 +97,12 @@ pub(crate) fn publish<D: Disk>(file: &mut D, head: &[u8]) -> Result<(), SegmentF
     requires within { 87 ≤ length (D.Disk.seen file.old) }
     requires long { IsLong (D.Disk.may_leave file.old) }
     requires shut { IsShut (D.Disk.may_leave file.old) }
-    ensures written { OnOk result (D.Disk.seen file.new ≡ head.now ++ drop 87 (D.Disk.seen file.old)) }
+    ensures written { OnOk result (D.Disk.seen file.new
+        ≡ head.now ++ drop 87 (D.Disk.seen file.old)) }
     ensures synced { OnOk result (Only (D.Disk.seen file.new) (D.Disk.may_leave file.new)) }
     ensures usable { OnOk result (IsTrue (D.Disk.is_usable file.new)) }
-    ensures crash { IsWholeIfOpen (D.Disk.may_leave file.new) (head.now ++ drop 87 (D.Disk.seen file.old)) }
+    ensures crash { IsWholeIfOpen (D.Disk.may_leave file.new)
+        (head.now ++ drop 87 (D.Disk.seen file.old)) }
 {
     done(file.write_at(1, &head[1..]))?;
     done(file.sync())?;

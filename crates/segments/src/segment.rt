@@ -34,8 +34,10 @@ pub struct Segment<D: Disk> {
     ghost usable: { IsTrue is_open → IsTrue (D.Disk.is_usable file) },
     ghost blank: { IsTrue is_open → IsBlankFrom stored (D.Disk.seen file) },
     ghost long: { HasLength (D.Disk.may_leave file) size },
-    ghost kept: { BeginsWith (D.Disk.may_leave file) durable (text_in stored (D.Disk.seen file) page.items) },
-    ghost mixed: { IsTrue mixes → HasNoOther (D.Disk.may_leave file) (text_in stored (D.Disk.seen file) page.items) },
+    ghost kept: { BeginsWith (D.Disk.may_leave file) durable
+        (text_in stored (D.Disk.seen file) page.items) },
+    ghost mixed: { IsTrue mixes → HasNoOther (D.Disk.may_leave file)
+        (text_in stored (D.Disk.seen file) page.items) },
 }
 
 /// Whether both are true.
@@ -58,14 +60,16 @@ fn store<D: Disk>(file: &mut D, at: usize, page: &[u8]) -> Result<usize, Segment
     ensures text { OnOk result (text_in (at + length page.now) (D.Disk.seen file.new) []
         ≡ text_in at (D.Disk.seen file.old) page.now) }
     ensures blank { OnOk result (IsBlankFrom (at + length page.now) (D.Disk.seen file.new)) }
-    ensures before { text_in at (D.Disk.seen file.new) page.now ≡ text_in at (D.Disk.seen file.old) page.now }
+    ensures before { text_in at (D.Disk.seen file.new) page.now
+        ≡ text_in at (D.Disk.seen file.old) page.now }
     ensures sized { length (D.Disk.seen file.new) ≡ length (D.Disk.seen file.old) }
     ensures usable { IsTrue (D.Disk.is_usable file.new) }
     ensures long { HasLength (D.Disk.may_leave file.old) (length (D.Disk.seen file.old))
         → HasLength (D.Disk.may_leave file.new) (length (D.Disk.seen file.old)) }
     ensures kept { (n : ℕ) (text : List ℕ) → n ≤ at
         → HasLength (D.Disk.may_leave file.old) (length (D.Disk.seen file.old))
-        → BeginsWith (D.Disk.may_leave file.old) n text → BeginsWith (D.Disk.may_leave file.new) n text }
+        → BeginsWith (D.Disk.may_leave file.old) n text
+        → BeginsWith (D.Disk.may_leave file.new) n text }
     ensures mixing { D.Disk.is_mixing file.new ≡ D.Disk.is_mixing file.old }
     ensures mixed { IsTrue (D.Disk.is_mixing file.old)
         → HasLength (D.Disk.may_leave file.old) (length (D.Disk.seen file.old))
@@ -117,7 +121,8 @@ impl<D: Disk> Segment<D> {
         ensures long { HasLength (outcomes_of self.now) (size_of self.now) }
         ensures kept { BeginsWith (outcomes_of self.now) (durable_of self.now) (text_of self.now) }
         ensures durable { durable_of self.now ≤ length (text_of self.now) }
-        ensures mixed { IsTrue (mixes self.now) → HasNoOther (outcomes_of self.now) (text_of self.now) }
+        ensures mixed { IsTrue (mixes self.now) →
+            HasNoOther (outcomes_of self.now) (text_of self.now) }
     {
         let _ = &self.file;
     }
@@ -144,7 +149,8 @@ impl<D: Disk> Segment<D> {
     }
 
     /// Appends octets. They are on the disk once a `sync` has answered `Ok`. An `Err` says that
-    /// none was appended: `Full`, that there is no room; `Device`, that a write failed, now or before.
+    /// none was appended: `Full`, that there is no room; `Device`, that a write failed, now or
+    /// before.
     pub fn append(&mut self, octets: &[u8]) -> Result<(), SegmentFault>
         ensures text { OnOk result (text_of self.new ≡ text_of self.old ++ octets.now) }
         ensures none { OnErr result (text_of self.new ≡ text_of self.old) }

@@ -48,7 +48,8 @@ fn text_at<D: Disk>(
     requires { IsTrue (D.Disk.is_usable file.old) }
     ensures text { IfOk result (λ found. IfSome found (λ text. IsTrue (D.Disk.is_clean file.new)
         → 0 < length text.items → Holds (D.Disk.seen file.old) 87 text.items)) }
-    ensures octets { IfOk result (λ found. IfSome found (λ text. length text.items ≡ head.now.octets)) }
+    ensures octets { IfOk result (λ found. IfSome found
+        (λ text. length text.items ≡ head.now.octets)) }
     ensures sum { IfOk result (λ found. IfSome found (λ text. sum_of text.items ≡ head.now.sum)) }
     ensures usable { IsTrue (D.Disk.is_usable file.new) }
     ensures clean { IsTrue (D.Disk.is_clean file.new) → IsTrue (D.Disk.is_clean file.old) }

@@ -128,7 +128,8 @@ fn prepare<D: Disk>(
     requires shut { IsShut (D.Disk.may_leave file.old) }
     requires summed { sum.remainder
         ≡ remainder_after 0xffffffff (drop 87 (text_in stored (D.Disk.seen file.old) page.now)) }
-    ensures text { IfOk result (λ parts. parts.2.items ++ drop 87 (text_in parts.0 (D.Disk.seen file.new) [])
+    ensures text { IfOk result (λ parts.
+        parts.2.items ++ drop 87 (text_in parts.0 (D.Disk.seen file.new) [])
         ≡ whole_text number (drop 87 (text_in stored (D.Disk.seen file.old) page.now))) }
     ensures head { IfOk result (λ parts. length parts.2.items ≡ 87) }
     ensures first { IfOk result (λ parts. slice_index parts.2.items 0 ≡ 116) }

@@ -78,7 +78,8 @@ impl<E: Ends + Drop> Keeper<E> {
     /// The state is that to which all events that were heard have led.
     pub fn look(&mut self, gateway: &Gateway)
         ensures port { IsPortLeft E.log E.failed E.ended E.script self.old.ends self.new.ends }
-        ensures left { (self.new.stops ≡ self.old.stops) × (self.new.bears_loss ≡ self.old.bears_loss) }
+        ensures left { (self.new.stops ≡ self.old.stops)
+            × (self.new.bears_loss ≡ self.old.bears_loss) }
         // Where the store has failed a new log is tried, if that is due, and none otherwise.
         ensures tries { is_lost self.old.standing ≡ true → is_try_due self.old.patience ≡ true →
             Renews (E.deeds self.old.ends) gateway.now (E.deeds self.new.ends) }
@@ -104,7 +105,8 @@ impl<E: Ends + Drop> Keeper<E> {
     /// Begins a new log.
     fn begin(&mut self, gateway: &Gateway)
         ensures port { IsPortLeft E.log E.failed E.ended E.script self.old.ends self.new.ends }
-        ensures left { (self.new.stops ≡ self.old.stops) × (self.new.bears_loss ≡ self.old.bears_loss) }
+        ensures left { (self.new.stops ≡ self.old.stops)
+            × (self.new.bears_loss ≡ self.old.bears_loss) }
         ensures renews { Renews (E.deeds self.old.ends) gateway.now (E.deeds self.new.ends) }
     {
         if self.ends.begin(gateway) {

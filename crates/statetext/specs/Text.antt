@@ -24,7 +24,8 @@ text_of_octets octets = 120 ∷ encode_lower octets
 
 -- Reading
 
--- a number with one more digit behind it; none has more than 64 bits, none begins with 0 but 0 itself
+-- a number with one more digit behind it; none has more than 64 bits, none begins with 0 but 0
+-- itself
 abbrev pub with_digit : Option ℕ → ℕ → Option ℕ
 with_digit None c = if nat_le 48 c && nat_le c 57 then Some (c - 48) else None
 with_digit (Some n) c =
