@@ -1,5 +1,5 @@
 -- What a write and a sync do to the text of a file, and to what a crash may leave of it.
-use Rattle.std.proofs.Common.{◌≡◌, ◌≢◌, ◌⊎◌, inl, inr, ℕ, ◌+◌, ◌-◌, ◌^◌, ◌<◌, ◌≤◌, Bool, true, false, IsTrue, List, [], ◌∷◌, ◌++◌, length, get_or, take, drop, slice_index, refl, sym, ap, ◌∙◌, append_assoc, add-zero, subst, lit<, arith, Result, Ok, Err, OnOk, is_ok, ◌*◌, if◌then◌else◌}
+use Rattle.std.proofs.Common.{◌≡◌, inl, inr, ℕ, ◌+◌, ◌-◌, ◌<◌, ◌≤◌, Bool, true, false, IsTrue, List, [], ◌∷◌, ◌++◌, length, get_or, take, drop, slice_index, refl, sym, ap, ◌∙◌, append_assoc, add-zero, subst, lit<, arith, Result, Ok, Err, OnOk, is_ok, ◌*◌, if◌then◌else◌}
 use Rattle.std.proofs.lemmas.Bool.{cases_lt}
 use Rattle.std.proofs.lemmas.List.{append-nil, drop-append-le, ext_get_or, get_or-take, get_or_append_left, get_or-append_right, length-take-le, length-append, get_or_past, take-append-le, get_or-drop, length-drop, take_rest, drop-take, take_all, get_or-replicate, length-replicate}
 use Rattle.std.proofs.Math.Seq.{take-append-add}

@@ -1,5 +1,5 @@
 -- What a crash may leave of a file whose text is appended to (profile).
-use Rattle.std.specs.Prelude.{◌≡◌, ◌≢◌, ℕ, ◌<◌, ◌≤◌, ◌++◌, ◌==◌, if◌then◌else◌, List, [], ◌∷◌, length, take, slice_index}
+use Rattle.std.specs.Prelude.{◌≡◌, ◌≢◌, ℕ, ◌<◌, ◌≤◌, List, length, take, slice_index}
 
 -- each outcome has this length
 abbrev pub HasLength : (List ℕ → Type 0) → ℕ → Type 0

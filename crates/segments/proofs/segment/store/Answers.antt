@@ -1,4 +1,3 @@
-use Rattle.std.proofs.Common.{ℕ, List}
 use Rattle.segments.proofs.CrashLemmas.{written_text, written_blank, written_before, written_length, length_kept, beginning_kept, no_other_kept}
 use Rattle.segments.proofs.segment.store.Goals as goal
 

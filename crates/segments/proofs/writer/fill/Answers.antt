@@ -1,4 +1,4 @@
-use Rattle.std.proofs.Common.{◌≡◌, ◌∙◌, ◌+◌, ◌≤◌, sym, ap, List, ℕ, ◌++◌, drop, arith, subst, length}
+use Rattle.std.proofs.Common.{◌∙◌, ◌≤◌, ap, List, ℕ, ◌++◌, drop, arith, length}
 use Rattle.segments.proofs.CrashLemmas.{whole_open, published_length, published_text, published_blank, ended_length, at_deref}
 use Rattle.segments.proofs.writer.fill.Goals as goal
 

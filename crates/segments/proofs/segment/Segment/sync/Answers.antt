@@ -1,4 +1,4 @@
-use Rattle.std.proofs.Common.{arith, refl, subst, sym}
+use Rattle.std.proofs.Common.{arith, subst, sym}
 use Rattle.segments.specs.Crash.{IsBlankFrom}
 use Rattle.segments.proofs.CrashLemmas.{all_begins, all_mixed}
 use Rattle.segments.proofs.segment.Segment.sync.Goals as goal

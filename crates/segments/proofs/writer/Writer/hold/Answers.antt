@@ -1,4 +1,3 @@
-use Rattle.std.proofs.Common.{IsTrue}
 use Rattle.segments.proofs.CrashLemmas.{held_more, summed_more}
 use Rattle.segments.proofs.writer.Writer.hold.Goals as goal
 
