@@ -208,7 +208,7 @@ def held(count, program, folder):
     """A station that is held when it falls silent: that it doesn't answer is told once a minute, and that it answers again."""
     station = Station()
     with Run(program, folder, station, "--log", settings=HELD) as run:
-        count.judge("a held station is asked", run.log.waits("station 7 asked for its status") == 2, run.log.lines)
+        count.judge("a held station is asked", run.log.waits("station 7 asked for its status") is not None, run.log.lines)
         up = run.log.waits("station 7 up")
         count.judge("a held station is up", up is not None, run.log.lines)
         time.sleep(1)
