@@ -73,5 +73,5 @@ pub use laws::{
 pub use port::Live;
 pub use redial::{Dialled, Dialler, Redialled};
 pub use sockets::{CentreListener, CentreSocket, LineDialler, LineSocket, SystemClock};
-pub use watched::{Sight, Watched};
+pub use watched::{Notice, Sight, Watched};
 pub use wires::{Clock, CutCause, Door, Got, Presence, Reached, SentAway, Visitor, Wire};
