@@ -1,4 +1,5 @@
 pub mod Apart
+pub mod Rounds
 pub mod Turns
 pub mod Puts
 pub mod Closes
