@@ -9,5 +9,6 @@ pub mod Law
 pub mod Strangers
 pub mod Octets
 pub mod Walls
+pub mod Ticks
 pub mod Logs
 pub mod Passed
