@@ -12,3 +12,4 @@ pub mod Walls
 pub mod Ticks
 pub mod Logs
 pub mod Passed
+pub mod Telling

@@ -7,7 +7,7 @@ ghost use Rattle.live.specs.Law.{AtMoment, AtBytes, AtClock, AtBegun, IsHeardOut
 ghost use Rattle.gateway.specs.Log.{Closed};
 ghost use Rattle.session.specs.declared.kinds.Close.{Close};
 ghost use Rattle.session.specs.declared.kinds.Close.TheVariants.{Replaced};
-ghost use Rattle.live.specs.Passed.{IsFresh, Run, TellsEnds, line_in, line_out, centre_in, centre_out, opened_in, let_in_at, given, handed, taken_of, example_log, example_line};
+ghost use Rattle.live.specs.Passed.{IsFresh, Run, TellsEnds, TellsStill, line_in, line_out, centre_in, centre_out, opened_in, let_in_at, given, handed, taken_of, example_log, example_line};
 ghost use Rattle.live.specs.Walls.{is_wall};
 ghost use Rattle.live.specs.declared.timing.Request.{Request};
 
@@ -111,6 +111,12 @@ pub fn the_ends_are_looked_at_between_wall_moments()
 /// the door tells whom it let in, as many connections were opened.
 pub fn the_log_tells_what_passed()
     ensures { (start end : Ends) → IsFresh start → Run start end → TellsEnds end.log end }
+{}
+
+/// A line, a door and a clock that tell what happens at them do so to the end of a run: so no law
+/// over what they tell is about nothing from then on.
+pub fn what_tells_goes_on_telling()
+    ensures { (start end : Ends) → Run start end → TellsStill start end }
 {}
 
 /// What the words of that law count, by worked examples: the octets and requests of a log, those of

@@ -69,7 +69,7 @@ pub use laws::{
     no_exchange_ends_unheard, nobody_but_guests_comes_in,
     the_ends_are_looked_at_between_wall_moments, the_log_tells_what_passed,
     the_wall_clock_is_told_each_second, what_passed_by_example,
-    what_the_centre_sent_is_told_in_time,
+    what_tells_goes_on_telling, what_the_centre_sent_is_told_in_time,
 };
 pub use port::Live;
 pub use redial::{Dialled, Dialler, Redialled};

@@ -507,3 +507,5 @@ impl<L: Wire, D: Door + Drop, C: Clock + Drop> Port for Live<L, D, C> {
 mod stalls;
 #[cfg(test)]
 mod tests;
+#[cfg(test)]
+mod told;

@@ -56,8 +56,8 @@ fn ends(line: Ways, visitor: Option<Ways>) -> Ends {
         Some(ways) => Some(wire(ways)),
         None => None,
     };
-    let door = MemoryDoor { visitor };
-    let mut port = Live::awaiting(wire(line), door, MemoryClock(0), Guests::Anyone, 1000);
+    let door = MemoryDoor::new(visitor);
+    let mut port = Live::awaiting(wire(line), door, MemoryClock::new(), Guests::Anyone, 1000);
     port.walled.tell(0);
     port
 }
