@@ -7,7 +7,7 @@ _telegate() {
     fi
     case $command in
         replay) COMPREPLY=($(compgen -W "--left --counts --help" -- "$word")) ;;
-        run) COMPREPLY=($(compgen -W "--redial --log --record --resume --allow --help" -- "$word")) ;;
+        run) COMPREPLY=($(compgen -W "--redial --log --record --state --state-or-stop --allow --help" -- "$word")) ;;
         show101 | show104 | check | sim | audit) COMPREPLY=($(compgen -W "--help" -- "$word")) ;;
         help) COMPREPLY=($(compgen -W "show101 show104 check replay sim audit run" -- "$word")) ;;
     esac

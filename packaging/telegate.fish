@@ -18,5 +18,6 @@ complete -c telegate -n "__fish_seen_subcommand_from replay" -l counts -d "what 
 complete -c telegate -n "__fish_seen_subcommand_from run" -l redial -d "reaches the line again"
 complete -c telegate -n "__fish_seen_subcommand_from run" -l log -d "tells what happens"
 complete -c telegate -n "__fish_seen_subcommand_from run" -l record -d "prints each event and each action"
-complete -c telegate -n "__fish_seen_subcommand_from run" -l resume -r -F -d "goes on where a record ends"
+complete -c telegate -n "__fish_seen_subcommand_from run" -l state -r -F -d "keeps the state there"
+complete -c telegate -n "__fish_seen_subcommand_from run" -l state-or-stop -d "ends where it can't be kept"
 complete -c telegate -n "__fish_seen_subcommand_from run" -l allow -x -d "lets in this address"

@@ -21,7 +21,8 @@ case $words[2] in
     run)
         _arguments '--redial[reaches the line again where it ends]' \
             '--log[tells what happens]' '--record[prints each event and each action]' \
-            '--resume[goes on where a record ends]:record:_files' '*--allow[lets in this address]:address:' \
+            '--state[keeps the state there]:directory:_files -/' \
+            "--state-or-stop[ends where it can't be kept]" '*--allow[lets in this address]:address:' \
             '--help[tells what the command does]' '2:settings:_files'
         ;;
     replay)

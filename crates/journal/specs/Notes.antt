@@ -7,6 +7,8 @@ use Rattle.session.specs.declared.kinds.Close.{Close}
 use Rattle.session.specs.declared.kinds.Close.TheVariants as close
 use Rattle.live.specs.declared.wires.CutCause.{CutCause}
 use Rattle.live.specs.declared.wires.CutCause.TheVariants as cut
+use Rattle.live.specs.declared.watched.Notice.{Notice}
+use Rattle.live.specs.declared.watched.Notice.TheVariants as notices
 use Rattle.journal.specs.declared.note.Line.{Line}
 use Rattle.journal.specs.declared.note.Tally.{Tally}
 use Rattle.journal.specs.declared.note.Trouble.{Trouble}
@@ -40,6 +42,13 @@ trouble_words trouble.LineUnreached = codes "line not reached"
 trouble_words trouble.PortInUse = codes "port in use"
 trouble_words trouble.PortForbidden = codes "port not allowed"
 trouble_words trouble.PortUnusable = codes "port can't be listened at"
+trouble_words trouble.StateInUse = codes "state in use by another process"
+trouble_words trouble.StateUnusable = codes "state can't be kept there"
+
+abbrev pub notice_words : Notice → List ℕ
+notice_words notices.NotKept =
+    codes "state isn't kept: what is polled now is lost if the gateway stops"
+notice_words notices.KeptAgain = codes "state is kept again"
 
 abbrev pub counts_words : Tally → List ℕ
 counts_words t =
@@ -78,6 +87,12 @@ words (note.Gap address) = codes "station " ++ decimal address
 words note.QueueFull = codes "queue full"
 words note.QueueFree = codes "queue free again"
 words (note.Counts tally) = counts_words tally
+words note.StateBegins = codes "state: begins anew"
+words (note.StateGoesOn queued) = codes "state: goes on, " ++ decimal queued ++ codes " queued"
+words note.SettingsChanged = codes "state: settings have changed"
+words note.StateStale = codes "state is stale: each link is reset"
+words note.StatePutAside = codes "state can't be read: put aside"
+words (note.State notice) = notice_words notice
 words (note.Trouble why) = trouble_words why
 
 abbrev pub left_out_words : ℕ → List ℕ

@@ -4,10 +4,12 @@ use Rattle.events.specs.Queue.{kept as pieces_kept}
 use Rattle.gateway.specs.Log.{Output}
 use Rattle.gateway.specs.State.{State, counts_of}
 use Rattle.gateway.specs.declared.ports.Next.{Next}
+use Rattle.live.specs.declared.watched.Notice.{Notice}
 use Rattle.live.specs.declared.watched.Sight.{Sight}
 use Rattle.journal.specs.Watching.{Watching, heard, put, is_look_due, looked_at, line_of, sum_line}
 use Rattle.journal.specs.declared.note.Line.{Line}
 use Rattle.journal.specs.declared.note.Note.{Note}
+use Rattle.journal.specs.declared.note.Note.TheVariants as note
 
 -- the lines so far, the newest first, where they are told
 abbrev pub Lines : Type 0
@@ -84,3 +86,23 @@ pub record IsTold (line : Option Line) (old new : Book) : Type 0 where
 pub record Notes (old : Book) (note : Note) (new : Book) : Type 0 where
   pub taken : Bool
   pub done : new ≡ unless_over old (told (Some (line_of note old.watching)) taken old)
+
+-- the line of what there is to tell of the state on the disk
+abbrev pub line_of_notice : Option Notice → Watching → Option Line
+line_of_notice None w = None
+line_of_notice (Some notice) w = Some (line_of (note.State notice) w)
+
+-- between two steps this of the state on the disk was told
+pub record Tells (notice : Option Notice) (old new : Book) : Type 0 where
+  pub taken : Bool
+  pub done : new ≡ unless_over old (told (line_of_notice notice old.watching) taken old)
+
+-- between two steps: what the port had to tell of the state on the disk was told, and then the
+-- gateway was looked at
+pub record Tends (tends : Option Notice → Type 0) (old : Book) (gateway : State) (new : Book) :
+    Type 0 where
+  pub notice : Option Notice
+  pub tended : tends notice
+  pub between : Book
+  pub tells : Tells notice old between
+  pub looks : Looks between gateway new

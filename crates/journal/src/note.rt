@@ -1,10 +1,10 @@
 //! What the lines tell, and their words.
 ghost use Rattle.std.specs.Prelude.{◌≡◌, Some};
 ghost use Rattle.std.specs.Fmt.{WritesOnOk};
-ghost use Rattle.journal.specs.Notes.{close_words, counts_words, cut_words, left_out_words, line_text, peer_words, sent_away_words, trouble_words, words};
+ghost use Rattle.journal.specs.Notes.{close_words, counts_words, cut_words, left_out_words, line_text, notice_words, peer_words, sent_away_words, trouble_words, words};
 
 use gateway::Counts;
-use live::CutCause;
+use live::{CutCause, Notice};
 use session::Close;
 use std::fmt;
 use std::net::{IpAddr, SocketAddr};
@@ -37,6 +37,10 @@ pub enum Trouble {
     PortForbidden,
     /// It can't be listened there for another cause.
     PortUnusable,
+    /// Another process keeps its state there.
+    StateInUse,
+    /// The state can't be kept there.
+    StateUnusable,
 }
 
 /// What a line tells.
@@ -77,6 +81,18 @@ pub enum Note {
     QueueFull,
     QueueFree,
     Counts(Tally),
+    /// No state is kept yet where it is to be kept.
+    StateBegins,
+    /// The run goes on from the state that is kept, with so many pieces in its queue.
+    StateGoesOn(u64),
+    /// The state was kept under other settings.
+    SettingsChanged,
+    /// Events are missing from the state, so nothing is known of the links.
+    StateStale,
+    /// What is kept can't be read, and stands under another name now.
+    StatePutAside,
+    /// The state on the disk, from now on or still.
+    State(Notice),
     /// The run can't begin.
     Trouble(Trouble),
 }
@@ -134,6 +150,17 @@ fn trouble_words(trouble: Trouble) -> &'static str
         Trouble::PortInUse => "port in use",
         Trouble::PortForbidden => "port not allowed",
         Trouble::PortUnusable => "port can't be listened at",
+        Trouble::StateInUse => "state in use by another process",
+        Trouble::StateUnusable => "state can't be kept there",
+    }
+}
+
+fn notice_words(notice: Notice) -> &'static str
+    ensures { result.now ≡ notice_words notice }
+{
+    match notice {
+        Notice::NotKept => "state isn't kept: what is polled now is lost if the gateway stops",
+        Notice::KeptAgain => "state is kept again",
     }
 }
 
@@ -207,6 +234,12 @@ impl fmt::Display for Note {
             Note::QueueFull => f.write_str("queue full"),
             Note::QueueFree => f.write_str("queue free again"),
             Note::Counts(tally) => write_counts(tally, f),
+            Note::StateBegins => f.write_str("state: begins anew"),
+            Note::StateGoesOn(queued) => write!(f, "state: goes on, {queued} queued"),
+            Note::SettingsChanged => f.write_str("state: settings have changed"),
+            Note::StateStale => f.write_str("state is stale: each link is reset"),
+            Note::StatePutAside => f.write_str("state can't be read: put aside"),
+            Note::State(notice) => f.write_str(notice_words(*notice)),
             Note::Trouble(trouble) => f.write_str(trouble_words(*trouble)),
         }
     }

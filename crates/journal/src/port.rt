@@ -3,7 +3,7 @@ ghost use Rattle.std.specs.Prelude.{◌≡◌, ◌+◌, ◌<◌, ◌∷◌, [], 
 ghost use Rattle.gateway.specs.Log.{Went, tell};
 ghost use Rattle.gateway.specs.Ports.{FitsBuffer, faults_of, output_of, told_by};
 ghost use Rattle.gateway.specs.declared.ports.Next.TheVariants.{Done};
-ghost use Rattle.journal.specs.Telling.{Hears, Puts, Looks, Closes};
+ghost use Rattle.journal.specs.Telling.{Hears, Puts, Tends, Closes};
 
 use crate::sink::Sink;
 use crate::teller::Teller;
@@ -32,11 +32,18 @@ impl<P: Watched + Drop, S: Sink + Drop> Journal<P, S> {
         &self.port
     }
 
-    /// Looks at the gateway between two events, and tells of its queue and of what it counted.
+    /// Lets the port look at the gateway between two steps, and tells what it has to tell of the
+    /// state on the disk, and then of the gateway's queue and of what it counted.
     pub fn look(&mut self, gateway: &Gateway)
-        ensures passes { self.new.port ≡ self.old.port }
-        ensures looks { Looks self.old.teller gateway.now self.new.teller }
+        ensures log { P.log self.new.port ≡ P.log self.old.port }
+        ensures failed { P.failed self.new.port ≡ P.failed self.old.port }
+        ensures ended { P.ended self.new.port ≡ P.ended self.old.port }
+        ensures script { P.script self.new.port ≡ P.script self.old.port }
+        ensures tends { Tends (P.tends self.old.port gateway.now self.new.port)
+            self.old.teller gateway.now self.new.teller }
     {
+        let notice = self.port.tend(gateway);
+        self.teller.tend(notice);
         self.teller.look(gateway);
     }
 

@@ -2,13 +2,13 @@
 ghost use Rattle.std.specs.Prelude.{◌≡◌, length, not};
 ghost use Rattle.events.specs.Queue.{kept};
 ghost use Rattle.gateway.specs.Ports.{output_of};
-ghost use Rattle.journal.specs.Telling.{counted, HearsSeeing, Puts, Looks, Closes, Notes, IsTold};
+ghost use Rattle.journal.specs.Telling.{counted, HearsSeeing, Puts, Looks, Closes, Notes, Tells, IsTold};
 
 use crate::note::{Line, Note};
 use crate::sink::Sink;
 use crate::watch::Watch;
 use gateway::{Action, Gateway, Next};
-use live::Sight;
+use live::{Notice, Sight};
 use std::marker::Model;
 
 /// Tells the lines of a run to a sink, until that takes none any more.
@@ -98,6 +98,15 @@ impl<S: Sink + Drop> Teller<S> {
         }
         let line = self.watch.put(now, action);
         self.tell(line);
+    }
+
+    /// This is to be told of the state on the disk, if anything.
+    pub(crate) fn tend(&mut self, notice: Option<Notice>)
+        ensures { Tells notice self.old self.new }
+    {
+        if let Some(notice) = notice {
+            self.note(Note::State(notice));
+        }
     }
 
     /// Looks at the gateway between two events, if that is due.

@@ -7,6 +7,7 @@ use Rattle.live.specs.declared.found.Found.{Found}
 use Rattle.live.specs.declared.found.Found.TheVariants as found
 use Rattle.live.specs.declared.source.Source.{Source}
 use Rattle.live.specs.declared.source.Source.TheVariants.{Door, Connection, Line}
+use Rattle.live.specs.declared.guests.Guests.{Guests}
 use Rattle.live.specs.declared.walled.Walled.{Walled}
 
 -- a part of the ends that no look touches
@@ -142,6 +143,28 @@ clock_looked Line t a buf e = refl
 pub clock_apart : Apart clock_of
 clock_apart = record {
   looked = clock_looked;
+  moved = λ s e. refl;
+  ended = λ e s. refl;
+  given = λ e s. refl;
+  kept = λ e held. refl;
+}
+
+abbrev pub guests_of : Ends → Guests
+guests_of e = e.guests
+
+guests_at_door : (v : Option Peer) (e : Ends) → (let_in v e).guests ≡ e.guests
+guests_at_door None e = refl
+guests_at_door (Some visitor) e = refl
+
+guests_looked : (s : Source) (t : ℕ) (a : Answers) (buf : List ℕ) (e : Ends)
+    → guests_of (looked_at s t a buf e) ≡ guests_of e
+guests_looked Door t a buf e = guests_at_door a.visitor e
+guests_looked Connection t a buf e = refl
+guests_looked Line t a buf e = refl
+
+pub guests_apart : Apart guests_of
+guests_apart = record {
+  looked = guests_looked;
   moved = λ s e. refl;
   ended = λ e s. refl;
   given = λ e s. refl;

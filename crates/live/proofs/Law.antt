@@ -2,7 +2,7 @@
 use Rattle.std.proofs.Common.{◌≡◌, ℕ, ◌+◌, ◌-◌, ◌<◌, ◌≤◌, true, false, Bool, List, [], ◌∷◌, Option, Some, None, refl, sym, ap, subst, arith, nat_lt, if◌then◌else◌, ◌∙◌, inl, inr}
 use Rattle.gateway.specs.declared.ports.Next.{Next}
 use Rattle.live.specs.Timing.{Moments, read_at, moment_at, moment_by, is_heard_out, goes_on, is_behind, eve}
-use Rattle.live.specs.Ends.{Ends, Peer, Answers, Turns, LogsTurn, as_logged, looking, event_at, taken_by, told_at, turn_by, sources_by, held_by, round, look, unless_found, next_round, looked_at, found_at, after, nothing_more, let_in}
+use Rattle.live.specs.Ends.{Ends, Peer, Answers, IsTurn, QuietRounds, NoRound, OneRound, LooksOn, Turns, LogsTurn, as_logged, looking, event_at, taken_by, told_at, turn_by, sources_by, held_by, round, look, unless_found, next_round, looked_at, found_at, after, nothing_more, let_in}
 use Rattle.live.proofs.Apart.{clock_of, clock_apart, taken_same}
 use Rattle.live.specs.declared.source.Source.{Source}
 use Rattle.live.specs.declared.source.Source.TheVariants.{Door, Connection, Line}
@@ -65,10 +65,11 @@ at_clock None now Holds h = tt
 at_clock (Some before) now Holds h = h
 
 -- the clock has told this
-clock_told : (now : ℕ) (b : Bool) (buf : List ℕ) (f : Option Found) (old new : Ends) (taken : Option Found)
-    → (taken, new) ≡ taken_by b buf f (told_at now old) → new.clock ≡ read_at old.clock now
-clock_told now b buf f old new taken is =
-    ap (λ (p : Option Found × Ends). clock_of p.1) is ∙ taken_same clock_of clock_apart b buf f (told_at now old)
+clock_told : (now : ℕ) (b : Bool) (buf : List ℕ) (f : Option Found) (old found new : Ends) (taken : Option Found)
+    → found ≡ told_at now old → (taken, new) ≡ taken_by b buf f found → new.clock ≡ read_at old.clock now
+clock_told now b buf f old found new taken done is =
+    ap (λ (p : Option Found × Ends). clock_of p.1) is
+    ∙ (taken_same clock_of clock_apart b buf f found ∙ ap clock_of done)
 
 -- once the line was heard out, or before any request, the moment is the clock's
 out_by : (h : Bool) (t : Timing) (r : Request) (now : ℕ) → is_heard_out t r ≡ h → t.answer_ms ≤ t.heard - r.written
@@ -95,8 +96,9 @@ clocks_of old new event buf (inr t) out =
     let m = moment_at new.timing t.now in
     let P : Next → Type 0 = λ e. AtClock new.clock (λ now. AtMoment e (λ moment. moment ≡ now)) in
     let R : Moments → Type 0 = λ c. AtClock c (λ now. AtMoment (event_at m t.told.taken) (λ moment. moment ≡ now)) in
-    let told = clock_told t.now (is_behind t.found.timing t.now) buf t.f t.found new t.told.taken t.told.ends in
-    subst P (sym t.told.told) (subst R (sym told) (at_clock t.found.clock t.now
+    let told = clock_told t.now (is_behind t.found.timing t.now) buf t.f t.looks.found t.found new t.told.taken
+    t.looks.done t.told.ends in
+    subst P (sym t.told.told) (subst R (sym told) (at_clock t.looks.found.clock t.now
     (λ now. AtMoment (event_at m t.told.taken) (λ moment. moment ≡ now))
     (at_moment m t.told.taken (λ moment. moment ≡ t.now) (clocks_by new.timing new.timing.request t.now out))))
 
@@ -139,8 +141,9 @@ in_time_by old new event buf (inl t) =
 in_time_by old new event buf (inr t) =
     let P : Next → Type 0 = λ e. AtClock new.clock (λ now. AtBytes e (λ moment. now ≤ moment + 50)) in
     let Q : Option Found × Ends → Type 0 = λ p. InTime t.now p in
-    subst P (sym t.told.told) (subst Q (sym t.told.ends)
-    (timely (is_behind t.found.timing t.now) buf t.f t.found t.now refl))
+    let R : Ends → Type 0 = λ e. InTime t.now (taken_by (is_behind e.timing t.now) buf t.f e) in
+    subst P (sym t.told.told) (subst Q (sym t.told.ends) (subst R (sym t.looks.done)
+    (timely (is_behind t.looks.found.timing t.now) buf t.f t.looks.found t.now refl)))
 
 pub in_time : (old new : Ends) (event : Next) (buf : List ℕ) → LogsTurn old event buf new
     → AtClock new.clock (λ now. AtBytes event (λ moment. now ≤ moment + 50))
@@ -226,6 +229,25 @@ taken_keeps k true buf (Some found.Cut) e h = h
 taken_keeps k true buf (Some (found.Line len)) e h = h
 taken_keeps k true buf (Some found.Fault) e h = h
 
+one_keeps : (k : Timing) (begun : ℕ) (e n : Ends) (f : Option Found) (buf : List ℕ) → IsTurn begun e f buf n
+    → Keeps k e.timing → Keeps k n.timing
+one_keeps k begun e n f buf t h =
+    let Q : Option Found × Ends → Type 0 = λ p. Keeps k p.1.timing in
+    subst Q (sym t.turned) (turn_keeps k e.is_cut_due begun t.answers buf e h)
+
+quiet_keeps : (k : Timing) (start : Ends) (first count begun : ℕ) (e : Ends) → QuietRounds start first count begun e
+    → Keeps k start.timing → Keeps k e.timing
+quiet_keeps k start first _ _ _ NoRound h = h
+quiet_keeps k start first _ _ _ (OneRound count begun now before found buf q t undue) h =
+    one_keeps k begun before found None buf t (quiet_keeps k start first count begun before q h)
+
+looks_keep : (k : Timing) (first : ℕ) (old : Ends) (now : ℕ) (f : Option Found) (buf : List ℕ) (new : Ends)
+    → LooksOn first old now f buf new → Keeps k old.timing → Keeps k new.timing
+looks_keep k first old now f buf new l h =
+    let P : Ends → Type 0 = λ e. Keeps k e.timing in
+    subst P (sym l.done) (one_keeps k l.begun l.before l.found f buf l.turn
+    (quiet_keeps k old first l.count l.begun l.before l.quiet h))
+
 kept_by : (old new : Ends) (event : Next) (buf : List ℕ) → Turns old event buf new
     → (new.timing.request ≡ old.timing.request) × (new.timing.answer_ms ≡ old.timing.answer_ms)
 unfolding Keeps
@@ -234,11 +256,9 @@ kept_by old new event buf (inl t) =
     (ap (λ (k : Timing). k.request) same, ap (λ (k : Timing). k.answer_ms) same)
 kept_by old new event buf (inr t) =
     let Q : Option Found × Ends → Type 0 = λ p. Keeps old.timing p.1.timing in
-    let found : Keeps old.timing t.found.timing = subst Q (sym t.turn.turned)
-    (turn_keeps old.timing old.is_cut_due t.begun t.turn.answers buf (looking (told_at t.begun old)) (refl, refl))
+    let found = looks_keep old.timing t.first (looking (told_at t.first old)) t.now t.f buf t.found t.looks (refl, refl)
     in
-    subst Q (sym t.told.ends) (taken_keeps old.timing (is_behind t.found.timing t.now) buf t.f
-    (told_at t.now t.found) found)
+    subst Q (sym t.told.ends) (taken_keeps old.timing (is_behind t.found.timing t.now) buf t.f t.found found)
 
 pub kept : (old new : Ends) (event : Next) (buf : List ℕ) → LogsTurn old event buf new
     → (new.timing.request ≡ old.timing.request) × (new.timing.answer_ms ≡ old.timing.answer_ms)

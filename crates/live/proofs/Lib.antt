@@ -1,4 +1,5 @@
 pub mod Apart
+pub mod Rounds
 pub mod Turns
 pub mod Puts
 pub mod Closes
@@ -8,5 +9,7 @@ pub mod Law
 pub mod Strangers
 pub mod Octets
 pub mod Walls
+pub mod Ticks
 pub mod Logs
 pub mod Passed
+pub mod Telling

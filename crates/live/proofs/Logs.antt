@@ -7,16 +7,16 @@ use Rattle.session.specs.declared.kinds.Close.{Close}
 use Rattle.session.specs.declared.kinds.Close.TheVariants as close
 use Rattle.live.specs.Timing.{is_behind}
 use Rattle.live.specs.Ends.{Ends, Peer, Turns, Puts, LogsTurn, LogsPut, as_logged, looking, told_at, written_open, closed_by, after_action}
-use Rattle.live.proofs.Apart.{log_of, log_apart, turn_same, taken_same}
+use Rattle.live.proofs.Apart.{log_of, log_apart, taken_same}
+use Rattle.live.proofs.Rounds.{log_aside, looks_kept}
 use Rattle.live.specs.declared.found.Found.{Found}
 
 pub turns_same : (old new : Ends) (event : Next) (buf : List ℕ) → Turns old event buf new → new.log ≡ old.log
 turns_same old new event buf (inl t) = ap (λ (e : Ends). e.log) t.told.ends
 turns_same old new event buf (inr t) =
     ap (λ (p : Option Found × Ends). log_of p.1) t.told.ends
-    ∙ (taken_same log_of log_apart (is_behind t.found.timing t.now) buf t.f (told_at t.now t.found)
-    ∙ (ap (λ (p : Option Found × Ends). log_of p.1) t.turn.turned
-    ∙ turn_same log_of log_apart old.is_cut_due t.begun t.turn.answers buf (looking (told_at t.begun old))))
+    ∙ (taken_same log_of log_apart (is_behind t.found.timing t.now) buf t.f t.found
+    ∙ looks_kept log_of log_aside t.first (looking (told_at t.first old)) t.now t.f buf t.found t.looks)
 
 written_same : (b : Bool) (octets : List ℕ) (taken : Bool) (p : Option Peer) (e : Ends)
     → (written_open b octets taken p e).log ≡ e.log

@@ -7,7 +7,7 @@ use Rattle.session.specs.declared.kinds.Close.{Close}
 use Rattle.session.specs.declared.kinds.Close.TheVariants as close
 use Rattle.live.specs.Wires.{Happening, Gave, WasQuiet, WasGone, Wrote, History, IsNew, noted, Visits, visited}
 use Rattle.live.specs.Timing.{is_behind, moment_at}
-use Rattle.live.specs.Ends.{Ends, Peer, IsGuest, Answers, Turns, Puts, as_logged, looking, event_at, taken_by, told_at, turn_by, sources_by, held_by, IsFront, round, look, unless_found, next_round, looked_at, after, nothing_more, let_in, of_visitor, of_open, of_line, read_from, written_open, closed_by, after_action}
+use Rattle.live.specs.Ends.{Ends, Peer, IsGuest, Answers, QuietRounds, NoRound, OneRound, LooksOn, Turns, Puts, as_logged, looking, event_at, taken_by, told_at, turn_by, sources_by, held_by, IsFront, round, look, unless_found, next_round, looked_at, after, nothing_more, let_in, of_visitor, of_open, of_line, read_from, written_open, closed_by, after_action}
 use Rattle.std.proofs.lemmas.List.{append-nil}
 use Rattle.live.specs.Passed.{given, line_in, line_out, centre_in, centre_out, TellsLine, TellsWritten, TellsWire, TellsCentre, TellsDoor, TellsEnds, IsFresh, IsUnvisited, opened_in, Run, Begun, Told, Put}
 use Rattle.live.specs.declared.guests.Guests.{Guests}
@@ -236,6 +236,29 @@ taken_tells n buf log true (Some found.Cut) e h = h.0
 taken_tells n buf log true (Some (found.Line len)) e h = h.0
 taken_tells n buf log true (Some found.Fault) e h = h.0
 
+-- rounds that found nothing
+quiet_tells : (n : ℕ) (log : Log) (start : Ends) (first count begun : ℕ) (e : Ends) → QuietRounds start first count begun e
+    → TellsEnds log start → TellsEnds log e
+unfolding Tells IsUnheld
+quiet_tells n log start first _ _ _ NoRound h = h
+quiet_tells n log start first _ _ _ (OneRound count begun now before found buf q t undue) h =
+    let Q : Option Found × Ends → Type 0 = λ p. Tells n buf log p in
+    let told : Tells n buf log (None, found) = subst Q (sym t.turned)
+    (turn_tells n buf log before.guests before.is_cut_due begun t.answers before t.visitor t.front
+    (quiet_tells n log start first count begun before q h)) in
+    told.0
+
+looks_tell : (n : ℕ) (log : Log) (first : ℕ) (old : Ends) (now : ℕ) (f : Option Found) (buf : List ℕ) (new : Ends)
+    → LooksOn first old now f buf new → TellsEnds log old → Tells n buf log (f, new)
+unfolding Tells
+looks_tell n log first old now f buf new l h =
+    let Q : Option Found × Ends → Type 0 = λ p. Tells n buf log p in
+    let P : Ends → Type 0 = λ e. Tells n buf log (f, e) in
+    let found : Tells n buf log (f, l.found) = subst Q (sym l.turn.turned)
+    (turn_tells n buf log l.before.guests l.before.is_cut_due l.begun l.turn.answers l.before l.turn.visitor l.turn.front
+    (quiet_tells n log old first l.count l.begun l.before l.quiet h)) in
+    subst P (sym l.done) found
+
 told_turn : (old new : Ends) (event : Next) (buf : List ℕ) (log : Log) → Turns old event buf new → TellsEnds log old
     → TellsEnds (told_by event buf ++ log) new
 unfolding Tells
@@ -246,12 +269,9 @@ told_turn old new event buf log (inl t) h =
 told_turn old new event buf log (inr t) h =
     let n = moment_at new.timing t.now in
     let P : Next → Type 0 = λ e. TellsEnds (told_by e buf ++ log) new in
-    let Q : Option Found × Ends → Type 0 = λ p. Tells n buf log p in
     let R : Option Found × Ends → Type 0 = λ p. TellsEnds (told_by (event_at n p.0) buf ++ log) p.1 in
-    let turned = turn_tells n buf log old.guests old.is_cut_due t.begun t.turn.answers
-    (looking (told_at t.begun old)) t.turn.visitor t.turn.front h in
-    let found : Tells n buf log (t.f, t.found) = subst Q (sym t.turn.turned) turned in
-    let taken = taken_tells n buf log (is_behind t.found.timing t.now) t.f (told_at t.now t.found) found in
+    let found = looks_tell n log t.first (looking (told_at t.first old)) t.now t.f buf t.found t.looks h in
+    let taken = taken_tells n buf log (is_behind t.found.timing t.now) t.f t.found found in
     subst P (sym t.told.told) (subst R (sym t.told.ends) taken)
 
 -- what is put out

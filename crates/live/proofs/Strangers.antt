@@ -5,8 +5,10 @@ use Rattle.gateway.specs.Log.{Log}
 use Rattle.gateway.specs.declared.ports.Next.{Next}
 use Rattle.gateway.specs.declared.ports.Next.TheVariants as next
 use Rattle.live.specs.Timing.{is_behind, moment_at}
-use Rattle.live.specs.Ends.{Ends, Peer, IsGuest, Answers, Turns, LogsTurn, as_logged, looking, event_at, taken_by, told_at, turn_by, sources_by, held_by, round, look, unless_found, next_round, looked_at, after, nothing_more, let_in, of_visitor, of_open, of_line, read_from}
+use Rattle.live.specs.Ends.{Ends, Peer, IsGuest, Answers, QuietRounds, NoRound, OneRound, LooksOn, Turns, LogsTurn, as_logged, looking, event_at, taken_by, told_at, turn_by, sources_by, held_by, round, look, unless_found, next_round, looked_at, after, nothing_more, let_in, of_visitor, of_open, of_line, read_from}
 use Rattle.live.specs.Law.{IsOfGuest, IsSameOrNone, peer_of, KeepsOut}
+use Rattle.live.proofs.Apart.{guests_of}
+use Rattle.live.proofs.Rounds.{guests_aside, quiet_kept}
 use Rattle.live.specs.declared.found.Found.{Found}
 use Rattle.live.specs.declared.found.Found.TheVariants as found
 use Rattle.live.specs.declared.guests.Guests.{Guests}
@@ -123,6 +125,29 @@ as_it_was : (c : Option Peer) → IsSameOrNone (option_map (λ (p : Peer). p.add
 as_it_was None = tt
 as_it_was (Some peer) = refl
 
+-- rounds that found nothing leave the connection that was, or none
+quiet_out : (b : Option IpAddr) (start : Ends) (first count begun : ℕ) (e : Ends) → QuietRounds start first count begun e
+    → IsSameOrNone b start.connection → IsSameOrNone b e.connection
+unfolding Out IsKeptOut
+quiet_out b start first _ _ _ NoRound h = h
+quiet_out b start first _ _ _ (OneRound count begun now before found buf q t undue) h =
+    let Q : Option Found × Ends → Type 0 = λ p. Out before.guests b p in
+    subst Q (sym t.turned) (turn_out before.guests b before.is_cut_due begun t.answers buf before t.visitor
+    (quiet_out b start first count begun before q h))
+
+looks_out : (b : Option IpAddr) (first : ℕ) (old : Ends) (now : ℕ) (f : Option Found) (buf : List ℕ) (new : Ends)
+    → LooksOn first old now f buf new → IsSameOrNone b old.connection → IsKeptOut old.guests b f new.connection
+unfolding Out
+looks_out b first old now f buf new l h =
+    let Q : Option Found × Ends → Type 0 = λ p. Out l.before.guests b p in
+    let G : Guests → Type 0 = λ g. IsKeptOut g b f l.found.connection in
+    let P : Ends → Type 0 = λ e. IsKeptOut old.guests b f e.connection in
+    let same = quiet_kept guests_of guests_aside old first l.count l.begun l.before l.quiet in
+    let turned = turn_out l.before.guests b l.before.is_cut_due l.begun l.turn.answers buf l.before l.turn.visitor
+    (quiet_out b old first l.count l.begun l.before l.quiet h) in
+    let found : IsKeptOut l.before.guests b f l.found.connection = subst Q (sym l.turn.turned) turned in
+    subst P (sym l.done) (subst G same found)
+
 kept_out_by : (old new : Ends) (event : Next) (buf : List ℕ) → Turns old event buf new → KeepsOut old event new
 unfolding Out
 kept_out_by old new event buf (inl t) =
@@ -133,11 +158,9 @@ kept_out_by old new event buf (inl t) =
 kept_out_by old new event buf (inr t) =
     let Q : Option Found × Ends → Type 0 = λ p. Out old.guests (peer_of old) p in
     let P : Next → Type 0 = λ e. KeepsOut old e new in
-    let turned = turn_out old.guests (peer_of old) old.is_cut_due t.begun t.turn.answers buf
-    (looking (told_at t.begun old)) t.turn.visitor (as_it_was old.connection) in
-    let found : IsKeptOut old.guests (peer_of old) t.f t.found.connection = subst Q (sym t.turn.turned) turned in
-    let taken = taken_out old.guests (peer_of old) (is_behind t.found.timing t.now) buf t.f
-    (told_at t.now t.found) found in
+    let found = looks_out (peer_of old) t.first (looking (told_at t.first old)) t.now t.f buf t.found t.looks
+    (as_it_was old.connection) in
+    let taken = taken_out old.guests (peer_of old) (is_behind t.found.timing t.now) buf t.f t.found found in
     let told : IsKeptOut old.guests (peer_of old) t.told.taken new.connection = subst Q (sym t.told.ends) taken in
     subst P (sym t.told.told) (told_out old new (moment_at new.timing t.now) t.told.taken told)
 

@@ -1,8 +1,8 @@
 -- A turn from its looks. Each source answers at its look; a turn is told by the answers of all three.
-use Rattle.std.proofs.Common.{◌≡◌, ℕ, arith, ◌==◌, true, false, Bool, List, [], ◌∷◌, length, take, Option, Some, None, IfSome, refl, sym, ap, subst, ◌∙◌, inl, inr}
+use Rattle.std.proofs.Common.{◌≡◌, ℕ, ◌+◌, arith, ◌==◌, ◌⊎◌, is_some, true, false, Bool, List, [], ◌∷◌, length, take, Option, Some, None, IfSome, refl, sym, ap, subst, ◌∙◌, inl, inr}
 use Rattle.live.specs.declared.guests.Guests.{Guests}
-use Rattle.live.specs.Timing.{is_behind, moment_at}
-use Rattle.live.specs.Ends.{Ends, Peer, IsGuest, let_in, Answers, after, found_at, looked_at, read_from, next_round, unless_found, look, nothing_more, round, turn, turn_by, held_by, sources_by, IsFront, taken_by, told_at, looking, IsTurn, IsTold, IsWallTold, Turns, TurnsToWall, TurnsToEnds, event_at}
+use Rattle.live.specs.Timing.{is_behind, moment_at, is_awaited}
+use Rattle.live.specs.Ends.{Ends, Peer, IsGuest, let_in, Answers, after, found_at, looked_at, read_from, next_round, unless_found, look, nothing_more, round, turn, turn_by, held_by, sources_by, IsFront, taken_by, told_at, looking, IsTurn, IsTold, IsWallTold, QuietRounds, NoRound, OneRound, LooksOn, is_tick_due, faults_in, Turns, TurnsToWall, TurnsToEnds, event_at}
 use Rattle.gateway.specs.declared.ports.Next.{Next}
 use Rattle.live.specs.Looks.{Looks, answers_for}
 use Rattle.live.specs.Walls.{is_wall_due}
@@ -275,13 +275,99 @@ told_level now old f event buf level told = record {
   told = told;
 }
 
+-- rounds that found nothing, and the last one
+pub looked_found : (old before found new : Ends) (first count begun now : ℕ) (f : Found) (buf : List ℕ)
+    → QuietRounds old first count begun before → IsTurn begun before (Some f) buf found → new ≡ told_at now found
+    → LooksOn first old now (Some f) buf new
+looked_found old before found new first count begun now f buf quiet turn done = record {
+  count = count;
+  begun = begun;
+  before = before;
+  quiet = quiet;
+  found = found;
+  turn = turn;
+  last = tt;
+  done = done;
+}
+
+pub looked_long : (old before found new : Ends) (first count begun now : ℕ) (buf : List ℕ)
+    → QuietRounds old first count begun before → IsTurn begun before None buf found
+    → (is_tick_due first (is_awaited old.timing) now found ≡ true) ⊎ (count ≡ 200) → new ≡ told_at now found
+    → LooksOn first old now None buf new
+looked_long old before found new first count begun now buf quiet turn last done = record {
+  count = count;
+  begun = begun;
+  before = before;
+  quiet = quiet;
+  found = found;
+  turn = turn;
+  last = last;
+  done = done;
+}
+
+pub looked_last : (old before found new : Ends) (first count begun now : ℕ) (f : Option Found) (buf : List ℕ)
+    → QuietRounds old first count begun before → IsTurn begun before f buf found
+    → (is_tick_due first (is_awaited old.timing) now found ≡ true) ⊎ (count ≡ 200) → new ≡ told_at now found
+    → LooksOn first old now f buf new
+looked_last old before found new first count begun now None buf quiet turn last done =
+    looked_long old before found new first count begun now buf quiet turn last done
+looked_last old before found new first count begun now (Some f) buf quiet turn last done =
+    looked_found old before found new first count begun now f buf quiet turn done
+
+-- one more that found nothing
+quiet_more_by : (start before found : Ends) (first count begun now : ℕ) (f : Option Found) (buf : List ℕ)
+    → QuietRounds start first count begun before → IsTurn begun before f buf found → is_some f ≡ false
+    → is_tick_due first (is_awaited start.timing) now found ≡ false
+    → QuietRounds start first (count + 1) now (told_at now found)
+quiet_more_by start before found first count begun now None buf quiet turn nothing undue =
+    OneRound count begun now before found buf quiet turn undue
+quiet_more_by start before found first count begun now (Some f) buf quiet turn nothing undue = absurd (cc)
+
+-- a tick is due or not, by what the port has at hand
+due_of : (start found new : Ends) (first now : ℕ) (was is_due : Bool) → was ≡ is_awaited start.timing
+    → new ≡ told_at now found → is_due ≡ is_tick_due first was now new
+    → is_tick_due first (is_awaited start.timing) now found ≡ is_due
+due_of start found new first now was is_due awaited done is =
+    sym (is ∙ (ap (λ (e : Ends). is_tick_due first was now e) done
+    ∙ ap (λ w. is_tick_due first w now found) awaited))
+
+pub quiet_more : (start before found new : Ends) (first count begun now : ℕ) (f : Option Found) (buf : List ℕ)
+    (was is_due : Bool) → QuietRounds start first count begun before → IsTurn begun before f buf found
+    → is_some f ≡ false → was ≡ is_awaited start.timing → new ≡ told_at now found
+    → is_due ≡ is_tick_due first was now new → is_due ≡ false → QuietRounds start first (count + 1) now new
+quiet_more start before found new first count begun now f buf was is_due quiet turn nothing awaited done is undue =
+    let P : Ends → Type 0 = λ e. QuietRounds start first (count + 1) now e in
+    subst P (sym done) (quiet_more_by start before found first count begun now f buf quiet turn nothing
+    (due_of start found new first now was is_due awaited done is ∙ undue))
+
+pub looked_due : (start before found new : Ends) (first count begun now : ℕ) (f : Option Found) (buf : List ℕ)
+    (was is_due : Bool) → QuietRounds start first count begun before → IsTurn begun before f buf found
+    → was ≡ is_awaited start.timing → new ≡ told_at now found
+    → is_due ≡ is_tick_due first was now new → is_due ≡ true → LooksOn first start now f buf new
+looked_due start before found new first count begun now f buf was is_due quiet turn awaited done is due =
+    looked_last start before found new first count begun now f buf quiet turn
+    (inl (due_of start found new first now was is_due awaited done is ∙ due)) done
+
+-- something was found
+pub looked_some : (start before found new : Ends) (first count begun now : ℕ) (f : Option Found) (buf : List ℕ)
+    → QuietRounds start first count begun before → IsTurn begun before f buf found → is_some f ≡ true
+    → new ≡ told_at now found → LooksOn first start now f buf new
+looked_some start before found new first count begun now None buf quiet turn some done = absurd (cc)
+looked_some start before found new first count begun now (Some f) buf quiet turn some done =
+    looked_found start before found new first count begun now f buf quiet turn done
+
+-- and where nothing was, nothing failed
+pub none_failed : (f : Option Found) (old new : ℕ) → is_some f ≡ false → new ≡ old + faults_in f → new ≡ old
+none_failed None old new nothing is = omega (arith, is)
+none_failed (Some f) old new nothing is = absurd (cc)
+
 -- a turn, with its event
-pub turned : (old found new : Ends) (begun now : ℕ) (f : Option Found) (event : Next) (buf : List ℕ) →
-    is_wall_due old.walled begun ≡ false → IsTurn begun (looking (told_at begun old)) f buf found →
-    IsTold now (told_at now found) f event buf new → Turns old event buf new
-turned old found new begun now f event buf due turn told =
+pub turned : (old found new : Ends) (first now : ℕ) (f : Option Found) (event : Next) (buf : List ℕ) →
+    is_wall_due old.walled first ≡ false → LooksOn first (looking (told_at first old)) now f buf found →
+    IsTold now found f event buf new → Turns old event buf new
+turned old found new first now f event buf due looks told =
     let t : TurnsToEnds old event buf new =
-    record { begun = begun; due = due; now = now; f = f; found = found; turn = turn; told = told } in
+    record { first = first; due = due; now = now; f = f; found = found; looks = looks; told = told } in
     inr t
 
 -- the wall clock, which is due

@@ -1,11 +1,12 @@
 -- The ends are looked at between two events that tell the wall clock.
-use Rattle.std.proofs.Common.{◌≡◌, ◌≢◌, ℕ, ◌+◌, ◌<◌, true, false, List, Option, Some, None, IfSome, arith, refl, sym, ap, subst, ◌∙◌, inl, inr}
+use Rattle.std.proofs.Common.{◌≡◌, ◌≢◌, ℕ, ◌+◌, ◌-◌, ◌<◌, nat_le, ◌&&◌, ◌||◌, not, Bool, true, false, List, Option, Some, None, IfSome, arith, refl, sym, ap, subst, ◌∙◌, inl, inr}
 use Rattle.gateway.specs.declared.ports.Next.{Next}
-use Rattle.live.specs.Timing.{Moments, read_at, moment_at, is_behind}
+use Rattle.live.specs.Timing.{Moments, read_at, moment_at, is_behind, is_awaited}
 use Rattle.live.specs.Walls.{is_wall, is_wall_due, is_due_since}
 use Rattle.live.specs.Law.{AtBegun}
-use Rattle.live.proofs.Apart.{walled_of, walled_apart, clock_of, clock_apart, turn_same, taken_same}
-use Rattle.live.specs.Ends.{Ends, Turns, LogsTurn, as_logged, TurnsToWall, TurnsToEnds, event_at, looking, told_at}
+use Rattle.live.proofs.Apart.{walled_of, walled_apart, clock_of, clock_apart, taken_same}
+use Rattle.live.proofs.Rounds.{walled_aside, turn_kept, quiet_kept, looks_kept}
+use Rattle.live.specs.Ends.{Ends, QuietRounds, NoRound, OneRound, Turns, LogsTurn, as_logged, TurnsToWall, TurnsToEnds, event_at, looking, told_at}
 use Rattle.live.specs.declared.found.Found.{Found}
 use Rattle.live.specs.declared.found.Found.TheVariants as found
 use Rattle.live.specs.declared.walled.Walled.{Walled}
@@ -56,18 +57,41 @@ looked_walled : (old new : Ends) (event : Next) (buf : List ℕ) → TurnsToEnds
     → new.walled ≡ record old.walled { has_looked = true }
 looked_walled old new event buf t =
     ap (λ (p : Option Found × Ends). walled_of p.1) t.told.ends
-    ∙ (taken_same walled_of walled_apart (is_behind t.found.timing t.now) buf t.f (told_at t.now t.found)
-    ∙ (ap (λ (p : Option Found × Ends). walled_of p.1) t.turn.turned
-    ∙ turn_same walled_of walled_apart old.is_cut_due t.begun t.turn.answers buf (looking (told_at t.begun old))))
+    ∙ (taken_same walled_of walled_apart (is_behind t.found.timing t.now) buf t.f t.found
+    ∙ looks_kept walled_of walled_aside t.first (looking (told_at t.first old)) t.now t.f buf t.found t.looks)
+
+-- it isn't due either where the last round begins
+due_last : (a b c : Bool) → (a || (b || c)) ≡ false → c ≡ false
+due_last true b c undue = absurd (cc)
+due_last false true c undue = absurd (cc)
+due_last false false c undue = undue
+
+quiet_undue : (start : Ends) (first count begun : ℕ) (e : Ends) → QuietRounds start first count begun e
+    → is_wall_due start.walled first ≡ false → is_wall_due start.walled begun ≡ false
+quiet_undue start first _ _ _ NoRound undue = undue
+quiet_undue start first _ _ _ (OneRound count begun now before found buf q t undue) before_undue =
+    let same : found.walled ≡ start.walled =
+    turn_kept walled_of walled_apart begun before found None buf t
+    ∙ quiet_kept walled_of walled_aside start first count begun before q in
+    ap (λ (w : Walled). is_wall_due w now) (sym same)
+    ∙ due_last (nat_le 100 (now - first)) (is_awaited start.timing && not (is_awaited found.timing))
+    (is_wall_due found.walled now) undue
 
 -- so behind one such event it is due by when it was told alone
 undue_since : (a b c d : Ends) (first second : Next) (buf more : List ℕ) → b.walled ≡ c.walled
-    → TurnsToEnds a first buf b → (u : TurnsToEnds c second more d) → is_due_since b.walled.told true u.begun ≡ false
+    → TurnsToEnds a first buf b → (u : TurnsToEnds c second more d)
+    → is_due_since b.walled.told true u.looks.begun ≡ false
 undue_since a b c d first second buf more same t u =
     let was = looked_walled a b first buf t in
     let looked : b.walled.has_looked ≡ true = ap (λ (w : Walled). w.has_looked) was in
-    ap (λ h. is_due_since b.walled.told h u.begun) (sym looked)
-    ∙ (ap (λ (w : Walled). is_wall_due w u.begun) same ∙ u.due)
+    let at_first : is_due_since b.walled.told true u.first ≡ false =
+    ap (λ h. is_due_since b.walled.told h u.first) (sym looked)
+    ∙ (ap (λ (w : Walled). is_wall_due w u.first) same ∙ u.due) in
+    let start = looking (told_at u.first c) in
+    let told = ap (λ (w : Walled). w.told) same in
+    ap (λ k. is_due_since k true u.looks.begun) told
+    ∙ quiet_undue start u.first u.looks.count u.looks.begun u.looks.before u.looks.quiet
+    (ap (λ k. is_due_since k true u.first) (sym told) ∙ at_first)
 
 wall_of : (a b : Ends) (first : Next) (buf : List ℕ) → TurnsToWall a first b → is_wall first ≡ true
 wall_of a b first buf t = ap is_wall t.told.told
@@ -77,16 +101,30 @@ at_begun : (told : Moments) (begun now : ℕ) (Holds : ℕ → Type 0) → Holds
 at_begun None begun now Holds h = tt
 at_begun (Some before) begun now Holds h = h
 
+-- the clock told when the last round began before it told the moment of the event
+ToldAt : (begun : ℕ) → Moments → Type 0
+ToldAt begun told = (before : Moments) × (told ≡ read_at before begun)
+
+quiet_told : (start : Ends) (first count begun : ℕ) (e : Ends) → QuietRounds start first count begun e → ToldAt first start.clock
+    → ToldAt begun e.clock
+unfolding ToldAt
+quiet_told start first _ _ _ NoRound told = told
+quiet_told start first _ _ _ (OneRound count begun now before found buf q t undue) told = (found.clock, refl)
+
 begun_clock : (old new : Ends) (event : Next) (buf : List ℕ) (t : TurnsToEnds old event buf new) (Holds : ℕ → Type 0)
-    → Holds t.begun → AtBegun new.clock Holds
+    → Holds t.looks.begun → AtBegun new.clock Holds
+unfolding ToldAt
 begun_clock old new event buf t Holds h =
-    let told : new.clock ≡ read_at (read_at old.clock t.begun) t.now =
+    let l = t.looks in
+    let start = looking (told_at t.first old) in
+    let begun = quiet_told start t.first l.count l.begun l.before l.quiet (old.clock, refl) in
+    let told : new.clock ≡ read_at (read_at begun.0 l.begun) t.now =
     ap (λ (p : Option Found × Ends). clock_of p.1) t.told.ends
-    ∙ (taken_same clock_of clock_apart (is_behind t.found.timing t.now) buf t.f (told_at t.now t.found)
-    ∙ ap (λ c. read_at c t.now) (ap (λ (p : Option Found × Ends). clock_of p.1) t.turn.turned
-    ∙ turn_same clock_of clock_apart old.is_cut_due t.begun t.turn.answers buf (looking (told_at t.begun old)))) in
+    ∙ (taken_same clock_of clock_apart (is_behind t.found.timing t.now) buf t.f t.found
+    ∙ (ap clock_of l.done ∙ ap (λ c. read_at c t.now)
+    (turn_kept clock_of clock_apart l.begun l.before l.found t.f buf l.turn ∙ begun.1))) in
     let P : Moments → Type 0 = λ c. AtBegun c Holds in
-    subst P (sym told) (at_begun old.clock t.begun t.now Holds h)
+    subst P (sym told) (at_begun begun.0 l.begun t.now Holds h)
 
 second_by : (a b c d : Ends) (first second : Next) (buf more : List ℕ) → b.walled ≡ c.walled → Turns a first buf b
     → Turns c second more d → is_wall first ≡ false → is_wall second ≡ false
@@ -98,7 +136,8 @@ second_by a b c d first second buf more same (inr t) (inl u) dark other =
 second_by a b c d first second buf more same (inr t) (inr u) dark other =
     let undue = undue_since a b c d first second buf more same t u in
     let Holds : ℕ → Type 0 = λ begun. IfSome b.walled.told (λ t. begun < t + 1000) in
-    (begun_clock c d second more u Holds (since b.walled.told u.begun undue), some_since b.walled.told u.begun undue)
+    (begun_clock c d second more u Holds (since b.walled.told u.looks.begun undue),
+    some_since b.walled.told u.looks.begun undue)
 
 pub each_second : (a b c : Ends) (first second : Next) (buf more : List ℕ) → LogsTurn a first buf b
     → LogsTurn b second more c → is_wall first ≡ false → is_wall second ≡ false

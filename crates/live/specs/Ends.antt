@@ -1,5 +1,5 @@
 -- The ends of a live run, and what its port does with them (this gateway's own profile).
-use Rattle.std.specs.Prelude.{ℕ, ◌+◌, ◌-◌, ◌≤◌, ◌⊎◌, List, [], ◌∷◌, ◌++◌, length, take, Bool, true, false, not, Option, Some, None, IfSome, ◌≡◌}
+use Rattle.std.specs.Prelude.{ℕ, ◌+◌, ◌-◌, ◌≤◌, nat_le, ◌⊎◌, List, [], ◌∷◌, ◌++◌, length, take, Bool, true, false, not, ◌&&◌, ◌||◌, Option, Some, None, IfSome, ◌≡◌}
 use Rattle.gateway.specs.Log.{Log, Went, Output, LineOut, TcpOut, Closed, GapOut}
 use Rattle.gateway.specs.Ports.{told_by}
 use Rattle.gateway.specs.declared.ports.Next.{Next}
@@ -12,7 +12,7 @@ use Rattle.live.specs.declared.guests.Guests.{Guests}
 use Rattle.live.specs.Wires.{looked, Wrote, History, noted, IsNew, Visits, visited}
 use Rattle.live.specs.declared.wires.Got.{Got}
 use Rattle.live.specs.declared.wires.Got.TheVariants.{Octets, Quiet, Gone}
-use Rattle.live.specs.Timing.{Moments, read_at, moment_at, is_behind, heard_at, asked_at}
+use Rattle.live.specs.Timing.{Moments, read_at, moment_at, is_behind, is_awaited, heard_at, asked_at}
 use Rattle.live.specs.Walls.{is_wall_due, told_at_moment}
 use Rattle.live.specs.declared.timing.Timing.{Timing}
 use Rattle.live.specs.declared.walled.Walled.{Walled}
@@ -269,16 +269,50 @@ pub record TurnsToWall (old : Ends) (event : Next) (new : Ends) : Type 0 where
 abbrev pub looking : Ends → Ends
 looking ends = record ends { walled = record ends.walled { has_looked = true } }
 
+-- Behind a round that found nothing a tick is due where 100 ms have passed since the first round
+-- began, where the time of the exchange has ended since then, and where the wall clock is due.
+abbrev pub is_tick_due : (first : ℕ) → (was_awaited : Bool) → (now : ℕ) → Ends → Bool
+is_tick_due first was_awaited now ends =
+    nat_le 100 (now - first)
+    || (was_awaited && not (is_awaited ends.timing) || is_wall_due ends.walled now)
+
+-- So many rounds of looks, the first of which began at this moment, that found nothing, and behind
+-- none of which a tick was due. Behind each the clock was read, and the next begins then.
+pub data QuietRounds (start : Ends) (first : ℕ) : (count begun : ℕ) → Ends → Type 0 where
+  NoRound : QuietRounds start first 0 first start
+  OneRound : (count begun now : ℕ) → (before found : Ends) → (buf : List ℕ)
+      → QuietRounds start first count begun before → IsTurn begun before None buf found
+      → is_tick_due first (is_awaited start.timing) now found ≡ false
+      → QuietRounds start first (count + 1) now (told_at now found)
+
+-- The last round found something, or a tick is due behind it, or it is the 201st.
+abbrev pub IsLast : (is_due : Bool) → (count : ℕ) → Option Found → Type 0
+IsLast is_due count None = (is_due ≡ true) ⊎ (count ≡ 200)
+IsLast is_due count (Some f) = Unit {0}
+
+-- The ends were looked at round by round from `first` on, up to a last round, behind which the
+-- clock told `now`.
+pub record LooksOn (first : ℕ) (old : Ends) (now : ℕ) (f : Option Found) (buf : List ℕ)
+    (new : Ends) : Type 0 where
+  pub count : ℕ
+  pub begun : ℕ
+  pub before : Ends
+  pub quiet : QuietRounds old first count begun before
+  pub found : Ends
+  pub turn : IsTurn begun before f buf found
+  pub last : IsLast (is_tick_due first (is_awaited old.timing) now found) count f
+  pub done : new ≡ told_at now found
+
 -- Where it isn't due the clock is read before the looks and after them, and what was found is an
 -- event of the moment that is due.
 pub record TurnsToEnds (old : Ends) (event : Next) (buf : List ℕ) (new : Ends) : Type 0 where
-  pub begun : ℕ
-  pub due : is_wall_due old.walled begun ≡ false
+  pub first : ℕ
+  pub due : is_wall_due old.walled first ≡ false
   pub now : ℕ
   pub f : Option Found
   pub found : Ends
-  pub turn : IsTurn begun (looking (told_at begun old)) f buf found
-  pub told : IsTold now (told_at now found) f event buf new
+  pub looks : LooksOn first (looking (told_at first old)) now f buf found
+  pub told : IsTold now found f event buf new
 
 abbrev pub Turns : Ends → Next → (buf : List ℕ) → Ends → Type 0
 Turns old event buf new = TurnsToWall old event new ⊎ TurnsToEnds old event buf new

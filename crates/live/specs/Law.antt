@@ -1,10 +1,12 @@
 -- Words of the laws (this gateway's own profile).
-use Rattle.std.specs.Prelude.{◌≡◌, ℕ, ◌-◌, ◌≤◌, [], ◌∷◌, Option, Some, None, option_map}
+use Rattle.std.specs.Prelude.{◌≡◌, ℕ, ◌+◌, ◌-◌, ◌≤◌, true, false, List, [], ◌∷◌, ◌++◌, length, Option, Some, None, option_map}
 use Rattle.std.specs.declared.net.ip_addr.IpAddr.{IpAddr}
 use Rattle.live.specs.Ends.{Ends, Peer}
 use Rattle.live.specs.Guests.{LetsIn}
-use Rattle.live.specs.Timing.{Moments}
+use Rattle.live.specs.Timing.{Moments, is_awaited, is_behind}
+use Rattle.live.specs.Walls.{is_wall_due}
 use Rattle.live.specs.declared.timing.Timing.{Timing}
+use Rattle.live.specs.declared.walled.Walled.{Walled}
 use Rattle.live.specs.declared.timing.Request.{Request}
 use Rattle.live.specs.declared.guests.Guests.{Guests}
 use Rattle.gateway.specs.declared.ports.Next.{Next}
@@ -74,3 +76,45 @@ KeepsOut old (next.Tick now) new = IsSameOrNone (peer_of old) new.connection
 KeepsOut old (next.Wall now number) new = IsSameOrNone (peer_of old) new.connection
 KeepsOut old next.Done new = IsSameOrNone (peer_of old) new.connection
 KeepsOut old next.Fault new = IsSameOrNone (peer_of old) new.connection
+
+-- The moments that the clock told for an event: `begun`, when the last round of looks began, `quiet`,
+-- when each before it did, the newest first, and `now`, behind the last one.
+pub record SomeRounds (before after : List ℕ) (Holds : ℕ → List ℕ → ℕ → Type 0) : Type 0 where
+  pub begun : ℕ
+  pub quiet : List ℕ
+  pub now : ℕ
+  pub told : after ≡ now ∷ (begun ∷ (quiet ++ before))
+  pub holds : Holds begun quiet now
+
+-- this holds of the moments that the clock told for an event, where it tells them
+abbrev pub AtRounds : (before after : Moments) → (ℕ → List ℕ → ℕ → Type 0) → Type 0
+AtRounds None after Holds = Unit {0}
+AtRounds (Some before) None Holds = ⊥
+AtRounds (Some before) (Some after) Holds = SomeRounds before after Holds
+
+-- when the first round began
+abbrev pub first_of : (begun : ℕ) → (quiet : List ℕ) → ℕ
+first_of begun [] = begun
+first_of begun (earlier ∷ quiet) = first_of earlier quiet
+
+-- Why a tick is told: 100 ms have passed since the first round began; the answer that was awaited
+-- then comes too late; the wall clock is due; the event's moment is too far behind the clock for
+-- octets that came, which are held; or 200 rounds before the last one found nothing.
+pub data IsTickDue (old new : Timing) (walled : Walled) (first : ℕ) (quiet : List ℕ) (now : ℕ) : Type 0 where
+  LongSince : first + 100 ≤ now → IsTickDue old new walled first quiet now
+  TooLate : is_awaited old ≡ true → is_awaited new ≡ false
+      → IsTickDue old new walled first quiet now
+  WallIsDue : is_wall_due walled now ≡ true → IsTickDue old new walled first quiet now
+  FarBehind : is_behind new now ≡ true → IsTickDue old new walled first quiet now
+  ManyRounds : length quiet ≡ 200 → IsTickDue old new walled first quiet now
+
+-- this holds where the event is a tick
+abbrev pub IfTick : Next → Type 0 → Type 0
+IfTick (next.Tick now) Holds = Holds
+IfTick (next.Line now len) Holds = Unit {0}
+IfTick (next.Open now) Holds = Unit {0}
+IfTick (next.Bytes now len) Holds = Unit {0}
+IfTick (next.Cut now) Holds = Unit {0}
+IfTick (next.Wall now number) Holds = Unit {0}
+IfTick next.Done Holds = Unit {0}
+IfTick next.Fault Holds = Unit {0}

@@ -8,3 +8,4 @@ pub mod Streams
 pub mod Redial
 pub mod Law
 pub mod Passed
+pub mod Memory

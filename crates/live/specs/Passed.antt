@@ -1,5 +1,5 @@
 -- What passed at the wires, as the log tells it (this gateway's own profile).
-use Rattle.std.specs.Prelude.{◌≡◌, ℕ, ◌+◌, List, [], ◌∷◌, ◌++◌, Bool, true, false, Option, Some, None}
+use Rattle.std.specs.Prelude.{◌≡◌, ℕ, ◌+◌, List, [], ◌∷◌, ◌++◌, Bool, true, false, Option, Some, None, is_some}
 use Rattle.gateway.specs.Log.{Log, Came, Went, LineIn, LineOut, Opened, TcpIn, TcpOut, Output}
 use Rattle.gateway.specs.declared.ports.Next.{Next}
 use Rattle.live.specs.Wires.{Happening, Gave, WasQuiet, Wrote, History, IsNew, Visits}
@@ -116,6 +116,12 @@ pub data Run (start : Ends) : Ends → Type 0 where
       → LogsTurn before event buf now → Run start now
   Put : (before now : Ends) → (moment : ℕ) → (action : Output) → Run start before
       → LogsPut before moment action now → Run start now
+
+-- The line, the door and the clock that told what happens at them tell it still.
+pub record TellsStill (start end : Ends) : Type 0 where
+  pub line : is_some end.line ≡ is_some start.line
+  pub door : is_some end.door ≡ is_some start.door
+  pub clock : is_some end.clock ≡ is_some start.clock
 
 -- two requests, three octets of the line in two pieces, and two connections, the second open
 abbrev pub example_log : Log

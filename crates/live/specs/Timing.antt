@@ -2,7 +2,7 @@
 -- unanswered where no answer has come for so long after its request: that is time that the line
 -- had, not time for which the gateway itself stood still. So the end of an exchange waits until the
 -- line has been looked at that long after the request was written.
-use Rattle.std.specs.Prelude.{ℕ, ◌+◌, ◌-◌, nat_le, nat_lt, Bool, List, ◌∷◌, Option, Some, None, if◌then◌else◌}
+use Rattle.std.specs.Prelude.{ℕ, ◌+◌, ◌-◌, nat_le, nat_lt, Bool, false, not, List, ◌∷◌, Option, Some, None, if◌then◌else◌}
 use Rattle.live.specs.declared.timing.Timing.{Timing}
 use Rattle.live.specs.declared.timing.Request.{Request}
 
@@ -17,6 +17,14 @@ read_at (Some before) now = Some (now ∷ before)
 -- the line has been looked at for answer_ms since the request was written: a look began that late
 abbrev pub is_heard_out : Timing → Request → Bool
 is_heard_out t r = nat_le t.answer_ms (t.heard - r.written)
+
+-- an answer to the request, if one was written, may still come in its time
+abbrev pub is_awaited_by : Timing → Option Request → Bool
+is_awaited_by t None = false
+is_awaited_by t (Some r) = not (is_heard_out t r)
+
+abbrev pub is_awaited : Timing → Bool
+is_awaited t = is_awaited_by t t.request
 
 -- less than answer_ms have passed since the request's moment
 abbrev pub goes_on : Timing → Request → ℕ → Bool

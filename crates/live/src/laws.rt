@@ -1,13 +1,13 @@
 //! Laws of the port over live ends, in the terms of the clock, the requests and the looks at the
 //! line.
-ghost use Rattle.std.specs.Prelude.{◌≡◌, ◌≢◌, IfSome, None, ◌+◌, ◌-◌, ◌<◌, ◌≤◌, ℕ, List, [], ◌∷◌, Some, true, false};
+ghost use Rattle.std.specs.Prelude.{◌≡◌, ◌≢◌, All, IfSome, None, ◌+◌, ◌-◌, ◌<◌, ◌≤◌, ℕ, List, [], ◌∷◌, Some, true, false};
 ghost use Rattle.gateway.specs.declared.ports.Next.{Next};
 ghost use Rattle.live.specs.Ends.{Ends, LogsTurn, LogsPut};
-ghost use Rattle.live.specs.Law.{AtMoment, AtBytes, AtClock, AtBegun, IsHeardOut, KeepsOut};
+ghost use Rattle.live.specs.Law.{AtMoment, AtBytes, AtClock, AtBegun, IsHeardOut, KeepsOut, AtRounds, first_of, IsTickDue, IfTick};
 ghost use Rattle.gateway.specs.Log.{Closed};
 ghost use Rattle.session.specs.declared.kinds.Close.{Close};
 ghost use Rattle.session.specs.declared.kinds.Close.TheVariants.{Replaced};
-ghost use Rattle.live.specs.Passed.{IsFresh, Run, TellsEnds, line_in, line_out, centre_in, centre_out, opened_in, let_in_at, given, handed, taken_of, example_log, example_line};
+ghost use Rattle.live.specs.Passed.{IsFresh, Run, TellsEnds, TellsStill, line_in, line_out, centre_in, centre_out, opened_in, let_in_at, given, handed, taken_of, example_log, example_line};
 ghost use Rattle.live.specs.Walls.{is_wall};
 ghost use Rattle.live.specs.declared.timing.Request.{Request};
 
@@ -29,6 +29,31 @@ pub fn a_line_that_is_heard_out_holds_no_moment()
     ensures { (old new : Ends) (event : Next) (buf : List ℕ) → LogsTurn old event buf new →
         IsHeardOut new.timing new.timing.request →
         AtClock new.clock (λ now. AtMoment event (λ moment. moment ≡ now)) }
+{}
+
+/// The rounds of looks for an event begin less than 100 ms after the first of them: so between two
+/// events the ends aren't looked at for longer than that and one round more.
+pub fn looks_for_an_event_begin_within_100_ms()
+    ensures { (old new : Ends) (event : Next) (buf : List ℕ) → LogsTurn old event buf new →
+        is_wall event ≡ false → AtRounds old.clock new.clock (λ begun quiet now.
+        All (λ moment. moment < first_of begun quiet + 100) (begun ∷ quiet)) }
+{}
+
+/// Once the time of an exchange is over an event is told at once: no round of looks begins
+/// `answer_ms` or more after the latest request was written, but the last one before an event.
+pub fn an_exchange_that_is_over_is_told_at_once()
+    ensures { (old new : Ends) (event : Next) (buf : List ℕ) (r : Request) →
+        LogsTurn old event buf new → is_wall event ≡ false → old.timing.request ≡ Some r →
+        old.timing.heard - r.written < old.timing.answer_ms →
+        AtRounds old.clock new.clock (λ begun quiet now.
+        All (λ moment. moment - r.written < old.timing.answer_ms) quiet) }
+{}
+
+/// A tick is told for one of five reasons, and else the ends are looked at again.
+pub fn a_tick_has_a_reason()
+    ensures { (old new : Ends) (event : Next) (buf : List ℕ) → LogsTurn old event buf new →
+        IfTick event (AtRounds old.clock new.clock (λ begun quiet now.
+        IsTickDue old.timing new.timing new.walled (first_of begun quiet) quiet now)) }
 {}
 
 /// Behind a close no connection is open, but where another has replaced the one that was.
@@ -86,6 +111,12 @@ pub fn the_ends_are_looked_at_between_wall_moments()
 /// the door tells whom it let in, as many connections were opened.
 pub fn the_log_tells_what_passed()
     ensures { (start end : Ends) → IsFresh start → Run start end → TellsEnds end.log end }
+{}
+
+/// A line, a door and a clock that tell what happens at them do so to the end of a run: so no law
+/// over what they tell is about nothing from then on.
+pub fn what_tells_goes_on_telling()
+    ensures { (start end : Ends) → Run start end → TellsStill start end }
 {}
 
 /// What the words of that law count, by worked examples: the octets and requests of a log, those of

@@ -1,7 +1,7 @@
 //! The port over live ends.
 ghost use Rattle.std.specs.Prelude.{◌≡◌, ◌≢◌, ℕ, ◌+◌, ◌<◌, ◌≤◌, true, false, List, [], ◌∷◌, ◌++◌, length, take, Some, None, IfSome, option_map};
 ghost use Rattle.gateway.specs.Ports.{FitsBuffer, faults_of, output_of, told_by};
-ghost use Rattle.live.specs.Ends.{Ends, Peer, after, told_at, IsTurn, IsTold, IsWallTold, Turns, Puts, LogsTurn, LogsPut, as_logged, FitsFound, IsWritten, faults_in};
+ghost use Rattle.live.specs.Ends.{Ends, Peer, after, told_at, IsTurn, IsTold, IsWallTold, Turns, Puts, LogsTurn, LogsPut, as_logged, FitsFound, IsWritten, LooksOn, faults_in, is_tick_due};
 ghost use Rattle.live.specs.Timing.{is_behind, moment_at};
 ghost use Rattle.live.specs.Looks.{Looks, LooksAt};
 ghost use Rattle.live.specs.Walls.{untold};
@@ -19,6 +19,16 @@ use gateway::{Action, Config, History, Next, Port};
 use session::Close;
 use std::marker::Model;
 use std::net::IpAddr;
+
+/// How long after an event a tick is told, in ms, where nothing happens.
+// All timers but that of an answer, which has ticks of its own, are whole seconds; and each tick is
+// a line of the log that is kept on disk.
+const TICK_MS: u64 = 100;
+
+/// After so many rounds of looks that found nothing the next one is an event, whatever the clock
+/// tells.
+// An end where it stands still: a round waits for 1 ms at the line.
+const QUIET_ROUNDS: u32 = 200;
 
 /// The port over a line, a door and a clock. It tells its log: each event that it gave and each
 /// action that it put out, of which it stores none.
@@ -361,14 +371,47 @@ impl<L: Wire, D: Door + Drop, C: Clock + Drop> Live<L, D, C> {
         ensures turns { Turns self.old result buf.new self.new }
     {
         // Before the looks: the line has been heard out only up to where a look begins.
-        let begun = self.read_clock();
-        if self.walled.is_due(begun) {
-            return self.tell_wall(begun);
+        let first = self.read_clock();
+        if self.walled.is_due(first) {
+            return self.tell_wall(first);
         }
         self.walled.look();
-        let found = self.turn(begun, buf);
-        let now = self.read_clock();
+        // Behind a look: the line has been heard out only up to where that began.
+        let (now, found) = self.look_on(first, buf);
         self.tell(now, found, buf)
+    }
+
+    /// Rounds of looks, the first of which begins at this moment, until one finds something or a
+    /// tick is due behind it. Answers when the last ended, and what it found.
+    fn look_on(&mut self, first: u64, buf: &mut [u8; 1024]) -> (u64, Option<Found>)
+        requires { self.old.failed < u64.MAX }
+        ensures fits { IfSome result.1 FitsFound }
+        ensures failed { self.new.failed ≡ self.old.failed + faults_in result.1 }
+        ensures looks { LooksOn first self.old result.0 result.1 buf.new self.new }
+    {
+        let was_awaited = self.timing.is_awaited();
+        let mut begun = first;
+        for _ in 0..QUIET_ROUNDS {
+            let found = self.turn(begun, buf);
+            let now = self.read_clock();
+            if found.is_some() || self.is_tick_due(first, was_awaited, now) {
+                return (now, found);
+            }
+            begun = now;
+        }
+        let found = self.turn(begun, buf);
+        (self.read_clock(), found)
+    }
+
+    /// A tick is due at this moment, behind a round that found nothing: enough time has passed since
+    /// the first round began, or the answer that was awaited then has come too late, or the wall
+    /// clock is due.
+    fn is_tick_due(&self, first: u64, was_awaited: bool, now: u64) -> bool
+        ensures { result ≡ is_tick_due first was_awaited now self.now }
+    {
+        TICK_MS <= now.saturating_sub(first)
+            || was_awaited && !self.timing.is_awaited()
+            || self.walled.is_due(now)
     }
 
     /// Puts an action out. What an end doesn't take is lost.
@@ -464,3 +507,5 @@ impl<L: Wire, D: Door + Drop, C: Clock + Drop> Port for Live<L, D, C> {
 mod stalls;
 #[cfg(test)]
 mod tests;
+#[cfg(test)]
+mod told;

@@ -1,6 +1,6 @@
 //! What moment an event bears, so that a stall of the gateway is no late answer of the line.
 ghost use Rattle.std.specs.Prelude.{◌≡◌};
-ghost use Rattle.live.specs.Timing.{moment_at, is_behind, heard_at, asked_at};
+ghost use Rattle.live.specs.Timing.{moment_at, is_behind, is_heard_out, is_awaited, heard_at, asked_at};
 
 /// How far the moment of what a control centre sends may be behind the clock, in ms.
 // A healthy machine stays below it, and a selection lasts for seconds.
@@ -34,7 +34,7 @@ impl Timing {
         let Some(request) = self.request else {
             return now;
         };
-        if self.answer_ms <= self.heard.saturating_sub(request.written) {
+        if self.is_heard_out(request) {
             return now;
         }
         if now.saturating_sub(request.moment) < self.answer_ms {
@@ -50,6 +50,24 @@ impl Timing {
         ensures { result ≡ is_behind self.now now }
     {
         LAG_MS < now.saturating_sub(self.moment(now))
+    }
+
+    /// An answer to the latest request may still come in its time: the line hasn't been looked at
+    /// for `answer_ms` since that was written.
+    pub(crate) fn is_awaited(&self) -> bool
+        ensures { result ≡ is_awaited self.now }
+    {
+        match self.request {
+            Some(request) => !self.is_heard_out(request),
+            None => false,
+        }
+    }
+
+    /// The line has been looked at for `answer_ms` since this request was written.
+    fn is_heard_out(&self, request: Request) -> bool
+        ensures { result ≡ is_heard_out self.now request }
+    {
+        self.answer_ms <= self.heard.saturating_sub(request.written)
     }
 
     /// A look at the line begins.

@@ -1,10 +1,10 @@
 //! What can be seen of a port's ends from outside.
-ghost use Rattle.std.specs.Prelude.{◌≡◌, option_map};
+ghost use Rattle.std.specs.Prelude.{◌≡◌, None, option_map};
 ghost use Rattle.live.specs.Ends.{Peer};
 
 use crate::port::Live;
 use crate::wires::{Clock, CutCause, Door, Presence, Reached, SentAway, Wire};
-use gateway::Port;
+use gateway::{Gateway, Port};
 use std::net::IpAddr;
 
 /// What is seen of a port's ends.
@@ -20,13 +20,41 @@ pub struct Sight {
     pub sent_away: SentAway,
 }
 
-/// A port whose ends can be seen.
+/// What is told of the state on the disk.
+#[derive(Clone, Copy, Debug, PartialEq, Eq)]
+pub enum Notice {
+    /// It isn't kept: what is polled now is lost if the gateway stops.
+    NotKept,
+    /// It is kept again.
+    KeptAgain,
+}
+
+/// A port whose ends can be seen, and that may keep the gateway's state.
 pub trait Watched: Port {
+    ghost use Rattle.std.specs.Prelude.{Option};
+    ghost use Rattle.gateway.specs.State.{State};
+    ghost use Rattle.live.specs.declared.watched.Notice.{Notice};
+
+    /// By a look at a gateway in this state it came from the one to the other, and had that to
+    /// tell.
+    ghost tends: { Self → State → Self → Option Notice → Type 0 } = { λ _ _ _ _. Unit {0} };
+
     /// Looks at its ends, and asks nothing of them.
     fn sight(&self) -> Sight;
+
+    /// Looks at the gateway between two steps, when its state is that to which all events so far
+    /// have led. Answers what is to be told of the state on the disk, if anything.
+    fn tend(&mut self, gateway: &Gateway) -> Option<Notice>
+        ensures tends { tends self.old gateway.now self.new result }
+        ensures log { Self.log self.new ≡ Self.log self.old }
+        ensures failed { Self.failed self.new ≡ Self.failed self.old }
+        ensures ended { Self.ended self.new ≡ Self.ended self.old }
+        ensures script { Self.script self.new ≡ Self.script self.old };
 }
 
 impl<L: Wire + Reached, D: Door + Drop, C: Clock + Drop> Watched for Live<L, D, C> {
+    ghost tends = { λ old _ new notice. (new ≡ old) × (notice ≡ None) };
+
     fn sight(&self) -> Sight
         ensures { result.peer ≡ option_map (λ (p : Peer). p.address) self.now.connection }
     {
@@ -36,5 +64,9 @@ impl<L: Wire + Reached, D: Door + Drop, C: Clock + Drop> Watched for Live<L, D, 
             why_cut: self.why_cut(),
             sent_away: self.sent_away(),
         }
+    }
+
+    fn tend(&mut self, _gateway: &Gateway) -> Option<Notice> {
+        None
     }
 }

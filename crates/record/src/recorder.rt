@@ -7,8 +7,8 @@ ghost use Rattle.record.specs.Recording.{Hears, IsKept, Puts, log_of, told_first
 
 use crate::pen::Pen;
 use crate::sheet::Sheet;
-use gateway::{Action, Next, Port};
-use live::{Sight, Watched};
+use gateway::{Action, Gateway, Next, Port};
+use live::{Notice, Sight, Watched};
 
 /// A port that passes each event and each action of another one on unchanged, and writes them down.
 /// Once the record is over they pass unwritten. Where the sheet tells what it took and what it
@@ -95,8 +95,16 @@ impl<P: Port + Drop, W: Sheet + Drop> Port for Recorder<P, W> {
 }
 
 impl<P: Watched + Drop, W: Sheet + Drop> Watched for Recorder<P, W> {
+    ghost tends = { λ old state new notice.
+        P.tends old.port state new.port notice × (new.pen ≡ old.pen) };
+
     fn sight(&self) -> Sight {
         self.port.sight()
+    }
+
+    /// Nothing of it is written down.
+    fn tend(&mut self, gateway: &Gateway) -> Option<Notice> {
+        self.port.tend(gateway)
     }
 }
 

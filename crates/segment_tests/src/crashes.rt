@@ -2,7 +2,7 @@
 use checkpoint::{Lines, Sheet};
 use segments::{Failed, Segment, Start, Writer};
 use sqlite_disk::{Crash, Disk, Files, Fuse, Memory};
-use statetext::TextSheet;
+use statetext::{TextLines, TextSheet};
 use std::alloc::{AllocError, Global};
 use std::test::Fail;
 
@@ -104,9 +104,10 @@ fn found(alloc: Global, first: &[u8], second: &[u8]) -> Result<Option<u64>, Fail
         return Err("a file isn't usable".into());
     }
     let mut start = Start::open(alloc, Files { log, db })?;
-    let Some(mut lines) = start.checkpoint(alloc) else {
+    let Some(text) = start.checkpoint() else {
         return Ok(None);
     };
+    let mut lines = TextLines::new(alloc, text);
     let (mut numbers, mut octets) = (Vec::new(alloc), Vec::new(alloc));
     lines.next(&mut numbers)?;
     lines.next_octets(&mut octets)?;
@@ -117,12 +118,12 @@ fn found(alloc: Global, first: &[u8], second: &[u8]) -> Result<Option<u64>, Fail
         return Err("another checkpoint".into());
     }
     let mut count = *count;
-    let mut line = Vec::new(alloc);
-    for _ in 0..1000 {
-        if !start.next_line(&mut line)? {
-            break;
-        }
-        if line.as_slice() != format!(in alloc; "event {count}")?.as_bytes() {
+    let events = start.events(alloc)?;
+    let Some(end) = events.iter().rposition(|octet| *octet == b'\n') else {
+        return Ok(Some(count));
+    };
+    for line in events[..end].split(|octet| *octet == b'\n') {
+        if line != format!(in alloc; "event {count}")?.as_bytes() {
             return Err("another event".into());
         }
         count = count.saturating_add(1);

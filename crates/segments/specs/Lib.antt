@@ -4,3 +4,4 @@ pub mod Zeroed
 pub mod Segment
 pub mod Head
 pub mod Writer
+pub mod Starts

@@ -4,8 +4,7 @@
 //! sum), the checkpoint, lines that are appended, and zeros to the file's end.
 //!
 //! - A start looks at both files ([`Start`]): the segment of the higher number counts, if it is
-//!   whole. Its checkpoint is read into memory, its lines one by one. It isn't appended to: behind
-//!   a torn line older ones may stand.
+//!   whole. It isn't appended to: behind a torn line older ones may stand.
 //! - The next segment goes into the other file ([`Writer`]). That file is shut first: its first
 //!   octet is 0, and that is synced. Then come the checkpoint, the zeros and the first line without
 //!   its first octet; that is synced; then the first octet, and a sync again. So a crash leaves no
@@ -26,5 +25,5 @@ mod writer;
 pub use fault::SegmentFault;
 pub use head::Head;
 pub use segment::Segment;
-pub use start::Start;
+pub use start::{Side, Start};
 pub use writer::{Failed, Writer};

@@ -1,40 +1,78 @@
 //! What a start finds in the two files.
-ghost use Rattle.std.specs.Prelude.{◌≡◌, ◌+◌, ◌≤◌, ℕ, List, length, IsTrue, IfOk, IfSome, MatchOption, ◌<◌};
+ghost use Rattle.std.specs.Prelude.{◌≡◌, ◌==◌, ◌-◌, ◌<◌, length, position, IsTrue, IfOk, IfSome};
 ghost use Rattle.sqlite_disk.specs.Disk.{Holds};
-ghost use Rattle.segments.specs.Head.{head_of};
+ghost use Rattle.segments.specs.Starts.{IsFoundIn, IsHeadIn, before_zero, number_in, other_side};
 ghost use Rattle.statetext.specs.Sum.{sum_of};
 
 use crate::SegmentFault;
 use crate::gate::HEAD;
 use crate::head::{Head, parse};
 use sqlite_disk::{Disk, Files};
-use statetext::{Sum, TextLines};
+use statetext::Sum;
 use std::alloc::Global;
 
-/// How many octets are read at once.
-const BLOCK: usize = 65_536;
+/// Which of the two files.
+#[derive(Clone, Copy, Debug, PartialEq, Eq)]
+pub enum Side {
+    /// `log` of [`Files`].
+    Log,
+    /// `db` of [`Files`].
+    Db,
+}
 
-/// What the first line of a file tells, if it is that of a segment.
-fn head_at<D: Disk>(alloc: Global, file: &mut D) -> Result<Option<Head>, SegmentFault>
+impl Side {
+    /// The other one.
+    pub fn other(self) -> Side
+        ensures { result ≡ other_side self }
+    {
+        match self {
+            Side::Log => Side::Db,
+            Side::Db => Side::Log,
+        }
+    }
+}
+
+/// How a file begins.
+#[derive(Clone, Copy)]
+pub(crate) enum Front {
+    /// It is shut, or it was never written: it has no segment.
+    Shut,
+    /// With the first line of a segment.
+    Head(Head),
+    /// With something else.
+    Other,
+}
+
+/// How a file begins. No crash leaves one that isn't shut and has no segment.
+fn front_at<D: Disk>(alloc: Global, file: &mut D) -> Result<Front, SegmentFault>
     requires { IsTrue (D.Disk.is_usable file.old) }
-    ensures head { IfOk result (λ found. IfSome found (λ head.
-        IsTrue (D.Disk.is_clean file.new) → Holds (D.Disk.seen file.old) 0 (head_of head))) }
+    ensures head { IfOk result (λ front. IsTrue (D.Disk.is_clean file.new) →
+        IsHeadIn (D.Disk.seen file.new) front) }
     ensures usable { IsTrue (D.Disk.is_usable file.new) }
-    ensures clean { IsTrue (D.Disk.is_clean file.new) → IsTrue (D.Disk.is_clean file.old) }
-    ensures seen { D.Disk.seen file.new ≡ D.Disk.seen file.old }
 {
     let Ok(octets) = file.len() else {
         return Err(SegmentFault::Device);
     };
+    if octets < 2 {
+        return Ok(Front::Shut);
+    }
+    let mut first = [0];
+    if file.read_at(0, &mut first).is_err() {
+        return Err(SegmentFault::Device);
+    }
+    if first[0] == 0 {
+        return Ok(Front::Shut);
+    }
     if octets < HEAD {
-        return Ok(None);
+        return Ok(Front::Other);
     }
     let mut row = [0; HEAD];
     if file.read_at(0, &mut row).is_err() {
         return Err(SegmentFault::Device);
     }
     match parse(alloc, &row) {
-        Ok(head) => Ok(head),
+        Ok(Some(head)) => Ok(Front::Head(head)),
+        Ok(None) => Ok(Front::Other),
         Err(_) => Err(SegmentFault::NoMemory),
     }
 }
@@ -79,70 +117,112 @@ fn text_at<D: Disk>(
     }
 }
 
-/// What a start finds: the newest segment that is whole, its checkpoint in memory, its lines to be
-/// read one by one, and the other file, into which the next segment goes.
+/// The octets from a place on, up to the file's end.
+fn rest_at<D: Disk>(alloc: Global, file: &mut D, at: usize) -> Result<Vec<u8>, SegmentFault>
+    requires { IsTrue (D.Disk.is_usable file.old) }
+    ensures text { IfOk result (λ text. IsTrue (D.Disk.is_clean file.new) →
+        0 < length text.items → Holds (D.Disk.seen file.new) at text.items) }
+    ensures octets { IfOk result (λ text. IsTrue (D.Disk.is_clean file.new) →
+        length text.items ≡ length (D.Disk.seen file.new) - at) }
+    ensures usable { IsTrue (D.Disk.is_usable file.new) }
+    ensures clean { IsTrue (D.Disk.is_clean file.new) → IsTrue (D.Disk.is_clean file.old) }
+    ensures seen { D.Disk.seen file.new ≡ D.Disk.seen file.old }
+{
+    let Ok(all) = file.len() else {
+        return Err(SegmentFault::Device);
+    };
+    let Ok(mut text) = vec![in alloc; 0; all.saturating_sub(at)] else {
+        return Err(SegmentFault::NoMemory);
+    };
+    if text.is_empty() {
+        return Ok(text);
+    }
+    match file.read_at(at, &mut text) {
+        Ok(()) => Ok(text),
+        Err(_) => Err(SegmentFault::Device),
+    }
+}
+
+/// Cuts a text off at its first octet 0.
+fn cut_at_zero(text: &mut Vec<u8>)
+    ensures { text.new.items ≡ before_zero text.old.items }
+{
+    match place_of_zero(text) {
+        Some(end) => text.truncate(end),
+        None => {}
+    }
+}
+
+/// The place of the first octet 0.
+fn place_of_zero(text: &[u8]) -> Option<usize>
+    ensures { result ≡ position (λ c. c == 0) text.now }
+{
+    text.iter().position(|octet| *octet == 0)
+}
+
+/// What a start finds: the newest segment that is whole, its checkpoint in memory, and the other
+/// file, into which the next segment goes.
 #[derive(Drop)]
 pub struct Start<D: Disk> {
     newest: D,
     other: D,
-    /// The first line of the newest segment that is whole, and the text of its checkpoint.
-    found: Option<(Head, Vec<u8>)>,
+    /// Where the newest segment stands.
+    side: Side,
+    /// The text of its checkpoint, until it is taken.
+    checkpoint: Option<Vec<u8>>,
+    /// Where the lines behind it begin.
+    at: usize,
     /// Above the number of each segment that stands in a file, whole or not.
     number: u64,
-    /// Where the file is read on, and where it ends.
-    at: usize,
-    end: usize,
-    /// What was read, and where in it the next line begins.
-    block: Vec<u8>,
-    next: usize,
-    is_over: bool,
+    /// A file that isn't shut has no whole segment, and might have had a newer one.
+    is_doubtful: bool,
     ghost usable: { IsTrue (D.Disk.is_usable newest) },
     ghost other_usable: { IsTrue (D.Disk.is_usable other) },
-    ghost within: { next ≤ length block.items },
 }
 
 /// The number of a segment, or 0.
-fn number_of(head: Option<Head>) -> u64
-    ensures { MatchOption head (result ≡ 0) (λ h. result ≡ h.number) }
+fn number_of(front: Front) -> u64
+    ensures { result ≡ number_in front }
 {
-    match head {
-        Some(head) => head.number,
-        None => 0,
+    match front {
+        Front::Head(head) => head.number,
+        Front::Shut | Front::Other => 0,
     }
 }
 
-/// The checkpoint of a file that has this first line.
+/// The checkpoint of a file that begins so.
 fn found_in<D: Disk>(
     alloc: Global,
     file: &mut D,
-    head: Option<Head>,
-) -> Result<Option<(Head, Vec<u8>)>, SegmentFault>
-    requires { IsTrue (D.Disk.is_usable file.old) }
+    front: Front,
+) -> Result<Option<Vec<u8>>, SegmentFault>
+    requires usable { IsTrue (D.Disk.is_usable file.old) }
+    requires head { IsTrue (D.Disk.is_clean file.old) → IsHeadIn (D.Disk.seen file.old) front }
+    ensures found { IfOk result (λ found. IfSome found (λ text. IsTrue (D.Disk.is_clean file.new) →
+        IsFoundIn (D.Disk.seen file.new) text.items)) }
     ensures usable { IsTrue (D.Disk.is_usable file.new) }
 {
-    let Some(head) = head else {
+    let Front::Head(head) = front else {
         return Ok(None);
     };
-    match text_at(alloc, file, &head)? {
-        Some(text) => Ok(Some((head, text))),
-        None => Ok(None),
-    }
+    text_at(alloc, file, &head)
 }
 
 impl<D: Disk + Drop> Start<D> {
-    /// Looks at both files. Where the segment of the higher number isn't whole, the other counts.
+    /// Looks at both files. Where the segment of the higher number isn't whole, the other counts,
+    /// and that is doubtful: no crash leaves such a file.
     pub fn open(alloc: Global, files: Files<D>) -> Result<Start<D>, SegmentFault>
         requires log { IsTrue (D.Disk.is_usable files.log) }
         requires db { IsTrue (D.Disk.is_usable files.db) }
     {
         let Files { mut log, mut db } = files;
-        let first = head_at(alloc, &mut log)?;
-        let second = head_at(alloc, &mut db)?;
+        let first = front_at(alloc, &mut log)?;
+        let second = front_at(alloc, &mut db)?;
         let number = number_of(first).max(number_of(second)).saturating_add(1);
         if number_of(first) >= number_of(second) {
-            Start::choose(alloc, log, first, db, second, number)
+            Start::choose(alloc, log, first, db, second, Side::Log, number)
         } else {
-            Start::choose(alloc, db, second, log, first, number)
+            Start::choose(alloc, db, second, log, first, Side::Db, number)
         }
     }
 
@@ -150,58 +230,69 @@ impl<D: Disk + Drop> Start<D> {
     fn choose(
         alloc: Global,
         newer: D,
-        head: Option<Head>,
+        front: Front,
         older: D,
-        other_head: Option<Head>,
+        other_front: Front,
+        side: Side,
         number: u64,
     ) -> Result<Start<D>, SegmentFault>
         requires newer { IsTrue (D.Disk.is_usable newer) }
         requires older { IsTrue (D.Disk.is_usable older) }
+        requires head { IsTrue (D.Disk.is_clean newer) → IsHeadIn (D.Disk.seen newer) front }
+        requires other { IsTrue (D.Disk.is_clean older) → IsHeadIn (D.Disk.seen older) other_front }
     {
         let (mut newer, mut older) = (newer, older);
-        if let Some(found) = found_in(alloc, &mut newer, head)? {
-            return Start::made(alloc, newer, older, Some(found), number);
+        if let Some(text) = found_in(alloc, &mut newer, front)? {
+            let is_doubtful = matches!(other_front, Front::Other);
+            return Start::made(newer, older, side, Some(text), number, is_doubtful);
         }
-        let found = found_in(alloc, &mut older, other_head)?;
-        Start::made(alloc, older, newer, found, number)
+        let found = found_in(alloc, &mut older, other_front)?;
+        let is_doubtful = !matches!(front, Front::Shut)
+            || (found.is_none() && !matches!(other_front, Front::Shut));
+        Start::made(older, newer, side.other(), found, number, is_doubtful)
     }
 
     fn made(
-        alloc: Global,
         newest: D,
         other: D,
-        found: Option<(Head, Vec<u8>)>,
+        side: Side,
+        checkpoint: Option<Vec<u8>>,
         number: u64,
+        is_doubtful: bool,
     ) -> Result<Start<D>, SegmentFault>
         requires newest { IsTrue (D.Disk.is_usable newest) }
         requires other { IsTrue (D.Disk.is_usable other) }
     {
-        let mut newest = newest;
-        let Ok(end) = newest.len() else {
-            return Err(SegmentFault::Device);
+        let at = match &checkpoint {
+            Some(text) => HEAD.checked_add(text.len()),
+            None => Some(0),
         };
-        let at = match &found {
-            Some((_, text)) => HEAD.saturating_add(text.len()),
-            None => end,
+        let Some(at) = at else {
+            return Err(SegmentFault::NoMemory);
         };
         Ok(Start {
             newest,
             other,
-            found,
-            number,
+            side,
+            checkpoint,
             at,
-            end,
-            block: Vec::new(alloc),
-            next: 0,
-            is_over: false,
+            number,
+            is_doubtful,
         })
     }
 }
 
 impl<D: Disk> Start<D> {
-    /// Whether a segment was found.
+    /// Whether a segment was found, and its checkpoint wasn't taken yet.
     pub fn is_found(&self) -> bool {
-        self.found.is_some()
+        self.checkpoint.is_some()
+    }
+
+    /// Whether a file that isn't shut has no whole segment. No crash leaves such a file. Where a
+    /// segment was found, a newer one may be lost; where none was found, what is there can't be
+    /// read.
+    pub fn is_doubtful(&self) -> bool {
+        self.is_doubtful
     }
 
     /// The number for the next segment: above that of each that stands in a file.
@@ -209,10 +300,22 @@ impl<D: Disk> Start<D> {
         self.number
     }
 
-    /// The lines of the checkpoint, once.
-    pub fn checkpoint(&mut self, alloc: Global) -> Option<TextLines> {
-        let (_, text) = self.found.take()?;
-        Some(TextLines::new(alloc, text))
+    /// Where the segment that was found stands. The next one goes into the other file.
+    pub fn side(&self) -> Side {
+        self.side
+    }
+
+    /// The text of the checkpoint, once.
+    pub fn checkpoint(&mut self) -> Option<Vec<u8>> {
+        self.checkpoint.take()
+    }
+
+    /// The octets behind the checkpoint, up to the first octet 0 or the file's end: the lines that
+    /// were appended, and what a crash left of one.
+    pub fn events(&mut self, alloc: Global) -> Result<Vec<u8>, SegmentFault> {
+        let mut text = rest_at(alloc, &mut self.newest, self.at)?;
+        cut_at_zero(&mut text);
+        Ok(text)
     }
 
     /// The two files: that of the segment that was found, and the one for the next segment.
@@ -223,71 +326,4 @@ impl<D: Disk> Start<D> {
         let Start { newest, other, .. } = self;
         (newest, other)
     }
-
-    /// Puts the next line behind the checkpoint in place of this one, without its line feed, and
-    /// answers whether there was one more: the lines end at the first octet 0, at one that has no
-    /// line feed, and at the file's end. A line has less than 65,536 octets.
-    pub fn next_line(&mut self, line: &mut Vec<u8>) -> Result<bool, SegmentFault> {
-        if self.is_over {
-            return Ok(false);
-        }
-        self.is_over = true;
-        let mut mark = mark_of(&self.block[self.next..]);
-        if mark.is_none() {
-            self.refill()?;
-            mark = mark_of(&self.block[self.next..]);
-        }
-        let Some(more) = mark else {
-            return Ok(false);
-        };
-        let place = self.next + more;
-        if self.block[place] == 0 {
-            return Ok(false);
-        }
-        line.clear();
-        if line
-            .extend_from_slice(&self.block[self.next..place])
-            .is_err()
-        {
-            return Err(SegmentFault::NoMemory);
-        }
-        self.next = place + 1;
-        self.is_over = false;
-        Ok(true)
-    }
-
-    /// Reads a block behind what is left of the last one.
-    fn refill(&mut self) -> Result<(), SegmentFault> {
-        let held = self.block.len() - self.next;
-        let all = self.block.len();
-        self.block.copy_within(self.next..all, 0);
-        self.block.truncate(held);
-        self.next = 0;
-        let more = BLOCK.min(self.end.saturating_sub(self.at));
-        if more == 0 {
-            return Ok(());
-        }
-        let Some(wanted) = held.checked_add(more) else {
-            return Err(SegmentFault::NoMemory);
-        };
-        if self.block.resize(wanted, 0).is_err() {
-            return Err(SegmentFault::NoMemory);
-        }
-        if self
-            .newest
-            .read_at(self.at, &mut self.block[held..])
-            .is_err()
-        {
-            return Err(SegmentFault::Device);
-        }
-        self.at += more;
-        Ok(())
-    }
-}
-
-/// The place of the first octet that ends a line or all lines.
-fn mark_of(text: &[u8]) -> Option<usize>
-    ensures { IfSome result (λ i. i < length text.now) }
-{
-    text.iter().position(|octet| *octet == b'\n' || *octet == 0)
 }

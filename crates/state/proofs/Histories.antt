@@ -32,7 +32,7 @@ all_appended (Heard event ∷ deeds) = all_appended deeds
 all_appended (Appended event ∷ deeds) = ap (λ log. event ∷ log) (all_appended deeds)
 all_appended (Synced ∷ deeds) = all_appended deeds
 all_appended (Begun state ∷ deeds) = refl
-all_appended (GivenUp ∷ deeds) = all_appended deeds
+all_appended (GivenUp loss ∷ deeds) = all_appended deeds
 all_appended (PutOut action ∷ deeds) = all_appended deeds
 
 pub all_on_disk : (deeds : Deeds) → on_disk deeds ≡ safe deeds ++ led_to_head deeds
@@ -41,5 +41,5 @@ all_on_disk (Heard event ∷ deeds) = all_on_disk deeds
 all_on_disk (Appended event ∷ deeds) = all_on_disk deeds
 all_on_disk (Synced ∷ deeds) = all_appended deeds
 all_on_disk (Begun state ∷ deeds) = refl
-all_on_disk (GivenUp ∷ deeds) = all_on_disk deeds
+all_on_disk (GivenUp loss ∷ deeds) = all_on_disk deeds
 all_on_disk (PutOut action ∷ deeds) = all_on_disk deeds

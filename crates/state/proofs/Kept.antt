@@ -9,7 +9,8 @@ use Rattle.state.specs.Deeds.{Deeds, AreRight, IsInTime, MayBe, Appended, Heard,
 use Rattle.state.specs.Keeping.{IsOrderly}
 use Rattle.state.specs.Standings.{HasHeard, IsSettled, IsStanding, is_stopped, since_of}
 use Rattle.state.specs.declared.standing.Standing.{Standing}
-use Rattle.state.specs.declared.standing.Standing.TheVariants.{Synced, Waiting, GivenUp}
+use Rattle.state.specs.declared.standing.Standing.TheVariants.{Synced, Waiting, Lost}
+use Rattle.state.specs.declared.loss.Loss.TheVariants.{Marked, Unmarked}
 
 -- where an event waits, it is there
 pub some_waits : (deeds : Deeds) (moment : ℕ) → since_of (waiting deeds) ≡ Some moment → waiting deeds ≡ [] → ⊥
@@ -68,14 +69,15 @@ put_stands Synced action deeds stands =
     record { disk = stands.disk; whole = stands.whole; none = stands.none }
 put_stands (Waiting moment) action deeds stands =
     record { kept = stands.kept; whole = stands.whole; since = stands.since }
-put_stands GivenUp action deeds stands = stands
+put_stands (Lost loss) action deeds stands = stands
 
 may_put : (bears : Bool) (s : Standing) (action : LogEntry) (deeds : Deeds) → IsSettled s
     → is_stopped s bears ≡ false → IsStanding s deeds → MayBe bears (PutOut action) deeds
 may_put bears Synced action deeds settled goes stands = inl stands.disk
 may_put bears (Waiting moment) action deeds settled goes stands = absurd settled
-may_put true GivenUp action deeds settled goes stands = inr (stands, refl)
-may_put false GivenUp action deeds settled goes stands = absurd (cc)
+may_put true (Lost Marked) action deeds settled goes stands = inr (stands, refl)
+may_put false (Lost Marked) action deeds settled goes stands = absurd (cc)
+may_put bears (Lost Unmarked) action deeds settled goes stands = absurd (cc)
 
 pub put_orderly : (gone bears : Bool) (s : Standing) (action : LogEntry) (old new : Deeds)
     → new ≡ (if gone then PutOut action ∷ [] else []) ++ old → IsSettled s → false ≡ is_stopped s bears

@@ -17,7 +17,7 @@ use Rattle.gateway.specs.declared.ports.Next.{Next}
 use Rattle.traces.specs.Event.{Event, event_of, event_in, line, opening, received, cut, tick, wall}
 use Rattle.traces.specs.Progress.{came}
 use Rattle.traces.specs.Trace.{lines_of, told, is_skipped, is_wrong, first_wrong}
-use Rattle.state.specs.Replays.{IsEvent, IsFirst, IsRepeating, IsReplayed, IsTold, Replaying, before_those, events_in_front, events_left, log_of}
+use Rattle.state.specs.Replays.{IsEvent, IsFirst, IsRepeating, IsReplayed, IsTold, Replaying, ToldGap, before_those, events_in_front, events_left, last_gap, log_of}
 
 -- A line
 
@@ -129,13 +129,29 @@ none_left : (lines others : List (List ℕ)) (buf : List ℕ) → IsFirst lines 
 none_left [] others buf first = refl
 none_left (text ∷ lines) others buf first = nothing_told (told text) buf (events_in_front lines) first.0
 
+-- behind an event no gap was told yet
+no_gap_by : (found : Option Event) (next : Next) (buf : List ℕ) → IsTold found (Some next) buf → (log : Log)
+    → last_gap (told_by next buf ++ log) ≡ None
+no_gap_by None next buf is log = absurd (cc)
+no_gap_by (Some (line now octets)) next buf is log = ap (λ news. last_gap (news ++ log)) is.told
+no_gap_by (Some (opening now)) next buf is log = ap (λ news. last_gap (news ++ log)) is.told
+no_gap_by (Some (received now octets)) next buf is log = ap (λ news. last_gap (news ++ log)) is.told
+no_gap_by (Some (cut now)) next buf is log = ap (λ news. last_gap (news ++ log)) is.told
+no_gap_by (Some (tick now)) next buf is log = ap (λ news. last_gap (news ++ log)) is.told
+no_gap_by (Some (wall now number)) next buf is log = ap (λ news. last_gap (news ++ log)) is.told
+
+no_gap_yet : (lines others : List (List ℕ)) (next : Next) (buf : List ℕ) → IsFirst lines others (Some next) buf
+    → (log : Log) → last_gap (told_by next buf ++ log) ≡ None
+no_gap_yet [] others next buf first log = absurd (cc)
+no_gap_yet (text ∷ lines) others next buf first log = no_gap_by (told text) next buf first.0 log
+
 -- an event was heard
 pub one_more : (events : List LogEntry) (coming others : List (List ℕ)) (is_over : Bool) (news more earlier : Log)
-    (failed : ℕ) (next : Next) (buf : List ℕ) → IsFirst coming others (Some next) buf → is_over ≡ false
+    (failed : ℕ) (gap : Option ToldGap) (next : Next) (buf : List ℕ) → IsFirst coming others (Some next) buf → is_over ≡ false
     → more ≡ told_by next buf ++ news
-    → IsRepeating events (record { coming = coming; is_over = is_over; news = news; earlier = earlier; failed = failed })
-    → IsRepeating events (record { coming = others; is_over = is_over; news = more; earlier = earlier; failed = failed })
-one_more events coming others is_over news more earlier failed next buf first goes is repeating = record {
+    → IsRepeating events (record { coming = coming; is_over = is_over; news = news; earlier = earlier; failed = failed; gap = gap })
+    → IsRepeating events (record { coming = others; is_over = is_over; news = more; earlier = earlier; failed = failed; gap = None })
+one_more events coming others is_over news more earlier failed gap next buf first goes is repeating = record {
   whole = λ healthy.
       ap (λ over. events_of (more ++ earlier) ++ events_left over others) goes
       ∙ ap (λ news. events_of (news ++ earlier) ++ events_in_front others) is
@@ -143,27 +159,30 @@ one_more events coming others is_over news more earlier failed next buf first go
       ∙ more_events coming others next buf first (news ++ earlier)
       ∙ ap (λ over. events_of (news ++ earlier) ++ events_left over coming) (sym goes)
       ∙ repeating.whole healthy;
+  gap = sym (ap last_gap is ∙ no_gap_yet coming others next buf first news);
 }
 
 -- none comes any more
 pub no_more : (events : List LogEntry) (coming others : List (List ℕ)) (is_over : Bool) (news earlier : Log)
-    (failed : ℕ) (buf : List ℕ) → IsFirst coming others None buf → is_over ≡ false
-    → IsRepeating events (record { coming = coming; is_over = is_over; news = news; earlier = earlier; failed = failed })
-    → IsRepeating events (record { coming = others; is_over = true; news = news; earlier = earlier; failed = failed })
-no_more events coming others is_over news earlier failed buf first goes repeating = record {
+    (failed : ℕ) (gap : Option ToldGap) (buf : List ℕ) → IsFirst coming others None buf → is_over ≡ false
+    → IsRepeating events (record { coming = coming; is_over = is_over; news = news; earlier = earlier; failed = failed; gap = gap })
+    → IsRepeating events (record { coming = others; is_over = true; news = news; earlier = earlier; failed = failed; gap = gap })
+no_more events coming others is_over news earlier failed gap buf first goes repeating = record {
   whole = λ healthy.
       ap (λ es. events_of (news ++ earlier) ++ es)
       (sym (ap (λ over. events_left over coming) goes ∙ none_left coming others buf first))
       ∙ repeating.whole healthy;
+  gap = repeating.gap;
 }
 
 -- the gateway follows the log of the replay
-pub replayed : (p : Setup) (log : Log) (events : List LogEntry) (s : State) (end : Replaying)
+pub replayed : (p : Setup) (log : Log) (events : List LogEntry) (gap : Option ToldGap) (s : State) (end : Replaying)
     → Follows p s (Some (log_of end)) → Rests p (Some (log_of end)) → IsRepeating events end
-    → end.failed ≡ 0 → end.is_over ≡ true → end.earlier ≡ log → IsReplayed p log events s
-replayed p log events s end follows rests whole healthy over earlier =
-    subst (λ log. IsReplayed p log events s) earlier (record {
+    → end.failed ≡ 0 → end.is_over ≡ true → end.earlier ≡ log → gap ≡ end.gap → IsReplayed p log events gap s
+replayed p log events gap s end follows rests whole healthy over earlier told =
+    subst (λ log. IsReplayed p log events gap s) earlier (record {
       news = end.news;
+      last = told ∙ whole.gap;
       follows = follows;
       rests = rests;
       heard = sym (append-nil (events_of (log_of end)))

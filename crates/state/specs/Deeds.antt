@@ -1,10 +1,13 @@
 -- What is done where the events of a run are kept on a disk, in one history: the gateway hears an
 -- event, its line goes to the log on the disk, the log is synced, an action is handed out
 -- (profile).
-use Rattle.std.specs.Prelude.{◌≡◌, ℕ, ◌-◌, ◌<◌, ◌⊎◌, Bool, true, false, List, [], ◌∷◌, map}
+use Rattle.std.specs.Prelude.{◌≡◌, ℕ, ◌-◌, ◌<◌, ◌⊎◌, Bool, true, false, List, [], ◌∷◌, map, Option, Some, None}
+use Rattle.std.specs.Option.{is_some}
 use Rattle.gateway.specs.Log.{Log, LogEntry, Came, Went}
 use Rattle.gateway.specs.Ports.{told_by, output_of}
 use Rattle.gateway.specs.State.{State}
+use Rattle.state.specs.declared.loss.Loss.{Loss}
+use Rattle.state.specs.declared.loss.Loss.TheVariants.{Marked}
 use Rattle.state.specs.declared.trail.Done.{Done}
 use Rattle.state.specs.declared.trail.Done.TheVariants as done
 
@@ -17,8 +20,8 @@ pub data Deed : Type 0 where
   Synced : Deed
   -- a new log stands on the disk, with this state at its head
   Begun : (state : State) → Deed
-  -- the store has failed, and the log was marked as stale
-  GivenUp : Deed
+  -- the store has failed; whether the state on the disk was marked as stale
+  GivenUp : (loss : Loss) → Deed
   -- an action was handed out
   PutOut : (action : LogEntry) → Deed
 
@@ -33,7 +36,7 @@ heard (Heard event ∷ deeds) = event ∷ heard deeds
 heard (Appended event ∷ deeds) = heard deeds
 heard (Synced ∷ deeds) = heard deeds
 heard (Begun state ∷ deeds) = heard deeds
-heard (GivenUp ∷ deeds) = heard deeds
+heard (GivenUp loss ∷ deeds) = heard deeds
 heard (PutOut action ∷ deeds) = heard deeds
 
 -- what passed at the port: the events that were heard, and the actions that were handed out
@@ -43,7 +46,7 @@ passed (Heard event ∷ deeds) = event ∷ passed deeds
 passed (Appended event ∷ deeds) = passed deeds
 passed (Synced ∷ deeds) = passed deeds
 passed (Begun state ∷ deeds) = passed deeds
-passed (GivenUp ∷ deeds) = passed deeds
+passed (GivenUp loss ∷ deeds) = passed deeds
 passed (PutOut action ∷ deeds) = action ∷ passed deeds
 
 -- the events that the log has, and before them those that led to the state at its head
@@ -53,7 +56,7 @@ appended (Heard event ∷ deeds) = appended deeds
 appended (Appended event ∷ deeds) = event ∷ appended deeds
 appended (Synced ∷ deeds) = appended deeds
 appended (Begun state ∷ deeds) = heard deeds
-appended (GivenUp ∷ deeds) = appended deeds
+appended (GivenUp loss ∷ deeds) = appended deeds
 appended (PutOut action ∷ deeds) = appended deeds
 
 -- those of them that are on the disk
@@ -63,7 +66,7 @@ on_disk (Heard event ∷ deeds) = on_disk deeds
 on_disk (Appended event ∷ deeds) = on_disk deeds
 on_disk (Synced ∷ deeds) = appended deeds
 on_disk (Begun state ∷ deeds) = heard deeds
-on_disk (GivenUp ∷ deeds) = on_disk deeds
+on_disk (GivenUp loss ∷ deeds) = on_disk deeds
 on_disk (PutOut action ∷ deeds) = on_disk deeds
 
 -- those of them that aren't
@@ -73,7 +76,7 @@ waiting (Heard event ∷ deeds) = waiting deeds
 waiting (Appended event ∷ deeds) = event ∷ waiting deeds
 waiting (Synced ∷ deeds) = []
 waiting (Begun state ∷ deeds) = []
-waiting (GivenUp ∷ deeds) = waiting deeds
+waiting (GivenUp loss ∷ deeds) = waiting deeds
 waiting (PutOut action ∷ deeds) = waiting deeds
 
 -- a log was begun, and the store hasn't failed since
@@ -83,18 +86,18 @@ is_kept (Heard event ∷ deeds) = is_kept deeds
 is_kept (Appended event ∷ deeds) = is_kept deeds
 is_kept (Synced ∷ deeds) = is_kept deeds
 is_kept (Begun state ∷ deeds) = true
-is_kept (GivenUp ∷ deeds) = false
+is_kept (GivenUp loss ∷ deeds) = false
 is_kept (PutOut action ∷ deeds) = is_kept deeds
 
--- the store has failed, and no log was begun since
-abbrev pub is_given_up : Deeds → Bool
-is_given_up [] = false
-is_given_up (Heard event ∷ deeds) = is_given_up deeds
-is_given_up (Appended event ∷ deeds) = is_given_up deeds
-is_given_up (Synced ∷ deeds) = is_given_up deeds
-is_given_up (Begun state ∷ deeds) = false
-is_given_up (GivenUp ∷ deeds) = true
-is_given_up (PutOut action ∷ deeds) = is_given_up deeds
+-- that the store has failed, if no log was begun since
+abbrev pub loss_of : Deeds → Option Loss
+loss_of [] = None
+loss_of (Heard event ∷ deeds) = loss_of deeds
+loss_of (Appended event ∷ deeds) = loss_of deeds
+loss_of (Synced ∷ deeds) = loss_of deeds
+loss_of (Begun state ∷ deeds) = None
+loss_of (GivenUp loss ∷ deeds) = Some loss
+loss_of (PutOut action ∷ deeds) = loss_of deeds
 
 abbrev pub moment_of : LogEntry → ℕ
 moment_of (Came now event) = now
@@ -114,26 +117,27 @@ span (event ∷ log) = moment_of event - oldest event log
 abbrev pub IsAllOnDisk : Deeds → Type 0
 IsAllOnDisk deeds = (is_kept deeds ≡ true) × (on_disk deeds ≡ heard deeds)
 
--- an action may go out: all events that were heard are on the disk, or the store has failed
+-- an action may go out: all events that were heard are on the disk, or the state there is marked as
+-- stale
 abbrev pub IsSafe : Deeds → Type 0
-IsSafe deeds = IsAllOnDisk deeds ⊎ (is_given_up deeds ≡ true)
+IsSafe deeds = IsAllOnDisk deeds ⊎ (loss_of deeds ≡ Some Marked)
 
 -- no event waits for the disk while others are heard for a second
 abbrev pub IsInTime : Deeds → Type 0
-IsInTime deeds = (is_given_up deeds ≡ true) ⊎ (span (waiting deeds) < 1000)
+IsInTime deeds = (is_some (loss_of deeds) ≡ true) ⊎ (span (waiting deeds) < 1000)
 
 -- When a deed may be done, behind these. An action is handed out where all events that were heard
--- are on the disk, or where the store has failed and that is borne. None is heard while one waits
--- for the disk for a second. A log whose store has failed is neither appended to nor synced again,
+-- are on the disk, or where the store has failed, the state on the disk is marked as stale and that
+-- is borne. None is heard while one waits for the disk for a second. A log whose store has failed is neither appended to nor synced again,
 -- and none is synced for nothing.
 abbrev pub MayBe : (bears : Bool) → Deed → Deeds → Type 0
 MayBe bears (PutOut action) deeds =
-    IsAllOnDisk deeds ⊎ ((is_given_up deeds ≡ true) × (bears ≡ true))
+    IsAllOnDisk deeds ⊎ ((loss_of deeds ≡ Some Marked) × (bears ≡ true))
 MayBe bears (Heard event) deeds = IsInTime deeds
 MayBe bears (Appended event) deeds = is_kept deeds ≡ true
 MayBe bears Synced deeds = (is_kept deeds ≡ true) × (waiting deeds ≡ [] → ⊥)
 MayBe bears (Begun state) deeds = Unit {0}
-MayBe bears GivenUp deeds = Unit {0}
+MayBe bears (GivenUp loss) deeds = Unit {0}
 
 -- each deed might be done when it was
 abbrev pub AreRight : (bears : Bool) → Deeds → Type 0
@@ -146,5 +150,5 @@ deeds_of (done.Heard next buf) = map Heard (told_by next buf.now)
 deeds_of (done.Appended next buf) = map Appended (told_by next buf.now)
 deeds_of done.Synced = Synced ∷ []
 deeds_of (done.Begun gateway) = Begun gateway.now ∷ []
-deeds_of done.GivenUp = GivenUp ∷ []
+deeds_of (done.GivenUp loss) = GivenUp loss ∷ []
 deeds_of (done.PutOut now action) = PutOut (Went now (output_of action.now)) ∷ []

@@ -2,6 +2,7 @@ pub mod Deeds
 pub mod Standings
 pub mod Keeping
 pub mod Stores
+pub mod Logs
 pub mod Both
 pub mod Replays
 pub mod Renewals

@@ -1,14 +1,14 @@
 -- When a log is begun anew, and when it is told that none is kept (profile).
-use Rattle.std.specs.Prelude.{ℕ, ◌-◌, ◌≤◌, nat_le, nat_lt, ◌&&◌, Bool, true, false, if◌then◌else◌, Option, Some, None, [], ◌∷◌}
+use Rattle.std.specs.Prelude.{ℕ, ◌-◌, ◌≤◌, nat_le, nat_lt, Bool, true, false, if◌then◌else◌, Option, Some, None, [], ◌∷◌}
 use Rattle.gateway.specs.Log.{Log}
 use Rattle.state.specs.Deeds.{moment_of}
-use Rattle.state.specs.declared.renewal.Notice.{Notice}
-use Rattle.state.specs.declared.renewal.Notice.TheVariants.{NotKept, KeptAgain}
+use Rattle.live.specs.declared.watched.Notice.{Notice}
+use Rattle.live.specs.declared.watched.Notice.TheVariants.{NotKept, KeptAgain}
 use Rattle.state.specs.declared.renewal.Patience.{Patience}
 
--- its events take more than 4 MiB, and more than its head
-abbrev pub is_renewal_due : (head events : ℕ) → Bool
-is_renewal_due head events = nat_lt 4194304 events && nat_lt head events
+-- its events take more than 3.9 million octets
+abbrev pub is_renewal_due : (events : ℕ) → Bool
+is_renewal_due events = nat_lt 3900000 events
 
 -- the moment of the latest event, where this was it before these
 abbrev pub moment_after : Log → ℕ → ℕ

@@ -1,7 +1,7 @@
 -- A gateway that hears again what it had heard (profile).
 use Rattle.std.specs.Prelude.{◌≡◌, ℕ, Bool, true, false, List, [], ◌∷◌, ◌++◌, Option, Some, None}
 use Rattle.gateway.specs.Agrees.{Follows, Rests}
-use Rattle.gateway.specs.Log.{Log, LogEntry, events_of}
+use Rattle.gateway.specs.Log.{Log, LogEntry, Came, Went, Output, LineOut, TcpOut, Closed, GapOut, events_of}
 use Rattle.gateway.specs.Ports.{FitsBuffer, faults_of, told_by}
 use Rattle.gateway.specs.Reports.{Setup}
 use Rattle.gateway.specs.State.{State}
@@ -9,7 +9,7 @@ use Rattle.gateway.specs.declared.ports.Next.{Next}
 use Rattle.gateway.specs.declared.ports.Next.TheVariants.{Done}
 use Rattle.traces.specs.Event.{Event}
 use Rattle.traces.specs.Progress.{came}
-use Rattle.traces.specs.Trace.{told}
+use Rattle.traces.specs.Trace.{lines_of, told}
 
 -- a port's answer tells this event
 pub record IsEvent (event : LogEntry) (next : Next) (buf : List ℕ) : Type 0 where
@@ -17,6 +17,16 @@ pub record IsEvent (event : LogEntry) (next : Next) (buf : List ℕ) : Type 0 wh
   pub fits : FitsBuffer next
   pub healthy : faults_of next ≡ 0
   pub some : next ≡ Done → ⊥
+
+-- the parts of a text that a line feed follows
+abbrev pub whole_parts : List (List ℕ) → List (List ℕ)
+whole_parts [] = []
+whole_parts (part ∷ []) = []
+whole_parts (part ∷ next ∷ parts) = part ∷ whole_parts (next ∷ parts)
+
+-- the lines of a text, each of which has its line feed
+unfoldable pub whole_lines : List ℕ → List (List ℕ)
+whole_lines text = whole_parts (lines_of text)
 
 -- the event of a line, if it tells one, before these
 abbrev pub before_those : Option Event → List LogEntry → List LogEntry
@@ -39,6 +49,10 @@ abbrev pub IsFirst : (lines others : List (List ℕ)) → Option Next → (buf :
 IsFirst [] others found buf = found ≡ None
 IsFirst (line ∷ lines) others found buf = IsTold (told line) found buf × (others ≡ lines)
 
+-- a gap that was told: the station by its place, and the session
+abbrev pub ToldGap : Type 0
+ToldGap = ℕ × ℕ
+
 -- how far a replay has come: the lines that are still to come, unless it is over; what was heard
 -- and done in it, the newest first; the log before it; and how often a line couldn't be read
 pub record Replaying : Type 0 where
@@ -47,6 +61,8 @@ pub record Replaying : Type 0 where
   pub news : Log
   pub earlier : Log
   pub failed : ℕ
+  -- the gap that the latest step told
+  pub gap : Option ToldGap
 
 abbrev pub events_left : (is_over : Bool) → List (List ℕ) → List LogEntry
 events_left true coming = []
@@ -55,16 +71,37 @@ events_left false coming = events_in_front coming
 abbrev pub log_of : Replaying → Log
 log_of r = r.news ++ r.earlier
 
+-- the gap that an action tells
+abbrev pub gap_of : Output → Option ToldGap
+gap_of (LineOut octets) = None
+gap_of (TcpOut octets) = None
+gap_of (Closed cause) = None
+gap_of (GapOut station session) = Some (station, session)
+
+-- one gap, or else another
+abbrev pub or_gap : Option ToldGap → Option ToldGap → Option ToldGap
+or_gap None gap = gap
+or_gap (Some newest) gap = Some newest
+
+-- the latest gap that was told behind the latest event
+abbrev pub last_gap : Log → Option ToldGap
+last_gap [] = None
+last_gap (Came now event ∷ log) = None
+last_gap (Went now action ∷ log) = or_gap (gap_of action) (last_gap log)
+
 -- unless a line couldn't be read, the events of the log, with those that are still to come, are
--- those of the log before and then these
+-- those of the log before and then these; and the gap is that of the latest step
 pub record IsRepeating (events : List LogEntry) (r : Replaying) : Type 0 where
   pub whole : r.failed ≡ 0 →
       events_of (log_of r) ++ events_left r.is_over r.coming ≡ events_of r.earlier ++ events
+  pub gap : r.gap ≡ last_gap r.news
 
 -- The gateway has heard these events behind this log: it follows a log that goes on from this one
--- with these events, and with the actions of their steps.
-pub record IsReplayed (p : Setup) (log : Log) (events : List LogEntry) (s : State) : Type 0 where
+-- with these events, and with the actions of their steps; and the last of these has told this gap.
+pub record IsReplayed (p : Setup) (log : Log) (events : List LogEntry) (gap : Option ToldGap)
+    (s : State) : Type 0 where
   pub news : Log
+  pub last : gap ≡ last_gap news
   pub follows : Follows p s (Some (news ++ log))
   pub rests : Rests p (Some (news ++ log))
   pub heard : events_of (news ++ log) ≡ events_of log ++ events

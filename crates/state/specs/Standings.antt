@@ -2,7 +2,9 @@
 use Rattle.std.specs.Prelude.{◌≡◌, ℕ, Bool, true, false, not, List, [], ◌∷◌, ◌++◌, map, Option, Some, None, ◌⊎◌}
 use Rattle.gateway.specs.Log.{Log}
 use Rattle.gateway.specs.State.{State}
-use Rattle.state.specs.Deeds.{Deed, Deeds, Begun, GivenUp, Heard, IsAllOnDisk, appended, heard, is_given_up, is_kept, moment_of, oldest, waiting}
+use Rattle.state.specs.Deeds.{Deed, Deeds, Begun, GivenUp, Heard, IsAllOnDisk, appended, heard, is_kept, loss_of, moment_of, oldest, waiting}
+use Rattle.state.specs.declared.loss.Loss.{Loss}
+use Rattle.state.specs.declared.loss.Loss.TheVariants.{Marked, Unmarked}
 use Rattle.state.specs.declared.standing.Standing.{Standing}
 use Rattle.state.specs.declared.standing.Standing.TheVariants as standings
 
@@ -26,19 +28,24 @@ pub record IsSynced (deeds : Deeds) : Type 0 where
 abbrev pub IsStanding : Standing → Deeds → Type 0
 IsStanding standings.Synced deeds = IsSynced deeds
 IsStanding (standings.Waiting since) deeds = IsWaiting since deeds
-IsStanding standings.GivenUp deeds = is_given_up deeds ≡ true
+IsStanding (standings.Lost loss) deeds = loss_of deeds ≡ Some loss
+
+-- a loss is borne where it may be and the state on the disk is marked as stale
+abbrev pub is_borne : Loss → (bears : Bool) → Bool
+is_borne Marked bears = bears
+is_borne Unmarked bears = false
 
 -- the store has failed, and that isn't borne
 abbrev pub is_stopped : Standing → (bears : Bool) → Bool
 is_stopped standings.Synced bears = false
 is_stopped (standings.Waiting moment) bears = false
-is_stopped standings.GivenUp bears = not bears
+is_stopped (standings.Lost loss) bears = not (is_borne loss bears)
 
 -- none waits
 abbrev pub IsSettled : Standing → Type 0
 IsSettled standings.Synced = Unit {0}
 IsSettled (standings.Waiting since) = ⊥
-IsSettled standings.GivenUp = Unit {0}
+IsSettled (standings.Lost loss) = Unit {0}
 
 -- the moment of an answer's event, if it tells one
 abbrev pub IsMomentOf : Option ℕ → Log → Type 0
@@ -63,8 +70,9 @@ pub record IsPortLeft {S F : Type 0} (log : S → Option Log) (failed : S → �
 abbrev pub is_lost : Standing → Bool
 is_lost standings.Synced = false
 is_lost (standings.Waiting moment) = false
-is_lost standings.GivenUp = true
+is_lost (standings.Lost loss) = true
 
 -- a new log was begun with this state, or the store failed to
 abbrev pub Renews : (old : Deeds) → State → (new : Deeds) → Type 0
-Renews old state new = (new ≡ Begun state ∷ old) ⊎ (new ≡ GivenUp ∷ old)
+Renews old state new =
+    (new ≡ Begun state ∷ old) ⊎ ((loss : Loss) × (new ≡ GivenUp loss ∷ old))

@@ -1,9 +1,11 @@
 -- What a store has of a run (profile).
-use Rattle.std.specs.Prelude.{◌≡◌, Bool, true, List, [], ◌∷◌, ℕ, Option, Some, None}
+use Rattle.std.specs.Prelude.{◌≡◌, Bool, true, false, List, [], ◌∷◌, ℕ, Option, Some, None}
 use Rattle.gateway.specs.Log.{Log}
+use Rattle.gateway.specs.Restored.{state_lines}
 use Rattle.gateway.specs.State.{State}
 use Rattle.traces.specs.Printed.{lines_of_log}
-use Rattle.state.specs.Deeds.{Deeds, Deed, Heard, Appended, Synced, Begun, GivenUp, PutOut, heard, is_kept}
+use Rattle.state.specs.Deeds.{Deeds, Deed, Heard, Appended, Synced, Begun, GivenUp, PutOut, heard, is_kept, loss_of}
+use Rattle.state.specs.declared.loss.Loss.TheVariants.{Marked}
 
 -- the state at the head of the log
 abbrev pub head : Deeds → Option State
@@ -12,7 +14,7 @@ head (Heard event ∷ deeds) = head deeds
 head (Appended event ∷ deeds) = head deeds
 head (Synced ∷ deeds) = head deeds
 head (Begun state ∷ deeds) = Some state
-head (GivenUp ∷ deeds) = head deeds
+head (GivenUp loss ∷ deeds) = head deeds
 head (PutOut action ∷ deeds) = head deeds
 
 -- the events that led to it
@@ -22,7 +24,7 @@ led_to_head (Heard event ∷ deeds) = led_to_head deeds
 led_to_head (Appended event ∷ deeds) = led_to_head deeds
 led_to_head (Synced ∷ deeds) = led_to_head deeds
 led_to_head (Begun state ∷ deeds) = heard deeds
-led_to_head (GivenUp ∷ deeds) = led_to_head deeds
+led_to_head (GivenUp loss ∷ deeds) = led_to_head deeds
 led_to_head (PutOut action ∷ deeds) = led_to_head deeds
 
 -- the events behind it
@@ -32,7 +34,7 @@ written (Heard event ∷ deeds) = written deeds
 written (Appended event ∷ deeds) = event ∷ written deeds
 written (Synced ∷ deeds) = written deeds
 written (Begun state ∷ deeds) = []
-written (GivenUp ∷ deeds) = written deeds
+written (GivenUp loss ∷ deeds) = written deeds
 written (PutOut action ∷ deeds) = written deeds
 
 -- those of them that are on the disk
@@ -42,20 +44,31 @@ safe (Heard event ∷ deeds) = safe deeds
 safe (Appended event ∷ deeds) = safe deeds
 safe (Synced ∷ deeds) = written deeds
 safe (Begun state ∷ deeds) = []
-safe (GivenUp ∷ deeds) = safe deeds
+safe (GivenUp loss ∷ deeds) = safe deeds
 safe (PutOut action ∷ deeds) = safe deeds
 
--- what a store tells: the state at the head of its log, the text behind it, and how much of that
--- text is on the disk
+-- what a store tells: the lines at the head of its log, the text behind them, and how
+-- much of that text is on the disk
 pub record Stored : Type 0 where
-  pub head : Option State
+  pub head : List (List ℕ)
   pub text : List ℕ
   pub safe : List ℕ
 
--- while the state is kept these are the state, and the lines of the events
-abbrev pub IsStored : Deeds → Stored → Type 0
-IsStored deeds stored = is_kept deeds ≡ true → stored ≡ record {
-  head = head deeds;
+-- the settings, and the lines of a state, if there is one
+abbrev pub lines_of_head : (settings : List ℕ) → Option State → List (List ℕ)
+lines_of_head settings None = []
+lines_of_head settings (Some state) = settings ∷ state_lines state
+
+-- while the state is kept these are the settings, the lines of the state, and those of the events
+abbrev pub IsStored : (settings : List ℕ) → Deeds → Stored → Type 0
+IsStored settings deeds stored = is_kept deeds ≡ true → stored ≡ record {
+  head = lines_of_head settings (head deeds);
   text = lines_of_log (written deeds);
   safe = lines_of_log (safe deeds);
 }
+
+-- Where the state is kept it isn't marked as stale on the disk. Where the store has failed, and it
+-- is told that the mark was made, the mark stands.
+pub record IsMarked (deeds : Deeds) (mark : Option Bool) : Type 0 where
+  pub kept : is_kept deeds ≡ true → mark ≡ Some false
+  pub lost : loss_of deeds ≡ Some Marked → mark ≡ Some true

@@ -1,6 +1,8 @@
 //! What a keeper stands between: a port, and a store for what it hears.
 
+use crate::loss::Loss;
 use gateway::{Action, Gateway, Next};
+use live::Sight;
 
 /// A port and a store, with one history of what is done at both.
 pub trait Ends {
@@ -9,7 +11,7 @@ pub trait Ends {
     ghost use Rattle.gateway.specs.declared.ports.Next.TheVariants.{Done};
     ghost use Rattle.state.specs.Deeds.{Appended, Begun, Deed, GivenUp, Heard, IsSafe, PutOut, Synced, is_kept};
     ghost use Rattle.state.specs.Standings.{IsPortLeft};
-    ghost use Rattle.std.specs.Prelude.{◌≡◌, ℕ, ◌+◌, ◌<◌, Bool, true, List, [], ◌∷◌, ◌++◌, map, Option, if◌then◌else◌};
+    ghost use Rattle.std.specs.Prelude.{◌≡◌, ℕ, ◌+◌, ◌<◌, Bool, true, List, [], ◌∷◌, ◌++◌, map, Option, if◌then◌else◌, MatchResult};
 
     /// The log of the port, as a port tells it.
     ghost log: { Self → Option (List LogEntry) };
@@ -52,30 +54,36 @@ pub trait Ends {
     fn failures(&self) -> u64
         ensures { result ≡ failed self.now };
 
-    /// Appends the line of an event to the log, whose octets are the front of the buffer. `false`
-    /// says that the store has failed: then the log is marked as stale.
-    fn append(&mut self, next: Next, buf: &[u8; 1024]) -> bool
+    /// Looks at the port's ends, and asks nothing of them.
+    fn sight(&self) -> Sight;
+
+    /// Appends the line of an event to the log, whose octets are the front of the buffer. An `Err`
+    /// says that the store has failed, and whether the state on the disk is marked as stale.
+    fn append(&mut self, next: Next, buf: &[u8; 1024]) -> Result<(), Loss>
         requires kept { is_kept (deeds self.old) ≡ true }
         requires fits { FitsBuffer next }
-        ensures appended { deeds self.new
-            ≡ (if result then map Appended (told_by next buf.now) else GivenUp ∷ [])
-            ++ deeds self.old }
+        ensures appended { MatchResult result
+            (λ _. deeds self.new ≡ map Appended (told_by next buf.now) ++ deeds self.old)
+            (λ loss. deeds self.new ≡ GivenUp loss ∷ deeds self.old) }
         ensures port { IsPortLeft log failed ended script self.old self.new };
 
-    /// Syncs the log. `false` as of `append`: what is on the disk isn't known then.
-    fn sync(&mut self) -> bool
+    /// Syncs the log. An `Err` as of `append`: what is on the disk isn't known then.
+    fn sync(&mut self) -> Result<(), Loss>
         requires { is_kept (deeds self.old) ≡ true }
-        ensures synced { deeds self.new ≡ (if result then Synced else GivenUp) ∷ deeds self.old }
+        ensures synced { MatchResult result
+            (λ _. deeds self.new ≡ Synced ∷ deeds self.old)
+            (λ loss. deeds self.new ≡ GivenUp loss ∷ deeds self.old) }
         ensures port { IsPortLeft log failed ended script self.old self.new };
 
     /// A new log is due, as the present one has grown.
     fn is_full(&self) -> bool;
 
     /// Begins a new log, with the state of the gateway at its head, which is the state that all
-    /// events so far have led to. Where `true` is answered it stands on the disk. `false` as of
+    /// events so far have led to. Where `Ok` is answered it stands on the disk. An `Err` as of
     /// `append`.
-    fn begin(&mut self, gateway: &Gateway) -> bool
-        ensures begun { deeds self.new
-            ≡ (if result then Begun gateway.now else GivenUp) ∷ deeds self.old }
+    fn begin(&mut self, gateway: &Gateway) -> Result<(), Loss>
+        ensures begun { MatchResult result
+            (λ _. deeds self.new ≡ Begun gateway.now ∷ deeds self.old)
+            (λ loss. deeds self.new ≡ GivenUp loss ∷ deeds self.old) }
         ensures port { IsPortLeft log failed ended script self.old self.new };
 }

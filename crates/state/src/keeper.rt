@@ -3,22 +3,23 @@ ghost use Rattle.std.specs.Prelude.{◌≡◌, ◌+◌, ◌<◌, ◌≤◌, ◌�
 ghost use Rattle.gateway.specs.Log.{Went, tell};
 ghost use Rattle.gateway.specs.Ports.{FitsBuffer, faults_of, output_of, told_by};
 ghost use Rattle.gateway.specs.declared.ports.Next.TheVariants.{Done};
-ghost use Rattle.state.specs.Deeds.{Begun, GivenUp, passed};
+ghost use Rattle.state.specs.Deeds.{passed};
 ghost use Rattle.state.specs.Keeping.{IsOrderly};
 ghost use Rattle.state.specs.Renewals.{after_notice, is_try_due, moment_after, notice_of};
 ghost use Rattle.state.specs.Standings.{IsPortLeft, Renews, is_lost, is_stopped};
 
 use crate::ends::Ends;
 use crate::keeping::{is_stopped, keep, settle};
-use crate::renewal::{Notice, Patience};
+use crate::renewal::Patience;
 use crate::standing::Standing;
 use gateway::{Action, Gateway, Next, Port};
+use live::{Notice, Sight, Watched};
 use std::marker::Model;
 
 /// A port that passes each event and each action of another one on unchanged. The line of each
 /// event goes to the log of a store before the gateway hears it, and no action is handed out before
 /// all events that were heard are on the disk. Where the store has failed, the run goes on without
-/// it, if that is borne, or else the port has failed.
+/// it, if that is borne and the state on the disk is marked as stale, or else the port has failed.
 #[derive(Drop)]
 pub struct Keeper<E: Ends + Drop> {
     ends: E,
@@ -57,13 +58,11 @@ impl<E: Ends + Drop> Keeper<E> {
         ensures failed { E.failed result.ends + result.stops ≡ E.failed ends }
         ensures script { E.script result.ends ≡ E.script ends }
         ensures bears { result.bears_loss ≡ bears_loss }
-        ensures begun { (E.deeds result.ends ≡ Begun gateway.now ∷ [])
-            ⊎ (E.deeds result.ends ≡ GivenUp ∷ []) }
+        ensures begun { Renews [] gateway.now (E.deeds result.ends) }
     {
-        let standing = if ends.begin(gateway) {
-            Standing::Synced
-        } else {
-            Standing::GivenUp
+        let standing = match ends.begin(gateway) {
+            Ok(()) => Standing::Synced,
+            Err(loss) => Standing::Lost(loss),
         };
         Keeper {
             ends,
@@ -89,7 +88,7 @@ impl<E: Ends + Drop> Keeper<E> {
             ⊎ Renews (E.deeds self.old.ends) gateway.now (E.deeds self.new.ends) }
     {
         match self.standing {
-            Standing::GivenUp => {
+            Standing::Lost(_) => {
                 if self.patience.is_try_due() {
                     self.begin(gateway);
                 }
@@ -109,12 +108,15 @@ impl<E: Ends + Drop> Keeper<E> {
             × (self.new.bears_loss ≡ self.old.bears_loss) }
         ensures renews { Renews (E.deeds self.old.ends) gateway.now (E.deeds self.new.ends) }
     {
-        if self.ends.begin(gateway) {
-            self.standing = Standing::Synced;
-            self.patience.tried = None;
-        } else {
-            self.standing = Standing::GivenUp;
-            self.patience.tried = Some(self.patience.moment);
+        match self.ends.begin(gateway) {
+            Ok(()) => {
+                self.standing = Standing::Synced;
+                self.patience.tried = None;
+            }
+            Err(loss) => {
+                self.standing = Standing::Lost(loss);
+                self.patience.tried = Some(self.patience.moment);
+            }
         }
     }
 
@@ -126,7 +128,7 @@ impl<E: Ends + Drop> Keeper<E> {
             ≡ record self.old { patience = after_notice result self.old.patience } }
     {
         self.patience
-            .notice(matches!(self.standing, Standing::GivenUp))
+            .notice(matches!(self.standing, Standing::Lost(_)))
     }
 
     /// How far the events that were heard are on the disk.
@@ -202,5 +204,20 @@ impl<E: Ends + Drop> Port for Keeper<E> {
 
     fn failures(&self) -> u64 {
         self.ends.failures() + self.stops
+    }
+}
+
+impl<E: Ends + Drop> Watched for Keeper<E> {
+    ghost use Rattle.state.specs.Keeping.{HasTended};
+
+    ghost tends = { λ old state new notice. HasTended E.deeds old state new notice };
+
+    fn sight(&self) -> Sight {
+        self.ends.sight()
+    }
+
+    fn tend(&mut self, gateway: &Gateway) -> Option<Notice> {
+        self.look(gateway);
+        self.notice()
     }
 }

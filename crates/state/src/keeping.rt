@@ -1,11 +1,12 @@
 //! What is appended and when it is synced.
-ghost use Rattle.std.specs.Prelude.{◌≡◌, ℕ, Bool, List};
+ghost use Rattle.std.specs.Prelude.{◌≡◌, ℕ, Bool, false, List};
 ghost use Rattle.gateway.specs.Ports.{FitsBuffer, told_by};
 ghost use Rattle.state.specs.Deeds.{AreRight, IsSafe, passed};
 ghost use Rattle.state.specs.Keeping.{IsOrderly};
 ghost use Rattle.state.specs.Standings.{HasHeard, IsMomentOf, IsPortLeft, IsSettled, IsStanding, is_stopped};
 
 use crate::ends::Ends;
+use crate::loss::Loss;
 use crate::standing::Standing;
 use gateway::Next;
 
@@ -29,20 +30,17 @@ pub(crate) fn settle<E: Ends>(ends: &mut E, standing: Standing) -> Standing
     ensures orderly { (bears : Bool) → AreRight bears (E.deeds ends.old) →
         IsOrderly bears result (E.deeds ends.new) }
     ensures settled { IsSettled result }
-    ensures safe { IsSafe (E.deeds ends.new) }
+    ensures safe { (bears : Bool) → is_stopped result bears ≡ false → IsSafe (E.deeds ends.new) }
     ensures passed { passed (E.deeds ends.new) ≡ passed (E.deeds ends.old) }
     ensures port { IsPortLeft E.log E.failed E.ended E.script ends.old ends.new }
 {
     match standing {
-        Standing::Waiting(_) => {
-            if ends.sync() {
-                Standing::Synced
-            } else {
-                Standing::GivenUp
-            }
-        }
+        Standing::Waiting(_) => match ends.sync() {
+            Ok(()) => Standing::Synced,
+            Err(loss) => Standing::Lost(loss),
+        },
         Standing::Synced => Standing::Synced,
-        Standing::GivenUp => Standing::GivenUp,
+        Standing::Lost(loss) => Standing::Lost(loss),
     }
 }
 
@@ -68,27 +66,28 @@ pub(crate) fn keep<E: Ends>(
     let since = match standing {
         Standing::Synced => now,
         Standing::Waiting(since) => since,
-        Standing::GivenUp => return Standing::GivenUp,
+        Standing::Lost(loss) => return Standing::Lost(loss),
     };
-    if !ends.append(next, buf) {
-        return Standing::GivenUp;
+    if let Err(loss) = ends.append(next, buf) {
+        return Standing::Lost(loss);
     }
     if now.saturating_sub(since) < LONGEST_WAIT_MS {
         return Standing::Waiting(since);
     }
-    if ends.sync() {
-        Standing::Synced
-    } else {
-        Standing::GivenUp
+    match ends.sync() {
+        Ok(()) => Standing::Synced,
+        Err(loss) => Standing::Lost(loss),
     }
 }
 
-/// The store has failed, and that isn't borne: the run is to end.
+/// The store has failed, and that isn't borne: the run is to end. It is never borne where the state
+/// on the disk couldn't be marked as stale.
 pub(crate) fn is_stopped(standing: Standing, bears_loss: bool) -> bool
     ensures { result ≡ is_stopped standing bears_loss }
 {
     match standing {
-        Standing::GivenUp => !bears_loss,
+        Standing::Lost(Loss::Marked) => !bears_loss,
+        Standing::Lost(Loss::Unmarked) => true,
         Standing::Synced | Standing::Waiting(_) => false,
     }
 }

@@ -5,7 +5,7 @@ ghost use Rattle.state.specs.Deeds.{AreRight, Deeds, IsAllOnDisk, IsSafe, PutOut
 ghost use Rattle.state.specs.Stores.{led_to_head, safe, written};
 
 /// Whatever action was handed out: when it was, all events that had been heard were on the disk, or
-/// the store had failed; and where that isn't borne, they were on the disk.
+/// the state there was marked as stale; and where a loss isn't borne, they were on the disk.
 pub fn nothing_goes_out_before_it_is_on_disk()
     ensures safe { (bears : Bool) (later earlier : Deeds) (action : LogEntry) →
         AreRight bears (later ++ PutOut action ∷ earlier) → IsSafe earlier }

@@ -1,10 +1,17 @@
 //! A run whose events are kept on a disk (this gateway's own profile).
 #![tactic(auto)]
 
+mod beginning;
+mod carry;
+mod disk_store;
 mod ends;
+mod event_text;
+mod folder;
 mod keeper;
 mod keeping;
 mod laws;
+mod loss;
+mod opened;
 mod pair;
 mod renewal;
 mod replaying;
@@ -13,12 +20,17 @@ mod start;
 mod store;
 mod trail;
 
+pub use beginning::{Begun, begin};
+pub use disk_store::DiskStore;
 pub use ends::Ends;
+pub use event_text::EventText;
+pub use folder::{Folder, FolderFault};
 pub use keeper::Keeper;
 pub use laws::{nothing_goes_out_before_it_is_on_disk, what_is_on_disk_is_in_the_log};
+pub use loss::Loss;
 pub use pair::Pair;
-pub use renewal::{Notice, Patience, is_renewal_due};
-pub use replaying::{EventLines, Lineage, replay};
+pub use renewal::{Patience, is_renewal_due};
+pub use replaying::{EventLines, Lineage, ToldGap, replay};
 pub use standing::Standing;
 pub use start::{
     Beginning, Found, LinkStart, beginning_of, link_start, missed_at_start, places_at_start,

@@ -4,37 +4,40 @@ ghost use Rattle.gateway.specs.Ports.{FitsBuffer, told_by};
 ghost use Rattle.traces.specs.Printed.{lines_of_log};
 
 use crate::ends::Ends;
+use crate::loss::Loss;
 use crate::renewal::is_renewal_due;
 use crate::store::Store;
 use crate::trail::{Done, Trail};
-use gateway::{Action, Gateway, Next, Port};
+use gateway::{Action, Gateway, Next};
+use live::{Sight, Watched};
 use std::alloc::Global;
 use std::marker::Model;
 use traces::append_event;
 
 /// A port, and a store beside it. What is done at both is one history, which only proofs read.
 #[derive(Drop)]
-pub struct Pair<P: Port + Drop, S: Store + Drop> {
+pub struct Pair<P: Watched + Drop, S: Store + Drop> {
     alloc: Global,
     port: P,
     store: S,
     trail: Trail,
 }
 
-impl<P: Port + Drop, S: Store + Drop> Model for Pair<P, S> {
+impl<P: Watched + Drop, S: Store + Drop> Model for Pair<P, S> {
     ghost use Rattle.state.specs.Both.{Both};
-    ghost use Rattle.state.specs.Stores.{IsStored};
+    ghost use Rattle.state.specs.Stores.{IsMarked, IsStored};
 
     ghost Value = { Both P S };
 
     ghost view = { λ p. record { port = p.port; store = p.store; deeds = p.trail.deeds } };
 
     // While the state is kept the store has the events' lines, and nothing else.
-    ghost invariant = { λ p. IsStored p.trail.deeds (S.stored p.store) };
+    ghost invariant = { λ p. IsStored (S.settings p.store) p.trail.deeds (S.stored p.store)
+        × IsMarked p.trail.deeds (S.mark p.store) };
 }
 
-impl<P: Port + Drop, S: Store + Drop> Pair<P, S> {
-    ghost use Rattle.state.specs.Stores.{IsStored};
+impl<P: Watched + Drop, S: Store + Drop> Pair<P, S> {
+    ghost use Rattle.state.specs.Stores.{IsMarked, IsStored};
 
     /// Both, at which nothing was done.
     pub fn new(alloc: Global, port: P, store: S) -> Pair<P, S>
@@ -51,7 +54,9 @@ impl<P: Port + Drop, S: Store + Drop> Pair<P, S> {
     /// The store.
     pub fn store(&self) -> &S
         ensures store { result.now ≡ self.now.store }
-        ensures stored { IsStored self.now.deeds (S.stored self.now.store) }
+        ensures stored { IsStored (S.settings self.now.store) self.now.deeds
+            (S.stored self.now.store) }
+        ensures marked { IsMarked self.now.deeds (S.mark self.now.store) }
     {
         &self.store
     }
@@ -60,9 +65,11 @@ impl<P: Port + Drop, S: Store + Drop> Pair<P, S> {
 /// Appends the line of an event to a store, if there is memory for it.
 fn take<S: Store>(alloc: Global, store: &mut S, next: Next, buf: &[u8; 1024]) -> bool
     requires { FitsBuffer next }
-    ensures { result ≡ true → S.stored store.new ≡ record (S.stored store.old) {
+    ensures taken { result ≡ true → S.stored store.new ≡ record (S.stored store.old) {
       text = (S.stored store.old).text ++ lines_of_log (told_by next buf.now);
     } }
+    ensures mark { S.mark store.new ≡ S.mark store.old }
+    ensures settings { S.settings store.new ≡ S.settings store.old }
 {
     let mut line = String::new(alloc);
     if append_event(alloc, &mut line, next, buf).is_err() {
@@ -71,7 +78,7 @@ fn take<S: Store>(alloc: Global, store: &mut S, next: Next, buf: &[u8; 1024]) ->
     store.append(line.as_bytes())
 }
 
-impl<P: Port + Drop, S: Store + Drop> Ends for Pair<P, S> {
+impl<P: Watched + Drop, S: Store + Drop> Ends for Pair<P, S> {
     ghost log = { λ p. P.log p.port };
 
     ghost failed = { λ p. P.failed p.port };
@@ -102,37 +109,41 @@ impl<P: Port + Drop, S: Store + Drop> Ends for Pair<P, S> {
         self.port.failures()
     }
 
-    fn append(&mut self, next: Next, buf: &[u8; 1024]) -> bool {
-        if take(self.alloc, &mut self.store, next, buf) {
-            self.trail = self.trail.with(&Done::Appended(next, buf));
-            return true;
-        }
-        self.store.give_up();
-        self.trail = self.trail.with(&Done::GivenUp);
-        false
+    fn sight(&self) -> Sight {
+        self.port.sight()
     }
 
-    fn sync(&mut self) -> bool {
+    fn append(&mut self, next: Next, buf: &[u8; 1024]) -> Result<(), Loss> {
+        if take(self.alloc, &mut self.store, next, buf) {
+            self.trail = self.trail.with(&Done::Appended(next, buf));
+            return Ok(());
+        }
+        let loss = self.store.give_up();
+        self.trail = self.trail.with(&Done::GivenUp(loss));
+        Err(loss)
+    }
+
+    fn sync(&mut self) -> Result<(), Loss> {
         if self.store.sync() {
             self.trail = self.trail.with(&Done::Synced);
-            return true;
+            return Ok(());
         }
-        self.store.give_up();
-        self.trail = self.trail.with(&Done::GivenUp);
-        false
+        let loss = self.store.give_up();
+        self.trail = self.trail.with(&Done::GivenUp(loss));
+        Err(loss)
     }
 
     fn is_full(&self) -> bool {
-        is_renewal_due(self.store.head_octets(), self.store.event_octets())
+        is_renewal_due(self.store.event_octets())
     }
 
-    fn begin(&mut self, gateway: &Gateway) -> bool {
+    fn begin(&mut self, gateway: &Gateway) -> Result<(), Loss> {
         if self.store.begin(gateway) {
             self.trail = self.trail.with(&Done::Begun(gateway));
-            return true;
+            return Ok(());
         }
-        self.store.give_up();
-        self.trail = self.trail.with(&Done::GivenUp);
-        false
+        let loss = self.store.give_up();
+        self.trail = self.trail.with(&Done::GivenUp(loss));
+        Err(loss)
     }
 }

@@ -4,9 +4,11 @@ ghost use Rattle.state.specs.Renewals.{after_notice, has_passed, is_renewal_due,
 ghost use Rattle.gateway.specs.Ports.{told_by};
 
 use gateway::Next;
+use live::Notice;
 
-/// How many octets of events a log may have at least, 4 MiB.
-const MOST_OCTETS: u64 = 4_194_304;
+/// How many octets of events a log has at most before a new one is begun. Two logs stay below twice
+/// a checkpoint and 8,000,000 octets by that.
+const MOST_OCTETS: u64 = 3_900_000;
 
 /// How long it takes until a new log is tried again, in ms.
 const RETRY_MS: u64 = 10_000;
@@ -14,21 +16,11 @@ const RETRY_MS: u64 = 10_000;
 /// How long it takes until it is told again that the state isn't kept, in ms.
 const TELL_MS: u64 = 60_000;
 
-/// Whether a log is begun anew, whose head and whose events have so many octets: the events have
-/// more than 4 MiB, and more than the head.
-pub fn is_renewal_due(head: u64, events: u64) -> bool
-    ensures { result ≡ is_renewal_due head events }
+/// Whether a log is begun anew, whose events have so many octets.
+pub fn is_renewal_due(events: u64) -> bool
+    ensures { result ≡ is_renewal_due events }
 {
-    MOST_OCTETS < events && head < events
-}
-
-/// What is told of the state.
-#[derive(Clone, Copy, Debug, PartialEq, Eq)]
-pub enum Notice {
-    /// It isn't kept: what is polled now is lost if the gateway stops.
-    NotKept,
-    /// It is kept again.
-    KeptAgain,
+    MOST_OCTETS < events
 }
 
 /// What was tried and told while the state wasn't kept: moments in ms.

@@ -1,8 +1,9 @@
 //! A gateway hears again what it had heard.
-ghost use Rattle.std.specs.Prelude.{◌≡◌, ◌∷◌, [], Some, IfOk, OnOk, false};
+ghost use Rattle.std.specs.Prelude.{◌≡◌, ◌∷◌, [], Some, None, IfOk, false};
 ghost use Rattle.gateway.specs.Agrees.{Follows, Rests};
 ghost use Rattle.gateway.specs.Reports.{Setup};
-ghost use Rattle.state.specs.Replays.{IsFirst, IsRepeating, IsReplayed, IsTold, events_in_front};
+ghost use Rattle.gateway.specs.Ports.{output_of};
+ghost use Rattle.state.specs.Replays.{IsFirst, IsRepeating, IsReplayed, IsTold, events_in_front, gap_of};
 ghost use Rattle.traces.specs.Trace.{lines_of, told};
 
 use checkpoint::StateFault;
@@ -58,6 +59,20 @@ impl Script for Brand {
     ghost events = { [] };
 }
 
+/// A gap that was told: the station by its place among the settings, from 0, and the session
+/// numbered from 1.
+pub type ToldGap = (usize, u64);
+
+/// The gap that an action tells, if it is one.
+fn gap_of(action: &Action<'_>) -> Option<ToldGap>
+    ensures { result ≡ gap_of (output_of action.now) }
+{
+    match action {
+        Action::Gap { station, session } => Some((*station, *session)),
+        Action::Line(_) | Action::Tcp(_) | Action::Close(_) => None,
+    }
+}
+
 /// A port that gives the events that lines tell, up to the first line that tells none, and puts no
 /// action out. A line that can't be read is a fault.
 #[derive(Drop)]
@@ -68,6 +83,8 @@ struct Repeater<K: Script, L: EventLines + Drop> {
     line: Vec<u8>,
     is_over: bool,
     history: History,
+    /// The gap that the latest step told, if it did.
+    gap: Option<ToldGap>,
     fault: StateFault,
     failures: u64,
     of: PhantomData<K>,
@@ -84,6 +101,7 @@ impl<K: Script, L: EventLines + Drop> Model for Repeater<K, L> {
       news = r.history.entries;
       earlier = K.log;
       failed = r.failures;
+      gap = r.gap;
     } };
 
     ghost invariant = { λ r. IsRepeating K.events (record {
@@ -92,6 +110,7 @@ impl<K: Script, L: EventLines + Drop> Model for Repeater<K, L> {
       news = r.history.entries;
       earlier = K.log;
       failed = r.failures;
+      gap = r.gap;
     }) };
 }
 
@@ -142,6 +161,7 @@ impl<K: Script, L: EventLines + Drop> Repeater<K, L> {
           news = [];
           earlier = K.log;
           failed = 0;
+          gap = None;
         } }
     {
         Repeater {
@@ -150,6 +170,7 @@ impl<K: Script, L: EventLines + Drop> Repeater<K, L> {
             line: Vec::new(alloc),
             is_over: false,
             history: History::new(),
+            gap: None,
             fault: StateFault::NoMemory,
             failures: 0,
             of: PhantomData,
@@ -159,6 +180,13 @@ impl<K: Script, L: EventLines + Drop> Repeater<K, L> {
     /// Why a line couldn't be read.
     fn fault(&self) -> StateFault {
         self.fault
+    }
+
+    /// The gap that the latest step told, if it did.
+    fn gap(&self) -> Option<ToldGap>
+        ensures { result ≡ self.now.gap }
+    {
+        self.gap
     }
 
     /// Whether no event comes any more.
@@ -193,6 +221,7 @@ impl<K: Script, L: EventLines + Drop> Port for Repeater<K, L> {
         match next_event(self.alloc, &mut self.lines, &mut self.line, buf) {
             Ok(Some(next)) => {
                 self.history = self.history.came(&next, buf);
+                self.gap = None;
                 next
             }
             Ok(None) => {
@@ -209,6 +238,9 @@ impl<K: Script, L: EventLines + Drop> Port for Repeater<K, L> {
 
     fn put(&mut self, now: u64, action: &Action<'_>) -> bool {
         self.history = self.history.went(&now, action);
+        if let Some(gap) = gap_of(action) {
+            self.gap = Some(gap);
+        }
         true
     }
 
@@ -222,17 +254,17 @@ fn repeat<K: Script, L: EventLines + Drop>(
     alloc: Global,
     gateway: &mut Gateway,
     lines: L,
-) -> Result<(), StateFault>
+) -> Result<Option<ToldGap>, StateFault>
     requires { events_in_front (L.coming lines) ≡ K.events }
     ensures { (p : Setup) → Follows p gateway.old (Some K.log) → Rests p (Some K.log) →
-        OnOk result (IsReplayed p K.log K.events gateway.new) }
+        IfOk result (λ gap. IsReplayed p K.log K.events gap gateway.new) }
 {
     let mut port: Repeater<K, L> = Repeater::over(alloc, lines);
     let end = drive_on(gateway, &mut port, u64::MAX);
     match end {
         End::Finished => {
             let _is_over = port.is_over();
-            Ok(())
+            Ok(port.gap())
         }
         // No memory holds so many lines.
         End::Turns => Err(StateFault::NoMemory),
@@ -241,14 +273,16 @@ fn repeat<K: Script, L: EventLines + Drop>(
 }
 
 /// Brings a gateway to where these lines lead: it hears their events again, up to the first line
-/// that tells none, and what it does goes nowhere. After an `Err` the gateway is given up.
+/// that tells none, and what it does goes nowhere. Answers the gap that its last step told, if it
+/// did. After an `Err` the gateway is given up.
 pub fn replay<K: Lineage, L: EventLines + Drop>(
     alloc: Global,
     gateway: &mut Gateway,
     lines: L,
-) -> Result<(), StateFault>
+) -> Result<Option<ToldGap>, StateFault>
     ensures { (p : Setup) → Follows p gateway.old (Some K.log) → Rests p (Some K.log) →
-        OnOk result (IsReplayed p K.log (events_in_front (L.coming lines)) gateway.new) }
+        IfOk result (λ gap. IsReplayed p K.log (events_in_front (L.coming lines)) gap
+        gateway.new) }
 {
     repeat::<Brand, L>(alloc, gateway, lines)
 }

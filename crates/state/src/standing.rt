@@ -1,5 +1,7 @@
 //! How far the events that were heard are on the disk.
 
+use crate::loss::Loss;
+
 /// How far the events that were heard are on the disk.
 #[derive(Clone, Copy, Debug, PartialEq, Eq)]
 pub enum Standing {
@@ -8,5 +10,5 @@ pub enum Standing {
     /// The log has them, but since this moment, in ms, some wait for the disk.
     Waiting(u64),
     /// The store has failed.
-    GivenUp,
+    Lost(Loss),
 }

@@ -1,39 +1,52 @@
 //! What keeps the events of a run.
 
+use crate::loss::Loss;
 use gateway::Gateway;
 
 /// A log of lines behind the state of a gateway, which tells what it has, and what of it is on the
 /// disk.
 pub trait Store {
+    ghost use Rattle.gateway.specs.Restored.{state_lines};
     ghost use Rattle.state.specs.Stores.{Stored};
-    ghost use Rattle.std.specs.Prelude.{◌≡◌, [], ◌++◌, Some, true};
+    ghost use Rattle.std.specs.Prelude.{◌≡◌, ℕ, List, [], ◌∷◌, ◌++◌, Option, Some, Bool, true, false};
 
     ghost stored: { Self → Stored };
 
+    /// The file of settings that stands at the head of each log.
+    ghost settings: { Self → List ℕ };
+
+    /// Whether the state on the disk is marked as stale, where that is known.
+    ghost mark: { Self → Option Bool };
+
     /// Appends lines, each with its line feed. `false` says that it failed.
     fn append(&mut self, lines: &[u8]) -> bool
-        ensures { result ≡ true → stored self.new
-            ≡ record (stored self.old) { text = (stored self.old).text ++ lines.now } };
+        ensures appended { result ≡ true → stored self.new
+            ≡ record (stored self.old) { text = (stored self.old).text ++ lines.now } }
+        ensures mark { mark self.new ≡ mark self.old }
+        ensures settings { settings self.new ≡ settings self.old };
 
     /// Syncs all that was appended. `false` says that it failed: what is on the disk isn't known
     /// then.
     fn sync(&mut self) -> bool
-        ensures { result ≡ true → stored self.new
-            ≡ record (stored self.old) { safe = (stored self.old).text } };
+        ensures synced { result ≡ true → stored self.new
+            ≡ record (stored self.old) { safe = (stored self.old).text } }
+        ensures mark { mark self.new ≡ mark self.old }
+        ensures settings { settings self.new ≡ settings self.old };
 
-    /// Begins a new log behind this gateway's state. Where `true` is answered it stands on the
-    /// disk, and takes the place of the one before.
+    /// Begins a new log behind the settings and this gateway's state. Where `true` is answered it stands on the
+    /// disk, takes the place of the one before, and isn't marked as stale.
     fn begin(&mut self, gateway: &Gateway) -> bool
-        ensures { result ≡ true → stored self.new
-            ≡ record { head = Some gateway.now; text = []; safe = [] } };
+        ensures begun { result ≡ true → stored self.new
+            ≡ record { head = settings self.old ∷ state_lines gateway.now; text = []; safe = [] } }
+        ensures mark { result ≡ true → mark self.new ≡ Some false }
+        ensures settings { settings self.new ≡ settings self.old };
 
-    /// How many octets the head of the log has, with the gateway's state.
-    fn head_octets(&self) -> u64;
-
-    /// How many octets the lines behind it have.
+    /// How many octets the lines behind the head of the log have.
     fn event_octets(&self) -> u64;
 
-    /// It has failed, and marks the log as stale. Neither line nor sync comes until a new
-    /// log is begun.
-    fn give_up(&mut self);
+    /// It has failed, and marks the state on the disk as stale. Neither line nor sync comes until a
+    /// new log is begun.
+    fn give_up(&mut self) -> Loss
+        ensures mark { result ≡ Loss.Marked → mark self.new ≡ Some true }
+        ensures settings { settings self.new ≡ settings self.old };
 }

@@ -7,7 +7,7 @@ use Rattle.settings.specs.Settings.{IsReadOfText}
 use Rattle.telegate.specs.Audits.{IsToldOf, IsMemory, IsAuditedBy}
 use Rattle.telegate.specs.declared.answer.Answer.{Answer}
 use Rattle.telegate.specs.declared.fault.Fault.{Fault}
-use Rattle.telegate.specs.declared.fault.Fault.TheVariants.{Config, Trace, Script, Record, Differs, Sizes, Octets, Address, Device, Unread, NoMemory}
+use Rattle.telegate.specs.declared.fault.Fault.TheVariants.{Config, Trace, Script, Record, Sizes, Octets, Address, NoState, StateInUse, StateUnusable, Device, Unread, NoMemory}
 
 -- the answer to the command, where its files were read
 pub audited : (config text : List ℕ) (settings : Settings) (verdict : Verdict) (r : Result Answer Fault)
@@ -21,7 +21,9 @@ audited config text settings verdict (Err (Config why)) read found told = absurd
 audited config text settings verdict (Err (Trace n)) read found told = absurd told
 audited config text settings verdict (Err (Script n)) read found told = absurd told
 audited config text settings verdict (Err (Record n)) read found told = absurd told
-audited config text settings verdict (Err (Differs n)) read found told = absurd told
+audited config text settings verdict (Err NoState) read found told = absurd told
+audited config text settings verdict (Err StateInUse) read found told = absurd told
+audited config text settings verdict (Err StateUnusable) read found told = absurd told
 audited config text settings verdict (Err Sizes) read found told = absurd told
 audited config text settings verdict (Err Octets) read found told = absurd told
 audited config text settings verdict (Err Address) read found told = absurd told

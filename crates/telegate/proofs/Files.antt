@@ -3,10 +3,9 @@ use Rattle.std.proofs.Common.{◌≡◌, ℕ, List, [], ◌∷◌, Option, inl, 
 use Rattle.std.specs.Prelude.{Bool, Result}
 use Rattle.std.specs.Borrow.{Bor}
 use Rattle.clap.specs.Words.{Text}
-use Rattle.telegate.specs.Shell.{IsUnread, IsNotRead, ReplaysFile, Responds, RunsFiles, AreWishes, files_of}
+use Rattle.telegate.specs.Shell.{IsUnread, IsNotRead, ReplaysFile, Responds, RunsFile, AreWishes, IsWishFault, files_of}
 use Rattle.telegate.specs.CommandLine.{text_of, texts_of}
 use Rattle.telegate.specs.Faults.{status_of}
-use Rattle.telegate.specs.Guests.{IsGuestsFault}
 use Rattle.telegate.specs.declared.host.Wishes.{Wishes}
 use Rattle.telegate.specs.declared.command_line.Request.{Request}
 use Rattle.telegate.specs.declared.command_line.Request.TheVariants.{Replay, Run}
@@ -77,22 +76,22 @@ module _ (has : Text → List ℕ → Type 0) (lacks : Text → Type 0) where
           | inr none ↦ inr (later_of_more config.now octets (trace.now ∷ []) exit read none.0, none.1)
         ])
 
-    pub has_run : (request : Request) (config : Bor Text) (redial log recorded : Bool) (resumed : Option (Bor Text))
-        (allow : Option (Bor (List (Bor Text)))) (wishes : Wishes) (known : Option (List ℕ)) (exit : ℕ) →
-        request ≡ Run config redial log recorded resumed allow → AreWishes redial log recorded (texts_of allow) wishes
-        → RunsFiles has lacks ran config.now (text_of resumed) wishes exit →
-        Responds has lacks ran request known known exit
-    has_run request config redial log recorded resumed allow wishes known exit is wished h =
+    pub has_run : (request : Request) (config : Bor Text) (redial log recorded : Bool) (state : Option (Bor Text))
+        (or_stop : Bool) (allow : Option (Bor (List (Bor Text)))) (wishes : Wishes) (known : Option (List ℕ))
+        (exit : ℕ) → request ≡ Run config redial log recorded state or_stop allow
+        → AreWishes redial log recorded (text_of state) or_stop (texts_of allow) wishes
+        → RunsFile has lacks ran config.now wishes exit → Responds has lacks ran request known known exit
+    has_run request config redial log recorded state or_stop allow wishes known exit is wished h =
         subst (λ (r : Request). Responds has lacks ran r known known exit) (sym is) (elim h [
           | inl live ↦ inl (inl (record { wishes = wishes; wished = wished; live = live }), keeps_same known)
           | inr none ↦ inr (none, keeps_same known)
         ])
 
-    pub no_guests : (request : Request) (config : Bor Text) (redial log recorded : Bool)
-        (resumed : Option (Bor Text)) (allow : Option (Bor (List (Bor Text)))) (fault : Fault)
-        (known : Option (List ℕ)) (exit : ℕ) → request ≡ Run config redial log recorded resumed allow
-        → IsGuestsFault (texts_of allow) fault → exit ≡ status_of fault
+    pub no_wishes : (request : Request) (config : Bor Text) (redial log recorded : Bool)
+        (state : Option (Bor Text)) (or_stop : Bool) (allow : Option (Bor (List (Bor Text)))) (fault : Fault)
+        (known : Option (List ℕ)) (exit : ℕ) → request ≡ Run config redial log recorded state or_stop allow
+        → IsWishFault (text_of state) or_stop (texts_of allow) fault → exit ≡ status_of fault
         → Responds has lacks ran request known known exit
-    no_guests request config redial log recorded resumed allow fault known exit is none status =
+    no_wishes request config redial log recorded state or_stop allow fault known exit is none status =
         subst (λ (r : Request). Responds has lacks ran r known known exit) (sym is)
         (inl (inr (record { fault = fault; is = none; status = status }), keeps_same known))

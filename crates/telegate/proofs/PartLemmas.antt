@@ -19,7 +19,7 @@ use Rattle.telegate.specs.Parts.{IsJudgedFault, IsLineFault, IsRightText, IsWron
 use Rattle.telegate.specs.Printed.{IsPoured}
 use Rattle.telegate.specs.Source.{Gives}
 use Rattle.telegate.specs.declared.fault.Fault.{Fault}
-use Rattle.telegate.specs.declared.fault.Fault.TheVariants.{Config, Trace, Script, Record, Differs, Sizes, Octets, Address, Device, Unread, NoMemory}
+use Rattle.telegate.specs.declared.fault.Fault.TheVariants.{Config, Trace, Script, Record, Sizes, Octets, Address, NoState, StateInUse, StateUnusable, Device, Unread, NoMemory}
 use Rattle.telegate.proofs.Kept.{keeps_same}
 use Rattle.telegate.proofs.Poured.{appends_none, poured_begun}
 use Rattle.telegate.proofs.TextLemmas.{few_events, lines_joined, wrong_behind, wrong_before, none_wrong_from, part_joined}
@@ -153,7 +153,9 @@ module _ (known coming : Option (List ℕ)) (first : ℕ) (h : IsJudgedTo known 
   judged_fault (Config why) wrong = absurd wrong
   judged_fault (Script n) wrong = absurd wrong
   judged_fault (Record n) wrong = absurd wrong
-  judged_fault (Differs n) wrong = absurd wrong
+  judged_fault NoState wrong = absurd wrong
+  judged_fault StateInUse wrong = absurd wrong
+  judged_fault StateUnusable wrong = absurd wrong
   judged_fault Sizes wrong = absurd wrong
   judged_fault Octets wrong = absurd wrong
   judged_fault Address wrong = absurd wrong

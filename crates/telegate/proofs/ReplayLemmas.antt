@@ -25,7 +25,7 @@ use Rattle.telegate.proofs.Kept.{keeps_same}
 use Rattle.telegate.specs.Printed.{IsClosedBy}
 use Rattle.telegate.specs.declared.closing.Closing.{Closing}
 use Rattle.telegate.specs.declared.fault.Fault.{Fault}
-use Rattle.telegate.specs.declared.fault.Fault.TheVariants.{Config, Trace, Script, Record, Differs, Sizes, Octets, Address, Device, Unread, NoMemory}
+use Rattle.telegate.specs.declared.fault.Fault.TheVariants.{Config, Trace, Script, Record, Sizes, Octets, Address, NoState, StateInUse, StateUnusable, Device, Unread, NoMemory}
 
 module _ (has : List ℕ → Type 0) (closing : Closing) (settings : Settings) (trace : List ℕ) (log : Log)
     (old new : Option (List ℕ)) (is : has trace) (faithful : IsFaithful (setup_of settings) log) where
@@ -78,7 +78,9 @@ module _ (has : List ℕ → Type 0) (closing : Closing) (settings : Settings) (
       by (Err (Trace n)) h = absurd h
       by (Err (Script n)) h = absurd h
       by (Err (Record n)) h = absurd h
-      by (Err (Differs n)) h = absurd h
+      by (Err NoState) h = absurd h
+      by (Err StateInUse) h = absurd h
+      by (Err StateUnusable) h = absurd h
       by (Err Sizes) h = absurd h
       by (Err Octets) h = absurd h
       by (Err Address) h = absurd h
@@ -104,7 +106,9 @@ stopped_by closing settings known old new began begins = by
     by (Trace n) want stop = absurd want
     by (Script n) want stop = absurd want
     by (Record n) want stop = absurd want
-    by (Differs n) want stop = absurd want
+    by NoState want stop = absurd want
+    by StateInUse want stop = absurd want
+    by StateUnusable want stop = absurd want
     by Sizes want stop = absurd want
     by Octets want stop = absurd want
     by Address want stop = absurd want
@@ -160,7 +164,9 @@ replayed config has more closing settings old new read judged wider = by
     by (Err (Trace n)) h = absurd h
     by (Err (Script n)) h = absurd h
     by (Err (Record n)) h = absurd h
-    by (Err (Differs n)) h = absurd h
+    by (Err NoState) h = absurd h
+    by (Err StateInUse) h = absurd h
+    by (Err StateUnusable) h = absurd h
     by (Err Sizes) h = absurd h
     by (Err Octets) h = absurd h
     by (Err Address) h = absurd h
@@ -174,7 +180,9 @@ wanted config has closing known (Config why) want = absurd want
 wanted config has closing known (Trace n) want = absurd want
 wanted config has closing known (Script n) want = absurd want
 wanted config has closing known (Record n) want = absurd want
-wanted config has closing known (Differs n) want = absurd want
+wanted config has closing known NoState want = absurd want
+wanted config has closing known StateInUse want = absurd want
+wanted config has closing known StateUnusable want = absurd want
 wanted config has closing known Sizes want = absurd want
 wanted config has closing known Octets want = absurd want
 wanted config has closing known Address want = absurd want
@@ -189,7 +197,9 @@ misconfigured config has closing known Unread wrong = absurd wrong
 misconfigured config has closing known (Trace n) wrong = absurd wrong
 misconfigured config has closing known (Script n) wrong = absurd wrong
 misconfigured config has closing known (Record n) wrong = absurd wrong
-misconfigured config has closing known (Differs n) wrong = absurd wrong
+misconfigured config has closing known NoState wrong = absurd wrong
+misconfigured config has closing known StateInUse wrong = absurd wrong
+misconfigured config has closing known StateUnusable wrong = absurd wrong
 misconfigured config has closing known Sizes wrong = absurd wrong
 misconfigured config has closing known Octets wrong = absurd wrong
 misconfigured config has closing known Address wrong = absurd wrong
@@ -207,7 +217,9 @@ misjudged config has closing settings known old read gives Unread wrong = inl (k
 misjudged config has closing settings known old read gives (Config why) wrong = absurd wrong
 misjudged config has closing settings known old read gives (Script n) wrong = absurd wrong
 misjudged config has closing settings known old read gives (Record n) wrong = absurd wrong
-misjudged config has closing settings known old read gives (Differs n) wrong = absurd wrong
+misjudged config has closing settings known old read gives NoState wrong = absurd wrong
+misjudged config has closing settings known old read gives StateInUse wrong = absurd wrong
+misjudged config has closing settings known old read gives StateUnusable wrong = absurd wrong
 misjudged config has closing settings known old read gives Sizes wrong = absurd wrong
 misjudged config has closing settings known old read gives Octets wrong = absurd wrong
 misjudged config has closing settings known old read gives Address wrong = absurd wrong
@@ -243,7 +255,9 @@ replayed_as config has more closing old new r wider = by r
     by (Err (Trace n)) h = (h.0, (h.1.0, wider h.1.0 h.1.1, h.1.2), h.2)
     by (Err (Script n)) h = absurd h
     by (Err (Record n)) h = absurd h
-    by (Err (Differs n)) h = absurd h
+    by (Err NoState) h = absurd h
+    by (Err StateInUse) h = absurd h
+    by (Err StateUnusable) h = absurd h
     by (Err Sizes) h = absurd h
     by (Err Octets) h = absurd h
     by (Err Address) h = absurd h

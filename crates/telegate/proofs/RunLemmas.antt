@@ -11,7 +11,7 @@ use Rattle.settings.specs.Settings.{IsReadOfText}
 use Rattle.telegate.specs.Answers.{IsGood, IsChecked}
 use Rattle.telegate.specs.declared.answer.Answer.{Answer}
 use Rattle.telegate.specs.declared.fault.Fault.{Fault}
-use Rattle.telegate.specs.declared.fault.Fault.TheVariants.{Config, Trace, Script, Record, Differs, Sizes, Octets, Address, Device, Unread, NoMemory}
+use Rattle.telegate.specs.declared.fault.Fault.TheVariants.{Config, Trace, Script, Record, Sizes, Octets, Address, NoState, StateInUse, StateUnusable, Device, Unread, NoMemory}
 
 -- what an answer promises of this end
 pub at_end : {E : Type 0} (r : Result End E) (end : End) (P : Type 0) → IfOk r (λ e. e ≡ Turns → P) → r ≡ Ok end
@@ -41,9 +41,11 @@ checked config settings (Err (Config why)) read told = absurd told
 checked config settings (Err (Trace n)) read told = absurd told
 checked config settings (Err (Script n)) read told = absurd told
 checked config settings (Err (Record n)) read told = absurd told
-checked config settings (Err (Differs n)) read told = absurd told
 checked config settings (Err Sizes) read told = absurd told
 checked config settings (Err Octets) read told = absurd told
 checked config settings (Err Address) read told = absurd told
+checked config settings (Err NoState) read told = absurd told
+checked config settings (Err StateInUse) read told = absurd told
+checked config settings (Err StateUnusable) read told = absurd told
 checked config settings (Err Device) read told = absurd told
 checked config settings (Err Unread) read told = absurd told

@@ -15,7 +15,7 @@ names name rows (Check config) h = h.0
 names name rows (Replay config trace left counts) h = h.0
 names name rows (Sim config script) h = h.0
 names name rows (Audit config text) h = h.0
-names name rows (Run config redial log recorded resumed allow) h = h.0
+names name rows (Run config redial log recorded state or_stop allow) h = h.0
 
 -- a word that is given, read from its row
 word_is : (text : Text) (given : Option Text) (word : Text) → given ≡ Some text
@@ -97,23 +97,25 @@ replay_is config trace left counts x y u v c t l n a b d e = record {
   );
 }
 
--- a word, three flags, a word that may be missing, and words that may be
-pub run_is : (config : Text) (redial log recorded : Bool) (resumed : Option Text) (allow : Option (List Text))
-    (x u v w y : Option Text) (z : Option (List Text)) (c : Bor Text) (r l k : Bool) (from : Option (Bor Text))
-    (guests : Option (Bor (List (Bor Text)))) → x ≡ Some config → u ≡ Some (flag_text redial)
-    → v ≡ Some (flag_text log) → w ≡ Some (flag_text recorded) → y ≡ resumed → z ≡ allow
+-- a word, three flags, a word that may be missing, a flag, and words that may be
+pub run_is : (config : Text) (redial log recorded : Bool) (state : Option Text) (or_stop : Bool)
+    (allow : Option (List Text)) (x u v w y : Option Text) (t : Option Text) (z : Option (List Text)) (c : Bor Text)
+    (r l k : Bool) (kept : Option (Bor Text)) (s : Bool) (guests : Option (Bor (List (Bor Text))))
+    → x ≡ Some config → u ≡ Some (flag_text redial) → v ≡ Some (flag_text log) → w ≡ Some (flag_text recorded)
+    → y ≡ state → t ≡ Some (flag_text or_stop) → z ≡ allow
     → Agree ((codes "run" ≡ codes "run") × (x ≡ Some c.now) × IsFlagOf u r × IsFlagOf v l × IsFlagOf w k
-    × (text_of from ≡ y) × (texts_of guests ≡ z))
-    ((c.now ≡ config) × (r ≡ redial) × (l ≡ log) × (k ≡ recorded) × (text_of from ≡ resumed)
+    × (text_of kept ≡ y) × IsFlagOf t s × (texts_of guests ≡ z))
+    ((c.now ≡ config) × (r ≡ redial) × (l ≡ log) × (k ≡ recorded) × (text_of kept ≡ state) × (s ≡ or_stop)
     × (texts_of guests ≡ allow))
-run_is config redial log recorded resumed allow x u v w y z c r l k from guests a b d e f g = record {
+run_is config redial log recorded state or_stop allow x u v w y t z c r l k kept s guests a b d e f i g = record {
   there = λ h. (
     (word_is config x c.now a).there h.1,
     (flag_is redial u r b).there h.2,
     (flag_is log v l d).there h.3,
     (flag_is recorded w k e).there h.4,
     h.5 ∙ f,
-    h.6 ∙ g,
+    (flag_is or_stop t s i).there h.6,
+    h.7 ∙ g,
   );
   back = λ same. (
     refl,
@@ -122,6 +124,7 @@ run_is config redial log recorded resumed allow x u v w y z c r l k from guests 
     (flag_is log v l d).back same.2,
     (flag_is recorded w k e).back same.3,
     same.4 ∙ sym f,
-    same.5 ∙ sym g,
+    (flag_is or_stop t s i).back same.5,
+    same.6 ∙ sym g,
   );
 }

@@ -20,8 +20,8 @@ abbrev pub flag : Text → Rule
 flag name = record (new_rule name) { long = Some name; action = Some SetTrue }
 
 -- `--name WORD`, anywhere behind the command, at most once
-abbrev pub named_file : Text → Rule
-named_file name = record (new_rule name) { long = Some name; action = Some Set }
+abbrev pub directory : Text → Rule
+directory name = record (new_rule name) { long = Some name; action = Some Set }
 
 -- `--name WORD`, anywhere behind the command, any number of times
 abbrev pub option : Text → Rule
@@ -56,7 +56,8 @@ audit = command (codes "audit") (word (codes "CONFIG") ∷ word (codes "RECORD")
 
 abbrev pub run : App
 run = command (codes "run") (word (codes "CONFIG") ∷ flag (codes "redial") ∷ flag (codes "log")
-    ∷ flag (codes "record") ∷ named_file (codes "resume") ∷ option (codes "allow") ∷ [])
+    ∷ flag (codes "record") ∷ directory (codes "state") ∷ flag (codes "state-or-stop")
+    ∷ option (codes "allow") ∷ [])
 
 -- the program, of whose commands one has to be named
 abbrev pub bare : App
@@ -125,11 +126,12 @@ AsksFor name rows (Sim config script) = (name ≡ codes "sim")
     × IsGiven rows (codes "CONFIG") config.now × IsGiven rows (codes "SCRIPT") script.now
 AsksFor name rows (Audit config text) = (name ≡ codes "audit")
     × IsGiven rows (codes "CONFIG") config.now × IsGiven rows (codes "RECORD") text.now
-AsksFor name rows (Run config redial log recorded resumed allow) =
+AsksFor name rows (Run config redial log recorded state or_stop allow) =
     (name ≡ codes "run") × IsGiven rows (codes "CONFIG") config.now
     × IsFlag rows (codes "redial") redial × IsFlag rows (codes "log") log
     × IsFlag rows (codes "record") recorded
-    × IsNamed rows (codes "resume") (text_of resumed)
+    × IsNamed rows (codes "state") (text_of state)
+    × IsFlag rows (codes "state-or-stop") or_stop
     × AreGiven rows (codes "allow") (texts_of allow)
 
 -- the request, or none where none is asked for

@@ -47,12 +47,12 @@ AskReplay words config trace left counts = (c t : Bor Text) (l n : Bool) →
 
 -- for a live run
 abbrev pub AskRun : List Text → (config : Text) → (redial log recorded : Bool)
-    → (resumed : Option Text) → (allow : Option (List Text)) → Type 0
-AskRun words config redial log recorded resumed allow =
-    (c : Bor Text) (r l w : Bool) (from : Option (Bor Text))
-    (guests : Option (Bor (List (Bor Text)))) → Ask words (Run c r l w from guests)
-    ((c.now ≡ config) × (r ≡ redial) × (l ≡ log) × (w ≡ recorded) × (text_of from ≡ resumed)
-    × (texts_of guests ≡ allow))
+    → (state : Option Text) → (or_stop : Bool) → (allow : Option (List Text)) → Type 0
+AskRun words config redial log recorded state or_stop allow =
+    (c : Bor Text) (r l w : Bool) (kept : Option (Bor Text)) (stops : Bool)
+    (guests : Option (Bor (List (Bor Text)))) → Ask words (Run c r l w kept stops guests)
+    ((c.now ≡ config) × (r ≡ redial) × (l ≡ log) × (w ≡ recorded) × (text_of kept ≡ state)
+    × (stops ≡ or_stop) × (texts_of guests ≡ allow))
 
 -- the name of the command of a request
 abbrev pub name_of : Request → Text
@@ -62,4 +62,4 @@ name_of (Check config) = codes "check"
 name_of (Replay config trace left counts) = codes "replay"
 name_of (Sim config script) = codes "sim"
 name_of (Audit config text) = codes "audit"
-name_of (Run config redial log recorded resumed allow) = codes "run"
+name_of (Run config redial log recorded state or_stop allow) = codes "run"

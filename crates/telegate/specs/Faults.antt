@@ -1,7 +1,7 @@
 -- The exit statuses of faults (this gateway's own profile).
 use Rattle.std.specs.Prelude.{ℕ, Result, Ok, Err}
 use Rattle.telegate.specs.declared.fault.Fault.{Fault}
-use Rattle.telegate.specs.declared.fault.Fault.TheVariants.{Config, Trace, Script, Record, Differs, Sizes, Octets, Address, Device, Unread, NoMemory}
+use Rattle.telegate.specs.declared.fault.Fault.TheVariants.{Config, Trace, Script, Record, Sizes, Octets, Address, NoState, StateInUse, StateUnusable, Device, Unread, NoMemory}
 
 -- 1 wrong content, 2 a wrong word, 3 a device that failed, 4 no memory
 abbrev pub status_of : Fault → ℕ
@@ -9,10 +9,12 @@ status_of (Config why) = 1
 status_of (Trace line) = 1
 status_of (Script line) = 1
 status_of (Record line) = 1
-status_of (Differs line) = 1
 status_of Sizes = 1
 status_of Octets = 1
 status_of Address = 2
+status_of NoState = 2
+status_of StateInUse = 3
+status_of StateUnusable = 3
 status_of Device = 3
 status_of Unread = 3
 status_of NoMemory = 4

@@ -11,3 +11,5 @@ pub mod Audits
 pub mod Examples
 pub mod Source
 pub mod Parts
+pub mod Lives
+pub mod Sites

@@ -1,7 +1,6 @@
 -- What the program does with its words and with the files that they name (this gateway's own
 -- profile).
-use Rattle.std.specs.Prelude.{◌≡◌, ◌⊎◌, ℕ, Bool, List, [], ◌∷◌, ◌++◌, Option, Some, None, Result, Vec, codes}
-use Rattle.std.specs.declared.alloc.Global.{Global}
+use Rattle.std.specs.Prelude.{◌≡◌, ◌⊎◌, ℕ, Bool, true, false, not, List, [], ◌∷◌, ◌++◌, Option, Some, None, Result, codes}
 use Rattle.std.specs.Io.KnownBytes.{Keeps}
 use Rattle.clap.specs.Words.{Text, HasKind, fault_of, kind_of, subcommand_of}
 use Rattle.clap.specs.declared.error.Error.{Error}
@@ -16,6 +15,7 @@ use Rattle.telegate.specs.declared.host.Wishes.{Wishes}
 use Rattle.telegate.specs.declared.command_line.Request.{Request}
 use Rattle.telegate.specs.declared.command_line.Request.TheVariants.{Show101, Show104, Check, Replay, Sim, Audit, Run}
 use Rattle.telegate.specs.declared.fault.Fault.{Fault}
+use Rattle.telegate.specs.declared.fault.Fault.TheVariants.{NoState}
 use Rattle.telegate.specs.declared.host.Unread.{Unread}
 use Rattle.telegate.specs.declared.host.Unread.TheVariants.{Unreadable, NoMemory}
 use Rattle.telegate.specs.declared.job.Job.{Job}
@@ -32,11 +32,7 @@ IsJobOf has (Sim config script) (job.Sim c s) = has config.now c.now × has scri
 IsJobOf has (Audit config text) (job.Audit c t) = has config.now c.now × has text.now t.now
 IsJobOf has _ _ = ⊥
 
-abbrev pub named : Option Text → List Text
-named None = []
-named (Some name) = name ∷ []
-
--- the names of a request's files, in the order of the words; the one of a record is the last
+-- the names of a request's files, in the order of the words
 abbrev pub files_of : Request → List Text
 files_of (Show101 sizes hex) = []
 files_of (Show104 hex) = []
@@ -44,7 +40,7 @@ files_of (Check config) = config.now ∷ []
 files_of (Replay config trace left counts) = config.now ∷ trace.now ∷ []
 files_of (Sim config script) = config.now ∷ script.now ∷ []
 files_of (Audit config text) = config.now ∷ text.now ∷ []
-files_of (Run config redial log recorded resumed allow) = config.now ∷ named (text_of resumed)
+files_of (Run config redial log recorded state or_stop allow) = config.now ∷ []
 
 -- this is the first of the files that can't be read
 abbrev pub IsFirstUnread : (has : Text → List ℕ → Type 0) → (lacks : Text → Type 0) → List Text
@@ -99,61 +95,64 @@ pub record HasReplayed (has : Text → List ℕ → Type 0) (config trace : Text
   pub read : has config octets
   pub ran : Runs (IsReplayed octets (has trace) closing) old new exit
 
--- The gateway ran live by settings of these octets, behind a record of these, if one is given, and
--- the exit status says how that ended.
+-- The gateway ran live by settings of these octets, and the exit status says how that ended.
 pub record HasEndedLive (ran : List ℕ → Wishes → Result (Unit {0}) Fault → Type 0)
-    (config : List ℕ) (earlier : Option (Vec ℕ Global)) (wishes : Wishes) (exit : ℕ)
-    : Type 0 where
+    (config : List ℕ) (wishes : Wishes) (exit : ℕ) : Type 0 where
   pub ended : Result (Unit {0}) Fault
-  pub run : ran config (record wishes { earlier = earlier }) ended
+  pub run : ran config wishes ended
   pub status : exit ≡ status_of_end ended
 
--- the record of a run that goes on is that of the file that is named, if one is
-abbrev pub IsEarlier : (has : Text → List ℕ → Type 0) → Option Text → Option (Vec ℕ Global)
-    → Type 0
-IsEarlier has None None = Unit {0}
-IsEarlier has (Some name) (Some octets) = has name octets.items
-IsEarlier has _ _ = ⊥
-
--- the same by the octets of these files
+-- the same by the octets of a file
 pub record HasRunLive (has : Text → List ℕ → Type 0)
     (ran : List ℕ → Wishes → Result (Unit {0}) Fault → Type 0)
-    (config : Text) (resumed : Option Text) (wishes : Wishes) (exit : ℕ) : Type 0 where
+    (config : Text) (wishes : Wishes) (exit : ℕ) : Type 0 where
   pub octets : List ℕ
   pub read : has config octets
-  pub earlier : Option (Vec ℕ Global)
-  pub is_earlier : IsEarlier has resumed earlier
-  pub live : HasEndedLive ran octets earlier wishes exit
+  pub live : HasEndedLive ran octets wishes exit
 
--- the same, or a file couldn't be read
-abbrev pub RunsFiles : (has : Text → List ℕ → Type 0) → (lacks : Text → Type 0)
+-- the same, or the file couldn't be read
+abbrev pub RunsFile : (has : Text → List ℕ → Type 0) → (lacks : Text → Type 0)
     → (ran : List ℕ → Wishes → Result (Unit {0}) Fault → Type 0) →
-    (config : Text) → (resumed : Option Text) → (wishes : Wishes) → (exit : ℕ) → Type 0
-RunsFiles has lacks ran config resumed wishes exit =
-    HasRunLive has ran config resumed wishes exit
-    ⊎ IsNotRead has lacks (config ∷ named resumed) exit
+    (config : Text) → (wishes : Wishes) → (exit : ℕ) → Type 0
+RunsFile has lacks ran config wishes exit =
+    HasRunLive has ran config wishes exit ⊎ IsNotRead has lacks (config ∷ []) exit
+
+-- the run is to stop where the state can't be kept, and none is named
+abbrev pub lacks_state : (state : Option Text) → (or_stop : Bool) → Bool
+lacks_state None or_stop = or_stop
+lacks_state (Some name) or_stop = false
 
 -- the wishes are those of the words
-pub record AreWishes (redial log recorded : Bool) (allow : Option (List Text)) (wishes : Wishes)
-    : Type 0 where
+pub record AreWishes (redial log recorded : Bool) (state : Option Text) (or_stop : Bool)
+    (allow : Option (List Text)) (wishes : Wishes) : Type 0 where
   pub redials : wishes.redial ≡ redial
   pub logs : wishes.log ≡ log
   pub records : wishes.«record» ≡ recorded
+  pub keeps : text_of wishes.state ≡ state
+  pub bears : wishes.bears_loss ≡ not or_stop
+  pub is_named : lacks_state state or_stop ≡ false
   pub guests : AreGuests allow wishes.guests
+
+-- what the words wish for can't be: a state that isn't named, or guests that aren't addresses
+abbrev pub IsWishFault : (state : Option Text) → (or_stop : Bool) → (allow : Option (List Text))
+    → Fault → Type 0
+IsWishFault state or_stop allow fault =
+    ((fault ≡ NoState) × (lacks_state state or_stop ≡ true)) ⊎ IsGuestsFault allow fault
 
 -- the gateway ran live as the words wish
 pub record HasRunAsWished (has : Text → List ℕ → Type 0)
     (ran : List ℕ → Wishes → Result (Unit {0}) Fault → Type 0) (config : Text)
-    (redial log recorded : Bool) (resumed : Option Text) (allow : Option (List Text)) (exit : ℕ)
-    : Type 0 where
+    (redial log recorded : Bool) (state : Option Text) (or_stop : Bool)
+    (allow : Option (List Text)) (exit : ℕ) : Type 0 where
   pub wishes : Wishes
-  pub wished : AreWishes redial log recorded allow wishes
-  pub live : HasRunLive has ran config resumed wishes exit
+  pub wished : AreWishes redial log recorded state or_stop allow wishes
+  pub live : HasRunLive has ran config wishes exit
 
--- a word behind `--allow` is no address, and no file was read
-pub record HasNoGuests (allow : Option (List Text)) (exit : ℕ) : Type 0 where
+-- what the words wish for can't be, and no file was read
+pub record HasNoWishes (state : Option Text) (or_stop : Bool) (allow : Option (List Text))
+    (exit : ℕ) : Type 0 where
   pub fault : Fault
-  pub is : IsGuestsFault allow fault
+  pub is : IsWishFault state or_stop allow fault
   pub status : exit ≡ status_of fault
 
 -- What a command is to do where its files can be read; a live run prints nothing but its record,
@@ -161,9 +160,10 @@ pub record HasNoGuests (allow : Option (List Text)) (exit : ℕ) : Type 0 where
 abbrev pub IsDone : (has : Text → List ℕ → Type 0)
     → (ran : List ℕ → Wishes → Result (Unit {0}) Fault → Type 0) → Request →
     (old new : Option (List ℕ)) → (exit : ℕ) → Type 0
-IsDone has ran (Run config redial log recorded resumed allow) old new exit =
-    (HasRunAsWished has ran config.now redial log recorded (text_of resumed) (texts_of allow) exit
-    ⊎ HasNoGuests (texts_of allow) exit) × Keeps old new
+IsDone has ran (Run config redial log recorded state or_stop allow) old new exit =
+    (HasRunAsWished has ran config.now redial log recorded (text_of state) or_stop
+    (texts_of allow) exit
+    ⊎ HasNoWishes (text_of state) or_stop (texts_of allow) exit) × Keeps old new
 IsDone has ran (Replay config trace left counts) old new exit =
     HasReplayed has config.now trace.now (record { left = left; counts = counts }) old new exit
 IsDone has ran request old new exit = IsJobDone has request old new exit
@@ -189,6 +189,12 @@ status_of_kind _ = 2
 abbrev pub IsTold : ErrorKind → (exit : ℕ) → Type 0
 IsTold kind exit = (exit ≡ status_of_kind kind) ⊎ (exit ≡ 3)
 
+-- in place of a command nothing is printed but help and the version
+abbrev pub IsSilent : ErrorKind → (old new : Option (List ℕ)) → Type 0
+IsSilent kind.DisplayHelp old new = Unit {0}
+IsSilent kind.DisplayVersion old new = Unit {0}
+IsSilent _ old new = Keeps old new
+
 -- the words ask for a command, and it is done
 pub record IsAskedAndDone (has : Text → List ℕ → Type 0) (lacks : Text → Type 0)
     (ran : List ℕ → Wishes → Result (Unit {0}) Fault → Type 0) (words : List Text)
@@ -197,19 +203,21 @@ pub record IsAskedAndDone (has : Text → List ℕ → Type 0) (lacks : Text →
   pub asked : IsRequestOf (subcommand_of program words) (Some request)
   pub done : Responds has lacks ran request old new exit
 
--- the words are wrong, or ask for help or the version
-pub record IsUsage (words : List Text) (exit : ℕ) : Type 0 where
+-- the words are wrong, or ask for help or the version; wrong ones print nothing
+pub record IsUsage (words : List Text) (old new : Option (List ℕ)) (exit : ℕ) : Type 0 where
   pub fault : Error
   pub kind : HasKind (fault_of program words) fault
   pub told : IsTold (kind_of fault) exit
+  pub silent : IsSilent (kind_of fault) old new
 
 -- the words name no command with all that it needs, 2
-abbrev pub IsNoRequest : List Text → (exit : ℕ) → Type 0
-IsNoRequest words exit = IsRequestOf (subcommand_of program words) None × (exit ≡ 2)
+abbrev pub IsNoRequest : List Text → (old new : Option (List ℕ)) → (exit : ℕ) → Type 0
+IsNoRequest words old new exit =
+    IsRequestOf (subcommand_of program words) None × (exit ≡ 2) × Keeps old new
 
 abbrev pub Obeys : (has : Text → List ℕ → Type 0) → (lacks : Text → Type 0)
     → (ran : List ℕ → Wishes → Result (Unit {0}) Fault → Type 0) → (words : List Text)
     → (old new : Option (List ℕ)) → (exit : ℕ) → Type 0
 Obeys has lacks ran words old new exit =
     IsAskedAndDone has lacks ran words old new exit
-    ⊎ (IsUsage words exit ⊎ IsNoRequest words exit)
+    ⊎ (IsUsage words old new exit ⊎ IsNoRequest words old new exit)

@@ -40,14 +40,16 @@ pub(crate) enum Request<'m, 'a> {
         text: &'a str,
     },
     /// The name of a file, whether a line that ends is reached again, whether it is told what
-    /// happens, whether it is recorded, the name of the file with the record of the run that goes
-    /// on, if one does, and the addresses of the control centres that may connect, if not all may.
+    /// happens, whether it is recorded, the name of the directory in which its state is kept, if it
+    /// is, whether it stops where that can't be, and the addresses of the control centres that may
+    /// connect, if not all may.
     Run {
         config: &'a str,
         redial: bool,
         log: bool,
         record: bool,
-        resume: Option<&'a str>,
+        state: Option<&'a str>,
+        state_or_stop: bool,
         allow: Option<&'m [&'a str]>,
     },
 }
@@ -70,8 +72,8 @@ fn flag<'a>(alloc: Global, name: &'a str, help: &'a str) -> Arg<'a>
         .help(help)
 }
 
-fn named_file<'a>(alloc: Global, name: &'a str, help: &'a str) -> Arg<'a>
-    ensures { IsArgument (line.named_file name.entry.now) result }
+fn directory<'a>(alloc: Global, name: &'a str, help: &'a str) -> Arg<'a>
+    ensures { IsArgument (line.directory name.entry.now) result }
 {
     Arg::new(alloc, name)
         .long(name)
@@ -194,10 +196,16 @@ fn run<'a>(alloc: Global) -> Result<Command<'a>, AllocError>
             "Tells on standard error what happens, one line each",
         ))?
         .arg(flag(alloc, "record", "Prints each event and each action"))?
-        .arg(named_file(
+        .arg(directory(
             alloc,
-            "resume",
-            "A file with the record of a run, which goes on where it ends",
+            "state",
+            "A directory in which the state is kept, from which the run goes on; it is made where \
+            it isn't there",
+        ))?
+        .arg(flag(
+            alloc,
+            "state-or-stop",
+            "Ends the run where the state can't be kept any more, in place of going on without it",
         ))?
         .arg(option(
             alloc,
@@ -347,7 +355,8 @@ fn run_of<'m, 'a>(matches: &'m ArgMatches<'a>) -> Option<Request<'m, 'a>>
         redial: is_given(matches, "redial"),
         log: is_given(matches, "log"),
         record: is_given(matches, "record"),
-        resume: given(matches, "resume"),
+        state: given(matches, "state"),
+        state_or_stop: is_given(matches, "state-or-stop"),
         allow: all_given(matches, "allow"),
     })
 }

@@ -25,24 +25,27 @@ pub fn words_by_example()
         × AskReplay (codes "replay" ∷ codes "a" ∷ codes "b" ∷ codes "--counts" ∷ [])
         (codes "a") (codes "b") false true }
     ensures runs { AskRun (codes "run" ∷ codes "a" ∷ [])
-        (codes "a") false false false None None
+        (codes "a") false false false None false None
         × AskRun (codes "run" ∷ codes "--redial" ∷ codes "a" ∷ [])
-        (codes "a") true false false None None
+        (codes "a") true false false None false None
         × AskRun (codes "run" ∷ codes "--log" ∷ codes "a" ∷ [])
-        (codes "a") false true false None None
+        (codes "a") false true false None false None
         × AskRun
-        (codes "run" ∷ codes "--record" ∷ codes "--resume" ∷ codes "b" ∷ codes "a" ∷ [])
-        (codes "a") false false true (Some (codes "b")) None
+        (codes "run" ∷ codes "--record" ∷ codes "--state" ∷ codes "b" ∷ codes "a" ∷ [])
+        (codes "a") false false true (Some (codes "b")) false None
+        × AskRun (codes "run" ∷ codes "--state-or-stop" ∷ codes "a" ∷ codes "--state"
+        ∷ codes "b" ∷ [])
+        (codes "a") false false false (Some (codes "b")) true None
         × AskRun (codes "run" ∷ codes "--allow" ∷ codes "b" ∷ codes "a" ∷ codes "--allow"
         ∷ codes "c" ∷ [])
-        (codes "a") false false false None (Some (codes "b" ∷ codes "c" ∷ [])) }
+        (codes "a") false false false None false (Some (codes "b" ∷ codes "c" ∷ [])) }
     ensures wrong { (end_with 2 [] ≡ true) × (end_with 2 (codes "bogus" ∷ []) ≡ true)
         × (end_with 2 (codes "--bogus" ∷ []) ≡ true)
         × (end_with 2 (codes "check" ∷ []) ≡ true)
         × (end_with 2 (codes "check" ∷ codes "a" ∷ codes "b" ∷ []) ≡ true)
         × (end_with 2 (codes "check" ∷ codes "--left" ∷ codes "a" ∷ []) ≡ true)
         × (end_with 2 (codes "replay" ∷ codes "a" ∷ []) ≡ true)
-        × (end_with 2 (codes "run" ∷ codes "a" ∷ codes "--resume" ∷ []) ≡ true) }
+        × (end_with 2 (codes "run" ∷ codes "a" ∷ codes "--state" ∷ []) ≡ true) }
     ensures help { (end_with 0 (codes "--help" ∷ []) ≡ true)
         × (end_with 0 (codes "check" ∷ codes "--help" ∷ []) ≡ true)
         × (end_with 0 (codes "--version" ∷ []) ≡ true) }

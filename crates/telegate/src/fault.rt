@@ -37,9 +37,6 @@ pub(crate) enum Fault {
     /// This line of the record tells neither an event nor an action.
     #[error("record: line {0}")]
     Record(u64),
-    /// The record isn't that of a gateway with these settings: the first line that isn't the run's.
-    #[error("record: line {0} differs")]
-    Differs(u64),
     /// The sizes of a line's addresses are no such four digits.
     #[error("bad sizes")]
     Sizes,
@@ -49,6 +46,15 @@ pub(crate) enum Fault {
     /// A word behind `--allow` is no address.
     #[error("error: --allow takes the address of a host, as 192.0.2.7")]
     Address,
+    /// The run is to stop where the state can't be kept, and it isn't to be kept anywhere.
+    #[error("error: --state-or-stop needs --state with a directory")]
+    NoState,
+    /// Another process keeps its state there.
+    #[error("state: in use by another process")]
+    StateInUse,
+    /// The state can't be kept there.
+    #[error("state: can't be kept there")]
+    StateUnusable,
     /// The output can't be written.
     #[error("device failed")]
     Device,
@@ -85,11 +91,10 @@ impl Fault {
             | Fault::Trace(_)
             | Fault::Script(_)
             | Fault::Record(_)
-            | Fault::Differs(_)
             | Fault::Sizes
             | Fault::Octets => BAD_CONTENT,
-            Fault::Address => USAGE,
-            Fault::Device | Fault::Unread => DEVICE_FAILED,
+            Fault::Address | Fault::NoState => USAGE,
+            Fault::StateInUse | Fault::StateUnusable | Fault::Device | Fault::Unread => DEVICE_FAILED,
             Fault::NoMemory => NO_MEMORY,
         }
     }

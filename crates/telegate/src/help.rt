@@ -48,14 +48,14 @@ pub(crate) const RUN: &str = "\
 CONFIG has a table `live` with two keys:
   line = \"tcp:HOST:PORT\"    a serial device server, or \"unix:PATH\"
   listen = \"HOST:PORT\"      where control centres connect (the usual port is 2404)
-It begins with an empty queue: what no control centre had acknowledged is lost with the process. Who
-connects takes the control centre's place, if --allow (given once for each address) lets it in;
-without --allow anyone is let in. With --redial it lives on where the line ends or isn't there. With
---log standard error has a line for what happens. Standard output stays empty without --record; with
-it each event is printed, as a trace has it, before the gateway hears of it, and each action, as
-replay prints it. With --resume the run goes on where such a record ends, and the connection of then
-is cut:
-  telegate run --record --resume RECORD CONFIG >> RECORD
-goes on and keeps one record, which audit takes.
-Exit status: 1 wrong settings or record, 2 usage, 3 a file can't be read, the line can't be reached
-or ended, or listening failed, 4 no memory";
+With --state DIR the run's state stands in that directory, on the disk before anything goes out that
+follows from it: the next run there goes on where this one ended, however that was. Without it a run
+begins with an empty queue: what no control centre had acknowledged is lost with the process. Where
+the state can't be kept any more the run goes on without it, tells that, and tries again; with
+--state-or-stop it ends. Who connects takes the control centre's place, if --allow (given once for
+each address) lets it in; without --allow anyone is let in. With --redial the run lives on where the
+line ends or isn't there. With --log standard error has a line for what happens. Standard output
+stays empty without --record; with it each event is printed, as a trace has it, before the gateway
+hears of it, and each action, as replay prints it.
+Exit status: 1 wrong settings, 2 usage, 3 a file can't be read, the state is another process's or
+can't be kept there, the line can't be reached or ended, or listening failed, 4 no memory";

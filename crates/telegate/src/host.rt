@@ -6,7 +6,9 @@ ghost use Rattle.telegate.specs.declared.host.Unread.TheVariants as unread;
 ghost use Rattle.telegate.specs.declared.host.Wishes.{Wishes};
 
 use crate::fault::Fault;
-use crate::running::run_live;
+use crate::living::{read_live, run_anew};
+use crate::running::DeviceFailed;
+use crate::site::Process;
 use crate::source::Source;
 use live::Guests;
 use std::fs::File;
@@ -27,16 +29,18 @@ pub(crate) enum Unread {
 }
 
 /// What a live run is to do beside its settings.
-#[derive(Debug, PartialEq, Eq, Drop)]
-pub(crate) struct Wishes {
+#[derive(Debug, Drop)]
+pub(crate) struct Wishes<'a> {
     /// A line that isn't there, or ends, is reached again.
     pub(crate) redial: bool,
     /// What happens is told on standard error.
     pub(crate) log: bool,
     /// Each event and each action is printed.
     pub(crate) record: bool,
-    /// The octets of the record of a run that goes on.
-    pub(crate) earlier: Option<Vec<u8>>,
+    /// The name of the directory in which the state is kept, if it is to be.
+    pub(crate) state: Option<&'a str>,
+    /// Where the state can't be kept any more the run goes on without it.
+    pub(crate) bears_loss: bool,
     /// Who may connect.
     pub(crate) guests: Guests,
 }
@@ -73,8 +77,8 @@ pub(crate) trait Host {
     fn is_watched(&self) -> bool;
 
     /// Runs the gateway live, by settings of these octets, until it ends.
-    fn run(&self, config: &[u8], wishes: Wishes) -> Result<(), Fault>
-        ensures { ran self.now config.now wishes result };
+    fn run(&self, config: &[u8], wishes: Wishes<'_>) -> Result<(), Fault>
+        ensures { ran self.now config.now wishes.entry result };
 }
 
 /// The system of a process. Of what its files hold nothing is known.
@@ -129,12 +133,21 @@ where
         self.is_watched
     }
 
-    fn run(&self, config: &[u8], wishes: Wishes) -> Result<(), Fault> {
+    fn run(&self, config: &[u8], wishes: Wishes<'_>) -> Result<(), Fault> {
         // Held until the run is over.
         let Ok(_held) = standard_descriptors(self.rt) else {
             return Err(Fault::Device);
         };
-        run_live(self.rt, config, wishes)
+        let (config, places) = read_live(self.rt.alloc(), config)?;
+        let site = Process {
+            rt: self.rt,
+            places: &places,
+        };
+        let lived = run_anew(&site, &config, wishes)?;
+        match lived.ended {
+            Ok(()) => Ok(()),
+            Err(DeviceFailed) => Err(Fault::Device),
+        }
     }
 }
 

@@ -28,6 +28,8 @@ mod guests;
 mod help;
 mod host;
 mod job;
+mod life;
+mod living;
 mod paged;
 mod performing;
 mod printed;
@@ -36,6 +38,7 @@ mod running;
 mod shell;
 mod showing;
 mod simulating;
+mod site;
 mod source;
 
 use fault::{Fault, USAGE};

@@ -1,11 +1,11 @@
 //! What the program does with its words: the files that they name are read, and the command is
 //! done.
-ghost use Rattle.std.specs.Prelude.{◌≡◌, ◌∷◌, [], IfErr, IfOk, OnOk, map, string_bytes};
+ghost use Rattle.std.specs.Prelude.{◌≡◌, ◌⊎◌, ◌∷◌, [], IfErr, IfOk, OnOk, map, string_bytes};
 ghost use Rattle.std.specs.Io.KnownBytes.{Appends};
 ghost use Rattle.clap.specs.Words.{kind_of};
-ghost use Rattle.telegate.specs.CommandLine.{text_of};
+ghost use Rattle.telegate.specs.CommandLine.{text_of, texts_of};
 ghost use Rattle.telegate.specs.Answers.{IsReplayed, Runs};
-ghost use Rattle.telegate.specs.Shell.{HasEndedLive, IsNotRead, IsTold, Obeys, ReplaysFile, Responds, RunsFiles, unreadable_line};
+ghost use Rattle.telegate.specs.Shell.{AreWishes, HasEndedLive, IsNotRead, IsSilent, IsTold, IsWishFault, Obeys, ReplaysFile, Responds, RunsFile, unreadable_line};
 
 use crate::closing::Closing;
 use crate::command_line::{Request, parse, request_of};
@@ -46,13 +46,26 @@ pub(crate) fn obey<H: Host, W: Write, E: Write>(
 
 /// Prints what the words gave in place of a command, and answers the exit status.
 fn tell_usage<W: Write, E: Write>(fault: &Error, out: &mut W, err: &mut E) -> u8
-    ensures { IsTold (kind_of fault.now) result }
+    ensures told { IsTold (kind_of fault.now) result }
+    ensures silent { IsSilent (kind_of fault.now) (W.contents out.old) (W.contents out.new) }
 {
-    let (printed, status) = match fault.kind() {
-        ErrorKind::OutOfMemory => return tell(&Fault::NoMemory, err),
-        ErrorKind::DisplayHelp | ErrorKind::DisplayVersion => (show(fault, out), DONE),
-        _ => (show(fault, err), USAGE),
-    };
+    match fault.kind() {
+        ErrorKind::OutOfMemory => tell(&Fault::NoMemory, err),
+        ErrorKind::DisplayHelp | ErrorKind::DisplayVersion => {
+            let printed = show(fault, out);
+            end_of(&printed, DONE, err)
+        }
+        _ => {
+            let printed = show(fault, err);
+            end_of(&printed, USAGE, err)
+        }
+    }
+}
+
+/// The exit status behind a text that was to be printed: this one, if it was.
+fn end_of<E: Write>(printed: &io::Result<()>, status: u8, err: &mut E) -> u8
+    ensures { (result ≡ status) ⊎ (result ≡ 3) }
+{
     match printed {
         Ok(()) => status,
         Err(_) => tell(&Fault::Device, err),
@@ -128,21 +141,44 @@ pub(crate) fn respond<H: Host, W: Write, E: Write>(
             redial,
             log,
             record,
-            resume,
+            state,
+            state_or_stop,
             allow,
-        } => match guests_of(alloc, *allow) {
-            Ok(guests) => {
-                let wishes = Wishes {
-                    redial: *redial,
-                    log: *log,
-                    record: *record,
-                    earlier: None,
-                    guests,
-                };
-                run_files(host, *config, *resume, wishes, err)
-            }
+        } => match wishes_of(alloc, *redial, *log, *record, *state, *state_or_stop, *allow) {
+            Ok(wishes) => run_file(host, *config, wishes, err),
             Err(fault) => tell(&fault, err),
         },
+    }
+}
+
+/// What the words of a live run wish for.
+fn wishes_of<'a>(
+    alloc: Global,
+    redial: bool,
+    log: bool,
+    record: bool,
+    state: Option<&'a str>,
+    state_or_stop: bool,
+    allow: Option<&[&'a str]>,
+) -> Result<Wishes<'a>, Fault>
+    ensures wishes { IfOk result (AreWishes redial log «record» (text_of state.entry) state_or_stop
+        (texts_of allow.entry)) }
+    ensures fault { IfErr result (IsWishFault (text_of state.entry) state_or_stop
+        (texts_of allow.entry)) }
+{
+    if state_or_stop && state.is_none() {
+        return Err(Fault::NoState);
+    }
+    match guests_of(alloc, allow) {
+        Ok(guests) => Ok(Wishes {
+            redial,
+            log,
+            record,
+            state,
+            bears_loss: !state_or_stop,
+            guests,
+        }),
+        Err(fault) => Err(fault),
     }
 }
 
@@ -195,43 +231,21 @@ fn replay_text<S: Source, W: Write, E: Write>(
     }
 }
 
-/// Runs the gateway live by the settings of a file, from the end of a record if there is one, and
-/// answers the exit status.
-fn run_files<H: Host, E: Write>(
-    host: &H,
-    config: &str,
-    resume: Option<&str>,
-    wishes: Wishes,
-    err: &mut E,
-) -> u8
-    ensures { RunsFiles (H.has host.now) (H.lacks host.now)
-        (H.ran host.now) config.now (text_of resume.entry) wishes result }
+/// Runs the gateway live by the settings of a file, and answers the exit status.
+fn run_file<H: Host, E: Write>(host: &H, config: &str, wishes: Wishes<'_>, err: &mut E) -> u8
+    ensures { RunsFile (H.has host.now) (H.lacks host.now) (H.ran host.now) config.now
+        wishes.entry result }
 {
-    match resume {
-        None => match read_file(host, config, err) {
-            Ok(config) => run_live(host, config.as_slice(), None, wishes, err),
-            Err(status) => status,
-        },
-        Some(record) => match read_files(host, config, record, err) {
-            Ok((config, earlier)) => {
-                run_live(host, config.as_slice(), Some(earlier), wishes, err)
-            }
-            Err(status) => status,
-        },
+    match read_file(host, config, err) {
+        Ok(config) => run_live(host, config.as_slice(), wishes, err),
+        Err(status) => status,
     }
 }
 
-/// Runs the gateway live by settings of these octets, behind a record of these, if one is given.
-fn run_live<H: Host, E: Write>(
-    host: &H,
-    config: &[u8],
-    earlier: Option<Vec<u8>>,
-    mut wishes: Wishes,
-    err: &mut E,
-) -> u8
-    ensures { HasEndedLive (H.ran host.now) config.now earlier wishes result }
+/// Runs the gateway live by settings of these octets.
+fn run_live<H: Host, E: Write>(host: &H, config: &[u8], wishes: Wishes<'_>, err: &mut E) -> u8
+    ensures { HasEndedLive (H.ran host.now) config.now wishes.entry result }
 {
-    wishes.earlier = earlier;
     match host.run(config, wishes) {
         Ok(()) => DONE,
         Err(fault) => tell(&fault, err),

@@ -67,8 +67,9 @@ fn the_wall_clock_is_told_each_second_between_the_looks(rt: HostRuntime) {
     let time = Time::new(0, 0);
     let mut port = ends(&time, 60000, false);
     tells_wall(&rt, &mut port, 0);
-    assert!(rt; matches!(next_of_all(&rt, &mut port), Next::Tick(1)));
-    time.pass(998);
+    assert!(rt; matches!(next_of_all(&rt, &mut port), Next::Tick(100)));
+    time.pass(899);
+    // It is due: no tick waits for the rest of its 100 ms.
     assert!(rt; matches!(next_of_all(&rt, &mut port), Next::Tick(1000)));
     tells_wall(&rt, &mut port, 1000);
     // A stall right after it is no cause to tell it again before the ends are looked at.
@@ -77,7 +78,7 @@ fn the_wall_clock_is_told_each_second_between_the_looks(rt: HostRuntime) {
     tells_wall(&rt, &mut port, 4001);
     // In a stall after a request it is told as it stood at the moment that is due.
     ask(&rt, &mut port, 4001);
-    assert!(rt; matches!(next_of_all(&rt, &mut port), Next::Tick(4002)));
+    assert!(rt; matches!(next_of_all(&rt, &mut port), Next::Tick(4101)));
     time.pass(1200);
     tells_wall(&rt, &mut port, 5000);
 }
@@ -94,7 +95,22 @@ fn a_stalled_request_has_its_whole_time(rt: HostRuntime) {
     time.pass(200);
     assert!(rt; matches!(next(&rt, &mut port), Next::Line(999, 5)));
     ask(&rt, &mut port, 999);
-    assert!(rt; matches!(next(&rt, &mut port), Next::Tick(1402)));
+    assert!(rt; matches!(next(&rt, &mut port), Next::Tick(1600)));
+}
+
+/// Ticks are 100 ms apart, but for the one that ends an exchange.
+#[test]
+fn a_tick_ends_the_exchange_at_once(rt: HostRuntime) {
+    let time = Time::new(0, 0);
+    let mut port = ends(&time, 60000, false);
+    tells_wall(&rt, &mut port, 0);
+    time.pass(130);
+    ask(&rt, &mut port, 130);
+    // At 1000 the wall clock is due, at 1131 the exchange is over.
+    for tick in [230, 330, 430, 530, 630, 730, 830, 930, 1000, 1100, 1131, 1231] {
+        let told = next(&rt, &mut port);
+        assert!(rt; matches!(told, Next::Tick(moment) if moment == tick), "{tick}");
+    }
 }
 
 /// The next two events after a request at 0, after which the gateway stalls for so long, and so

@@ -56,8 +56,8 @@ fn ends(line: Ways, visitor: Option<Ways>) -> Ends {
         Some(ways) => Some(wire(ways)),
         None => None,
     };
-    let door = MemoryDoor { visitor };
-    let mut port = Live::awaiting(wire(line), door, MemoryClock(0), Guests::Anyone, 1000);
+    let door = MemoryDoor::new(visitor);
+    let mut port = Live::awaiting(wire(line), door, MemoryClock::new(), Guests::Anyone, 1000);
     port.walled.tell(0);
     port
 }
@@ -137,9 +137,10 @@ const PORTS: [(&str, Ways, Option<Ways>, &[Step]); 9] = [
         QUIET,
         None,
         &[
-            Step::Gives('T', 2, 0),
-            Step::Gives('T', 4, 0),
-            Step::Line(2, 0),
+            // Each round of looks takes 1 ms, and a tick comes 100 ms after the first began.
+            Step::Gives('T', 101, 0),
+            Step::Gives('T', 202, 0),
+            Step::Line(200, 0),
         ],
     ),
     (
@@ -149,7 +150,7 @@ const PORTS: [(&str, Ways, Option<Ways>, &[Step]); 9] = [
         &[
             Step::Gives('O', 2, 0),
             Step::Gives('C', 4, 0),
-            Step::Gives('T', 6, 0),
+            Step::Gives('T', 105, 0),
             Step::Failures(0),
         ],
     ),
@@ -183,7 +184,7 @@ const PORTS: [(&str, Ways, Option<Ways>, &[Step]); 9] = [
             Step::Sends,
             Step::Closes(Close::Timeout),
             Step::Connection(None),
-            Step::Gives('T', 4, 0),
+            Step::Gives('T', 103, 0),
         ],
     ),
     (
@@ -205,7 +206,7 @@ const PORTS: [(&str, Ways, Option<Ways>, &[Step]); 9] = [
         "without a connection an APDU is dropped",
         QUIET,
         None,
-        &[Step::Sends, Step::Gives('T', 2, 0)],
+        &[Step::Sends, Step::Gives('T', 101, 0)],
     ),
     (
         "a request that the line does not take is lost",
@@ -216,7 +217,7 @@ const PORTS: [(&str, Ways, Option<Ways>, &[Step]); 9] = [
             Step::Failures(0),
             Step::Asks,
             Step::Line(0, 2),
-            Step::Gives('T', 4, 0),
+            Step::Gives('T', 103, 0),
         ],
     ),
     (
@@ -224,8 +225,8 @@ const PORTS: [(&str, Ways, Option<Ways>, &[Step]); 9] = [
         (false, 2, 0),
         None,
         &[
-            Step::Gives('T', 2, 0),
             Step::Gives('F', 0, 0),
+            Step::Line(2, 0),
             Step::Failures(1),
         ],
     ),
@@ -284,14 +285,22 @@ fn each_read_and_write_can_fail(rt: HostRuntime) {
             "{n}"
         );
         assert!(rt; fails_at(n, read, None, &LINE_READ, &FAULT), "{n}");
-        // One that isn't taken is no failure.
+    }
+}
+
+#[test]
+fn each_request_can_be_lost(rt: HostRuntime) {
+    // A tick takes 100 looks; within a second, behind which the wall clock is told.
+    for n in 1..=9 {
+        // A request that isn't taken is no failure.
         let lost = [
             Step::Failures(0),
             Step::Asks,
             Step::Finds('T', 0),
-            Step::Line(n, n),
+            Step::Line(100 * n, n),
             Step::Failures(0),
         ];
+        let write = (false, 0, n);
         assert!(rt; fails_at(n, write, None, &LINE_WRITE, &lost), "{n}");
     }
 }

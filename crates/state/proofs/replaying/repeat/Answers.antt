@@ -14,6 +14,6 @@ returns-in-Finished g c =
     let first : Follows p c.args.gateway.now (Some (log_of c.over-port.result))
     = subst (Follows p c.args.gateway.now) (sym start) follows in
     let rested : Rests p (Some (log_of c.over-port.result)) = subst (Rests p) (sym start) rests in
-    replayed p _ _ _ c.drive_on-end.new.port (c.in-Finished.ensures.kept p first rested)
+    replayed p _ _ _ _ c.drive_on-end.new.port (c.in-Finished.ensures.kept p first rested)
     (c.in-Finished.ensures.rests p first rested) c.is_over-is_over.ensures.whole (omega arith)
-    (c.in-Finished.ensures.finished refl) c.is_over-is_over.ensures.earlier
+    (c.in-Finished.ensures.finished refl) c.is_over-is_over.ensures.earlier c.gap.ensures

@@ -1,7 +1,7 @@
 use Rattle.std.proofs.lemmas.Result.{IfOk-weaker}
 use Rattle.clap.specs.Words.{AddsArg, new_app}
 use Rattle.std.specs.Prelude.{codes}
-use Rattle.telegate.specs.CommandLine.{IsCommand, word, flag, named_file, option}
+use Rattle.telegate.specs.CommandLine.{IsCommand, word, flag, directory, option}
 use Rattle.telegate.specs.CommandLine as line
 use Rattle.telegate.proofs.Commands.{with_argument}
 use Rattle.telegate.proofs.command_line.run.Goals as goal
@@ -17,7 +17,9 @@ returns c =
     c.in_ok-arg-3.ensures in
     let fourth = with_argument _ (flag (codes "record")) _ c.in_ok-arg-4.field-0 c.flag-3.result third
     c.flag-3.ensures c.in_ok-arg-4.ensures in
-    let fifth = with_argument _ (named_file (codes "resume")) _ c.in_ok-arg-5.field-0 c.named_file.result fourth
-    c.named_file.ensures c.in_ok-arg-5.ensures in
-    IfOk-weaker c.arg-6.result (AddsArg c.in_ok-arg-5.field-0 c.option.result) (IsCommand line.run)
-    (λ r adds. with_argument _ (option (codes "allow")) _ r c.option.result fifth c.option.ensures adds) c.arg-6.ensures
+    let fifth = with_argument _ (directory (codes "state")) _ c.in_ok-arg-5.field-0 c.directory.result fourth
+    c.directory.ensures c.in_ok-arg-5.ensures in
+    let sixth = with_argument _ (flag (codes "state-or-stop")) _ c.in_ok-arg-6.field-0 c.flag-4.result fifth
+    c.flag-4.ensures c.in_ok-arg-6.ensures in
+    IfOk-weaker c.arg-7.result (AddsArg c.in_ok-arg-6.field-0 c.option.result) (IsCommand line.run)
+    (λ r adds. with_argument _ (option (codes "allow")) _ r c.option.result sixth c.option.ensures adds) c.arg-7.ensures

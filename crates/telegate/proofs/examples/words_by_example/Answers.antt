@@ -34,30 +34,35 @@ returns-clause-replays c = (
 pub returns-clause-runs : goal.returns-clause-runs
 unfolding bundle_met walked flags_fault walk_fault defaults_fault
 returns-clause-runs c = (
-  λ c r l w from guests. (
+  λ c r l w kept stops guests. (
     refl,
-    run_is (codes "a") false false false None None _ _ _ _ _ _ c r l w from guests refl
-        refl refl refl refl refl,
+    run_is (codes "a") false false false None false None _ _ _ _ _ _ _ c r l w kept stops guests refl refl refl refl refl refl
+        refl,
   ),
-  λ c r l w from guests. (
+  λ c r l w kept stops guests. (
     refl,
-    run_is (codes "a") true false false None None _ _ _ _ _ _ c r l w from guests refl refl
-        refl refl refl refl,
+    run_is (codes "a") true false false None false None _ _ _ _ _ _ _ c r l w kept stops guests refl refl refl refl refl refl
+        refl,
   ),
-  λ c r l w from guests. (
+  λ c r l w kept stops guests. (
     refl,
-    run_is (codes "a") false true false None None _ _ _ _ _ _ c r l w from guests refl refl
-        refl refl refl refl,
+    run_is (codes "a") false true false None false None _ _ _ _ _ _ _ c r l w kept stops guests refl refl refl refl refl refl
+        refl,
   ),
-  λ c r l w from guests. (
+  λ c r l w kept stops guests. (
     refl,
-    run_is (codes "a") false false true
-        (Some (codes "b")) None _ _ _ _ _ _ c r l w from guests refl refl refl refl refl refl,
+    run_is (codes "a") false false true (Some (codes "b")) false None _ _ _ _ _ _ _ c r l w kept stops guests refl refl refl refl refl refl
+        refl,
   ),
-  λ c r l w from guests. (
+  λ c r l w kept stops guests. (
     refl,
-    run_is (codes "a") false false false None
-        (Some (codes "b" ∷ codes "c" ∷ [])) _ _ _ _ _ _ c r l w from guests refl refl refl refl refl refl,
+    run_is (codes "a") false false false (Some (codes "b")) true None _ _ _ _ _ _ _ c r l w kept stops guests refl refl refl refl refl refl
+        refl,
+  ),
+  λ c r l w kept stops guests. (
+    refl,
+    run_is (codes "a") false false false None false (Some (codes "b" ∷ codes "c" ∷ [])) _ _ _ _ _ _ _ c r l w kept stops guests refl refl refl refl refl refl
+        refl,
   ),
 )
 

@@ -8,6 +8,7 @@ use Rattle.telegate.proofs.running.serve.Given as goal
 abbrev pub invariant-turning : goal.invariant-turning
 invariant-turning g l = record {
   healthy : g.P.Port.failed l.journal.port ≡ g.P.Port.failed l.initial.journal.port;
+  fixed : g.P.Port.script l.journal.port ≡ g.P.Port.script l.initial.journal.port;
   more : MoreEvents l.counter (g.P.Port.log l.initial.journal.port) (g.P.Port.log l.journal.port);
   faithful : (p : Setup) → Follows p l.initial.gateway (g.P.Port.log l.initial.journal.port)
       → Rests p (g.P.Port.log l.initial.journal.port)

@@ -1,6 +1,6 @@
-use Rattle.std.proofs.Common.{None, ap, refl, ◌∷◌, []}
+use Rattle.std.proofs.Common.{ap, ◌∷◌, []}
 use Rattle.telegate.specs.Shell.{files_of}
-use Rattle.telegate.proofs.Files.{first_of_more, has_run, no_guests, unanswered}
+use Rattle.telegate.proofs.Files.{first_of_more, has_run, no_wishes, unanswered}
 use Rattle.telegate.proofs.shell.respond.Goals as goal
 
 pub returns-in-Err : goal.returns-in-Err
@@ -31,25 +31,18 @@ returns-in-Err-read_files-2 g c =
     (g.W.Write.contents c.args.out.now) c.in-Err-read_files-2.status
     (ap files_of c.in-Audit.is) c.in-Err-read_files-2.ensures.unread
 
-pub returns-in-Ok-guests_of : goal.returns-in-Ok-guests_of
-returns-in-Ok-guests_of g c =
+pub returns-in-Ok-wishes_of : goal.returns-in-Ok-wishes_of
+returns-in-Ok-wishes_of g c =
     has_run (g.H.Host.has c.args.host.now) (g.H.Host.lacks c.args.host.now)
     (g.H.Host.ran c.args.host.now) c.args.request.now c.in-Run.config c.in-Run.redial c.in-Run.log c.in-Run.record
-    c.in-Run.resume c.in-Run.allow
-    (record {
-      redial = c.in-Run.redial;
-      log = c.in-Run.log;
-      «record» = c.in-Run.record;
-      earlier = None;
-      guests = c.in-Ok-guests_of.guests;
-    }) (g.W.Write.contents c.args.out.now) c.run_files.result c.in-Run.is
-    (record { redials = refl; logs = refl; records = refl; guests = c.in-Ok-guests_of.ensures.guests })
-    c.run_files.ensures
+    c.in-Run.state c.in-Run.state_or_stop c.in-Run.allow c.in-Ok-wishes_of.wishes
+    (g.W.Write.contents c.args.out.now) c.run_file.result c.in-Run.is c.in-Ok-wishes_of.ensures.wishes
+    c.run_file.ensures
 
-pub returns-in-Err-guests_of : goal.returns-in-Err-guests_of
-returns-in-Err-guests_of g c =
-    no_guests (g.H.Host.has c.args.host.now) (g.H.Host.lacks c.args.host.now)
+pub returns-in-Err-wishes_of : goal.returns-in-Err-wishes_of
+returns-in-Err-wishes_of g c =
+    no_wishes (g.H.Host.has c.args.host.now) (g.H.Host.lacks c.args.host.now)
     (g.H.Host.ran c.args.host.now) c.args.request.now c.in-Run.config c.in-Run.redial c.in-Run.log c.in-Run.record
-    c.in-Run.resume c.in-Run.allow c.in-Err-guests_of.fault
+    c.in-Run.state c.in-Run.state_or_stop c.in-Run.allow c.in-Err-wishes_of.fault
     (g.W.Write.contents c.args.out.now) c.tell.result c.in-Run.is
-    c.in-Err-guests_of.ensures.fault c.tell.ensures
+    c.in-Err-wishes_of.ensures.fault c.tell.ensures

@@ -1,0 +1,257 @@
+//! The log of a run in two files of a directory.
+ghost use Rattle.std.specs.Prelude.{◌≡◌, ◌++◌, ◌∷◌, [], IfOk, IfSome, IsTrue, OnOk, Some, length, true, false};
+ghost use Rattle.gateway.specs.Restored.{state_lines};
+ghost use Rattle.segments.specs.Segment.{durable_of, text_of};
+ghost use Rattle.segments.specs.Writer.{appended_to};
+ghost use Rattle.state.specs.Logs.{IsHeaded};
+ghost use Rattle.statetext.specs.Text.{lines_in};
+
+use crate::folder::Folder;
+use crate::loss::Loss;
+use crate::opened::{Current, Opened, files_of};
+use crate::store::Store;
+use checkpoint::{Sheet, StateFault};
+use gateway::Gateway;
+use segments::{Segment, Side, Writer};
+use sqlite_disk::{Disk, Files};
+use statetext::TextSheet;
+use std::alloc::Global;
+use std::mem;
+
+/// How many blocks of 4,096 zeros stand behind a checkpoint, for the lines to come: 3,997,696
+/// octets. A new log is due before they are full.
+const BLOCKS: usize = 976;
+
+/// A log in two files of a directory, which are written in turn: a segment begins with the settings
+/// and the state of a gateway, and then has lines. The next one goes into the other file, and
+/// stands there whole before the one before is touched. A file whose write or sync failed is used
+/// no more: both are opened anew where the next segment begins.
+#[derive(Drop)]
+pub struct DiskStore<F: Folder + Drop> {
+    alloc: Global,
+    folder: F,
+    /// The file of settings of the run.
+    settings: Vec<u8>,
+    opened: Opened<F::File>,
+    /// In which file the newest segment stands.
+    side: Side,
+    /// The number of the next segment.
+    number: u64,
+    /// It is known that no mark stands on the disk.
+    is_unmarked: bool,
+    ghost unmarked: { IsTrue is_unmarked → F.mark folder ≡ Some false },
+}
+
+impl<F: Folder + Drop> DiskStore<F> {
+    ghost use Rattle.state.specs.Logs.{stored_in};
+
+    /// One over a directory whose files aren't open. The newest segment stands in this file, and
+    /// the next one has this number.
+    pub(crate) fn new(
+        alloc: Global,
+        folder: F,
+        settings: Vec<u8>,
+        side: Side,
+        number: u64,
+    ) -> DiskStore<F>
+        ensures settings { result.settings ≡ settings }
+        ensures folder { result.folder ≡ folder }
+        ensures side { result.side ≡ side }
+    {
+        DiskStore {
+            alloc,
+            folder,
+            settings,
+            opened: Opened::Neither,
+            side,
+            number,
+            is_unmarked: false,
+        }
+    }
+
+    /// The same with both files open.
+    pub(crate) fn with_files(self, newest: F::File, spare: F::File) -> DiskStore<F> {
+        let DiskStore {
+            alloc,
+            folder,
+            settings,
+            opened: _,
+            side,
+            number,
+            is_unmarked,
+        } = self;
+        DiskStore {
+            alloc,
+            folder,
+            settings,
+            opened: Opened::Both(newest, spare),
+            side,
+            number,
+            is_unmarked,
+        }
+    }
+
+    /// Both files, usable: that of the newest segment, and the one for the next.
+    fn take_files(&mut self) -> Option<(F::File, F::File)>
+        ensures newest { IfSome result (λ files. IsTrue (F.File.is_usable files.0)) }
+        ensures spare { IfSome result (λ files. IsTrue (F.File.is_usable files.1)) }
+        ensures settings { self.new.settings ≡ self.old.settings }
+    {
+        let opened = mem::replace(&mut self.opened, Opened::Neither);
+        if let Some(files) = files_of(opened) {
+            return Some(files);
+        }
+        match self.folder.open() {
+            Ok(files) => Some(in_order(files, self.side)),
+            Err(_) => None,
+        }
+    }
+
+    /// Takes the mark away, unless none stands.
+    fn unmark(&mut self) -> bool
+        ensures mark { result ≡ true → F.mark self.new.folder ≡ Some false }
+        ensures opened { self.new.opened ≡ self.old.opened }
+        ensures settings { self.new.settings ≡ self.old.settings }
+    {
+        if self.is_unmarked {
+            return true;
+        }
+        self.is_unmarked = self.folder.unmark();
+        self.is_unmarked
+    }
+}
+
+/// Both files: that of the newest segment, which stands there, and the other one.
+fn in_order<D: Disk + Drop>(files: Files<D>, side: Side) -> (D, D)
+    requires log { IsTrue (D.Disk.is_usable files.log) }
+    requires db { IsTrue (D.Disk.is_usable files.db) }
+    ensures newest { IsTrue (D.Disk.is_usable result.0) }
+    ensures spare { IsTrue (D.Disk.is_usable result.1) }
+{
+    let Files { log, db } = files;
+    match side {
+        Side::Log => (log, db),
+        Side::Db => (db, log),
+    }
+}
+
+/// Puts the head of a log: the settings, and the state of a gateway.
+fn put_head<S: Sheet>(
+    alloc: Global,
+    sheet: &mut S,
+    settings: &[u8],
+    gateway: &Gateway,
+) -> Result<(), StateFault>
+    ensures { OnOk result (S.written sheet.new
+        ≡ S.written sheet.old ++ settings.now ∷ state_lines gateway.now) }
+{
+    sheet.put_octets(settings)?;
+    let mut line = Vec::new(alloc);
+    gateway.put_state(sheet, &mut line)
+}
+
+/// A segment that is begun, with this head.
+#[tactic(auto, using(crate::proofs::LogLemmas::lines_put))]
+fn with_head<D: Disk + Drop>(
+    alloc: Global,
+    writer: Writer<D>,
+    settings: &[u8],
+    gateway: &Gateway,
+) -> Option<Writer<D>>
+    requires { appended_to writer ≡ [] }
+    ensures { IfSome result (λ w. lines_in (appended_to w)
+        ≡ settings.now ∷ state_lines gateway.now) }
+{
+    let mut sheet = TextSheet::new(alloc, writer);
+    match put_head(alloc, &mut sheet, settings, gateway) {
+        Ok(()) => Some(sheet.into_octets()),
+        Err(_) => None,
+    }
+}
+
+/// Writes a segment with this head into a file, with room for lines.
+fn write_segment<D: Disk + Drop>(
+    alloc: Global,
+    spare: D,
+    number: u64,
+    settings: &[u8],
+    gateway: &Gateway,
+) -> Option<Segment<D>>
+    requires { IsTrue (D.Disk.is_usable spare) }
+    ensures head { IfSome result (λ s. IsHeaded settings.now (state_lines gateway.now) (text_of s)) }
+    ensures synced { IfSome result (λ s. durable_of s ≡ length (text_of s)) }
+{
+    let Ok(writer) = Writer::begin(alloc, spare) else {
+        return None;
+    };
+    let Some(writer) = with_head(alloc, writer, settings, gateway) else {
+        return None;
+    };
+    match writer.finish(alloc, number, BLOCKS) {
+        Ok(segment) => Some(segment),
+        Err(_) => None,
+    }
+}
+
+impl<F: Folder + Drop> Store for DiskStore<F> {
+    ghost use Rattle.state.specs.Logs.{stored_in};
+
+    ghost stored = { λ s. stored_in s.opened };
+
+    ghost settings = { λ s. s.settings.items };
+
+    ghost mark = { λ s. F.mark s.folder };
+
+    fn append(&mut self, lines: &[u8]) -> bool {
+        match &mut self.opened {
+            Opened::Current(current) => current.segment.append(lines).is_ok(),
+            Opened::Neither | Opened::Both(..) => false,
+        }
+    }
+
+    fn sync(&mut self) -> bool {
+        match &mut self.opened {
+            Opened::Current(current) => current.segment.sync().is_ok(),
+            Opened::Neither | Opened::Both(..) => false,
+        }
+    }
+
+    fn begin(&mut self, gateway: &Gateway) -> bool {
+        let Some((newest, spare)) = self.take_files() else {
+            return false;
+        };
+        let number = self.number;
+        self.number = number.saturating_add(1);
+        let Some(segment) = write_segment(self.alloc, spare, number, &self.settings, gateway)
+        else {
+            return false;
+        };
+        let head = segment.octets();
+        self.side = self.side.other();
+        self.opened = Opened::Current(Current {
+            segment,
+            head,
+            spare: newest,
+        });
+        self.unmark()
+    }
+
+    fn event_octets(&self) -> u64 {
+        match &self.opened {
+            Opened::Current(current) => {
+                current.segment.octets().saturating_sub(current.head) as u64
+            }
+            Opened::Neither | Opened::Both(..) => 0,
+        }
+    }
+
+    fn give_up(&mut self) -> Loss {
+        self.opened = Opened::Neither;
+        self.is_unmarked = false;
+        if self.folder.mark_stale() {
+            Loss::Marked
+        } else {
+            Loss::Unmarked
+        }
+    }
+}

@@ -1,0 +1,56 @@
+//! The directory of a state, as a store needs it.
+
+use sqlite_disk::{Disk, Files};
+use thiserror::Error;
+
+/// Why the state of a directory isn't opened.
+#[derive(Clone, Copy, Debug, PartialEq, Eq, Error)]
+pub enum FolderFault {
+    /// Another process has it open. Nothing was touched.
+    #[error("another process has it open")]
+    InUse,
+    /// What stands there isn't a state's: a link, a device, or a database's journal.
+    #[error("there are files of something else")]
+    Foreign,
+    /// The disk failed, or the system refused.
+    #[error("the disk failed")]
+    Device,
+    /// Memory was refused.
+    #[error("no memory")]
+    NoMemory,
+}
+
+/// The directory of a state: two files, and a mark that says that they are stale. A start that
+/// finds the mark trusts none of the links in them.
+pub trait Folder {
+    ghost use Rattle.std.specs.Prelude.{◌≡◌, Option, Some, Bool, true, false, IfOk, IsTrue};
+
+    type File: Disk + Drop;
+
+    /// Whether the mark stands on the disk, where that is known.
+    ghost mark: { Self → Option Bool };
+
+    /// Opens both files, locked. Neither may be open: they are dropped before.
+    fn open(&mut self) -> Result<Files<Self::File>, FolderFault>
+        ensures log { IfOk result (λ files. IsTrue (Self.File.is_usable files.log)) }
+        ensures db { IfOk result (λ files. IsTrue (Self.File.is_usable files.db)) }
+        ensures mark { mark self.new ≡ mark self.old };
+
+    /// Whether the state there is marked as stale.
+    fn is_stale(&mut self) -> Result<bool, FolderFault>
+        ensures { IfOk result (λ is_stale. mark self.new ≡ Some is_stale) };
+
+    /// Marks the state as stale, on the disk. It takes no space on it. `false`: it couldn't be
+    /// done.
+    fn mark_stale(&mut self) -> bool
+        ensures { result ≡ true → mark self.new ≡ Some true };
+
+    /// Takes the mark away, on the disk. `false`: it couldn't be done.
+    fn unmark(&mut self) -> bool
+        ensures { result ≡ true → mark self.new ≡ Some false };
+
+    /// Puts both files aside under other names, so that a run begins anew. Neither may be open.
+    /// `false`: it couldn't be done.
+    fn put_aside(&mut self) -> bool
+        ensures { mark self.new ≡ mark self.old };
+}

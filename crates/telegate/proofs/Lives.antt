@@ -1,0 +1,11 @@
+-- What passes behind other lives.
+use Rattle.std.proofs.Common.{◌≡◌, ◌++◌, Option, Some, None, refl, sym, ap}
+use Rattle.std.proofs.Common.{append_assoc}
+use Rattle.gateway.specs.Log.{Log, tell}
+use Rattle.telegate.specs.Lives.{behind}
+
+-- where the port inside was told it, so was the whole
+pub told_behind : (before : Log) (old new : Option Log) (news : Log) → new ≡ tell old news
+    → behind before new ≡ tell (behind before old) news
+told_behind before None new news is = rw is
+told_behind before (Some log) new news is = ap (behind before) is ∙ ap Some (append_assoc news log before)

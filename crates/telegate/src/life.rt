@@ -1,0 +1,96 @@
+//! A port of a run that other lives came before.
+ghost use Rattle.std.specs.Prelude.{◌≡◌, ◌+◌, ◌<◌, ◌∷◌, [], true, if◌then◌else◌};
+ghost use Rattle.gateway.specs.Log.{Went, tell};
+ghost use Rattle.gateway.specs.Ports.{FitsBuffer, faults_of, output_of, told_by};
+ghost use Rattle.gateway.specs.declared.ports.Next.TheVariants.{Done};
+ghost use Rattle.telegate.specs.Lives.{behind, fixture};
+
+use gateway::{Action, Gateway, History, Next, Port};
+use live::{Notice, Sight, Watched};
+
+/// A port that passes each event and each action of another one on unchanged. Its log is that of
+/// the port inside, behind what passed in the lives in which the gateway came to be as it is.
+#[derive(Drop)]
+pub(crate) struct Life<P: Port + Drop> {
+    port: P,
+    before: History,
+}
+
+impl<P: Port + Drop> Life<P> {
+    /// One over this port, behind these lives.
+    pub(crate) fn new(port: P, before: History) -> Life<P>
+        ensures port { result.port ≡ port }
+        ensures before { result.before.entries ≡ before.entries }
+    {
+        Life { port, before }
+    }
+
+    /// The port inside.
+    pub(crate) fn port(&self) -> &P
+        ensures { result.now ≡ self.now.port }
+    {
+        &self.port
+    }
+}
+
+impl<P: Port + Drop> Port for Life<P> {
+    ghost use Rattle.telegate.specs.Lives.{Fixture, behind, fixture};
+
+    /// What passed in all lives.
+    ghost log = { λ l. behind l.before.entries (P.log l.port) };
+
+    ghost failed = { λ l. P.failed l.port };
+
+    ghost ended = { λ l. P.ended l.port };
+
+    ghost Fixed = { Fixture P.Fixed };
+
+    /// What is fixed of the port inside, and what passed before.
+    ghost script = { λ l. fixture (P.script l.port) l.before.entries };
+
+    #[tactic(auto, using(crate::proofs::Lives::told_behind))]
+    fn next(&mut self, buf: &mut [u8; 1024]) -> Next
+        requires { P.failed self.old.port < u64.MAX }
+        ensures told { behind self.new.before.entries (P.log self.new.port)
+            ≡ tell (behind self.old.before.entries (P.log self.old.port)) (told_by result buf.new) }
+        ensures fits { FitsBuffer result }
+        ensures done { result ≡ Done → P.ended self.new.port ≡ true }
+        ensures script { fixture (P.script self.new.port) self.new.before.entries
+            ≡ fixture (P.script self.old.port) self.old.before.entries }
+        ensures cause { P.failed self.new.port ≡ P.failed self.old.port + faults_of result }
+    {
+        self.port.next(buf)
+    }
+
+    #[tactic(auto, using(crate::proofs::Lives::told_behind))]
+    fn put(&mut self, now: u64, action: &Action<'_>) -> bool
+        requires { P.failed self.old.port < u64.MAX }
+        ensures told { behind self.new.before.entries (P.log self.new.port)
+            ≡ (if result then tell (behind self.old.before.entries (P.log self.old.port))
+            (Went now (output_of action.now) ∷ [])
+            else behind self.old.before.entries (P.log self.old.port)) }
+        ensures script { fixture (P.script self.new.port) self.new.before.entries
+            ≡ fixture (P.script self.old.port) self.old.before.entries }
+        ensures cause { P.failed self.new.port
+            ≡ P.failed self.old.port + (if result then 0 else 1) }
+    {
+        self.port.put(now, action)
+    }
+
+    fn failures(&self) -> u64 {
+        self.port.failures()
+    }
+}
+
+impl<P: Watched + Drop> Watched for Life<P> {
+    ghost tends = { λ old state new notice.
+        P.tends old.port state new.port notice };
+
+    fn sight(&self) -> Sight {
+        self.port.sight()
+    }
+
+    fn tend(&mut self, gateway: &Gateway) -> Option<Notice> {
+        self.port.tend(gateway)
+    }
+}

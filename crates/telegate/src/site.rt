@@ -1,0 +1,193 @@
+//! Where a live run finds its ends.
+
+use crate::fault::Fault;
+use journal::{Sink, StandardError, Trouble};
+use live::{
+    CentreListener, Door, Got, LineDialler, LineSocket, Presence, Reached, Redialled, SystemClock,
+    Wire,
+};
+use record::{Sheet, StandardOutput};
+use settings::LiveSettings;
+use std::alloc::Global;
+use std::io;
+use std::io::{Eprint, ErrorKind, Print};
+use std::net::{Net, SocketAddr, TcpListener, TcpStream};
+use std::rt::Clock;
+
+/// Why an end can't be had.
+#[derive(Clone, Copy, Debug, PartialEq, Eq)]
+pub(crate) struct Refusal {
+    pub(crate) trouble: Trouble,
+    /// For want of memory.
+    pub(crate) is_memory: bool,
+}
+
+impl From<Refusal> for Fault {
+    fn from(refusal: Refusal) -> Fault {
+        if refusal.is_memory {
+            Fault::NoMemory
+        } else {
+            Fault::Device
+        }
+    }
+}
+
+/// Where a live run finds its ends, and where what is told of it goes.
+pub(crate) trait Site {
+    ghost use Rattle.telegate.specs.Sites.{IsNew};
+
+    type Line: Wire + Reached;
+    type Door: Door + Drop;
+    type Clock: live::Clock + Drop;
+    type Sink: Sink + Drop;
+    type Sheet: Sheet + Drop;
+
+    fn alloc(&self) -> Global;
+
+    /// Where the lines of the log go.
+    fn sink(&self) -> Self::Sink;
+
+    /// What the record is written on: nothing stands there yet.
+    fn sheet(&self) -> Self::Sheet
+        ensures { IsNew (Self.Sheet.taken result) (Self.Sheet.missed result) };
+
+    /// The door, open, and its address, if that is known.
+    fn door(&self) -> Result<(Self::Door, Option<SocketAddr>), Refusal>;
+
+    /// The line: one that is there, or one that is reached again where it ends.
+    fn line(&self, redial: bool) -> Result<Self::Line, Refusal>;
+
+    /// A clock that begins at this moment, in ms.
+    fn clock(&self, moment: u64) -> Result<Self::Clock, Refusal>;
+}
+
+/// The ends that a process has at these places.
+#[derive(Clone, Copy)]
+pub(crate) struct Process<'r, R> {
+    pub(crate) rt: &'r R,
+    pub(crate) places: &'r LiveSettings,
+}
+
+/// The line of a process.
+#[derive(Drop)]
+pub(crate) enum ProcessLine<'r, R: Net<Stream = TcpStream> + Clock> {
+    /// One that is reached once.
+    Once(LineSocket),
+    /// One that is reached again where it ends.
+    Again(Redialled<LineDialler<'r, R>, SystemClock<'r, R>>),
+}
+
+impl<R: Net<Stream = TcpStream> + Clock> Wire for ProcessLine<'_, R> {
+    ghost use Rattle.std.specs.Prelude.{None};
+
+    ghost history = { λ _. None };
+
+    fn read(&mut self, buf: &mut [u8; 1024]) -> Got {
+        match self {
+            ProcessLine::Once(line) => line.read(buf),
+            ProcessLine::Again(line) => line.read(buf),
+        }
+    }
+
+    fn write(&mut self, octets: &[u8]) -> bool {
+        match self {
+            ProcessLine::Once(line) => line.write(octets),
+            ProcessLine::Again(line) => line.write(octets),
+        }
+    }
+}
+
+impl<R: Net<Stream = TcpStream> + Clock> Reached for ProcessLine<'_, R> {
+    fn presence(&self) -> Presence {
+        match self {
+            ProcessLine::Once(line) => line.presence(),
+            ProcessLine::Again(line) => line.presence(),
+        }
+    }
+}
+
+impl<'r, R> Site for Process<'r, R>
+where
+    R: Net<Listener = TcpListener, Stream = TcpStream> + Clock + Print + Eprint + AllocGlobal,
+{
+    type Line = ProcessLine<'r, R>;
+    type Door = CentreListener<'r, R>;
+    type Clock = SystemClock<'r, R>;
+    type Sink = StandardError<'r, R>;
+    type Sheet = StandardOutput<'r, R>;
+
+    fn alloc(&self) -> Global {
+        self.rt.alloc()
+    }
+
+    fn sink(&self) -> StandardError<'r, R> {
+        StandardError::new(self.rt)
+    }
+
+    fn sheet(&self) -> StandardOutput<'r, R> {
+        StandardOutput::new(self.rt)
+    }
+
+    fn door(&self) -> Result<(CentreListener<'r, R>, Option<SocketAddr>), Refusal> {
+        match CentreListener::listen(self.rt, self.places.listen.as_str()) {
+            Ok(door) => {
+                let address = door.address().ok();
+                Ok((door, address))
+            }
+            Err(fault) => Err(refusal_by(port_trouble(&fault), &fault)),
+        }
+    }
+
+    fn line(&self, redial: bool) -> Result<ProcessLine<'r, R>, Refusal> {
+        match reached(self.rt, self.places.line.as_str(), redial) {
+            Ok(line) => Ok(line),
+            Err(fault) => Err(refusal_by(line_trouble(&fault), &fault)),
+        }
+    }
+
+    fn clock(&self, moment: u64) -> Result<SystemClock<'r, R>, Refusal> {
+        match SystemClock::start_at(self.rt, moment) {
+            Ok(clock) => Ok(clock),
+            Err(fault) => Err(refusal_by(Trouble::LineUnreached, &fault)),
+        }
+    }
+}
+
+/// The line at a place: one that is there, or one that is reached again where it ends, which is
+/// tried first once the gateway looks at it.
+fn reached<'r, R: Net<Stream = TcpStream> + Clock>(
+    rt: &'r R,
+    place: &'r str,
+    redial: bool,
+) -> io::Result<ProcessLine<'r, R>> {
+    if !redial {
+        return Ok(ProcessLine::Once(LineSocket::reach(rt, place)?));
+    }
+    let tries = SystemClock::start(rt)?;
+    Ok(ProcessLine::Again(Redialled::new(LineDialler::new(rt, place), tries)))
+}
+
+fn refusal_by(trouble: Trouble, fault: &io::Error) -> Refusal {
+    Refusal {
+        trouble,
+        is_memory: fault.kind() == ErrorKind::OutOfMemory,
+    }
+}
+
+/// Why the line can't be reached.
+fn line_trouble(fault: &io::Error) -> Trouble {
+    match fault.kind() {
+        ErrorKind::ConnectionRefused => Trouble::LineRefused,
+        ErrorKind::NotFound | ErrorKind::Uncategorized => Trouble::NameUnknown,
+        _ => Trouble::LineUnreached,
+    }
+}
+
+/// Why it can't be listened.
+fn port_trouble(fault: &io::Error) -> Trouble {
+    match fault.kind() {
+        ErrorKind::AddrInUse => Trouble::PortInUse,
+        ErrorKind::PermissionDenied => Trouble::PortForbidden,
+        _ => Trouble::PortUnusable,
+    }
+}
