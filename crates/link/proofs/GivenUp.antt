@@ -1,6 +1,6 @@
 -- The link to a station is given up: the others stay as they were.
-use Rattle.std.proofs.Common.{◌≡◌, ◌≢◌, ◌<◌, ◌==◌, ◌&&◌, ◌||◌, ℕ, Bool, true, false, length, slice_set, Option, Some, None, refl, sym, ap, ◌∙◌, if◌then◌else◌}
-use Rattle.std.proofs.lemmas.List.{get_or-set_same, get_or-set_other, length-set}
+use Rattle.std.proofs.Common.{◌≡◌, ◌≢◌, ◌<◌, ◌==◌, ◌&&◌, ◌||◌, ℕ, Bool, true, false, length, slice_set, Option, Some, None, refl, sym, ap, ◌∙◌, if◌then◌else◌, ◌+◌, List, [], ◌∷◌, ◌++◌, map, take, get_or}
+use Rattle.std.proofs.lemmas.List.{get_or-set_same, get_or-set_other, length-set, map-append, take_more}
 use Rattle.std.proofs.lemmas.Bool.{eqb-true, eqb-false}
 use Rattle.link.specs.Procedure.{holds_command}
 use Rattle.link.specs.Turns.{StationState, station_at, no_station, Over}
@@ -64,3 +64,10 @@ polls p k = go (p.turn == k) p.outstanding refl
     go false None here polling =
         sym (ap (λ (s : StationState). p.again && holds_poll s.link) (others p k p.turn (eqb-false p.turn k here)))
         ∙ polling
+
+-- one more of a list that is mapped
+pub one_more : {X Y : Type 0} (f : X → Y) (xs : List X) (i : ℕ) (d : X) (ys : List Y) (y : Y) → i < length xs
+    → ys ≡ map f (take i xs) → y ≡ f (get_or xs i d) → ys ++ y ∷ [] ≡ map f (take (i + 1) xs)
+one_more f xs i d ys y within before is =
+    ap (λ zs. zs ++ y ∷ []) before ∙ ap (λ z. map f (take i xs) ++ z ∷ []) is
+    ∙ sym (map-append f (take i xs) (get_or xs i d ∷ [])) ∙ ap (map f) (sym (take_more xs i d within))

@@ -64,6 +64,7 @@ mod refinement;
 mod request;
 mod runs;
 mod saving;
+mod seat;
 mod service;
 mod session;
 mod settings;
@@ -106,6 +107,7 @@ pub use runs::{
     commands_are_sent_in_order, frame_count_bits_are_kept, outcomes_are_answers,
     spoilt_exchanges_are_counted, turns_go_round,
 };
+pub use seat::Seat;
 pub use service::{Asked, Service};
 pub use session::SessionState;
 pub use settings::LinkSettings;
