@@ -4,6 +4,7 @@ pub mod Turns
 pub mod Puts
 pub mod Closes
 pub mod Writes
+pub mod Drops
 pub mod Tries
 pub mod Law
 pub mod Strangers

@@ -3,7 +3,7 @@ use Rattle.std.proofs.Common.{◌≡◌, ℕ, ◌+◌, ◌-◌, ◌≤◌, ◌==
 use Rattle.std.specs.declared.io.Error.{Error}
 use Rattle.std.proofs.Math.Seq.{take-add, take-append_seam}
 use Rattle.std.proofs.lemmas.List.{append_assoc, append-nil, length-drop}
-use Rattle.live.specs.Streams.{Calls, Sent, called, taken_of, takes_all, took, Took, WritesOnce, WritesAll, WritesFront}
+use Rattle.live.specs.Streams.{Calls, Sent, Waits, called, taken_of, takes_all, took, Took, WritesOnce, WritesAll, WritesFront}
 
 -- octets that one call more took
 took_once : (old : Calls) (octets : List ℕ) (answer : Result ℕ Error)
@@ -62,24 +62,48 @@ unequal : (n l : ℕ) → (n ≡ l → ⊥) → (n == l) ≡ false
 unequal n l other = eq_by (n == l) false (λ e. absurd (other (grind (arith, e))))
     (λ e. let wrong : false ≡ true = e in absurd (cc))
 
+-- whether calls wait is no matter
+waits_took : (old c : Calls) (octets : List ℕ) (w s : Bool) → Took old octets c → Took old octets (called c (Waits w s))
+waits_took None None octets w s t = tt
+waits_took None (Some b) octets w s t = t
+waits_took (Some a) None octets w s t = t
+waits_took (Some a) (Some b) octets w s t = t
+
+waits_none : (c : Calls) (w s : Bool) → Took c [] (called c (Waits w s))
+waits_none None w s = tt
+waits_none (Some before) w s = sym (append-nil (took before))
+
+pub written_refused : (old mid new : Calls) (octets : List ℕ) (n : ℕ) (w s : Bool) → WritesOnce old octets n mid
+    → n ≤ length octets → (n == length octets) ≡ false → new ≡ called mid (Waits w s)
+    → WritesFront old octets false new
+written_refused old mid new octets n w s once some part done =
+    let P : Calls → Type 0 = λ c. Took old (take n octets) c in
+    record {
+      count = n;
+      taken = subst P (sym done) (waits_took old mid (take n octets) w s (took_by old mid octets n once));
+      all = sym part;
+    }
+
 -- the second call took the rest, or a part of it
-written_rest : (old mid again last new : Calls) (octets : List ℕ) (n : ℕ) (is_taken : Bool)
-    → WritesOnce old octets n mid → n ≤ length octets → (n ≡ length octets → ⊥) → again ≡ mid
-    → WritesAll again (drop n octets) is_taken last → new ≡ last → WritesFront old octets is_taken new
-written_rest old mid again last new octets n is_taken w some part same v stays =
-    let m = taken_of v.answer in
+written_rest : (old mid again last new : Calls) (octets : List ℕ) (n : ℕ) (is_taken w s v r : Bool)
+    → WritesOnce old octets n mid → n ≤ length octets → (n ≡ length octets → ⊥) → again ≡ called mid (Waits w s)
+    → WritesAll again (drop n octets) is_taken last → new ≡ called last (Waits v r)
+    → WritesFront old octets is_taken new
+written_rest old mid again last new octets n is_taken w s v r once some part same a stays =
+    let m = taken_of a.answer in
     let rest = drop n octets in
-    let P : Calls → Type 0 = λ c. Took mid (take m rest) c in
-    let Q : Calls → Type 0 = λ c. Took c (take m rest) (called c (Sent rest v.answer)) in
+    let P : Calls → Type 0 = λ c. Took mid [] c in
+    let Q : Calls → Type 0 = λ c. Took again (take m rest) c in
     let R : List ℕ → Type 0 = λ xs. Took old xs new in
+    let sent : Took again (take m rest) last = subst Q (sym a.asked) (took_once again rest a.answer) in
     let second : Took mid (take m rest) new =
-    subst P (sym (stays ∙ (v.asked ∙ ap (λ c. called c (Sent rest v.answer)) same)))
-    (took_once mid rest v.answer) in
+    took_both mid again new [] (take m rest) (subst P (sym same) (waits_none mid w s))
+    (subst Q (sym stays) (waits_took again last (take m rest) v r sent)) in
     record {
       count = n + m;
       taken = subst R (sym (take-add n m octets))
-          (took_both old mid new (take n octets) (take m rest) (took_by old mid octets n w) second);
-      all = v.means ∙ all_by v.answer n octets some (unequal n (length octets) part);
+          (took_both old mid new (take n octets) (take m rest) (took_by old mid octets n once) second);
+      all = a.means ∙ all_by a.answer n octets some (unequal n (length octets) part);
     }
 
 -- the rest as a slice
@@ -89,10 +113,11 @@ rest_is n xs =
     ap (λ k. take k rest) (sym (length-drop n xs))
     ∙ (ap (λ ys. take (length rest) ys) (sym (append-nil rest)) ∙ take-append_seam rest [])
 
-pub written_slice : (old mid again last new : Calls) (octets : List ℕ) (n : ℕ) (is_taken : Bool)
-    → WritesOnce old octets n mid → n ≤ length octets → (n ≡ length octets → ⊥) → again ≡ mid
-    → WritesAll again (take (length octets - n) (drop n octets)) is_taken last → new ≡ last
+pub written_slice : (old mid again last new : Calls) (octets : List ℕ) (n : ℕ) (is_taken w s v r : Bool)
+    → WritesOnce old octets n mid → n ≤ length octets → (n ≡ length octets → ⊥) → again ≡ called mid (Waits w s)
+    → WritesAll again (take (length octets - n) (drop n octets)) is_taken last → new ≡ called last (Waits v r)
     → WritesFront old octets is_taken new
-written_slice old mid again last new octets n is_taken w some part same v stays =
+written_slice old mid again last new octets n is_taken w s v r once some part same a stays =
     let P : List ℕ → Type 0 = λ rest. WritesAll again rest is_taken last in
-    written_rest old mid again last new octets n is_taken w some part same (subst P (rest_is n octets) v) stays
+    written_rest old mid again last new octets n is_taken w s v r once some part same (subst P (rest_is n octets) a)
+    stays

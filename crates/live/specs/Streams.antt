@@ -1,5 +1,5 @@
 -- What the answer of one call to a stream means (this gateway's own profile).
-use Rattle.std.specs.Prelude.{◌≡◌, ◌≢◌, ℕ, ◌==◌, ◌⊎◌, List, [], ◌∷◌, ◌++◌, length, take, Bool, false, Option, Some, None, Result, Ok, Err, MatchResult, if◌then◌else◌}
+use Rattle.std.specs.Prelude.{◌≡◌, ◌≢◌, ℕ, ◌≤◌, ◌==◌, ◌⊎◌, List, [], ◌∷◌, ◌++◌, length, take, All, not, Bool, true, false, Option, Some, None, Result, Ok, Err, MatchResult, if◌then◌else◌}
 use Rattle.std.specs.declared.io.Error.{Error}
 use Rattle.std.specs.declared.io.ErrorKind.{ErrorKind}
 use Rattle.std.specs.declared.io.ErrorKind.TheVariants.{WouldBlock, TimedOut, Interrupted}
@@ -8,10 +8,12 @@ use Rattle.live.specs.declared.wires.Got.{Got}
 use Rattle.live.specs.declared.wires.Got.TheVariants.{Octets, Quiet, Gone}
 
 -- a call of a stream, and what the system answered: how many octets came, or how many of those that
--- were handed to it were taken, from the front
+-- were handed to it were taken, from the front; or it was told to wait at calls, or not to, and
+-- whether that was done
 pub data Call : Type 0 where
   Received : (answer : Result ℕ Error) → Call
   Sent : (octets : List ℕ) → (answer : Result ℕ Error) → Call
+  Waits : (is_waiting : Bool) → (is_set : Bool) → Call
 
 -- the calls of a stream, the newest first, where it tells them
 abbrev pub Calls : Type 0
@@ -66,6 +68,7 @@ pub record WritesAll (old : Calls) (octets : List ℕ) (is_taken : Bool) (new : 
 abbrev pub took : List Call → List ℕ
 took [] = []
 took (Received answer ∷ before) = took before
+took (Waits is_waiting is_set ∷ before) = took before
 took (Sent octets answer ∷ before) = took before ++ take (taken_of answer) octets
 
 -- since then the stream took these octets
@@ -81,3 +84,39 @@ pub record WritesFront (old : Calls) (octets : List ℕ) (is_taken : Bool) (new 
   pub count : ℕ
   pub taken : Took old (take count octets) new
   pub all : is_taken ≡ (count == length octets)
+
+-- a look brought octets
+abbrev pub brings : Result ℕ Error → Bool
+brings (Ok len) = not (len == 0)
+brings (Err fault) = false
+
+-- looks that were answered so, the newest first
+abbrev pub looked : List (Result ℕ Error) → Calls → Calls
+looked [] calls = calls
+looked (answer ∷ before) calls = called (looked before calls) (Received answer)
+
+-- They are at most 64, and each but the newest brought octets, which did so only if it is the 64th.
+abbrev pub IsDrained : List (Result ℕ Error) → Type 0
+IsDrained [] = ⊥
+IsDrained (answer ∷ before) =
+    All (λ a. brings a ≡ true) before × (length before ≤ 63)
+    × (brings answer ≡ true → length before ≡ 63)
+
+pub record Drains (old new : Calls) : Type 0 where
+  pub looks : List (Result ℕ Error)
+  pub drained : IsDrained looks
+  pub asked : new ≡ looked looks old
+
+-- What has come is read, without a wait, until nothing comes or 64 times. A stream that can't be
+-- told not to wait isn't read.
+pub data DropsWaiting (old new : Calls) : Type 0 where
+  Refused : new ≡ called old (Waits false false) → DropsWaiting old new
+  Drained : (mid : Calls) → (is_set : Bool) → Drains (called old (Waits false true)) mid
+      → new ≡ called mid (Waits true is_set) → DropsWaiting old new
+
+-- first what has come is dropped, and then the octets are handed over in one call
+pub record WritesRequest (old : Calls) (octets : List ℕ) (is_taken : Bool) (new : Calls)
+    : Type 0 where
+  pub mid : Calls
+  pub dropped : DropsWaiting old mid
+  pub written : WritesAll mid octets is_taken new

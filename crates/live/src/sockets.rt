@@ -7,7 +7,7 @@ ghost use Rattle.std.specs.Prelude.{None};
 
 use crate::guests::Guests;
 use crate::redial::{Dialled, Dialler};
-use crate::stream::{drop_waiting, read_once, write_in_two, write_once};
+use crate::stream::{read_once, write_in_two, write_request};
 use crate::wires::{Clock, Door, Got, Presence, Reached, SentAway, Visitor, Wire};
 use std::io::{Eprint, ErrorKind};
 use std::net::{
@@ -104,14 +104,8 @@ impl Wire for LineSocket {
     /// repeated with its frame count bit.
     fn write(&mut self, octets: &[u8]) -> bool {
         match self {
-            LineSocket::Tcp(stream) => {
-                drop_waiting(stream);
-                write_once(stream, octets)
-            }
-            LineSocket::Unix(stream) => {
-                drop_waiting(stream);
-                write_once(stream, octets)
-            }
+            LineSocket::Tcp(stream) => write_request(stream, octets),
+            LineSocket::Unix(stream) => write_request(stream, octets),
         }
     }
 }

@@ -1,7 +1,7 @@
 //! One call to a stream of the system, and what its answer means.
 ghost use Rattle.std.specs.Prelude.{◌≤◌, length};
 ghost use Rattle.live.specs.Wires.{FitsBuffer};
-ghost use Rattle.live.specs.Streams.{ReadsOnce, WritesOnce, WritesAll, WritesFront};
+ghost use Rattle.live.specs.Streams.{ReadsOnce, WritesOnce, WritesAll, WritesFront, WritesRequest, DropsWaiting, Drains};
 
 use crate::wires::Got;
 use std::io;
@@ -16,7 +16,8 @@ const STALE_READS: u32 = 64;
 /// Octets both ways, as the system has them. A stream that tells its calls adds the answer of each.
 pub(crate) trait Stream {
     ghost use Rattle.std.specs.Prelude.{◌≡◌, ◌≤◌, length, IfOk};
-    ghost use Rattle.live.specs.Streams.{Calls, Received, Sent, called};
+    ghost use Rattle.live.specs.Streams.{Calls, Received, Sent, Waits, called};
+    ghost use Rattle.std.specs.Result.{is_ok};
 
     /// Its calls, with what the system answered, the newest first, where it tells them.
     ghost calls: { Self → Calls };
@@ -33,7 +34,7 @@ pub(crate) trait Stream {
 
     /// Says whether its calls wait, each as long as its timeout says.
     fn set_waiting(&mut self, is_waiting: bool) -> io::Result<()>
-        ensures { calls self.new ≡ calls self.old };
+        ensures { calls self.new ≡ called (calls self.old) (Waits is_waiting (is_ok result)) };
 }
 
 impl Stream for TcpStream {
@@ -109,7 +110,7 @@ pub(crate) fn write_some<S: Stream>(stream: &mut S, octets: &[u8]) -> usize
 
 /// Writes what the stream takes without a wait, and then, within its timeout, what is left. Answers
 /// whether all octets were taken.
-#[tactic(auto, using(crate::proofs::Writes::written_whole, crate::proofs::Writes::written_part))]
+#[tactic(auto, using(crate::proofs::Writes::written_whole, crate::proofs::Writes::written_part, crate::proofs::Writes::written_refused))]
 pub(crate) fn write_in_two<S: Stream>(stream: &mut S, octets: &[u8]) -> bool
     ensures { WritesFront (S.calls stream.old) octets.now result (S.calls stream.new) }
 {
@@ -127,18 +128,38 @@ pub(crate) fn write_in_two<S: Stream>(stream: &mut S, octets: &[u8]) -> bool
     is_taken
 }
 
+/// Writes a request in one call, and answers whether all octets were taken. What came before it is
+/// no answer to it and is dropped.
+pub(crate) fn write_request<S: Stream>(stream: &mut S, octets: &[u8]) -> bool
+    ensures { WritesRequest (S.calls stream.old) octets.now result (S.calls stream.new) }
+{
+    drop_waiting(stream);
+    write_once(stream, octets)
+}
+
 /// Drops what has come and wasn't read, without a wait.
-pub(crate) fn drop_waiting<S: Stream>(stream: &mut S) {
+#[tactic(auto, using(crate::proofs::Drops::refused, crate::proofs::Drops::drained))]
+fn drop_waiting<S: Stream>(stream: &mut S)
+    ensures { DropsWaiting (S.calls stream.old) (S.calls stream.new) }
+{
     if stream.set_waiting(false).is_err() {
         // A quiet line would be waited for, and the request is worth more than what is stale.
         return;
     }
-    let mut stale = [0; 1024];
-    for _ in 0..STALE_READS {
-        let Got::Octets(_) = read_once(stream, &mut stale) else {
-            break;
-        };
-    }
+    drop_octets(stream);
     // A stream that refuses this has gone, as the next look at it tells.
     let _ = stream.set_waiting(true);
+}
+
+/// Reads until nothing comes.
+fn drop_octets<S: Stream>(stream: &mut S)
+    ensures { Drains (S.calls stream.old) (S.calls stream.new) }
+{
+    let mut stale = [0; 1024];
+    for _ in 1..STALE_READS {
+        let Got::Octets(_) = read_once(stream, &mut stale) else {
+            return;
+        };
+    }
+    let _last = read_once(stream, &mut stale);
 }
