@@ -1,0 +1,23 @@
+-- The APDUs of a report: its pieces, numbered.
+use Rattle.std.proofs.Common.{◌≡◌, ℕ, ◌+◌, ◌%◌, ◌^◌, List, [], ◌∷◌, ◌++◌, refl, ap}
+use Rattle.std.specs.List.{flat_map}
+use Rattle.apci.specs.declared.apdu.Apdu.{Apdu}
+use Rattle.apci.specs.declared.apdu.Apdu.TheVariants.{I}
+use Rattle.asdu.specs.Sizes.{tcp}
+use Rattle.asdu.specs.InformationObjects.{objects_of}
+use Rattle.library_example.specs.Carrying.{objects_in, AreNumbered}
+
+-- the pieces as I formats, numbered from n on
+abbrev pub numbered : ℕ → List (List ℕ) → List Apdu
+numbered n [] = []
+numbered n (p ∷ ps) = I n 0 (record { items = p }) ∷ numbered ((n + 1) % 2 ^ 15) ps
+
+pub numbered-AreNumbered : (n : ℕ) (ps : List (List ℕ)) → AreNumbered n (numbered n ps)
+numbered-AreNumbered n [] = tt
+numbered-AreNumbered n (p ∷ ps) = ((refl, refl), numbered-AreNumbered ((n + 1) % 2 ^ 15) ps)
+
+-- they carry the objects of the pieces
+pub objects-numbered : (n : ℕ) (ps : List (List ℕ))
+    → flat_map objects_in (numbered n ps) ≡ flat_map (λ p. objects_of tcp p) ps
+objects-numbered n [] = refl
+objects-numbered n (p ∷ ps) = ap (λ os. objects_of tcp p ++ os) (objects-numbered ((n + 1) % 2 ^ 15) ps)
