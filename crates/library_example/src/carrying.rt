@@ -8,21 +8,23 @@ ghost use Rattle.library_example.specs.Carrying.{Carries};
 
 use apci::{Apdu, encode};
 use arrayvec::ArrayVec;
-use asdu::{Asdu, Piece, Translation, pieces_carry_the_report};
+use asdu::{Asdu, Piece, Translation, objects_are_those_of_the_asdu, pieces_carry_the_report};
 use std::alloc::{AllocError, Global};
 
 /// The octets of one APDU.
 pub type Octets = ArrayVec<u8, 255>;
 
 /// The APDUs that carry a report, as `asdu::read` has read it, to a control centre. The first is
-/// numbered `sent`, which is below 32768. A long report takes several, since addresses need more octets there.
+/// numbered `sent`, which is below 32768. A long report takes several, since addresses have more
+/// octets there.
 pub fn carry(alloc: Global, report: &Asdu<'_>, sent: u16) -> Result<Vec<Octets>, AllocError>
     requires number { sent < 2 ^ 15 }
     requires report { IsAsdu report.now.sizes (value_of report.now) report.now.octets.now }
     ensures { IfOk result (λ apdus. Carries sent (objects_of report.now.sizes report.now.octets.now)
         (map (λ a. a.items) apdus.items)) }
 {
-    // The objects of the pieces are the report's.
+    // The pieces are ASDUs, and their objects are the report's.
+    objects_are_those_of_the_asdu();
     pieces_carry_the_report();
     let mut left = Translation::new(report);
     let mut number = sent;

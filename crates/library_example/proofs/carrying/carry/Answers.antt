@@ -31,7 +31,8 @@ returns c =
       spelled = sym (append-nil so_far)
           ∙ ap (λ (ps : List (List ℕ)). so_far ++ map spelling (numbered c.loop-left.number ps)) (sym none)
           ∙ c.loop-left.invariant.all;
-      numbered = numbered-AreNumbered c.args.sent pieces;
+      numbered = numbered-AreNumbered (value_of report) c.objects_are_those_of_the_asdu.ensures.read c.args.sent pieces
+          (c.pieces_carry_the_report.ensures.pieces report.sizes (value_of report) report.octets.now c.requires.report);
       objects = objects-numbered c.args.sent pieces
           ∙ c.pieces_carry_the_report.ensures.joined report.sizes (value_of report) report.octets.now c.requires.report;
     }
