@@ -234,7 +234,9 @@ def judge_removal(judge, chroot, package, before):
     os.makedirs(wants, exist_ok=True)
     for name, unit in (("telegate.service", "telegate.service"), ("telegate@north.service", "telegate@.service")):
         os.symlink(f"/usr/lib/systemd/system/{unit}", os.path.join(wants, name))
-    write(chroot.path("var/lib/private/telegate/state"), "what a service wrote\n")
+    for name in ("telegate", "telegate-north"):
+        write(chroot.path(f"var/lib/private/{name}/state"), "what a service wrote\n")
+        os.symlink(f"private/{name}", chroot.path(f"var/lib/{name}"))
     removed = chroot.dpkg("-r", "telegate")
     judge.case(removed.returncode == 0, f"remove: {said(removed)}")
     judge.case(not os.path.exists(chroot.path("usr/bin/telegate")), "remove: the program is there")
