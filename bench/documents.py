@@ -7,7 +7,8 @@ Each block of docs/*.md and packaging/*.md that begins with ```console is run: a
 prints (standard output, then standard error), then `(status N)` where its exit status isn't 0. The crates in the table of
 docs/ARCHITECTURE.md are those of crates.txt, each below the crates that it stands on. Lines of README.md and of the documents have at most
 100 columns, README.md has no sentence of 30 words or more, and each file that they name is there. The repository
-stands alone: no line of a document, of an example or of a crate cites a demand by a letter and a number. Lines of src/ and specs/ have at
+stands alone: no line of a document, of an example or of a crate cites a demand by a letter and a number. The program, the man page,
+CHANGELOG.md and each document that names a version name the same one. Lines of src/ and specs/ have at
 most 100 columns, but for imports and attributes. Printed is a line for each case that failed, then `N passed, M failed`; the exit status is 1 where one failed. The program is the one that ./build makes.
 """
 import argparse
@@ -108,6 +109,19 @@ def judge_alone(judge, name, text):
             judge.case(False, f"{name}:{number} cites {CITED.search(line)[0]}")
 
 
+def judge_version(judge, program, texts):
+    """The program, the man page and the newest numbered part of CHANGELOG.md have one version, and so has what a document names."""
+    ran = subprocess.run([program, "--version"], capture_output=True, text=True, timeout=60, stdin=subprocess.DEVNULL)
+    version = ran.stdout.split()[1]
+    page = re.findall(r'^\.TH .*"telegate ([^"]*)"', read("packaging/telegate.1"), re.M)
+    judge.case(page == [version], f"packaging/telegate.1 is of {page}, the program of {version}")
+    newest = re.findall(r"^## (\d\S*)", texts["CHANGELOG.md"], re.M)[:1]
+    judge.case(newest == [version], f"CHANGELOG.md has {newest} as its newest version, the program is {version}")
+    for name, text in texts.items():
+        named = set(re.findall(r"\btelegate[ _](\d+\.\d+\.\d+)", text))
+        judge.case(name == "CHANGELOG.md" or named <= {version}, f"{name} names telegate {sorted(named)}, the program is {version}")
+
+
 def is_one_line(line):
     """An import or an attribute, which the formatter keeps in one line."""
     return re.match(r"\s*((pub |ghost |pub ghost )?use |#\[)", line) is not None
@@ -147,6 +161,7 @@ def main():
     for name in sorted(glob.glob("examples/**/*.*", root_dir=TOP, recursive=True)):
         judge_alone(judge, name, read(name))
     judge_sources(judge)
+    judge_version(judge, program, texts)
     judge_crates(judge, texts["docs/ARCHITECTURE.md"])
     judge_readme(judge, texts["README.md"])
     print(f"{judge.passed} passed, {judge.failed} failed")

@@ -13,12 +13,12 @@
 #   /etc/telegate/telegate.env            words of `telegate run` that belong to this site
 #
 # What stands in /etc is never written over, so a second call is an upgrade: it leaves what an
-# operator wrote.
+# operator wrote. TELEGATE_PROGRAM is another file to be installed than the one that ./build made.
 set -eu
 here=$(cd "$(dirname "$0")/.." && pwd)
 prefix=${PREFIX:-/usr/local}
 root=${DESTDIR:-}
-program=$here/crates/telegate/out/telegate
+program=${TELEGATE_PROGRAM:-$here/crates/telegate/out/telegate}
 share=$root$prefix/share
 units=$root$prefix/lib/systemd/system
 
