@@ -22,3 +22,4 @@ pub mod BeginningLemmas
 pub mod TextLemmas
 pub mod RunLemmas
 pub mod Bare
+pub mod SimulationLemmas
