@@ -4,8 +4,9 @@
     bench/calls.py [--list CRATE .. | --mend]
 
 A row of a table there names a crate, a call with its signature, and its contract. The call is to be public in that crate, with that
-very signature; a number stands there for a constant of the file. Each public call of a crate that has rows is on the page: in a row, or
-by its name in the crate's line `Also in`. Laws aren't calls: public functions without parameters and result. What a call promises
+very signature; a number stands there for a constant of the file. Each public call of the crates on the page is there: in a row, or
+by its name in the crate's line `Also in`. A test calls each library's call that has a row, or implements it
+where it is a trait's. Laws aren't calls: public functions without parameters and result. What a call promises
 `rt check` proves. The last line is `N passed, M failed`, and the exit status is 1 where one failed. With `--list` the calls of
 these crates are printed and nothing is compared. With `--mend` the lines `Also in` are written anew from the sources; rows never are.
 """
@@ -19,6 +20,9 @@ import textwrap
 TOP = os.path.dirname(os.path.dirname(os.path.abspath(__file__)))
 PAGE = os.path.join(TOP, "docs", "CALLS.md")
 COLUMNS = 100
+# Where tests of the calls stand. The program's calls are tested over the built program.
+TESTS = ("conformance/src/**/*.rt", "acceptance/src/**/*.rt", "live/src/memory.rt", "live/src/**/tests.rt")
+PROGRAM = "telegate"
 ROW = re.compile(r"^\| `(\w+)` \| `([^`]+)` \| (.+) \|$", re.M)
 ALSO = re.compile(r"^Also in `(\w+)`: (.*?)\.$", re.M | re.S)
 # A function up to its clauses or its body, with what stands before it on its line.
@@ -86,6 +90,14 @@ def calls_of(crate):
     return calls
 
 
+def is_tried(signature, tests):
+    """Whether a test has a call of that name, on a value or by its path, or a function where it is a trait's."""
+    *owner, call = re.match(r"[\w:]+", signature).group().split("::")
+    takes_self = re.search(r"\((?:&|&mut |mut )?self\b", signature)
+    before = r"\." if takes_self else "::" if owner else r"(?<![\w.])"
+    return re.search(rf"(?:{before}|\bfn ){call}\(", tests)
+
+
 def mended(page):
     """The page, where each line `Also in` names the public calls that have no row."""
     rows = ROW.findall(page)
@@ -117,17 +129,21 @@ def main():
     passed, failed = 0, 0
     rows = ROW.findall(page)
     also = {crate: set(re.findall(r"`([\w:]+)`", text)) for crate, text in ALSO.findall(page)}
-    for crate in dict.fromkeys(crate for crate, _, _ in rows):
+    tests = "\n".join(read(name) for places in TESTS for name in sorted(glob.glob(os.path.join(TOP, "crates", places), recursive=True)))
+    for crate in dict.fromkeys([crate for crate, _, _ in rows] + list(also)):
         calls = calls_of(crate)
         named = set()
         for _, signature, _ in (row for row in rows if row[0] == crate):
             call = re.match(r"[\w:]+", signature).group()
             named.add(call)
-            if calls.get(call) == signature:
-                passed += 1
-            else:
+            if calls.get(call) != signature:
                 failed += 1
                 print(f"{crate}: docs/CALLS.md has {signature}, the sources {calls.get(call, 'no such call')}")
+            elif crate != PROGRAM and not is_tried(signature, tests):
+                failed += 1
+                print(f"{crate}: no test calls {call}")
+            else:
+                passed += 1
         for call in sorted(set(calls) | also.get(crate, set())):
             if (call in calls) == (call in named or call in also.get(crate, set())):
                 passed += 1

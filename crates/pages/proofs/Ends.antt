@@ -3,14 +3,11 @@ use Rattle.std.proofs.Common.{◌≡◌, ℕ, ◌+◌, length, Option, Some, Non
 use Rattle.gateway.specs.Log.{Log, events_of}
 use Rattle.gateway.specs.Runs.{MoreEvents, UnlessDevice}
 use Rattle.gateway.specs.declared.runs.End.{End}
-use Rattle.gateway.specs.declared.runs.End.TheVariants.{Turns, Finished}
+use Rattle.gateway.specs.declared.runs.End.TheVariants.{Turns}
 
 -- what is promised of each end but that of a device
 pub at_turns : (end : End) (P : Type 0) → end ≡ Turns → UnlessDevice end P → P
 at_turns end P is promised = subst (λ (e : End). UnlessDevice e P) is promised
-
-pub at_finish : (end : End) (P : Type 0) → end ≡ Finished → UnlessDevice end P → P
-at_finish end P is promised = subst (λ (e : End). UnlessDevice e P) is promised
 
 same_number : (m n : ℕ) → Some m ≡ Some n → m ≡ n
 same_number m n e = cc

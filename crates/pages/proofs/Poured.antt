@@ -8,16 +8,6 @@ use Rattle.gateway.specs.Log.{Log}
 use Rattle.traces.specs.Actions.{lines_of_actions}
 use Rattle.pages.specs.Pouring.{IsBegun, IsPoured}
 
--- nothing was printed
-pub appends_none : (known : Option (List ℕ)) → Appends known known []
-appends_none None = tt
-appends_none (Some octets) = sym (append-nil octets)
-
-pub kept_begun : (old new : Option (List ℕ)) (text : List ℕ) → Keeps old new → IsBegun old new text
-kept_begun None new text keeps = ([], (text, refl), tt)
-kept_begun (Some old) None text keeps = absurd keeps
-kept_begun (Some old) (Some new) text keeps = ([], (text, refl), keeps ∙ sym (append-nil old))
-
 -- one text behind another
 pub appends_more : (a b c : Option (List ℕ)) (xs ys : List ℕ) → Appends a b xs → Appends b c ys
     → Appends a c (xs ++ ys)
@@ -40,15 +30,6 @@ begun_behind a b c xs ys p begun = (
   appends_more a b c xs begun.0 p begun.2,
 )
 
--- all of it is a beginning too
-pub appends_begun : (a b : Option (List ℕ)) (xs : List ℕ) → Appends a b xs → IsBegun a b xs
-appends_begun a b xs p = (xs, ([], append-nil xs), p)
-
-pub poured_begun : (is_whole : Bool) (a b : Option (List ℕ)) (xs : List ℕ) → IsPoured is_whole a b xs
-    → IsBegun a b xs
-poured_begun true a b xs p = appends_begun a b xs p
-poured_begun false a b xs p = p
-
 -- a text that is known, or a beginning of it, goes behind one that was printed
 pub poured_more : {E : Type 0} (before old new : Option (List ℕ)) (xs ys zs : List ℕ) (r : Result (Unit {0}) E)
     → Appends before old xs → xs ++ ys ≡ zs → OnOk r (Appends old new ys) → OnErr r (IsBegun old new ys)
@@ -65,10 +46,3 @@ pub poured_as : {W : Type 0} (contents : W → Option (List ℕ)) (before : Opti
 poured_as contents before text taken is out w e f p =
     subst (λ (b : Bool). IsPoured b before (contents out) text) (sym e)
     (subst (λ (x : _). IsPoured is before (contents x) text) (sym f) p)
-
--- all lines of the log
-pub poured_all : (is_whole : Bool) (before after : Option (List ℕ)) (log poured : Log) → Some log ≡ Some poured
-    → IsPoured is_whole before after (lines_of_actions poured) → IsPoured is_whole before after (lines_of_actions log)
-poured_all is_whole before after log poured all p =
-    let same : poured ≡ log = cc in
-    subst (λ (l : Log). IsPoured is_whole before after (lines_of_actions l)) same p

@@ -6,13 +6,15 @@ use Rattle.std.specs.Prelude.{Result, Ok, Err, IfOk}
 use Rattle.gateway.specs.Agrees.{Follows, Rests}
 use Rattle.gateway.specs.Config.{Settings}
 use Rattle.gateway.specs.Log.{Log, Came, Went, events_of}
-use Rattle.gateway.specs.Runs.{MoreEvents}
+use Rattle.gateway.specs.Runs.{MoreEvents, UnlessDevice}
+use Rattle.gateway.specs.declared.runs.End.{End}
+use Rattle.gateway.specs.declared.runs.End.TheVariants.{Turns, Finished}
 use Rattle.gateway.specs.Reports.{Setup}
 use Rattle.gateway.specs.Setups.{setup_of}
 use Rattle.gateway.specs.State.{State}
 use Rattle.gateway.specs.Traffic.{IsFaithful}
 use Rattle.pages.specs.Pouring.{IsBegun}
-use Rattle.pages.proofs.Poured.{appends_none}
+use Rattle.sim.proofs.Poured.{appends_none}
 use Rattle.traces.specs.Actions.{lines_of_actions}
 use Rattle.sim.specs.declared.directive.Directive.{Directive}
 use Rattle.sim.specs.declared.fault.SimFault.{SimFault}
@@ -23,6 +25,13 @@ use Rattle.sim.specs.Losses.{turns_of}
 use Rattle.sim.specs.Played.{IsPlayed, Stands, Simulated, fresh_run, has_ended}
 use Rattle.sim.specs.Runs.{IsRun, IsStopped}
 use Rattle.sim.specs.Simulations.{IsClosedBy, IsSimulation}
+
+-- what is promised of each end but that of a device
+pub at_turns : (end : End) (P : Type 0) → end ≡ Turns → UnlessDevice end P → P
+at_turns end P is promised = subst (λ (e : End). UnlessDevice e P) is promised
+
+pub at_finish : (end : End) (P : Type 0) → end ≡ Finished → UnlessDevice end P → P
+at_finish end P is promised = subst (λ (e : End). UnlessDevice e P) is promised
 
 length-events : (log : Log) → length (events_of log) ≡ calls_in log
 length-events [] = refl

@@ -6,9 +6,8 @@ use Rattle.sim.specs.Lives.{Plan, plan_of}
 use Rattle.sim.specs.Losses.{turns_of}
 use Rattle.sim.specs.Played.{Simulated}
 use Rattle.traces.specs.Actions.{lines_of_actions}
-use Rattle.pages.proofs.Poured.{poured_all, poured_begun}
-use Rattle.pages.proofs.Ends.{at_turns, at_finish}
-use Rattle.sim.proofs.SimulationLemmas.{begun_blank, at_first_call, run_turns, ended_calls, stopped}
+use Rattle.sim.proofs.Poured.{poured_all, poured_begun}
+use Rattle.sim.proofs.SimulationLemmas.{at_turns, at_finish, begun_blank, at_first_call, run_turns, ended_calls, stopped}
 use Rattle.sim.proofs.simulating.run.Goals as goal
 
 pub returns-in-Turns : goal.returns-in-Turns
