@@ -1,5 +1,5 @@
 -- From a table to the text that it was read from.
-use Rattle.std.proofs.Common.{ℕ, true, List, Result, Ok, Err, ap}
+use Rattle.std.proofs.Common.{ℕ, true, List, Result, Ok, Err, ap, refl}
 use Rattle.std.specs.Prelude.{IsOk}
 use Rattle.gateway.specs.Config.{Settings}
 use Rattle.toml.specs.Data.{Members}
@@ -43,8 +43,8 @@ without_ends text both h =
     (h.0, h.1, ap (λ (r : Result (Values × Places) Path). r >>= (λ b. Ok b.0)) h.2, h.3)
 
 still_ok : (r : Result (Values × Places) Path) → IsOk r → IsOk (r >>= (λ both. Ok both.0))
-still_ok (Ok both) h = tt
-still_ok (Err path) h = absurd h
+still_ok (Ok both) h = refl
+still_ok (Err path) h = cc
 
 -- a fault of them is one of the settings
 wrong_without : (root : Members) (e : ConfigFault) → IsFirstFault (known_live root) root e

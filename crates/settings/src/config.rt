@@ -1,5 +1,5 @@
 //! A whole file of settings.
-ghost use Rattle.std.specs.Prelude.{MatchResult};
+ghost use Rattle.std.specs.Prelude.{ℕ, List, MatchResult, true};
 ghost use Rattle.toml.specs.View.{table_view};
 ghost use Rattle.settings.specs.Settings.{values_of, gateway_values, known_settings, known_live, live_values_of, IsKnownOf, IsReadOf, IsDocument, IsRootFault, IsReadFor, IsReadOfText, IsLiveReadOfText};
 
@@ -18,14 +18,22 @@ use toml::Table;
 /// then the first key that is missing or wrong, then the least key that isn't known; `NoMemory` can
 /// come at any step. With `live` the file also has to say where a live run finds its line and its
 /// control centre, as for [`read_live_config`], which answers these too.
-#[tactic(auto, using(crate::proofs::SettingsLemmas::without_ends, crate::proofs::SettingsLemmas::fault_without_ends))]
 pub fn read_config(alloc: Global, text: &[u8], live: bool) -> Result<Config, ConfigFault>
     ensures { IsReadFor live text.now result }
 {
-    if !live {
-        return read_settings(alloc, text);
+    if live {
+        without_ends(read_live_config(alloc, text))
+    } else {
+        read_settings(alloc, text)
     }
-    match read_live_config(alloc, text) {
+}
+
+/// What was read for a live run, without its ends.
+#[tactic(auto, using(crate::proofs::SettingsLemmas::without_ends, crate::proofs::SettingsLemmas::fault_without_ends))]
+fn without_ends(read: Result<(Config, LiveSettings), ConfigFault>) -> Result<Config, ConfigFault>
+    ensures { (text : List ℕ) → IsLiveReadOfText text read → IsReadFor true text result }
+{
+    match read {
         Ok((config, _ends)) => Ok(config),
         Err(fault) => Err(fault),
     }
