@@ -3,12 +3,13 @@
 
     bench/calls.py [--list CRATE .. | --mend]
 
-A row of a table there names a crate, a call with its signature, and its contract. The call is to be public in that crate, with that
-very signature; a number stands there for a constant of the file. Each public call of the crates on the page is there: in a row, or
-by its name in the crate's line `Also in`. A test calls each library's call that has a row, or implements it
-where it is a trait's. Laws aren't calls: public functions without parameters and result. What a call promises
-`rt check` proves. The last line is `N passed, M failed`, and the exit status is 1 where one failed. With `--list` the calls of
-these crates are printed and nothing is compared. With `--mend` the lines `Also in` are written anew from the sources; rows never are.
+Each heading there names a crate. In the block below it stand calls with their signatures, each under a line on its contract. The call
+is to be public in that crate, with that very signature, in which a number stands for a constant of the file. Each public call of the
+crates on the page is there: in a block, or by its name in the crate's line `Also in`. A test calls each library's call that stands in
+a block, or implements it where it is a trait's. Laws aren't calls: public functions without parameters and result. What a call
+promises `rt check` proves. The last line is `N passed, M failed`, and the exit status is 1 where one failed. With `--list` the calls
+of these crates are printed and nothing is compared. With `--mend` the lines `Also in` are written anew from the sources; blocks never
+are.
 """
 import argparse
 import glob
@@ -23,7 +24,7 @@ COLUMNS = 100
 # Where tests of the calls stand. The program's calls are tested over the built program.
 TESTS = ("conformance/src/**/*.rt", "acceptance/src/**/*.rt", "live/src/memory.rt", "live/src/**/tests.rt")
 PROGRAM = "telegate"
-ROW = re.compile(r"^\| `(\w+)` \| `([^`]+)` \| (.+) \|$", re.M)
+SECTION = re.compile(r"^## [^\n]*`(\w+)`\n(.*?)(?=^## |\Z)", re.M | re.S)
 ALSO = re.compile(r"^Also in `(\w+)`: (.*?)\.$", re.M | re.S)
 # A function up to its clauses or its body, with what stands before it on its line.
 FUNCTION = re.compile(r"^([ ]*)(pub )?(?:const )?(?:final )?fn (\w+)(.*?)(?=\n\s*(?:requires|ensures|ghost)\b|\s*\{\n|\s*\{\}|;\n)", re.M | re.S)
@@ -90,6 +91,15 @@ def calls_of(crate):
     return calls
 
 
+def rows_of(page):
+    """The calls that stand in blocks: crate, signature, and the line on the contract."""
+    for crate, text in SECTION.findall(page):
+        for block in re.findall(r"^```rust\n(.*?)^```$", text, re.M | re.S):
+            for call in block.strip().split("\n\n"):
+                contract = " ".join(line[4:] for line in call.splitlines() if line.startswith("/// "))
+                yield crate, plain(re.sub(r"^/// .*$", "", call, flags=re.M), ""), contract
+
+
 def is_tried(signature, tests):
     """Whether a test has a call of that name, on a value or by its path, or a function where it is a trait's."""
     *owner, call = re.match(r"[\w:]+", signature).group().split("::")
@@ -99,8 +109,8 @@ def is_tried(signature, tests):
 
 
 def mended(page):
-    """The page, where each line `Also in` names the public calls that have no row."""
-    rows = ROW.findall(page)
+    """The page, where each line `Also in` names the public calls that stand in no block."""
+    rows = list(rows_of(page))
 
     def line(found):
         crate = found.group(1)
@@ -127,18 +137,21 @@ def main():
             file.write(mended(page))
         return 0
     passed, failed = 0, 0
-    rows = ROW.findall(page)
+    rows = list(rows_of(page))
     also = {crate: set(re.findall(r"`([\w:]+)`", text)) for crate, text in ALSO.findall(page)}
     tests = "\n".join(read(name) for places in TESTS for name in sorted(glob.glob(os.path.join(TOP, "crates", places), recursive=True)))
     for crate in dict.fromkeys([crate for crate, _, _ in rows] + list(also)):
         calls = calls_of(crate)
         named = set()
-        for _, signature, _ in (row for row in rows if row[0] == crate):
+        for _, signature, contract in (row for row in rows if row[0] == crate):
             call = re.match(r"[\w:]+", signature).group()
             named.add(call)
             if calls.get(call) != signature:
                 failed += 1
                 print(f"{crate}: docs/CALLS.md has {signature}, the sources {calls.get(call, 'no such call')}")
+            elif not contract:
+                failed += 1
+                print(f"{crate}: nothing is said of {call}")
             elif crate != PROGRAM and not is_tried(signature, tests):
                 failed += 1
                 print(f"{crate}: no test calls {call}")
@@ -152,7 +165,7 @@ def main():
                 print(f"{crate}: {call} {'is not on the page' if call in calls else 'is on the page and not in the sources'}")
     if not rows:
         failed += 1
-        print("docs/CALLS.md has no row")
+        print("docs/CALLS.md has no call")
     print(f"{passed} passed, {failed} failed")
     return int(failed > 0)
 
