@@ -1,12 +1,14 @@
-//! Tests of the gateway, of settings and of traces, over their public calls: what no clause can
-//! say.
+//! Tests of the gateway, of settings, of traces and of scripts, over their public calls: what no
+//! clause can say.
 //!
 //! Where a run ends, the values that settings give, the events that traces give and the lines that
 //! are written. They stand in a crate of their own, since a crate that has tests is proved twice.
-//! This crate has nothing else, and nothing uses it. Scripts, and what is shown of octets, are
-//! tested over the built program: bench/simulations.py, bench/shows.py.
+//! This crate has nothing else, and nothing uses it. What scripts do, and what is shown of octets,
+//! is tested over the built program: bench/simulations.py, bench/shows.py.
 #![tactic(auto)]
 
+#[cfg(test)]
+mod calls;
 #[cfg(test)]
 mod runs;
 #[cfg(test)]

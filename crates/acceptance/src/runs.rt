@@ -44,7 +44,7 @@ fn config(alloc: Global) -> Result<Config, AllocError> {
 
 /// A port that has no event, and takes each action. It tells no log.
 #[derive(Drop)]
-struct Sink;
+pub(crate) struct Sink;
 
 impl Port for Sink {
     ghost log = { λ t. None };

@@ -178,7 +178,7 @@ fn reads(
     tcp: &TcpSettings,
     stations: &[Station],
 ) -> Result<bool, Fail> {
-    let config = read_config(alloc, text.as_bytes())?;
+    let config = read_config(alloc, text.as_bytes(), false)?;
     let is_line = *config.line() == *line && *config.tcp() == *tcp;
     Ok(is_line && config.stations() == stations)
 }

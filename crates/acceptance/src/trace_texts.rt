@@ -267,8 +267,8 @@ fn the_longest_line_and_lines_one_by_one(rt: HostRuntime) -> Result<(), Fail> {
 
 /// Takes so many octets, one a write, and then fails.
 #[derive(Drop)]
-struct Failing {
-    octets: u64,
+pub(crate) struct Failing {
+    pub(crate) octets: u64,
 }
 
 impl Write for Failing {

@@ -124,7 +124,7 @@ fn answers(session: &mut Session, step: &Step) -> bool {
         Step::Holds => return !session.may_send(),
         Step::Pull(now, apdu) => return session.pull(*now) == apdu.map(|frame| frame.to_apdu()),
         Step::Due(now, close) => return session.due(*now) == *close,
-        Step::Runs(runs) => return session.is_transferring() == *runs,
+        Step::Runs(runs) => return session.runs() == *runs,
         Step::IsOpen(open) => return session.is_open() == *open,
     }
     true

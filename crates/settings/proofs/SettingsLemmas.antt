@@ -1,8 +1,12 @@
 -- From a table to the text that it was read from.
-use Rattle.std.proofs.Common.{ℕ, List, Result, Ok, Err}
+use Rattle.std.proofs.Common.{ℕ, true, List, Result, Ok, Err, ap, refl}
+use Rattle.std.specs.Prelude.{IsOk}
+use Rattle.gateway.specs.Config.{Settings}
 use Rattle.toml.specs.Data.{Members}
 use Rattle.settings.specs.Faults.{Path, IsWrongKeyOf, ◌>>=◌}
-use Rattle.settings.specs.Settings.{IsDocument, IsRootFault, IsReadOf, IsReadBy}
+use Rattle.settings.specs.Live.{Places}
+use Rattle.settings.specs.Settings.{Values, IsDocument, IsFirstFault, IsLiveReadOfText, IsReadFor, IsRootFault, IsReadOf, IsReadBy, known_live, known_with_ends}
+use Rattle.settings.specs.declared.live.LiveSettings.{LiveSettings}
 use Rattle.settings.specs.declared.fault.ConfigFault.{ConfigFault}
 use Rattle.settings.specs.declared.fault.ConfigFault.TheVariants.{NotToml, Key, Unknown, NoMemory}
 
@@ -31,3 +35,28 @@ no_root known see text NotToml h = h
 no_root known see text (Key path) h = absurd h
 no_root known see text (Unknown path) h = absurd h
 no_root known see text NoMemory h = tt
+
+-- settings that were read with a live run's ends
+pub without_ends : (text : List ℕ) (both : Settings × LiveSettings) → IsLiveReadOfText text (Ok both)
+    → IsReadFor true text (Ok both.0)
+without_ends text both h =
+    (h.0, h.1, ap (λ (r : Result (Values × Places) Path). r >>= (λ b. Ok b.0)) h.2, h.3)
+
+still_ok : (r : Result (Values × Places) Path) → IsOk r → IsOk (r >>= (λ both. Ok both.0))
+still_ok (Ok both) h = refl
+still_ok (Err path) h = cc
+
+-- a fault of them is one of the settings
+wrong_without : (root : Members) (e : ConfigFault) → IsFirstFault (known_live root) root e
+    → IsFirstFault (known_with_ends root) root e
+wrong_without root NotToml h = absurd h
+wrong_without root (Key path) h = ap (λ (r : Result (Values × Places) Path). r >>= (λ b. Ok b.0)) h
+wrong_without root (Unknown path) h = (still_ok (known_live root) h.0, h.1)
+wrong_without root NoMemory h = tt
+
+pub fault_without_ends : (text : List ℕ) (e : ConfigFault) → IsLiveReadOfText text (Err e)
+    → IsReadFor true text (Err e)
+fault_without_ends text NotToml h = h
+fault_without_ends text (Key path) h = (h.0, h.1, wrong_without h.0 (Key path) h.2)
+fault_without_ends text (Unknown path) h = (h.0, h.1, wrong_without h.0 (Unknown path) h.2)
+fault_without_ends text NoMemory h = tt

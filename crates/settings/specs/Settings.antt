@@ -2,7 +2,7 @@
 -- (this gateway's own profile). The keys and their values stand in `Line.antt`, `Tcp.antt`,
 -- `Stations.antt` and `Live.antt`, in the order in which they are judged. A default is judged like
 -- a given value. Where `line`, `tcp` or `live` is no table, its first key is wrong.
-use Rattle.std.specs.Prelude.{◌≡◌, ℕ, codes, List, [], Some, None, Result, Ok, Err, IsOk, IsUtf8, MatchResult}
+use Rattle.std.specs.Prelude.{◌≡◌, ℕ, Bool, true, false, codes, List, [], Some, None, Result, Ok, Err, IsOk, IsUtf8, MatchResult}
 use Rattle.toml.specs.Data.{Members, get_member}
 use Rattle.toml.specs.Parse.{parse_document}
 use Rattle.gateway.specs.Config.{Settings}
@@ -120,3 +120,14 @@ IsReadOfText text result = IsReadBy known_settings values_of text result
 -- the same for a live run, which has to know its ends
 abbrev pub IsLiveReadOfText : List ℕ → Result (Settings × LiveSettings) ConfigFault → Type 0
 IsLiveReadOfText text result = IsReadBy known_live live_values_of text result
+
+-- the settings of a gateway, from a file that says where a live run finds its ends
+abbrev pub known_with_ends : Members → Result Values Path
+known_with_ends root = do
+  both ← known_live root
+  Ok both.0
+
+-- what is read, where a live run's ends are to be there, or needn't
+abbrev pub IsReadFor : (live : Bool) → List ℕ → Result Settings ConfigFault → Type 0
+IsReadFor false text result = IsReadOfText text result
+IsReadFor true text result = IsReadBy known_with_ends values_of text result

@@ -1,7 +1,7 @@
 //! A whole file of settings.
-ghost use Rattle.std.specs.Prelude.{MatchResult};
+ghost use Rattle.std.specs.Prelude.{ℕ, List, MatchResult, true};
 ghost use Rattle.toml.specs.View.{table_view};
-ghost use Rattle.settings.specs.Settings.{values_of, gateway_values, known_settings, known_live, live_values_of, IsKnownOf, IsReadOf, IsDocument, IsRootFault, IsReadOfText, IsLiveReadOfText};
+ghost use Rattle.settings.specs.Settings.{values_of, gateway_values, known_settings, known_live, live_values_of, IsKnownOf, IsReadOf, IsDocument, IsRootFault, IsReadFor, IsReadOfText, IsLiveReadOfText};
 
 use crate::ConfigFault;
 use crate::keys::{given, section};
@@ -16,9 +16,32 @@ use toml::Table;
 
 /// Reads the settings of a file. The first fault is answered: octets that are no TOML document,
 /// then the first key that is missing or wrong, then the least key that isn't known; `NoMemory` can
-/// come at any step.
+/// come at any step. With `live` the file also has to say where a live run finds its line and its
+/// control centre, as for [`read_live_config`], which answers these too.
+pub fn read_config(alloc: Global, text: &[u8], live: bool) -> Result<Config, ConfigFault>
+    ensures { IsReadFor live text.now result }
+{
+    if live {
+        without_ends(read_live_config(alloc, text))
+    } else {
+        read_settings(alloc, text)
+    }
+}
+
+/// What was read for a live run, without its ends.
+#[tactic(auto, using(crate::proofs::SettingsLemmas::without_ends, crate::proofs::SettingsLemmas::fault_without_ends))]
+fn without_ends(read: Result<(Config, LiveSettings), ConfigFault>) -> Result<Config, ConfigFault>
+    ensures { (text : List ℕ) → IsLiveReadOfText text read → IsReadFor true text result }
+{
+    match read {
+        Ok((config, _ends)) => Ok(config),
+        Err(fault) => Err(fault),
+    }
+}
+
+/// Reads the settings of a file that needn't say where a live run finds its ends.
 #[tactic(auto, using(crate::proofs::SettingsLemmas::read_text, crate::proofs::SettingsLemmas::no_root))]
-pub fn read_config(alloc: Global, text: &[u8]) -> Result<Config, ConfigFault>
+fn read_settings(alloc: Global, text: &[u8]) -> Result<Config, ConfigFault>
     ensures { IsReadOfText text.now result }
 {
     match root_of(alloc, text) {

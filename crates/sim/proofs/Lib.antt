@@ -22,3 +22,5 @@ pub mod BeginningLemmas
 pub mod TextLemmas
 pub mod RunLemmas
 pub mod Bare
+pub mod Poured
+pub mod SimulationLemmas

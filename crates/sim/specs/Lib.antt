@@ -13,4 +13,5 @@ pub mod Texts
 pub mod Outstations
 pub mod Closing
 pub mod Runs
+pub mod Simulations
 pub mod Examples

@@ -10,13 +10,14 @@ use Rattle.gateway.specs.Setups.{setup_of}
 use Rattle.gateway.specs.Traffic.{IsFaithful, HasRested}
 use Rattle.delivery.specs.Delivery.{Delivers}
 use Rattle.traces.specs.Actions.{lines_of_actions}
+pub use Rattle.pages.specs.Pouring.{IsBegun}
 use Rattle.sim.specs.declared.directive.Directive.{Directive}
 use Rattle.sim.specs.declared.tally.Tally.{Tally}
 use Rattle.sim.specs.Losses.{turns_of}
 use Rattle.sim.specs.Lives.{plan_of}
 use Rattle.sim.specs.Calls.{calls_in}
 use Rattle.sim.specs.Played.{IsPlayed}
-use Rattle.sim.specs.Outstations.{Begins, HaveServed}
+use Rattle.sim.specs.Outstations.{HaveServed}
 use Rattle.sim.specs.Closing.{connections_in, lines_of_connections}
 use Rattle.sim.specs.Texts.{closing_lines}
 
@@ -49,10 +50,6 @@ pub record IsSimulated (c : Settings) (ds : List Directive)
   pub closing : List ℕ
   pub run : IsRun c ds log closing
   pub text : Appends before after (lines_of_actions log ++ closing)
-
--- the first of these octets were written
-abbrev pub IsBegun : (before after : Option (List ℕ)) → List ℕ → Type 0
-IsBegun before after octets = (some : List ℕ) × Begins some octets × Appends before after some
 
 -- What was written is the beginning of the text of a run of the script.
 pub record IsCutShort (c : Settings) (ds : List Directive)

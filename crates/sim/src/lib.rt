@@ -43,13 +43,16 @@ mod directive;
 mod due;
 mod ending;
 mod examples;
+mod fault;
 mod hearing;
 mod laws;
 mod line;
+mod paged;
 mod printout;
 mod reading;
 mod script;
 mod sim;
+mod simulating;
 mod tallies;
 mod tally;
 mod text;
@@ -59,9 +62,11 @@ pub use examples::{
     calls_by_example, closing_lines_by_example, hearings_by_example, losses_by_example,
     scripts_by_example,
 };
+pub use fault::SimFault;
 pub use laws::{connections_are_counted, stations_are_honest};
 pub use reading::read_script;
 pub use script::Script;
 pub use sim::Sim;
+pub use simulating::{simulate, simulate_watched};
 pub use tally::Tally;
 pub use traces::TextFault;
