@@ -1,7 +1,7 @@
 #!/usr/bin/env python3
 """Kills `telegate run --state`, cuts its power, fills its disk, and starts it again: nothing is lost, and nothing is operated twice.
 
-    bench/state.py [--program FILE] [--lives N] [--seed N] [--only NAME]
+    bench/state.py [--program FILE] [--lives N] [--seed N] [--only NAME] [--stretch SECONDS]
 
 Outstations outlive the gateway: they answer, lose answers, report and take commands; a control centre goes and comes. The gateway is
 killed (SIGKILL) at random moments, and every other time the power is cut: its directory is put back to what it had synced, with any part
@@ -216,6 +216,8 @@ def shadowed(folder):
 def cut_power(folder, chance):
     """Puts the directory back to what was synced, with a part of what was written since."""
     state, copy = os.path.join(folder, "state"), os.path.join(folder, "copy")
+    if not os.path.isdir(state):
+        return
     for name in sorted(os.listdir(copy)):
         if name.endswith(".since"):
             tear(os.path.join(copy, name), chance)
@@ -249,7 +251,7 @@ def tear(path, chance):
     os.remove(path)
 
 
-def live_through(count, program, name, lives, seed, **settings):
+def live_through(count, program, name, lives, seed, stretch, **settings):
     """Many lives of one gateway, each ended by a kill or a power cut."""
     with tempfile.TemporaryDirectory() as folder:
         station_chance, visit_chance, kill_chance, report_chance = chances(seed)
@@ -259,7 +261,7 @@ def live_through(count, program, name, lives, seed, **settings):
         visitor = Visitor(door, [1, 2, 3], visit_chance)
         for life in range(lives):
             gateway.start()
-            end = time.monotonic() + kill_chance.choice([0.05, 0.15, 0.3, 0.6]) * kill_chance.random() + 0.05
+            end = time.monotonic() + kill_chance.choice([0.05, 0.15, 0.3, 0.6]) * kill_chance.random() + 0.05 + stretch
             while time.monotonic() < end:
                 time.sleep(0.02)
                 field.stations[report_chance.choice([1, 2, 3])].report(report_chance.choice([0, 0, 1, 3]))
@@ -327,7 +329,7 @@ def a_second_process(count, program):
     with tempfile.TemporaryDirectory() as folder:
         gateway = quiet(program, folder)
         gateway.start()
-        gateway.waits("listening")
+        gateway.waits("station 2 up")
         before = {name: os.path.getsize(os.path.join(gateway.state, name)) for name in os.listdir(gateway.state)}
         second = subprocess.run(
             [program, "run", "--redial", "--log", "--state", gateway.state, gateway.config], capture_output=True, text=True, timeout=60
@@ -481,13 +483,14 @@ def main():
     words.add_argument("--lives", type=int, default=60)
     words.add_argument("--seed", type=int, default=1)
     words.add_argument("--only", default="")
+    words.add_argument("--stretch", type=float, default=0.0, help="how much longer each life is, for a program that starts slowly")
     given = words.parse_args()
     program = os.path.abspath(given.program)
     count = Count()
     jobs = [
-        ("hold", lambda: live_through(count, program, "hold", given.lives, given.seed)),
-        ("reset", lambda: live_through(count, program, "reset", given.lives, given.seed + 1, silence="reset", retries=30)),
-        ("full queue", lambda: live_through(count, program, "full queue", given.lives, given.seed + 2, queue=6, k=2)),
+        ("hold", lambda: live_through(count, program, "hold", given.lives, given.seed, given.stretch)),
+        ("reset", lambda: live_through(count, program, "reset", given.lives, given.seed + 1, given.stretch, silence="reset", retries=10)),
+        ("full queue", lambda: live_through(count, program, "full queue", given.lives, given.seed + 2, given.stretch, queue=6, k=2)),
         ("second", lambda: a_second_process(count, program)),
         ("unread", lambda: a_state_that_is_no_state(count, program)),
         ("full disk", lambda: a_full_disk(count, program)),
