@@ -10,7 +10,7 @@ use Rattle.gateway.specs.Runs.{UnlessDevice}
 use Rattle.gateway.specs.declared.runs.End.{End}
 use Rattle.gateway.specs.declared.runs.End.TheVariants.{Finished, Turns, Device}
 use Rattle.gateway.specs.Objects.{objects}
-use Rattle.gateway.specs.Reports.{Setup, taken_objects, reports_in, parts_of_all}
+use Rattle.gateway.specs.Reports.{Setup, taken_objects, taken_pieces, reports_in, parts_of_all}
 use Rattle.gateway.specs.Course.{here_of, room_in}
 use Rattle.gateway.specs.Serial.{Serial}
 use Rattle.gateway.specs.Works.{unasked_works, ready_works}
@@ -36,9 +36,9 @@ accounted_at p s log a = record {
   spoilt = a.line.spoilt;
 }
   where
-    all : Carries (taken_objects p log) (parts_of_all p.sizes (reports_in p log)) (here_of a.course ∷ a.course.earlier)
-        [] (kept s.centre.queue)
-    all = carries_end (taken_objects p log) (parts_of_all p.sizes (reports_in p log)) a.course.earlier
+    all : Carries (taken_objects p log) (parts_of_all p.sizes (reports_in p log)) (taken_pieces p log)
+        (here_of a.course ∷ a.course.earlier) [] (kept s.centre.queue)
+    all = carries_end (taken_objects p log) (parts_of_all p.sizes (reports_in p log)) (taken_pieces p log) a.course.earlier
         (here_of a.course) s.centre.session s.centre.queue.sent s.centre.queue.unsent a.here.tied a.carries
 
     counted : (log : Log) (a : Agrees p s log [] (resting log))

@@ -19,7 +19,7 @@ use Rattle.gateway.specs.Log.{Log, Went, TcpOut, latest}
 use Rattle.gateway.specs.Streams.{spelled}
 use Rattle.gateway.specs.Frames.{Sent, Connection, data_frames, acknowledged_count, acknowledged_reports, reports_among, objects_of_frames, IsNumberedFrom, IsInOrder}
 use Rattle.gateway.specs.Connections.{is_replaced, Channel, sending, present}
-use Rattle.gateway.specs.Reports.{Setup, taken_objects, reports_in, parts_of_all}
+use Rattle.gateway.specs.Reports.{Setup, taken_objects, taken_pieces, reports_in, parts_of_all}
 use Rattle.gateway.specs.Polls.{has_room}
 use Rattle.gateway.specs.Room.{IsFull}
 use Rattle.gateway.specs.Traffic.{IsFaithful}
@@ -44,14 +44,14 @@ use Rattle.gateway.proofs.Talking.{at, HasNoData, next_plain, sends, kept_talk, 
 use Rattle.gateway.proofs.Unconfirmed.{numbered_more}
 use Rattle.gateway.proofs.Tied.{tied_piece, tied_own, sent_more, SameWindow, tied_same}
 use Rattle.gateway.proofs.Frames.{pass_grows}
-use Rattle.gateway.proofs.Objects.{next_objects, carries_piece, carries_own, first_whole, run_now, split_reports}
+use Rattle.gateway.proofs.Objects.{next_objects, next_piece, carries_piece, carries_own, first_whole, run_now, split_reports}
 use Rattle.gateway.proofs.Stations.{keeps_links}
 
-pub in_order : (objs : List InformationObject) (parts : ℕ) (c : Connection) (earlier : List Connection)
-    (unsent : List (List ℕ)) → IsNumberedFrom 0 c.sent_frames → Carries objs parts earlier c.sent_frames unsent
-    → IsInOrder objs c earlier
-in_order objs parts c earlier unsent numbered carries =
-    record { run = run_now objs parts earlier c.sent_frames unsent carries; numbered = numbered }
+pub in_order : (objs : List InformationObject) (parts : ℕ) (all : List (List ℕ)) (c : Connection)
+    (earlier : List Connection) (unsent : List (List ℕ)) → IsNumberedFrom 0 c.sent_frames
+    → Carries objs parts all earlier c.sent_frames unsent → IsInOrder objs c earlier
+in_order objs parts all c earlier unsent numbered carries =
+    record { run = run_now objs parts all earlier c.sent_frames unsent carries; numbered = numbered }
 
 pub faithful : (p : Setup) (s : State) (log : Log) (unjudged : List ℕ) (phase : Phase) → Agrees p s log unjudged phase
     → IsFaithful p log
@@ -70,7 +70,7 @@ faithful p s log unjudged phase a = record {
   };
   are = a.before.are;
   orders = (
-    in_order (taken_objects p log) (parts_of_all p.sizes (reports_in p log))
+    in_order (taken_objects p log) (parts_of_all p.sizes (reports_in p log)) (taken_pieces p log)
         (here_of a.course) a.course.earlier s.centre.queue.unsent a.here.numbered a.carries,
     a.before.orders,
   );
@@ -381,8 +381,8 @@ pub after_piece : (p : Setup) (s : State) (log : Log) (unjudged asdu : List ℕ)
 after_piece p s log unjudged asdu rest phase a flushing ready may on none unsent fits =
     let f : Sent = record { ns = s.centre.session.next_sent; nr = s.centre.session.next_received; asdu = asdu } in
     let has : has_objects asdu ≡ true = first_whole (taken_objects p log)
-    (parts_of_all p.sizes (reports_in p log)) a.course.earlier a.course.sent s.centre.queue.unsent rest asdu
-    unsent a.carries in
+    (parts_of_all p.sizes (reports_in p log)) (taken_pieces p log) a.course.earlier a.course.sent
+    s.centre.queue.unsent rest asdu unsent a.carries in
     let answers : a.course.works.serial.commands.answers ≡ [] =
     sym (ap (λ (z : Serial). z.commands.answers) a.stands.does
     ∙ answers_in phase (latest log) (room_in p log a.course) a.course.works) ∙ none in
@@ -395,8 +395,12 @@ after_piece p s log unjudged asdu rest phase a flushing ready may on none unsent
       none = λ some. answers;
       report =
           λ some. next_objects (taken_objects p log)
-          (parts_of_all p.sizes (reports_in p log)) a.course.earlier a.course.sent s.centre.queue.unsent rest asdu
-          unsent a.carries;
+          (parts_of_all p.sizes (reports_in p log)) (taken_pieces p log) a.course.earlier a.course.sent
+          s.centre.queue.unsent rest asdu unsent a.carries;
+      piece =
+          λ some. next_piece (taken_objects p log)
+          (parts_of_all p.sizes (reports_in p log)) (taken_pieces p log) a.course.earlier a.course.sent
+          s.centre.queue.unsent rest asdu unsent a.carries;
     }) (placed_in phase log _ flushing a.stands.placed (sym a.here.link ∙ on)) fits
     (data_queue s asdu s.moment a.course has) in
     let room = data_room p s (piece_sent s) log unjudged asdu FromQueue phase a.course.works a in
@@ -432,7 +436,7 @@ after_piece p s log unjudged asdu rest phase a flushing ready may on none unsent
           (numbered_more 0 a.course.sent f (a.here.tied.next
           ∙ ap (λ n. n % 32768) (sym (zero-add (length a.course.sent)))) a.here.numbered);
       left = left_out phase log s.moment _ _ unjudged a.left;
-      carries = carries_piece (taken_objects p log) (parts_of_all p.sizes (reports_in p log)) a.course.earlier
+      carries = carries_piece (taken_objects p log) (parts_of_all p.sizes (reports_in p log)) (taken_pieces p log) a.course.earlier
           a.course.sent s.centre.queue.unsent rest f unsent has a.carries;
       before = past_put p log a.course.earlier s.moment (next_frame s.centre.session asdu) a.clock a.settled
           (sym a.here.link ∙ on) fits (kept_talk p _ _ _ talk) a.before;
@@ -471,6 +475,8 @@ after_own p s log unjudged asdu phase a flushing ready may on first fits =
       none = λ some. absurd (false≢true (sym none ∙ some));
       report =
           λ some. absurd (false≢true (sym none ∙ some));
+      piece =
+          λ some. absurd (false≢true (sym none ∙ some));
     })
     (placed_in phase log _ flushing a.stands.placed (sym a.here.link ∙ on)) fits
     (data_own s asdu s.moment a.course none) in
@@ -504,7 +510,7 @@ after_own p s log unjudged asdu phase a flushing ready may on first fits =
           (numbered_more 0 a.course.sent f (a.here.tied.next
           ∙ ap (λ n. n % 32768) (sym (zero-add (length a.course.sent)))) a.here.numbered);
       left = left_out phase log s.moment _ _ unjudged a.left;
-      carries = carries_own (taken_objects p log) (parts_of_all p.sizes (reports_in p log)) a.course.earlier
+      carries = carries_own (taken_objects p log) (parts_of_all p.sizes (reports_in p log)) (taken_pieces p log) a.course.earlier
           a.course.sent s.centre.queue.unsent f none a.carries;
       before = past_put p log a.course.earlier s.moment (next_frame s.centre.session asdu) a.clock a.settled
           (sym a.here.link ∙ on) fits (kept_talk p _ _ _ talk) a.before;

@@ -19,7 +19,7 @@ use Rattle.gateway.specs.Log.{Log, Went, Closed, latest}
 use Rattle.gateway.specs.Streams.{IsRefused}
 use Rattle.gateway.specs.Frames.{Connection, new_connection, acknowledged_count, fault_of, AreInOrder}
 use Rattle.gateway.specs.Connections.{Channel, no_channel, ends, present, past, over, closed_by, IsBehind, BeginsWithFault, IsConnection, AreConnections}
-use Rattle.gateway.specs.Reports.{Setup, address_at, exchanges_of, exchanges_with, taken_objects, reports_in, parts_of_all}
+use Rattle.gateway.specs.Reports.{Setup, address_at, exchanges_of, exchanges_with, taken_objects, taken_pieces, reports_in, parts_of_all}
 use Rattle.gateway.specs.Gaps.{gaps_told, gap_for}
 use Rattle.gateway.specs.Traffic.{replaces, IsAtRest}
 use Rattle.command.specs.State as tasks
@@ -131,7 +131,7 @@ fault_closes_so sent older f cause c fault = fault_cases (λ cause. (closed_by c
 pub record Ended (p : Setup) (s : State) (log : Log) (c : Course) (octets : Channel) : Type 0 where
   pub are : AreConnections (over octets (past log)) (if octets.is_open then here_of c ∷ c.earlier else c.earlier)
   pub orders : AreInOrder (taken_objects p log) (if octets.is_open then here_of c ∷ c.earlier else c.earlier)
-  pub carries : Carries (taken_objects p log) (parts_of_all p.sizes (reports_in p log))
+  pub carries : Carries (taken_objects p log) (parts_of_all p.sizes (reports_in p log)) (taken_pieces p log)
       (if octets.is_open then here_of c ∷ c.earlier else c.earlier) [] (queue.rewound s.centre.queue).unsent
 
 pub ended : (p : Setup) (s : State) (log : Log) (unjudged : List ℕ) (phase : Phase) (a : Agrees p s log unjudged phase)
@@ -145,6 +145,9 @@ ended p s log unjudged phase a octets fault as_now stands = by_case octets.is_op
     parts : ℕ
     parts = parts_of_all p.sizes (reports_in p log)
 
+    all : List (List ℕ)
+    all = taken_pieces p log
+
     c : Course
     c = a.course
 
@@ -157,12 +160,12 @@ ended p s log unjudged phase a octets fault as_now stands = by_case octets.is_op
           are = subst (AreConnections (over octets (past log))) (sym is)
               (subst (λ cs. AreConnections cs (here_of c ∷ c.earlier)) (sym gone) (fault, stands, a.before.are));
           orders = subst (AreInOrder objs) (sym is) (
-            in_order objs parts
+            in_order objs parts all
                 (here_of c) c.earlier s.centre.queue.unsent a.here.numbered a.carries,
             a.before.orders,
           );
-          carries = subst (λ cs. Carries objs parts cs [] (queue.rewound s.centre.queue).unsent) (sym is)
-              (carries_end objs parts c.earlier (here_of c) s.centre.session s.centre.queue.sent s.centre.queue.unsent
+          carries = subst (λ cs. Carries objs parts all cs [] (queue.rewound s.centre.queue).unsent) (sym is)
+              (carries_end objs parts all c.earlier (here_of c) s.centre.session s.centre.queue.sent s.centre.queue.unsent
               a.here.tied a.carries);
         }
     by_case false h =
@@ -176,9 +179,9 @@ ended p s log unjudged phase a octets fault as_now stands = by_case octets.is_op
           are = subst (AreConnections (over octets (past log))) (sym is)
               (subst (λ cs. AreConnections cs c.earlier) (sym gone) a.before.are);
           orders = subst (AreInOrder objs) (sym is) a.before.orders;
-          carries = subst (λ cs. Carries objs parts cs [] (queue.rewound s.centre.queue).unsent) (sym is)
-              (subst (λ q. Carries objs parts c.earlier [] (q ++ s.centre.queue.unsent)) (sym none)
-              (subst (λ (d : Connection). Carries objs parts c.earlier d.sent_frames s.centre.queue.unsent) new
+          carries = subst (λ cs. Carries objs parts all cs [] (queue.rewound s.centre.queue).unsent) (sym is)
+              (subst (λ q. Carries objs parts all c.earlier [] (q ++ s.centre.queue.unsent)) (sym none)
+              (subst (λ (d : Connection). Carries objs parts all c.earlier d.sent_frames s.centre.queue.unsent) new
               a.carries));
         }
 

@@ -1,6 +1,7 @@
 -- An event comes: the part of the line. What follows on the connection stands in Connecting.
 use Rattle.std.proofs.Common.{◌≡◌, ℕ, ◌+◌, ◌==◌, Bool, true, false, List, [], ◌∷◌, ◌++◌, length, max, min, refl, sym, ap, subst, ◌∙◌, arith}
-use Rattle.std.specs.Prelude.{if◌then◌else◌}
+use Rattle.std.specs.Prelude.{if◌then◌else◌, slice_index}
+use Rattle.elements.specs.Types.{type_of}
 use Rattle.std.specs.List.{flat_map, list_all}
 use Rattle.std.proofs.lemmas.List.{append-nil}
 use Rattle.asdu.specs.Asdu.{AsduValue}
@@ -15,12 +16,12 @@ use Rattle.link.specs.declared.outcome.Outcome.{Outcome}
 use Rattle.link.specs.declared.outcome.Outcome.TheVariants as outcome
 use Rattle.link.specs.Telling.{Tells, report_in, gap_in_outcome}
 use Rattle.session.specs.Session.{is_transferring as is_transferring_of}
-use Rattle.gateway.specs.Objects.{objects, has_objects, monitor_objects, parts_of}
+use Rattle.gateway.specs.Objects.{objects, has_objects, monitor_objects, parts_of, typed_pieces, pieces_of_report}
 use Rattle.gateway.specs.Log.{Log, Input, LineIn, Opened, TcpIn, CutOff, Ticked, WallIs, Came, latest, last_moment}
 use Rattle.gateway.specs.Gaps.{gaps_told}
 use Rattle.gateway.specs.Frames.{transfers}
 use Rattle.gateway.specs.Connections.{present}
-use Rattle.gateway.specs.Reports.{Setup, exchanges_of, taken_objects, reports_in, parts_of_all}
+use Rattle.gateway.specs.Reports.{Setup, exchanges_of, taken_objects, taken_pieces, reports_in, parts_of_all}
 use Rattle.gateway.specs.Serial as serial
 use Rattle.gateway.specs.Serial.{Serial, mirrored, heard, heard_outcome}
 use Rattle.gateway.specs.Centre.{Centre, pushed}
@@ -35,7 +36,7 @@ use Rattle.gateway.specs.Agrees.{Agrees, GapsTold, OffersWait, ArePlain}
 use Rattle.gateway.proofs.Working.{done_placed}
 use Rattle.gateway.proofs.Reached.{IsReached, left_reached}
 use Rattle.gateway.proofs.Offering.{offers_stay}
-use Rattle.gateway.proofs.Stations.{LineGoesOn, taken_grows, parts_grow, after_octets, after_moment}
+use Rattle.gateway.proofs.Stations.{LineGoesOn, taken_grows, pieces_grow, parts_grow, after_octets, after_moment}
 use Rattle.gateway.proofs.Learning.{left_of, at_rest_works, is_left, none_left, all_told, beside, Learnt, learnt}
 
 -- The line's part of an event
@@ -50,6 +51,7 @@ pub record Kept (p : Setup) (s t : State) (reports : List (ℕ × List ℕ)) : T
   pub centre : t.centre ≡ pushed pieces s.centre
   pub objects_are : flat_map objects pieces ≡ flat_map (λ (r : ℕ × List ℕ). monitor_objects p.sizes r.1) reports
   pub number : length pieces ≡ parts_of_all p.sizes reports
+  pub spelled : pieces ≡ flat_map (λ (r : ℕ × List ℕ). pieces_of_report p.sizes r.1) reports
   pub whole : list_all has_objects pieces ≡ true
 
 none_pushed : (c : Centre) → c ≡ pushed [] c
@@ -71,6 +73,7 @@ kept_nothing p s t x line is = subst (λ y. Kept p s y []) (sym is)
           none_pushed s.centre;
       objects_are = refl;
       number = refl;
+      spelled = refl;
       whole = refl;
     })
 
@@ -96,6 +99,8 @@ mirrored_kept p s t station report line none is =
       centre = ap (λ (x : State). x.centre) is ∙ none_pushed s.centre;
       objects_are = sym (append-nil _ ∙ none);
       number = sym no_parts;
+      spelled = sym (append-nil _ ∙ ap (λ (os : List InformationObject). if length os == 0 then [] else
+          typed_pieces p.sizes (type_of (slice_index report 0)) report) none);
       whole = refl;
     }
 
@@ -111,6 +116,8 @@ kept_report p s t station report same k = subst (λ x. Kept p s x ((station, rep
   objects_are = k.objects_are ∙ ap (λ z. monitor_objects z report) same
       ∙ sym (append-nil (monitor_objects p.sizes report));
   number = omega (arith, k.number, ap (λ z. parts_of z report) same);
+  spelled = k.spelled ∙ ap (λ z. pieces_of_report z report) same
+      ∙ sym (append-nil (pieces_of_report p.sizes report));
   whole = k.whole;
 })
 
@@ -165,6 +172,7 @@ pub record Heard (p : Setup) (s t : State) (old : Log) (now : ℕ) (event : Inpu
   pub parts : parts_of_all p.sizes (reports_in p (Came now event ∷ old))
       ≡ parts_of_all p.sizes (reports_in p old) + length pieces
   pub objects_are : flat_map objects pieces ≡ more
+  pub spelled : taken_pieces p (Came now event ∷ old) ≡ taken_pieces p old ++ pieces
   pub whole : list_all has_objects pieces ≡ true
 
 module _ (p : Setup) (s t : State) (old : Log) (now : ℕ) (event : Input) (left : Course) (fits : Bool)
@@ -245,6 +253,8 @@ heard_line laws p s t log now octets fits a b =
       parts = parts_grow p log new (report_in o) on.reported
           ∙ ap (λ n. parts_of_all p.sizes (reports_in p log) + n) (sym k.number);
       objects_are = k.objects_are;
+      spelled = pieces_grow p log new (report_in o) on.reported
+          ∙ ap (λ ps. taken_pieces p log ++ ps) (sym k.spelled);
       whole = k.whole;
     })
 
@@ -295,6 +305,7 @@ only_time laws p s t log now event fits a other works is b =
       taken = taken_grows p log new [] on.reported;
       parts = parts_grow p log new [] on.reported;
       objects_are = refl;
+      spelled = pieces_grow p log new [] on.reported;
       whole = refl;
     })
 

@@ -12,7 +12,7 @@ use Rattle.gateway.specs.Log.{Log, Input, Opened, TcpIn, CutOff, Came, Went, Clo
 use Rattle.gateway.specs.Streams.{spelled}
 use Rattle.gateway.specs.Frames.{Sent, Connection, new_connection, AreInOrder}
 use Rattle.gateway.specs.Connections.{is_replaced, Channel, no_channel, new_channel, receiving, present, past, AreConnections}
-use Rattle.gateway.specs.Reports.{Setup, exchanges_of, taken_objects, reports_in, parts_of_all}
+use Rattle.gateway.specs.Reports.{Setup, exchanges_of, taken_objects, taken_pieces, reports_in, parts_of_all}
 use Rattle.gateway.specs.Traffic.{HasRested, IsFaithful}
 use Rattle.gateway.specs.declared.walls.Wall.{Wall}
 use Rattle.gateway.specs.Walls.{wall_told}
@@ -38,18 +38,22 @@ use Rattle.gateway.proofs.Come.{kept, Worked, Heard, heard_sent, heard_unsent, p
 -- the pieces kept are carried
 carried : (p : Setup) (s t : State) (old : Log) (now : ℕ) (event : Input) (left : Course) (fits : Bool)
     (earlier : List Connection) (sent : List Sent) → Heard p s t old now event left fits
-    → Carries (taken_objects p old) (parts_of_all p.sizes (reports_in p old)) earlier sent s.centre.queue.unsent →
+    → Carries (taken_objects p old) (parts_of_all p.sizes (reports_in p old)) (taken_pieces p old) earlier sent
+    s.centre.queue.unsent →
     Carries (taken_objects p (Came now event ∷ old)) (parts_of_all p.sizes (reports_in p (Came now event ∷ old)))
-    earlier sent t.centre.queue.unsent
+    (taken_pieces p (Came now event ∷ old)) earlier sent t.centre.queue.unsent
 carried p s t old now event left fits earlier sent h c =
-    subst (λ objs. Carries objs (parts_of_all p.sizes (reports_in p (Came now event ∷ old))) earlier sent
-    t.centre.queue.unsent) (sym h.taken)
-    (subst (λ n. Carries (taken_objects p old ++ h.more) n earlier sent t.centre.queue.unsent) (sym h.parts)
+    subst (λ objs. Carries objs (parts_of_all p.sizes (reports_in p (Came now event ∷ old)))
+    (taken_pieces p (Came now event ∷ old)) earlier sent t.centre.queue.unsent) (sym h.taken)
+    (subst (λ n. Carries (taken_objects p old ++ h.more) n (taken_pieces p (Came now event ∷ old)) earlier sent
+    t.centre.queue.unsent) (sym h.parts)
+    (subst (λ all. Carries (taken_objects p old ++ h.more)
+    (parts_of_all p.sizes (reports_in p old) + length h.pieces) all earlier sent t.centre.queue.unsent) (sym h.spelled)
     (subst (λ u. Carries (taken_objects p old ++ h.more)
-    (parts_of_all p.sizes (reports_in p old) + length h.pieces) earlier sent u)
+    (parts_of_all p.sizes (reports_in p old) + length h.pieces) (taken_pieces p old ++ h.pieces) earlier sent u)
     (sym (heard_unsent p s t old now event left fits h))
-    (carries_more (taken_objects p old) h.more (parts_of_all p.sizes (reports_in p old)) earlier sent
-    s.centre.queue.unsent h.pieces h.objects_are h.whole c)))
+    (carries_more (taken_objects p old) h.more (parts_of_all p.sizes (reports_in p old)) (taken_pieces p old) earlier
+    sent s.centre.queue.unsent h.pieces h.objects_are h.whole c))))
 
 -- the connection goes on as it was
 goes_on : (p : Setup) (s t : State) (old : Log) (now : ℕ) (event : Input) (left : Course) (fits : Bool)
@@ -166,23 +170,26 @@ come_course p s t log now event fits kept wall shows counts aside on rest a h = 
 -- what the ended connection leaves in the queue, with the pieces kept since
 left_over : (p : Setup) (s t : State) (log : Log) (now : ℕ) (event : Input) (left : Course) (fits : Bool)
     (earlier : List Connection) → Heard p s t log now event left fits
-    → Carries (taken_objects p log) (parts_of_all p.sizes (reports_in p log)) earlier []
+    → Carries (taken_objects p log) (parts_of_all p.sizes (reports_in p log)) (taken_pieces p log) earlier []
     (queue.rewound s.centre.queue).unsent →
     Carries (taken_objects p (Came now event ∷ log)) (parts_of_all p.sizes (reports_in p (Came now event ∷ log)))
-    earlier [] (queue.rewound t.centre.queue).unsent
+    (taken_pieces p (Came now event ∷ log)) earlier [] (queue.rewound t.centre.queue).unsent
 left_over p s t log now event left fits earlier h c =
     let all : (queue.rewound t.centre.queue).unsent ≡ (queue.rewound s.centre.queue).unsent ++ h.pieces =
     ap (λ q. q ++ t.centre.queue.unsent) (heard_sent p s t log now event left fits h)
     ∙ ap (λ u. s.centre.queue.sent ++ u) (heard_unsent p s t log now event left fits h)
     ∙ sym (append_assoc s.centre.queue.sent s.centre.queue.unsent h.pieces) in
-    subst (λ objs. Carries objs (parts_of_all p.sizes (reports_in p (Came now event ∷ log))) earlier []
-    (queue.rewound t.centre.queue).unsent) (sym h.taken)
-    (subst (λ n. Carries (taken_objects p log ++ h.more) n earlier [] (queue.rewound t.centre.queue).unsent)
-    (sym h.parts)
+    subst (λ objs. Carries objs (parts_of_all p.sizes (reports_in p (Came now event ∷ log)))
+    (taken_pieces p (Came now event ∷ log)) earlier [] (queue.rewound t.centre.queue).unsent) (sym h.taken)
+    (subst (λ n. Carries (taken_objects p log ++ h.more) n (taken_pieces p (Came now event ∷ log)) earlier []
+    (queue.rewound t.centre.queue).unsent) (sym h.parts)
+    (subst (λ ps. Carries (taken_objects p log ++ h.more)
+    (parts_of_all p.sizes (reports_in p log) + length h.pieces) ps earlier [] (queue.rewound t.centre.queue).unsent)
+    (sym h.spelled)
     (subst (λ u. Carries (taken_objects p log ++ h.more)
-    (parts_of_all p.sizes (reports_in p log) + length h.pieces) earlier [] u) (sym all)
-    (carries_more (taken_objects p log) h.more (parts_of_all p.sizes (reports_in p log)) earlier []
-    (queue.rewound s.centre.queue).unsent h.pieces h.objects_are h.whole c)))
+    (parts_of_all p.sizes (reports_in p log) + length h.pieces) (taken_pieces p log ++ h.pieces) earlier [] u) (sym all)
+    (carries_more (taken_objects p log) h.more (parts_of_all p.sizes (reports_in p log)) (taken_pieces p log) earlier []
+    (queue.rewound s.centre.queue).unsent h.pieces h.objects_are h.whole c))))
 
 -- The open connection, if any, is over by an event that the line's part leaves alone.
 module _ (laws : LineLaws) (p : Setup) (s t : State) (log : Log) (now : ℕ) (event : Input) (fits : Bool)
@@ -203,7 +210,8 @@ module _ (laws : LineLaws) (p : Setup) (s t : State) (log : Log) (now : ℕ) (ev
       (orders_grow (taken_objects p log) h.more over_course.earlier over_ended.orders)
 
   over_carries : Carries (taken_objects p (Came now event ∷ log))
-      (parts_of_all p.sizes (reports_in p (Came now event ∷ log))) over_course.earlier []
+      (parts_of_all p.sizes (reports_in p (Came now event ∷ log))) (taken_pieces p (Came now event ∷ log))
+      over_course.earlier []
       (queue.rewound t.centre.queue).unsent
   over_carries = left_over p s t log now event left fits over_course.earlier h over_ended.carries
 
@@ -387,7 +395,8 @@ module _ (laws : LineLaws) (p : Setup) (s t : State) (log : Log) (now : ℕ) (fi
     are = (over_ended laws p s t log now Opened fits rest a h).are;
     orders = (
       in_order (taken_objects p (Came now Opened ∷ log))
-          (parts_of_all p.sizes (reports_in p (Came now Opened ∷ log))) new_connection opened.earlier
+          (parts_of_all p.sizes (reports_in p (Came now Opened ∷ log))) (taken_pieces p (Came now Opened ∷ log))
+          new_connection opened.earlier
           (queue.rewound t.centre.queue).unsent tt (over_carries laws p s t log now Opened fits rest a h),
       over_orders laws p s t log now Opened fits rest a h,
     );

@@ -23,7 +23,7 @@ use Rattle.gateway.proofs.Talking.{kept_talk, talk_on, all_taken}
 use Rattle.gateway.specs.Log.{Log, LogEntry, events_of, Input, Opened, TcpIn, CutOff, Ticked, WallIs, LineIn, Came, Went, LineOut, Closed, GapOut, latest, tell}
 use Rattle.gateway.specs.Frames.{AreInOrder}
 use Rattle.gateway.specs.Connections.{Channel, receiving, received_before, present}
-use Rattle.gateway.specs.Reports.{Setup, sending_in, exchanges_of, taken_objects, reports_in, parts_of_all}
+use Rattle.gateway.specs.Reports.{Setup, sending_in, exchanges_of, taken_objects, taken_pieces, reports_in, parts_of_all}
 use Rattle.link.specs.Leave.{is_poll_request}
 use Rattle.gateway.specs.declared.gaps.Gap.{Gap}
 use Rattle.gateway.specs.Gaps.{gaps_told, gap_for, TellsGaps}
@@ -47,7 +47,7 @@ use Rattle.gateway.proofs.Closing.{stands_now, stands_overfull}
 use Rattle.gateway.proofs.Agreement.{has_places, same_room}
 use Rattle.gateway.proofs.Hearing.{now_idle}
 use Rattle.gateway.proofs.Put.{told_faithful}
-use Rattle.gateway.proofs.Stations.{octets_of, taken_grows, parts_grow, after_request}
+use Rattle.gateway.proofs.Stations.{octets_of, taken_grows, pieces_grow, parts_grow, after_request}
 use Rattle.gateway.proofs.Come.{Heard, heard_event, Worked}
 use Rattle.gateway.proofs.Connecting.{Counts, come_other, come_course, come_open, come_replaced, come_cut, come_bytes, opened_faithful}
 use Rattle.gateway.proofs.Learning.{left_of}
@@ -144,6 +144,8 @@ module _ (laws : LineLaws) (p : Setup) (s : State) (log : Log) (a : Agrees p s l
       ∙ append-nil (taken_objects p log) in
       let parts : parts_of_all p.sizes (reports_in p new) ≡ parts_of_all p.sizes (reports_in p log) =
       omega (arith, parts_grow p log new [] goes.reported) in
+      let all : taken_pieces p new ≡ taken_pieces p log = pieces_grow p log new [] goes.reported
+      ∙ append-nil (taken_pieces p log) in
       let d : Course = with_works (asked_works at (room_in p log a.course) x ready) a.course in
       let course_runs : Runs p new d = (
         a.course,
@@ -193,10 +195,12 @@ module _ (laws : LineLaws) (p : Setup) (s : State) (log : Log) (a : Agrees p s l
         plain = subst ArePlain (sym (put_answers (is_first_command q x))) a.plain;
         here = a.here;
         left = refl;
-        carries = subst (λ objs. Carries objs (parts_of_all p.sizes (reports_in p new)) a.course.earlier a.course.sent
-            s.centre.queue.unsent) (sym same)
-            (subst (λ n. Carries (taken_objects p log) n a.course.earlier a.course.sent s.centre.queue.unsent)
-            (sym parts) a.carries);
+        carries = subst (λ objs. Carries objs (parts_of_all p.sizes (reports_in p new)) (taken_pieces p new)
+            a.course.earlier a.course.sent s.centre.queue.unsent) (sym same)
+            (subst (λ n. Carries (taken_objects p log) n (taken_pieces p new) a.course.earlier a.course.sent
+            s.centre.queue.unsent) (sym parts)
+            (subst (λ ps. Carries (taken_objects p log) (parts_of_all p.sizes (reports_in p log)) ps a.course.earlier
+            a.course.sent s.centre.queue.unsent) (sym all) a.carries));
         before = record {
           are = a.before.are;
           orders = subst (λ objs. AreInOrder objs a.course.earlier) (sym same) a.before.orders;

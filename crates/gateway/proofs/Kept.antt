@@ -1,15 +1,19 @@
 -- The pieces of a report in the queue.
 use Rattle.std.proofs.Common.{◌≡◌, ℕ, ◌≤◌, ◌==◌, Bool, true, false, not, List, [], ◌∷◌, ◌++◌, length, map, refl, ap, sym, subst, ◌∙◌, arith}
-use Rattle.std.specs.Prelude.{if◌then◌else◌, ◌&&◌}
+use Rattle.std.specs.Prelude.{if◌then◌else◌, ◌&&◌, slice_index, Option, Some, None}
+use Rattle.elements.specs.declared.types.TypeId.{TypeId}
+use Rattle.elements.specs.Types.{type_of}
+use Rattle.asdu.specs.Fields.{value_at}
+use Rattle.asdu.specs.Refusals.{is_read}
 use Rattle.std.specs.List.{flat_map, list_all, AllByRecursion}
 use Rattle.std.proofs.lemmas.List.{append-nil}
 use Rattle.arrayvec.specs.ArrayVec.{ArrayVec}
 use Rattle.asdu.specs.declared.sizes.Sizes.{Sizes}
 use Rattle.asdu.specs.Sizes.{tcp}
-use Rattle.asdu.specs.InformationObjects.{InformationObject, object_in, value_objects, objects_of, monitor_objects_of, is_passed_on}
-use Rattle.asdu.specs.Translation.{parts, IsPiece, IsLargest, AllButLast}
+use Rattle.asdu.specs.InformationObjects.{InformationObject, object_in, value_objects, typed_objects, objects_of, monitor_objects_of, is_passed_on}
+use Rattle.asdu.specs.Translation.{parts, report_pieces, IsPiece, IsLargest, AllButLast}
 use Rattle.events.specs.Queue.{octets_of}
-use Rattle.gateway.specs.Objects.{objects, has_objects, monitor_objects, parts_of}
+use Rattle.gateway.specs.Objects.{objects, has_objects, monitor_objects, parts_of, typed_pieces, pieces_of_report}
 use Rattle.asdu.specs.Asdu.{AsduValue, Info, IsAsdu}
 use Rattle.gateway.specs.declared.counts.Tally.{Tally}
 use Rattle.gateway.specs.Counting.{is_answer_type, counted, counted_by, one_skipped}
@@ -43,17 +47,59 @@ parts_some sizes report h = ap (λ b. if b then 0 else parts sizes report)
     none : (n : ℕ) → 1 ≤ n → (n == 0) ≡ false
     none n h = grind (arith, Rattle.std.proofs.lemmas.Bool.Decides.nat_tests)
 
+-- The pieces of a report that is read
+
+-- its type is that of the ASDU that it is
+type_read : (sizes : Sizes) (report : List ℕ) (u : AsduValue) (infos : List Info) → u.infos ≡ infos → 1 ≤ length infos
+    → objects_of sizes report ≡ value_objects u → type_of (slice_index report 0) ≡ Some u.kind
+unfolding objects_of
+type_read sizes report u [] is some e = absurd (omega (arith, some))
+type_read sizes report u (i ∷ infos) is some e =
+    by_type (is_read sizes report) (type_of (slice_index report 0)) (e ∙ ap (map (object_in u)) is)
+  where
+    same_type : (t : TypeId) (v : AsduValue) (others : List Info) → v.kind ≡ t
+        → map (object_in v) others ≡ map (object_in u) (i ∷ infos) → Some t ≡ Some u.kind
+    same_type t v [] of e = cc
+    same_type t v (j ∷ others) of e =
+        let first : object_in v j ≡ object_in u i = cc in
+        ap (λ (t : TypeId). Some t) (sym of ∙ ap (λ (o : InformationObject). o.kind) first)
+
+    by_type : (b : Bool) (o : Option TypeId)
+        → (if b then typed_objects sizes o report else []) ≡ map (object_in u) (i ∷ infos) → o ≡ Some u.kind
+    by_type false o e = cc
+    by_type true None e = cc
+    by_type true (Some t) e = same_type t (value_at sizes t report) (value_at sizes t report).infos refl e
+
+-- so its pieces are those of that ASDU
+pub pieces_read : (s : State) (report octets : List ℕ) (sizes : Sizes) (kind : TypeId) → sizes ≡ s.sizes
+    → octets ≡ report → objects_of s.sizes report ≡ value_objects (value_at sizes kind octets)
+    → 1 ≤ length (value_at sizes kind octets).infos → 1 ≤ length (monitor_objects s.sizes report)
+    → report_pieces (value_at sizes kind octets) ≡ pieces_of_report s.sizes report
+pieces_read s report octets sizes kind same is objects some passed =
+    let u : AsduValue = value_at sizes kind octets in
+    let typed : type_of (slice_index report 0) ≡ Some kind =
+    type_read s.sizes report u u.infos refl some objects in
+    ap (λ (z : Sizes). report_pieces (value_at z kind octets)) same
+    ∙ ap (λ (x : List ℕ). report_pieces (value_at s.sizes kind x)) is
+    ∙ sym (ap (λ (o : Option TypeId). typed_pieces s.sizes o report) typed)
+    ∙ sym (ap (λ b. if b then [] else typed_pieces s.sizes (type_of (slice_index report 0)) report)
+    (none_not (length (monitor_objects s.sizes report)) passed))
+  where
+    none_not : (n : ℕ) → 1 ≤ n → (n == 0) ≡ false
+    none_not n h = grind (arith, Rattle.std.proofs.lemmas.Bool.Decides.nat_tests)
+
 -- a report that is passed on
 pub keeps_report : (s t : State) (report : List ℕ) (ps : List (List ℕ))
     → flat_map objects ps ≡ monitor_objects s.sizes report → AllByRecursion (λ p. 1 ≤ length (objects p)) ps
-    → length ps ≡ parts s.sizes report → 1 ≤ length (monitor_objects s.sizes report)
-    → counted s.sizes report s.serial.counts ≡ s.serial.counts → t ≡ with_centre (pushed ps s.centre) s
+    → length ps ≡ parts s.sizes report → ps ≡ pieces_of_report s.sizes report
+    → 1 ≤ length (monitor_objects s.sizes report) → counted s.sizes report s.serial.counts ≡ s.serial.counts → t ≡ with_centre (pushed ps s.centre) s
     → Keeps s report t
-keeps_report s t report ps joined each number passed counts after = record {
+keeps_report s t report ps joined each number spelled passed counts after = record {
   pieces = ps;
   objects_are = joined;
   whole = all_whole ps each;
   number = number ∙ sym (parts_some s.sizes report passed);
+  spelled = spelled;
   after = after ∙ ap
       (λ (c : Tally).
       let made : State = record s {
@@ -74,6 +120,8 @@ keeps_none s t report octets sizes same is none after =
       objects_are = sym nothing;
       whole = refl;
       number = sym (ap (λ (os : List InformationObject). if length os == 0 then 0 else parts s.sizes report) nothing);
+      spelled = sym (ap (λ (os : List InformationObject). if length os == 0 then [] else typed_pieces s.sizes
+          (type_of (slice_index report 0)) report) nothing);
       after = after ∙ ap
           (λ (u : List (List ℕ)).
           let made : State = record s {

@@ -42,3 +42,4 @@ pub mod ReadBack
 pub mod Unchanging
 pub mod Carrying
 pub mod Reseating
+pub mod Given

@@ -9,9 +9,9 @@ use Rattle.std.proofs.lemmas.Bool.Decides.{nat_tests}
 use Rattle.session.specs.Session.{Session}
 use Rattle.gateway.specs.Objects.{objects, has_objects}
 use Rattle.asdu.specs.InformationObjects.{InformationObject}
-use Rattle.gateway.specs.Frames.{Connection, Sent, acknowledged_count, acknowledged_frames, objects_of_frames, first_unacknowledged, reports_among, AreInOrder}
+use Rattle.gateway.specs.Frames.{Connection, Sent, acknowledged_count, acknowledged_frames, objects_of_frames, first_unacknowledged, acknowledged_reports, reports_among, AreInOrder}
 use Rattle.gateway.specs.Agrees.{Carries, Tied, pieces_of}
-use Rattle.gateway.proofs.Pieces.{objects-pieces_of, all-pieces_of}
+use Rattle.gateway.proofs.Pieces.{objects-pieces_of, all-pieces_of, pieces_of-append}
 
 -- a run stays one as more is taken
 run_grows : (run objs more : List InformationObject) (start : ℕ) → run ≡ take (length run) (drop start objs)
@@ -65,12 +65,12 @@ one_report f has = ap (λ b. cond b 1 0) has
 
 -- What is carried
 
-pub carries_more : (objs new : List InformationObject) (parts : ℕ) (earlier : List Connection) (sent : List Sent)
+pub carries_more : (objs new : List InformationObject) (parts : ℕ) (all : List (List ℕ)) (earlier : List Connection) (sent : List Sent)
     (unsent more : List (List ℕ)) → flat_map objects more ≡ new → list_all has_objects more ≡ true
-    → Carries objs parts earlier sent unsent →
-    Carries (objs ++ new) (parts + length more) earlier sent (unsent ++ more)
-carries_more objs new parts earlier sent unsent more e whole h =
-    subst (λ xs. Carries (objs ++ xs) (parts + length more) earlier sent (unsent ++ more)) e (record {
+    → Carries objs parts all earlier sent unsent →
+    Carries (objs ++ new) (parts + length more) (all ++ more) earlier sent (unsent ++ more)
+carries_more objs new parts all earlier sent unsent more e whole h =
+    subst (λ xs. Carries (objs ++ xs) (parts + length more) (all ++ more) earlier sent (unsent ++ more)) e (record {
       whole = list_all-append has_objects unsent more ∙ and_from _ _ h.whole whole;
       gone = h.gone;
       front = h.front;
@@ -82,14 +82,18 @@ carries_more objs new parts earlier sent unsent more e whole h =
           ∙ ap (λ xs. h.gone ++ xs) (append_assoc said left added
           ∙ ap (λ xs. said ++ xs) (sym (flat_map-append objects unsent more)));
       count = omega (arith, h.count, length-append unsent more);
+      gone_pieces = h.gone_pieces;
+      gone_count = h.gone_count;
+      spelled = ap (λ xs. xs ++ more) h.spelled ∙ append_assoc h.gone_pieces (pieces_of sent ++ unsent) more
+          ∙ ap (λ xs. h.gone_pieces ++ xs) (append_assoc (pieces_of sent) unsent more);
     })
 
 -- the frame that carries the oldest unsent piece
-pub carries_piece : (objs : List InformationObject) (parts : ℕ) (earlier : List Connection) (sent : List Sent)
+pub carries_piece : (objs : List InformationObject) (parts : ℕ) (all : List (List ℕ)) (earlier : List Connection) (sent : List Sent)
     (unsent rest : List (List ℕ)) (f : Sent) → unsent ≡ f.asdu ∷ rest → has_objects f.asdu ≡ true
-    → Carries objs parts earlier sent unsent →
-    Carries objs parts earlier (sent ++ f ∷ []) (drop 1 unsent)
-carries_piece objs parts earlier sent unsent rest f e has h = record {
+    → Carries objs parts all earlier sent unsent →
+    Carries objs parts all earlier (sent ++ f ∷ []) (drop 1 unsent)
+carries_piece objs parts all earlier sent unsent rest f e has h = record {
   whole = subst (λ u. list_all has_objects (drop 1 u) ≡ true) (sym e)
       (and_parts (has_objects f.asdu) (list_all has_objects rest)
       (subst (λ u. list_all has_objects u ≡ true) e h.whole)).1;
@@ -105,14 +109,22 @@ carries_piece objs parts earlier sent unsent rest f e has h = record {
       let before : length unsent ≡ suc (length rest) = ap length e in
       let after : length (drop 1 unsent) ≡ length rest = ap (λ u. length (drop 1 u)) e in
       omega (arith, h.count, before, after, reports_among-append sent (f ∷ []), one_report f has);
+  gone_pieces = h.gone_pieces;
+  gone_count = h.gone_count;
+  spelled = h.spelled ∙ ap (λ xs. h.gone_pieces ++ xs)
+      (ap (λ u. pieces_of sent ++ u) e
+      ∙ sym (append_assoc (pieces_of sent) (f.asdu ∷ []) rest)
+      ∙ ap (λ xs. (pieces_of sent ++ xs) ++ rest) (sym (ap (λ b. cond b (f.asdu ∷ []) []) has))
+      ∙ ap (λ xs. xs ++ rest) (sym (pieces_of-append sent (f ∷ [])))
+      ∙ ap (λ u. pieces_of (sent ++ f ∷ []) ++ drop 1 u) (sym e));
 }
 
 -- its objects are the next of those taken
-pub next_objects : (objs : List InformationObject) (parts : ℕ) (earlier : List Connection) (sent : List Sent)
-    (unsent rest : List (List ℕ)) (asdu : List ℕ) → unsent ≡ asdu ∷ rest → Carries objs parts earlier sent unsent →
+pub next_objects : (objs : List InformationObject) (parts : ℕ) (all : List (List ℕ)) (earlier : List Connection) (sent : List Sent)
+    (unsent rest : List (List ℕ)) (asdu : List ℕ) → unsent ≡ asdu ∷ rest → Carries objs parts all earlier sent unsent →
     objects asdu ≡ take (length (objects asdu)) (drop (first_unacknowledged earlier + length (objects_of_frames sent))
     objs)
-next_objects objs parts earlier sent unsent rest asdu e h =
+next_objects objs parts all earlier sent unsent rest asdu e h =
     let said : List InformationObject = objects_of_frames sent in
     let n : ℕ = first_unacknowledged earlier + length said in
     let is : objs ≡ (h.gone ++ said) ++ (objects asdu ++ flat_map objects rest) = h.joined
@@ -123,6 +135,20 @@ next_objects objs parts earlier sent unsent rest asdu e h =
     (omega (arith, length-append h.gone said, h.front)))
     ∙ take_at (objects asdu) (flat_map objects rest) (length (objects asdu)) refl)
 
+-- and it is the next of the pieces
+pub next_piece : (objs : List InformationObject) (parts : ℕ) (all : List (List ℕ)) (earlier : List Connection)
+    (sent : List Sent) (unsent rest : List (List ℕ)) (asdu : List ℕ) → unsent ≡ asdu ∷ rest
+    → Carries objs parts all earlier sent unsent →
+    take 1 (drop (acknowledged_reports earlier + reports_among sent) all) ≡ asdu ∷ []
+next_piece objs parts all earlier sent unsent rest asdu e h =
+    let said : List (List ℕ) = pieces_of sent in
+    let n : ℕ = acknowledged_reports earlier + reports_among sent in
+    let is : all ≡ (h.gone_pieces ++ said) ++ (asdu ∷ rest) = h.spelled
+    ∙ ap (λ u. h.gone_pieces ++ (said ++ u)) e ∙ sym (append_assoc h.gone_pieces said (asdu ∷ rest)) in
+    ap (λ xs. take 1 (drop n xs)) is
+    ∙ ap (take 1) (drop_at (h.gone_pieces ++ said) (asdu ∷ rest) n
+    (omega (arith, length-append h.gone_pieces said, h.gone_count, length-pieces_of sent)))
+
 -- the frame of an own answer
 no_objects : (asdu : List ℕ) → has_objects asdu ≡ false → objects asdu ≡ []
 no_objects asdu h = nil_from_length (objects asdu) (zero_length (length (objects asdu)) h)
@@ -130,10 +156,10 @@ no_objects asdu h = nil_from_length (objects asdu) (zero_length (length (objects
     zero_length : (n : ℕ) → not (n == 0) ≡ false → n ≡ 0
     zero_length n h = grind (arith, nat_tests)
 
-pub carries_own : (objs : List InformationObject) (parts : ℕ) (earlier : List Connection) (sent : List Sent)
-    (unsent : List (List ℕ)) (f : Sent) → has_objects f.asdu ≡ false → Carries objs parts earlier sent unsent
-    → Carries objs parts earlier (sent ++ f ∷ []) unsent
-carries_own objs parts earlier sent unsent f none h = record {
+pub carries_own : (objs : List InformationObject) (parts : ℕ) (all : List (List ℕ)) (earlier : List Connection) (sent : List Sent)
+    (unsent : List (List ℕ)) (f : Sent) → has_objects f.asdu ≡ false → Carries objs parts all earlier sent unsent
+    → Carries objs parts all earlier (sent ++ f ∷ []) unsent
+carries_own objs parts all earlier sent unsent f none h = record {
   whole = h.whole;
   gone = h.gone;
   front = h.front;
@@ -142,15 +168,21 @@ carries_own objs parts earlier sent unsent f none h = record {
       ∙ ap (λ os. objects_of_frames sent ++ (os ++ [])) (no_objects f.asdu none)
       ∙ append-nil (objects_of_frames sent)));
   count = omega (arith, h.count, reports_among-append sent (f ∷ []), none_reported);
+  gone_pieces = h.gone_pieces;
+  gone_count = h.gone_count;
+  spelled = h.spelled ∙ ap (λ xs. h.gone_pieces ++ (xs ++ unsent))
+      (sym (pieces_of-append sent (f ∷ [])
+      ∙ ap (λ xs. pieces_of sent ++ xs) (ap (λ b. cond b (f.asdu ∷ []) []) none)
+      ∙ append-nil (pieces_of sent)));
 }
   where
     none_reported : reports_among (f ∷ []) ≡ 0
     none_reported = ap {B = ℕ} (λ b. cond b 1 0) none
 
-pub first_whole : (objs : List InformationObject) (parts : ℕ) (earlier : List Connection) (sent : List Sent)
-    (unsent rest : List (List ℕ)) (asdu : List ℕ) → unsent ≡ asdu ∷ rest → Carries objs parts earlier sent unsent
+pub first_whole : (objs : List InformationObject) (parts : ℕ) (all : List (List ℕ)) (earlier : List Connection) (sent : List Sent)
+    (unsent rest : List (List ℕ)) (asdu : List ℕ) → unsent ≡ asdu ∷ rest → Carries objs parts all earlier sent unsent
     → has_objects asdu ≡ true
-first_whole objs parts earlier sent unsent rest asdu e h =
+first_whole objs parts all earlier sent unsent rest asdu e h =
     (and_parts (has_objects asdu) (list_all has_objects rest) (subst (λ u. list_all has_objects u ≡ true) e h.whole)).0
 
 -- the sent objects: those of the acknowledged frames, and those that the queue keeps as sent
@@ -163,6 +195,15 @@ split_objects c s pieces h =
     ∙ ap (λ xs. objects_of_frames (take n c.sent_frames) ++ xs) (sym (objects-pieces_of (drop n c.sent_frames))
     ∙ ap (flat_map objects) (sym h.unconfirmed.pieces_are))
 
+-- and so are the pieces
+split_pieces : (c : Connection) (s : Session) (pieces : List (List ℕ)) → Tied c s pieces
+    → pieces_of c.sent_frames ≡ pieces_of (acknowledged_frames c) ++ pieces
+split_pieces c s pieces h =
+    let n : ℕ = acknowledged_count c.received_frames in
+    ap pieces_of (sym (take-append-drop n c.sent_frames))
+    ∙ pieces_of-append (take n c.sent_frames) (drop n c.sent_frames)
+    ∙ ap (λ xs. pieces_of (take n c.sent_frames) ++ xs) (sym h.unconfirmed.pieces_are)
+
 -- and so with the frames
 pub split_reports : (c : Connection) (s : Session) (pieces : List (List ℕ)) → Tied c s pieces
     → reports_among c.sent_frames ≡ reports_among (acknowledged_frames c) + length pieces
@@ -174,20 +215,20 @@ split_reports c s pieces h =
     ∙ ap length (sym h.unconfirmed.pieces_are))
 
 -- what the open connection sent is a run
-pub run_now : (objs : List InformationObject) (parts : ℕ) (earlier : List Connection) (sent : List Sent)
-    (unsent : List (List ℕ)) → Carries objs parts earlier sent unsent
+pub run_now : (objs : List InformationObject) (parts : ℕ) (all : List (List ℕ)) (earlier : List Connection) (sent : List Sent)
+    (unsent : List (List ℕ)) → Carries objs parts all earlier sent unsent
     → objects_of_frames sent ≡ take (length (objects_of_frames sent)) (drop (first_unacknowledged earlier) objs)
-run_now objs parts earlier sent unsent h =
+run_now objs parts all earlier sent unsent h =
     let said : List InformationObject = objects_of_frames sent in
     sym (ap (λ xs. take (length said) (drop (first_unacknowledged earlier) xs)) h.joined
     ∙ ap (take (length said)) (drop_at h.gone (said ++ flat_map objects unsent) (first_unacknowledged earlier) h.front)
     ∙ take_at said (flat_map objects unsent) (length said) refl)
 
 -- the connection ends
-pub carries_end : (objs : List InformationObject) (parts : ℕ) (earlier : List Connection) (c : Connection)
-    (s : Session) (pieces unsent : List (List ℕ)) → Tied c s pieces → Carries objs parts earlier c.sent_frames unsent
-    → Carries objs parts (c ∷ earlier) [] (pieces ++ unsent)
-carries_end objs parts earlier c s pieces unsent tied h =
+pub carries_end : (objs : List InformationObject) (parts : ℕ) (all : List (List ℕ)) (earlier : List Connection) (c : Connection)
+    (s : Session) (pieces unsent : List (List ℕ)) → Tied c s pieces → Carries objs parts all earlier c.sent_frames unsent
+    → Carries objs parts all (c ∷ earlier) [] (pieces ++ unsent)
+carries_end objs parts all earlier c s pieces unsent tied h =
     let n : ℕ = acknowledged_count c.received_frames in
     let gone : List InformationObject = objects_of_frames (take n c.sent_frames) in
     record {
@@ -201,4 +242,14 @@ carries_end objs parts earlier c s pieces unsent tied h =
           ∙ sym (append_assoc h.gone gone (flat_map objects pieces ++ flat_map objects unsent))
           ∙ ap (λ xs. (h.gone ++ gone) ++ xs) (sym (flat_map-append objects pieces unsent));
       count = omega (arith, h.count, split_reports c s pieces tied, length-append pieces unsent);
+      gone_pieces = h.gone_pieces ++ pieces_of (take n c.sent_frames);
+      gone_count = omega (
+        arith,
+        length-append h.gone_pieces (pieces_of (take n c.sent_frames)),
+        h.gone_count,
+        length-pieces_of (take n c.sent_frames),
+      );
+      spelled = h.spelled ∙ ap (λ xs. h.gone_pieces ++ (xs ++ unsent)) (split_pieces c s pieces tied)
+          ∙ ap (λ xs. h.gone_pieces ++ xs) (append_assoc (pieces_of (take n c.sent_frames)) pieces unsent)
+          ∙ sym (append_assoc h.gone_pieces (pieces_of (take n c.sent_frames)) (pieces ++ unsent));
     }

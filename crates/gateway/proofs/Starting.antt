@@ -92,7 +92,16 @@ at_first c starts laws commands line_laws rules timely = record {
   here = fresh (first_state c).centre no_channel timely.range.k_small refl
       (λ h. refl) refl refl refl refl refl refl refl refl refl;
   left = refl;
-  carries = record { whole = refl; gone = []; front = refl; joined = refl; count = refl };
+  carries = record {
+    whole = refl;
+    gone = [];
+    front = refl;
+    joined = refl;
+    count = refl;
+    gone_pieces = [];
+    gone_count = refl;
+    spelled = refl;
+  };
   before = record { are = tt; orders = tt; times = tt; acts = tt; rests = tt };
 }
   where

@@ -17,10 +17,10 @@ use Rattle.link.specs.Turns.{station_at}
 use Rattle.link.specs.Primary.{Outstanding, Primary, asked, sending, received, received_outcome, timed_out}
 use Rattle.link.specs.Telling.{Tells, report_in, IsAwaited, IsHeard, IsSaid}
 use Rattle.link.specs.Telling as telling
-use Rattle.gateway.specs.Objects.{monitor_objects}
+use Rattle.gateway.specs.Objects.{monitor_objects, pieces_of_report}
 use Rattle.gateway.specs.Log.{Log, LineIn, Came, Went, LineOut, latest}
 use Rattle.gateway.specs.Frames.{Connection}
-use Rattle.gateway.specs.Reports.{Setup, address_at, AreFound, sent_to, sending_in, exchanges_of, exchanges_with, reports_in, taken_objects, parts_of_all, KeepsLinks}
+use Rattle.gateway.specs.Reports.{Setup, address_at, AreFound, sent_to, sending_in, exchanges_of, exchanges_with, reports_in, taken_objects, taken_pieces, parts_of_all, KeepsLinks}
 use Rattle.gateway.specs.Course.{Course}
 use Rattle.gateway.specs.Room.{IsFull}
 use Rattle.gateway.specs.Line.{IsWaiting, IsServed, done_in, LacksOnlyRoom, IsLineAtRest}
@@ -37,6 +37,13 @@ pub taken_grows : (p : Setup) (old new : Log) (reports : List (ℕ × List ℕ))
 taken_grows p old new reports e =
     ap (flat_map (λ r. monitor_objects p.sizes r.1)) e
     ∙ flat_map-append (λ (r : ℕ × List ℕ). monitor_objects p.sizes r.1) (reports_in p old) reports
+
+pub pieces_grow : (p : Setup) (old new : Log) (reports : List (ℕ × List ℕ))
+    → reports_in p new ≡ reports_in p old ++ reports → taken_pieces p new ≡ taken_pieces p old
+    ++ flat_map (λ (r : ℕ × List ℕ). pieces_of_report p.sizes r.1) reports
+pieces_grow p old new reports e =
+    ap (flat_map (λ r. pieces_of_report p.sizes r.1)) e
+    ∙ flat_map-append (λ (r : ℕ × List ℕ). pieces_of_report p.sizes r.1) (reports_in p old) reports
 
 parts-append : (sizes : Sizes) (xs ys : List (ℕ × List ℕ))
     → parts_of_all sizes (xs ++ ys) ≡ parts_of_all sizes xs + parts_of_all sizes ys

@@ -21,7 +21,7 @@ use Rattle.gateway.specs.Walls.{wall_told}
 use Rattle.gateway.specs.Streams.{spelled, AllFit, AreFrames}
 use Rattle.gateway.specs.Frames.{Sent, Connection, new_connection, data_frames, transfers, i_frames, acknowledged_count, objects_of_frames, first_unacknowledged, reports_among, acknowledged_reports, IsNumberedFrom, AreInOrder}
 use Rattle.gateway.specs.Connections.{Channel, no_channel, present, past, received_before, is_replaced, Passes, AreConnections}
-use Rattle.gateway.specs.Reports.{Setup, AreFound, exchanges_of, taken_objects, reports_in, parts_of_all}
+use Rattle.gateway.specs.Reports.{Setup, AreFound, exchanges_of, taken_objects, taken_pieces, reports_in, parts_of_all}
 use Rattle.gateway.specs.Traffic.{ActsRightly, RestsBetweenSteps, HasRested, IsFaithful}
 use Rattle.gateway.specs.Course.{Course, here_of, room_in, Runs}
 use Rattle.gateway.specs.Conversation.{KeepsRulesThroughout}
@@ -103,15 +103,18 @@ pub record Presently (s : Centre) (octets : Channel) (unjudged : List ℕ)
 
 -- The queue
 
--- What was taken: acknowledged on earlier connections, sent on this one, and unsent. Each piece has
--- a place until it is acknowledged.
-pub record Carries (objs : List InformationObject) (parts : ℕ) (earlier : List Connection)
-    (sent : List Sent) (unsent : List (List ℕ)) : Type 0 where
+-- What was taken: acknowledged on earlier connections, sent on this one, and unsent; and so octet by
+-- octet, piece by piece. Each piece has a place until it is acknowledged.
+pub record Carries (objs : List InformationObject) (parts : ℕ) (all : List (List ℕ))
+    (earlier : List Connection) (sent : List Sent) (unsent : List (List ℕ)) : Type 0 where
   pub whole : list_all has_objects unsent ≡ true
   pub gone : List InformationObject
   pub front : length gone ≡ first_unacknowledged earlier
   pub joined : objs ≡ gone ++ (objects_of_frames sent ++ flat_map objects unsent)
   pub count : parts ≡ acknowledged_reports earlier + (reports_among sent + length unsent)
+  pub gone_pieces : List (List ℕ)
+  pub gone_count : length gone_pieces ≡ acknowledged_reports earlier
+  pub spelled : all ≡ gone_pieces ++ (pieces_of sent ++ unsent)
 
 -- settings that a session can have
 pub record IsTimely (p : Settings) : Type 0 where
@@ -166,7 +169,7 @@ pub record Agrees (p : Setup) (s : State) (log : Log) (unjudged : List ℕ)
   pub offers : OffersWait s.serial.line s.serial.commands
   pub plain : ArePlain s.serial.commands.answers
   pub carries : Carries (taken_objects p log) (parts_of_all p.sizes (reports_in p log))
-      course.earlier course.sent s.centre.queue.unsent
+      (taken_pieces p log) course.earlier course.sent s.centre.queue.unsent
   pub before : Past p log course.earlier
 
 -- the same where the port tells its log

@@ -25,9 +25,9 @@ use Rattle.gateway.specs.Objects.{objects, has_objects}
 use Rattle.gateway.specs.Log.{Log, Input, LineIn, Opened, TcpIn, CutOff, Ticked, WallIs, Came, Went, LineOut, TcpOut, Closed, GapOut, latest}
 use Rattle.gateway.specs.Walls.{wall_on}
 use Rattle.gateway.specs.Streams.{spelled}
-use Rattle.gateway.specs.Frames.{Sent, Connection, transfers, first_unacknowledged, monitor_objects_sent, acknowledged_reports}
+use Rattle.gateway.specs.Frames.{Sent, Connection, transfers, first_unacknowledged, monitor_objects_sent, acknowledged_reports, reports_among}
 use Rattle.gateway.specs.Connections.{Channel, present, received_before, is_replaced, IsConnection}
-use Rattle.gateway.specs.Reports.{Setup, address_at, reports_in, parts_of_all, taken_objects}
+use Rattle.gateway.specs.Reports.{Setup, address_at, reports_in, parts_of_all, taken_objects, taken_pieces}
 use Rattle.gateway.specs.Serial.{is_first_command, heard_outcome}
 use Rattle.gateway.specs.Works.{Works, first_works, has_lacked_place, LearnsOf, heard_works, sent_works, cut_works, octets_works, begun_works, settled_works, ready_works, gapless_works, asked_works, done_works}
 
@@ -69,6 +69,10 @@ room_in p log c = room_by p (parts_of_all p.sizes (reports_in p log)) (here_of c
 -- sent on the open one
 abbrev pub sent_objects : Course → ℕ
 sent_objects c = first_unacknowledged c.earlier + length (monitor_objects_sent (here_of c))
+
+-- how many pieces: those acknowledged on earlier connections, and those sent on the open one
+abbrev pub sent_pieces : Course → ℕ
+sent_pieces c = acknowledged_reports c.earlier + reports_among c.sent
 
 -- All objects taken and all own answers have gone out.
 pub record HasSentAll (p : Setup) (log : Log) (c : Course) : Type 0 where
@@ -166,14 +170,17 @@ with_sent frame now c =
       works = sent_works frame c.works;
     }
 
--- An I frame goes out once all confirmations are out. It bears the next of the objects taken, once
--- no own answer waits; or it is the oldest own answer (5.3; profile).
+-- An I frame goes out once all confirmations are out. It bears the next of the objects taken, and is
+-- the next of the pieces of reports, octet by octet, once no own answer waits; or it is the oldest
+-- own answer (5.3; profile).
 pub record IsNextData (p : Setup) (log : Log) (asdu : List ℕ) (c : Course) : Type 0 where
   pub confirmed : confirmation_of c.talk ≡ None
   pub own : has_objects asdu ≡ false → first_answer c.works.serial.commands.answers ≡ Some asdu
   pub none : has_objects asdu ≡ true → c.works.serial.commands.answers ≡ []
   pub report : has_objects asdu ≡ true → objects asdu
       ≡ take (length (objects asdu)) (drop (sent_objects c) (taken_objects p log))
+  pub piece : has_objects asdu ≡ true →
+      take 1 (drop (sent_pieces c) (taken_pieces p log)) ≡ asdu ∷ []
 
 -- An S frame or a test goes out once all other frames that may have gone out, since an I frame
 -- bears N(R) too, and behind the first frame of the event; but for a confirmation (5.1, 5.3;

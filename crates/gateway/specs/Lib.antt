@@ -37,3 +37,4 @@ pub mod Runs
 pub mod Restored
 pub mod Starts
 pub mod Carried
+pub mod Given

@@ -13,7 +13,7 @@ use Rattle.link.specs.Requests.{request_in}
 use Rattle.session.specs.Runs.{Settings}
 use Rattle.command.specs.declared.station.StationInfo.{StationInfo}
 use Rattle.gateway.specs.Log.{Log, Came, Went, LineIn, LineOut, latest}
-use Rattle.gateway.specs.Objects.{monitor_objects, parts_of}
+use Rattle.gateway.specs.Objects.{monitor_objects, parts_of, pieces_of_report}
 
 -- What a gateway is set to: its line, the link addresses of its stations, the sizes of the line's
 -- ASDUs, the places of its queue, the session's numbers and times (k, w, t1, t2, t3), what commands
@@ -85,6 +85,10 @@ reports_in p log =
 -- the monitor objects of the reports taken, in order
 abbrev pub taken_objects : Setup → Log → List InformationObject
 taken_objects p log = flat_map (λ report. monitor_objects p.sizes report.1) (reports_in p log)
+
+-- the pieces of the reports taken, in order
+abbrev pub taken_pieces : Setup → Log → List (List ℕ)
+taken_pieces p log = flat_map (λ report. pieces_of_report p.sizes report.1) (reports_in p log)
 
 -- how many pieces these reports need
 abbrev pub parts_of_all : Sizes → List (ℕ × List ℕ) → ℕ

@@ -14,7 +14,7 @@ use Rattle.session.specs.Session.{may_send, is_open, is_transferring, outcome_of
 use Rattle.command.specs.State.{first_answer}
 use Rattle.command.specs.Mirrors.{tag_for}
 use Rattle.gateway.specs.Tags.{AreTagged}
-use Rattle.gateway.specs.Objects.{objects, has_objects, monitor_objects, parts_of}
+use Rattle.gateway.specs.Objects.{objects, has_objects, monitor_objects, parts_of, pieces_of_report}
 use Rattle.gateway.specs.Log.{Log, Input, LineIn}
 use Rattle.gateway.specs.Connections.{ends, present, closed_by, IsConnection}
 use Rattle.gateway.specs.Course.{here_of, IsCause}
@@ -32,6 +32,7 @@ pub record Keeps (s : State) (report : List ℕ) (t : State) : Type 0 where
   pub objects_are : flat_map objects pieces ≡ monitor_objects s.sizes report
   pub whole : list_all has_objects pieces ≡ true
   pub number : length pieces ≡ parts_of s.sizes report
+  pub spelled : pieces ≡ pieces_of_report s.sizes report
   pub after : t
       ≡ record s { serial = reported s.sizes report s.serial; centre = pushed pieces s.centre }
 

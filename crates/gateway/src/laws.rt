@@ -1,5 +1,5 @@
 //! What holds of the definitions.
-ghost use Rattle.std.specs.Prelude.{◌≡◌, ◌↔◌, IsTrue, Option, Some, true, false, map};
+ghost use Rattle.std.specs.Prelude.{◌≡◌, ◌↔◌, ℕ, List, ◌∷◌, IsTrue, Option, Some, None, true, false, map};
 ghost use Rattle.session.specs.declared.kinds.Close.{Close};
 ghost use Rattle.command.specs.declared.station.StationInfo.{StationInfo};
 ghost use Rattle.gateway.specs.declared.settings.Silence.TheVariants.{Hold};
@@ -7,10 +7,13 @@ ghost use Rattle.gateway.specs.declared.settings.Station.{Station};
 ghost use Rattle.gateway.specs.Config.{Settings};
 ghost use Rattle.gateway.specs.Setups.{setup_of};
 ghost use Rattle.gateway.specs.Frames.{Connection};
-ghost use Rattle.gateway.specs.Log.{Log};
+ghost use Rattle.gateway.specs.Log.{Log, Came, LineIn, latest};
 ghost use Rattle.gateway.specs.Reports.{Setup};
 ghost use Rattle.gateway.specs.Connections.{Channel, present, ends, IsConnection};
-ghost use Rattle.gateway.specs.Course.{Course, HasTakenAll, Runs};
+ghost use Rattle.gateway.specs.Course.{Course, HasTakenAll, IsLeft, Runs, came_frames};
+ghost use Rattle.gateway.specs.Given.{due_in, GivesWhatIsDue, GivesAnswer};
+ghost use Rattle.gateway.specs.Serial.{heard_outcome};
+ghost use Rattle.gateway.specs.Frames.{transfers};
 ghost use Rattle.gateway.specs.Conversation.{KeepsCommands};
 ghost use Rattle.gateway.specs.One.{AreOne};
 ghost use Rattle.link.specs.Counts.{saturated};
@@ -128,3 +131,21 @@ pub fn settings_reach_the_promises()
     ensures select_ms { (c : Settings) → (setup_of c).select_ms ≡ c.tcp.select_ms }
     ensures max_age_ms { (c : Settings) → (setup_of c).max_age_ms ≡ c.tcp.max_age_ms }
 {}
+
+/// What is due to the control centre is given. An ASDU that isn't forwarded, and a command that a
+/// busy station had, is followed in what became of commands by its answer, handed over once, and
+/// nothing is left due when an event comes. While data transfer runs a station's answer to a
+/// command is handed over by all pieces that carry it, with the tag of the newest command that it
+/// may answer, up to one that finds no place (which closes the connection).
+pub fn what_is_due_is_given()
+    ensures answers { (p : Setup) (log : Log) (c : Course) → Runs p log c →
+        GivesWhatIsDue c.works.history × (due_in c.works.history ≡ None) }
+    ensures stations { (p : Setup) (log : Log) (at : ℕ) (octets : List ℕ) (c : Course) →
+        Runs p (Came at (LineIn octets) ∷ log) c →
+        (before : Course) × (left : Course) × Runs p log before × IsLeft p log before left
+        × (transfers (came_frames left.talk) ≡ true →
+        GivesAnswer p (latest (Came at (LineIn octets) ∷ log))
+        (heard_outcome octets left.works.serial) left.works.history c.works.history) }
+{
+    commands_keep_the_rules();
+}

@@ -11,7 +11,7 @@ use Rattle.gateway.specs.State.{State, with_serial, with_centre}
 use Rattle.gateway.specs.Objects.{monitor_objects}
 use Rattle.gateway.specs.Counting.{is_answer_type}
 use Rattle.gateway.specs.Works.{is_command_report}
-use Rattle.gateway.proofs.Kept.{keeps_report, keeps_none, counted_as, passed_counts, skipped_counts, command_as, passed_monitor, learns_kept}
+use Rattle.gateway.proofs.Kept.{keeps_report, keeps_none, pieces_read, counted_as, passed_counts, skipped_counts, command_as, passed_monitor, learns_kept}
 use Rattle.gateway.proofs.engine.Gateway.take_report.Goals as goal
 
 pub returns-then-is_passed_on : goal.returns-then-is_passed_on
@@ -41,7 +41,10 @@ returns-then-is_passed_on c =
     rw (← c.self.view_is) (learns_kept (is_command_report s.sizes report) s _ report true of_command
     (keeps_report s _ report (report_pieces u) (law.monitored s.sizes u report found)
     (law.some_monitored s.sizes u report found (sym c.if-is_passed_on.ensures.value))
-    (law.number s.sizes u report found) passed
+    (law.number s.sizes u report found)
+    (pieces_read s report asdu.octets.now asdu.sizes asdu.kind c.in-Ok.ensures.source.0 c.in-Ok.ensures.source.1
+    c.in-Ok.ensures.objects c.in-Ok.ensures.found.value.some passed)
+    passed
     (counted_as s report asdu.octets.now asdu.sizes u c.in-Ok.ensures.source.0 c.in-Ok.ensures.source.1
     c.in-Ok.ensures.objects c.in-Ok.ensures.found.value.some
     ∙ passed_counts (is_answer_type u.kind) (is_passed_on u.kind u.cause) s.serial.counts

@@ -1,0 +1,285 @@
+-- What is due is given.
+use Rattle.std.proofs.Common.{◌≡◌, ℕ, Bool, true, false, List, [], ◌∷◌, Option, Some, None, refl, ap, sym, ◌∙◌, subst, inl, inr}
+use Rattle.std.specs.Prelude.{◌&&◌, if◌then◌else◌, option_map}
+use Rattle.asdu.specs.Asdu.{AsduValue}
+use Rattle.apci.specs.declared.apdu.Apdu.{Apdu}
+use Rattle.apci.specs.declared.apdu.Apdu.TheVariants.{I, S, U}
+use Rattle.link.specs.Exchanges.{Sending}
+use Rattle.link.specs.declared.outcome.Outcome.{Outcome}
+use Rattle.link.specs.declared.outcome.Outcome.TheVariants as outcome
+use Rattle.session.specs.declared.kinds.Close.{Close}
+use Rattle.session.specs.declared.kinds.Close.TheVariants.{Grammar, SendNumber, ReceiveNumber, Stopped, Timeout, OwnAnswers, Replaced}
+use Rattle.command.specs.declared.waiting.Waiting.{Waiting}
+use Rattle.command.specs.State as tasks
+use Rattle.command.specs.State.{has_answer_place, first_answer, oldest_for, is_used, line_of, refusal_of}
+use Rattle.command.specs.Judging.{judged}
+use Rattle.command.specs.Mirrors as mirrors
+use Rattle.command.specs.History.{History, Judged, Refused, Mirrored, Offered, mirror_tag}
+use Rattle.command.specs.Calls.{Run, after_answer, after_sending}
+use Rattle.command.specs.CommandLaws.{CommandLaws}
+use Rattle.gateway.specs.Objects.{has_objects}
+use Rattle.gateway.specs.Log.{Log, LineIn, Opened, TcpIn, CutOff, Ticked, WallIs, Came, Went, LineOut, TcpOut, Closed, GapOut, latest}
+use Rattle.gateway.specs.Connections.{present}
+use Rattle.gateway.specs.Reports.{Setup}
+use Rattle.gateway.specs.Serial.{listed, is_first_command, heard_outcome}
+use Rattle.gateway.specs.Works.{Works, octets_works, tasks_of, told_kept, is_command_report, LearnsReport, LearnsOf, heard_works, sent_works, answered_works, told_silent, settled_works, ready_works, unasked_works, done_works, told_put, asked_works}
+use Rattle.gateway.specs.Course.{Course, came_frames, with_frames, closed_course, IsLeft, room_in, Runs}
+use Rattle.gateway.specs.Frames.{transfers}
+use Rattle.gateway.specs.Given.{due_in, is_passing_on, IsOwed, GivesWhatIsDue, AreHandedOver, IsGivenOn, GivesAnswer}
+use Rattle.gateway.proofs.Reached.{IsReached, left_reached}
+
+-- nothing is left due
+abbrev pub AreGiven : History → Type 0
+AreGiven h = GivesWhatIsDue h × (due_in h ≡ None)
+
+-- Own answers
+
+-- the answer that an entry leaves due is handed over
+one_kept : (o : Option (List ℕ)) (s : tasks.State) (h : History) → GivesWhatIsDue h → due_in h ≡ o
+    → AreGiven (told_kept (listed o) s h)
+one_kept None s h g e = (g, e)
+one_kept (Some x) s h g e = by_room (has_answer_place s)
+  where
+    owed : IsOwed (due_in h) h x
+    owed = subst (λ (o : Option (List ℕ)). IsOwed o h x) (sym e) refl
+
+    by_room : (b : Bool) → AreGiven (if b then Offered x (has_answer_place s) ∷ h else Offered x (has_answer_place s) ∷ h)
+    by_room true = ((owed, g), refl)
+    by_room false = ((owed, g), refl)
+
+-- so are the pieces of a station's answer
+pieces_kept : (xs : List (List ℕ)) (s : tasks.State) (h : History) → AreGiven h → is_passing_on h ≡ true
+    → AreGiven (told_kept xs s h)
+pieces_kept [] s h g on = g
+pieces_kept (x ∷ xs) s h g on =
+    by_room (has_answer_place s) refl
+    (λ all. pieces_kept xs (tasks.offered x s) (Offered x (has_answer_place s) ∷ h)
+    ((owed, g.0), refl) (ap (λ (b : Bool). b && is_passing_on h) all ∙ on))
+  where
+    owed : IsOwed (due_in h) h x
+    owed = subst (λ (o : Option (List ℕ)). IsOwed o h x) (sym g.1) on
+
+    by_room : (b : Bool) → has_answer_place s ≡ b
+        → (has_answer_place s ≡ true → AreGiven (told_kept xs (tasks.offered x s) (Offered x (has_answer_place s) ∷ h)))
+        → AreGiven (if b then told_kept xs (tasks.offered x s) (Offered x (has_answer_place s) ∷ h) else Offered x
+        (has_answer_place s) ∷ h)
+    by_room true all more = more all
+    by_room false all more = ((owed, g.0), refl)
+
+-- and they are handed over one after another
+pub handed_over : (xs : List (List ℕ)) (s : tasks.State) (h : History) → AreHandedOver xs h (told_kept xs s h)
+handed_over [] s h = refl
+handed_over (x ∷ xs) s h =
+    by_room (has_answer_place s) refl (handed_over xs (tasks.offered x s) (Offered x true ∷ h))
+  where
+    by_room : (b : Bool) → has_answer_place s ≡ b
+        → AreHandedOver xs (Offered x true ∷ h) (told_kept xs (tasks.offered x s) (Offered x true ∷ h))
+        → AreHandedOver (x ∷ xs) h (if b then told_kept xs (tasks.offered x s) (Offered x (has_answer_place s)
+        ∷ h) else Offered x (has_answer_place s) ∷ h)
+    by_room true all more =
+        inr (subst (λ (b : Bool). AreHandedOver xs (Offered x true ∷ h) (told_kept xs (tasks.offered x s) (Offered x b
+        ∷ h))) (sym all) more)
+    by_room false none more = inl (ap (λ (b : Bool). Offered x b ∷ h) none)
+
+-- What came of an exchange
+
+learnt_report : (p : Setup) (at : ℕ) (transferring b : Bool) (report : List ℕ) (w z : Works)
+    → LearnsReport p at transferring b report w z → AreGiven w.history → AreGiven z.history
+learnt_report p at true true report w z learns g =
+    let v : AsduValue = learns.0 in
+    subst (λ (w : Works). AreGiven w.history) (sym learns.5)
+    (pieces_kept learns.2 (mirrors.mirrored v at w.serial.commands) (Mirrored at v ∷ w.history) ((g.1, g.0), refl) refl)
+learnt_report p at false true report w z learns g =
+    subst (λ (w : Works). AreGiven w.history) (sym learns.5) ((g.1, g.0), refl)
+learnt_report p at transferring false report w z learns g = subst (λ (w : Works). AreGiven w.history) (sym learns) g
+
+learnt : (p : Setup) (at : ℕ) (transferring : Bool) (o : Outcome) (w z : Works) → LearnsOf p at transferring o w z
+    → AreGiven w.history → AreGiven z.history
+learnt p at transferring (outcome.Report station asdu) w z learns g =
+    learnt_report p at transferring (is_command_report p.sizes asdu.items) asdu.items w z learns g
+learnt p at transferring (outcome.Accepted station) w z learns g =
+    subst (λ (w : Works). AreGiven w.history) (sym learns) ((g.1, g.0), refl)
+learnt p at transferring (outcome.Busy station) w z learns g =
+    let o : Option (List ℕ) = refusal_of (line_of station w.serial.commands) in
+    subst (λ (w : Works). AreGiven w.history) (sym learns)
+    (one_kept o (tasks.given_up station w.serial.commands) (Refused station o ∷ w.history) (g.1, g.0) refl)
+learnt p at transferring (outcome.Down station) w z learns g =
+    subst (λ (w : Works). AreGiven w.history) (sym learns) ((g.1, g.0), refl)
+learnt p at transferring outcome.None w z learns g = subst (λ (w : Works). AreGiven w.history) (sym learns) g
+learnt p at transferring (outcome.Started station) w z learns g =
+    subst (λ (w : Works). AreGiven w.history) (sym learns) g
+learnt p at transferring (outcome.StartedGap station session) w z learns g =
+    subst (λ (w : Works). AreGiven w.history) (sym learns) g
+learnt p at transferring (outcome.Empty station) w z learns g =
+    subst (λ (w : Works). AreGiven w.history) (sym learns) g
+
+-- Frames
+
+heard : (f : Apdu) (now : ℕ) (wall : Option ℕ) (w : Works) → AreGiven w.history
+    → AreGiven (heard_works f now wall w).history
+heard (I ns nr asdu) now wall w g =
+    let judgement = judged asdu.items now wall w.serial.commands in
+    one_kept judgement.0 judgement.1 (Judged now wall asdu.items judgement.0 ∷ w.history) (g.1, g.0) refl
+heard (S nr) now wall w g = g
+heard (U u) now wall w g = g
+
+frames : (p : Setup) (fs : List Apdu) (now : ℕ) (wall : Option ℕ) (d : Course) → AreGiven d.works.history
+    → AreGiven (with_frames p fs now wall d).works.history
+frames p [] now wall d g = g
+frames p (f ∷ fs) now wall d g = heard f now wall (with_frames p fs now wall d).works (frames p fs now wall d g)
+
+answered : (w : Works) → AreGiven w.history → AreGiven (answered_works w).history
+answered w g = by_first (first_answer w.serial.commands.answers)
+  where
+    by_first : (o : Option (List ℕ)) → AreGiven (after_answer o (tasks_of w)).history
+    by_first None = g
+    by_first (Some x) = ((g.1, g.0), refl)
+
+sent : (f : Apdu) (w : Works) → AreGiven w.history → AreGiven (sent_works f w).history
+sent (I ns nr asdu) w g = by_objects (has_objects asdu.items)
+  where
+    by_objects : (b : Bool) → AreGiven (if b then w else answered_works w).history
+    by_objects true = g
+    by_objects false = answered w g
+sent (S nr) w g = g
+sent (U u) w g = g
+
+-- A step
+
+settled : (at : ℕ) (w : Works) → AreGiven w.history → AreGiven (settled_works at w).history
+settled at w g = by_silent w.serial.silent
+  where
+    by_silent : (o : Option ℕ) → AreGiven (told_silent o w)
+    by_silent None = g
+    by_silent (Some k) = ((g.1, g.0), refl)
+
+done : (at : ℕ) (room : Bool) (w : Works) → AreGiven w.history → AreGiven (done_works at room w).history
+done at room w g = by_due w.is_due
+  where
+    by_due : (b : Bool) → AreGiven (if b then unasked_works at room (ready_works at w) else w).history
+    by_due true = settled at w g
+    by_due false = g
+
+put : (b : Bool) (k : ℕ) (w : Works) → AreGiven w.history → AreGiven (told_put b k w)
+put false k w g = g
+put true k w g = by_oldest (oldest_for k w.serial.commands)
+  where
+    by_oldest : (o : Option Waiting) → AreGiven (after_sending o k (tasks_of w)).history
+    by_oldest None = g
+    by_oldest (Some x) = ((g.1, g.0), refl)
+
+asked : (at : ℕ) (room : Bool) (x : Sending) (w : Works) → AreGiven w.history
+    → AreGiven (asked_works at room x w).history
+asked at room x w g = put (is_first_command w.serial.line x) x.station w g
+
+closed : (p : Setup) (cause : Close) (is_open : Bool) (at : ℕ) (d : Course) → AreGiven d.works.history
+    → AreGiven (closed_course p cause is_open at d).works.history
+closed p Grammar is_open at d g = ((g.1, g.0), refl)
+closed p SendNumber is_open at d g = ((g.1, g.0), refl)
+closed p ReceiveNumber is_open at d g = ((g.1, g.0), refl)
+closed p Stopped is_open at d g = ((g.1, g.0), refl)
+closed p Timeout is_open at d g = let s = settled at d.works g in ((s.1, s.0), refl)
+closed p OwnAnswers is_open at d g = ((g.1, g.0), refl)
+closed p Replaced is_open at d g = g
+
+left : (p : Setup) (log : Log) (before after : Course) → IsLeft p log before after → AreGiven before.works.history
+    → AreGiven after.works.history
+left p log before after l g = subst (λ (d : Course). AreGiven d.works.history) (sym l.is)
+    (done (latest log) (room_in p log before) before.works g)
+
+pub so_far : (p : Setup) (log : Log) (d : Course) → Runs p log d → AreGiven d.works.history
+so_far p [] d r = subst (λ (e : Course). AreGiven e.works.history) (sym r) (tt, refl)
+so_far p (Came now (LineIn octets) ∷ log) d r =
+    subst (λ (e : Course). AreGiven e.works.history) (sym r.5.2)
+    (learnt p _ _ _ _ r.5.0 r.5.1 (left p log r.0 r.1 r.4 (so_far p log r.0 r.2)))
+so_far p (Came now (TcpIn octets) ∷ log) d r =
+    subst (λ (e : Course). AreGiven e.works.history) (sym r.5.taken)
+    (frames p r.5.frames _ _ _ (left p log r.0 r.1 r.4 (so_far p log r.0 r.2)))
+so_far p (Came now Ticked ∷ log) d r = subst (λ (e : Course). AreGiven e.works.history) (sym r.5)
+    (left p log r.0 r.1 r.4 (so_far p log r.0 r.2))
+so_far p (Came now (WallIs number) ∷ log) d r = subst (λ (e : Course). AreGiven e.works.history) (sym r.5)
+    (left p log r.0 r.1 r.4 (so_far p log r.0 r.2))
+so_far p (Came now Opened ∷ log) d r =
+    let g = left p log r.0 r.1 r.4 (so_far p log r.0 r.2) in
+    subst (λ (e : Course). AreGiven e.works.history) (sym r.5) ((g.1, g.0), refl)
+so_far p (Came now CutOff ∷ log) d r =
+    let g = left p log r.0 r.1 r.4 (so_far p log r.0 r.2) in
+    subst (λ (e : Course). AreGiven e.works.history) (sym r.5) ((g.1, g.0), refl)
+so_far p (Went now (LineOut octets) ∷ log) d r =
+    subst (λ (e : Course). AreGiven e.works.history) (sym r.2.is)
+    (asked (latest log) (room_in p log r.0) r.2.request (ready_works (latest log) r.0.works)
+    (settled (latest log) r.0.works (so_far p log r.0 r.1)))
+so_far p (Went now (GapOut station session) ∷ log) d r =
+    subst (λ (e : Course). AreGiven e.works.history) (sym r.2.is) (so_far p log r.0 r.1)
+so_far p (Went now (TcpOut octets) ∷ log) d r =
+    subst (λ (e : Course). AreGiven e.works.history) (sym r.4.taken)
+    (frames p r.4.frames _ _ r.1 (subst (λ (e : Course). AreGiven e.works.history) (sym r.3.put)
+    (sent r.3.frame r.0.works (so_far p log r.0 r.2))))
+so_far p (Went now (Closed cause) ∷ log) d r =
+    subst (λ (e : Course). AreGiven e.works.history) (sym r.2)
+    (closed p cause (present log).is_open (latest log) r.0 (so_far p log r.0 r.1))
+
+-- A station's answer
+
+-- the tag that a station's answer gets is that of the newest command that it may answer
+abbrev HasNewestTags : Setup → Works → Type 0
+HasNewestTags p w = (v : AsduValue) → option_map (λ tag. tag.0) (mirrors.tag_for v v.infos w.serial.commands)
+    ≡ mirror_tag p.sizes p.stations p.select_ms p.max_age_ms v v.infos w.history
+
+left_tags : (p : Setup) → CommandLaws → (log : Log) (before after : Course) → Runs p log before
+    → IsLeft p log before after → HasNewestTags p after.works
+left_tags p laws log before after r l =
+    let calls : IsReached p after.works = left_reached p log before after r l in
+    let P : Run → Type 0 = λ r. (v : AsduValue) → option_map (λ tag. tag.0) (mirrors.tag_for v v.infos r.state)
+    ≡ mirror_tag p.sizes p.stations p.select_ms p.max_age_ms v v.infos r.history in
+    subst P calls.1 (laws.tags p.stations p.sizes p.select_ms p.max_age_ms calls.0)
+
+report_given : (p : Setup) (at : ℕ) (b : Bool) (report : List ℕ) (w z : Works) → b ≡ true
+    → LearnsReport p at true b report w z → HasNewestTags p w → IsGivenOn p at report w.history z.history
+report_given p at false report w z of learns tags = cc
+report_given p at true report w z of learns tags =
+    let v : AsduValue = learns.0 in
+    let pieces : List (List ℕ) = learns.2 in
+    record {
+      value = v;
+      plain = learns.1;
+      passed = learns.3;
+      tag = mirrors.tag_for v v.infos w.serial.commands;
+      newest = tags v;
+      pieces = pieces;
+      tagged = learns.4;
+      given = subst (λ (u : Works). AreHandedOver pieces (Mirrored at v ∷ w.history) u.history) (sym learns.5)
+          (handed_over pieces (mirrors.mirrored v at w.serial.commands) (Mirrored at v ∷ w.history));
+    }
+
+answer_given : (p : Setup) (at : ℕ) (o : Outcome) (w z : Works) → LearnsOf p at true o w z → HasNewestTags p w
+    → GivesAnswer p at o w.history z.history
+answer_given p at (outcome.Report station asdu) w z learns tags = λ of.
+    report_given p at (is_command_report p.sizes asdu.items) asdu.items w z of learns tags
+answer_given p at (outcome.Accepted station) w z learns tags = tt
+answer_given p at (outcome.Busy station) w z learns tags = tt
+answer_given p at (outcome.Down station) w z learns tags = tt
+answer_given p at outcome.None w z learns tags = tt
+answer_given p at (outcome.Started station) w z learns tags = tt
+answer_given p at (outcome.StartedGap station session) w z learns tags = tt
+answer_given p at (outcome.Empty station) w z learns tags = tt
+
+pub stations_given : CommandLaws → (p : Setup) (log : Log) (at : ℕ) (octets : List ℕ) (d : Course)
+    → Runs p (Came at (LineIn octets) ∷ log) d
+    → (before : Course) × (left : Course) × Runs p log before × IsLeft p log before left
+    × (transfers (came_frames left.talk) ≡ true
+    → GivesAnswer p (latest (Came at (LineIn octets) ∷ log)) (heard_outcome octets left.works.serial)
+    left.works.history d.works.history)
+stations_given laws p log at octets d r =
+    let now : ℕ = latest (Came at (LineIn octets) ∷ log) in
+    let w : Works = octets_works octets r.1.works in
+    let o : Outcome = heard_outcome octets r.1.works.serial in (
+      r.0,
+      r.1,
+      r.2,
+      r.4,
+      λ on.
+          subst (λ (e : Course). GivesAnswer p now o r.1.works.history e.works.history) (sym r.5.2)
+          (answer_given p now o w r.5.0 (subst (λ (b : Bool). LearnsOf p now b o w r.5.0) on r.5.1)
+          (left_tags p laws log r.0 r.1 r.2 r.4)),
+    )
