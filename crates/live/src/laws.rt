@@ -50,7 +50,9 @@ pub fn an_exchange_that_is_over_is_told_at_once()
         All (λ moment. moment - r.written < old.timing.answer_ms) quiet) }
 {}
 
-/// A tick is told for one of five reasons, and else the ends are looked at again.
+/// A tick is told only where 100 ms have passed since the first round of looks began, where the
+/// answer that was awaited then comes too late, where the wall clock is due, where the event's
+/// moment is more than 50 ms behind the clock, and where 200 rounds before found nothing.
 pub fn a_tick_has_a_reason()
     ensures { (old new : Ends) (event : Next) (buf : List ℕ) → LogsTurn old event buf new →
         IfTick event (AtRounds old.clock new.clock (λ begun quiet now.
