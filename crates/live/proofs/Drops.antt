@@ -1,12 +1,12 @@
 -- What waits at a stream is dropped.
-use Rattle.std.proofs.Common.{◌≡◌, ◌≢◌, ℕ, ◌+◌, ◌==◌, ◌≤◌, true, false, not, Bool, List, [], ◌∷◌, length, Result, Ok, Err, arith, refl, sym, ap, subst, ◌∙◌}
-use Rattle.std.specs.Prelude.{All, MatchResult, if◌then◌else◌}
+use Rattle.std.proofs.Common.{◌≡◌, ℕ, ◌==◌, ◌≤◌, true, false, not, Bool, List, ◌∷◌, length, Result, Ok, Err, refl, ap, subst, ◌∙◌}
+use Rattle.std.specs.Prelude.{All, if◌then◌else◌}
 use Rattle.std.specs.declared.io.Error.{Error}
 use Rattle.std.specs.Result.{is_ok, is_err}
-use Rattle.std.proofs.lemmas.List.Elements.{All-cons, All-nil}
-use Rattle.live.specs.Streams.{Calls, Received, Waits, called, MeansGot, ReadsOnce, brings, looked, IsDrained, Drains, DropsWaiting, Refused, Drained}
+use Rattle.std.proofs.lemmas.List.Elements.{All-cons}
+use Rattle.live.specs.Streams.{Calls, Received, Waits, called, MeansGot, ReadsOnce, brings, looked, Drains, DropsWaiting, Refused, Drained}
 use Rattle.live.specs.declared.wires.Got.{Got}
-use Rattle.live.specs.declared.wires.Got.TheVariants.{Octets, Quiet, Gone}
+use Rattle.live.specs.declared.wires.Got.TheVariants.{Octets, Gone}
 
 pub refused : (old new : Calls) (is_set : Bool) → is_set ≡ false → new ≡ called old (Waits false is_set)
     → DropsWaiting old new

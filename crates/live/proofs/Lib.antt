@@ -11,6 +11,7 @@ pub mod Strangers
 pub mod Octets
 pub mod Walls
 pub mod Ticks
+pub mod InTurn
 pub mod Logs
 pub mod Passed
 pub mod Telling

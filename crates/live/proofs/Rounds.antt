@@ -1,8 +1,7 @@
 -- What rounds of looks leave as it was, and when they begin.
 use Rattle.std.proofs.Common.{◌≡◌, ℕ, true, false, Bool, List, [], ◌∷◌, Option, Some, None, refl, sym, ap, subst, ◌∙◌}
 use Rattle.live.specs.Timing.{is_behind, heard_at}
-use Rattle.live.specs.Wires.{looked}
-use Rattle.live.specs.Ends.{Ends, Peer, Answers, IsTurn, QuietRounds, NoRound, OneRound, LooksOn, told_at, turn_by, sources_by, held_by, round, look, unless_found, next_round, looked_at, after, nothing_more, let_in, of_visitor, of_open, of_line, read_from}
+use Rattle.live.specs.Ends.{Ends, Peer, Answers, IsTurn, QuietRounds, NoRound, OneRound, LooksOn, told_at, turn_by, sources_by, held_by, look, unless_found, next_round, looked_at, after, nothing_more, let_in, of_visitor, of_open, of_line, read_from}
 use Rattle.live.proofs.Apart.{Apart, turn_same, log_of, log_apart, walled_of, walled_apart, guests_of, guests_apart}
 use Rattle.live.specs.declared.found.Found.{Found}
 use Rattle.live.specs.declared.source.Source.{Source}

@@ -1,12 +1,12 @@
 -- Ends that tell what happens at them go on telling it.
-use Rattle.std.proofs.Common.{◌≡◌, ℕ, Bool, true, false, List, Option, Some, None, is_some, refl, sym, ap, ◌∙◌, inl, inr}
+use Rattle.std.proofs.Common.{◌≡◌, ℕ, Bool, true, false, List, Option, Some, None, is_some, refl, ap, ◌∙◌, inl, inr}
 use Rattle.gateway.specs.declared.ports.Next.{Next}
 use Rattle.gateway.specs.Log.{Output, LineOut, TcpOut, Closed, GapOut}
 use Rattle.session.specs.declared.kinds.Close.{Close}
 use Rattle.session.specs.declared.kinds.Close.TheVariants as close
 use Rattle.live.specs.Timing.{Moments, read_at, is_behind}
 use Rattle.live.specs.Wires.{Happening, History, noted, Visits, visited}
-use Rattle.live.specs.Ends.{Ends, Peer, Answers, Turns, Puts, LogsTurn, LogsPut, as_logged, looking, looked_at, let_in, told_at, wall_told_at, written_open, closed_by, after_action}
+use Rattle.live.specs.Ends.{Ends, Peer, Answers, Turns, Puts, as_logged, looking, looked_at, let_in, told_at, wall_told_at, written_open, closed_by, after_action}
 use Rattle.live.specs.Passed.{Run, Begun, Told, Put, TellsStill}
 use Rattle.live.proofs.Apart.{Apart, taken_same}
 use Rattle.live.proofs.Rounds.{Aside, looks_kept}

@@ -3,10 +3,10 @@ use Rattle.std.proofs.Common.{◌≡◌, ℕ, ◌+◌, ◌-◌, ◌<◌, ◌≤�
 use Rattle.std.specs.Prelude.{All}
 use Rattle.std.proofs.lemmas.List.Elements.{All-cons, All-nil}
 use Rattle.gateway.specs.declared.ports.Next.{Next}
-use Rattle.live.specs.Timing.{Moments, read_at, moment_at, is_awaited, is_awaited_by, is_behind, is_heard_out, heard_at}
+use Rattle.live.specs.Timing.{Moments, read_at, moment_at, is_awaited, is_awaited_by, is_behind, heard_at}
 use Rattle.live.specs.Walls.{is_wall, is_wall_due}
 use Rattle.live.specs.Law.{SomeRounds, AtRounds, first_of, IsTickDue, LongSince, TooLate, WallIsDue, FarBehind, ManyRounds, IfTick}
-use Rattle.live.specs.Ends.{Ends, Turns, LogsTurn, as_logged, TurnsToWall, TurnsToEnds, IsTurn, QuietRounds, NoRound, OneRound, LooksOn, is_tick_due, IsLast, event_at, taken_by, looking, told_at}
+use Rattle.live.specs.Ends.{Ends, Turns, LogsTurn, as_logged, TurnsToWall, TurnsToEnds, QuietRounds, NoRound, OneRound, is_tick_due, IsLast, event_at, taken_by, looking, told_at}
 use Rattle.live.proofs.Apart.{clock_of, clock_apart, walled_of, walled_apart, taken_same}
 use Rattle.live.proofs.Rounds.{turn_kept, quiet_hears}
 use Rattle.live.specs.declared.found.Found.{Found}
@@ -237,7 +237,6 @@ tick_by old new event buf (inr t) =
     (λ before b. let Q : ℕ → Type 0 = λ first. IsTickDue old.timing new.timing new.walled first b.quiet t.now in
     subst Q (sym b.first_is) (cause_by old event buf new t b.quiet (is_behind t.found.timing t.now) b.many none refl
     t.told.ends))))
-
 
 pub why : (old new : Ends) (event : Next) (buf : List ℕ) → LogsTurn old event buf new
     → IfTick event (AtRounds old.clock new.clock

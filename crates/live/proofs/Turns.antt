@@ -2,7 +2,7 @@
 use Rattle.std.proofs.Common.{◌≡◌, ℕ, ◌+◌, arith, ◌==◌, ◌⊎◌, is_some, true, false, Bool, List, [], ◌∷◌, length, take, Option, Some, None, IfSome, refl, sym, ap, subst, ◌∙◌, inl, inr}
 use Rattle.live.specs.declared.guests.Guests.{Guests}
 use Rattle.live.specs.Timing.{is_behind, moment_at, is_awaited}
-use Rattle.live.specs.Ends.{Ends, Peer, IsGuest, let_in, Answers, after, found_at, looked_at, read_from, next_round, unless_found, look, nothing_more, round, turn, turn_by, held_by, sources_by, IsFront, taken_by, told_at, looking, IsTurn, IsTold, IsWallTold, QuietRounds, NoRound, OneRound, LooksOn, is_tick_due, faults_in, Turns, TurnsToWall, TurnsToEnds, event_at}
+use Rattle.live.specs.Ends.{Ends, Peer, IsGuest, let_in, Answers, after, found_at, looked_at, read_from, next_round, unless_found, look, nothing_more, round, turn, turn_by, held_by, sources_by, IsFront, taken_by, told_at, looking, IsTurn, IsTold, IsWallTold, QuietRounds, OneRound, LooksOn, is_tick_due, faults_in, Turns, TurnsToWall, TurnsToEnds, event_at}
 use Rattle.gateway.specs.declared.ports.Next.{Next}
 use Rattle.live.specs.Looks.{Looks, answers_for}
 use Rattle.live.specs.Walls.{is_wall_due}

@@ -135,9 +135,10 @@ second_by a b c d first second buf more same (inr t) (inl u) dark other =
     let wrong : false ≡ true = sym other ∙ wall_of c d second more u in absurd (cc)
 second_by a b c d first second buf more same (inr t) (inr u) dark other =
     let undue = undue_since a b c d first second buf more same t u in
-    let Holds : ℕ → Type 0 = λ begun. IfSome b.walled.told (λ t. begun < t + 1000) in
-    (begun_clock c d second more u Holds (since b.walled.told u.looks.begun undue),
-    some_since b.walled.told u.looks.begun undue)
+    let Holds : ℕ → Type 0 = λ begun. IfSome b.walled.told (λ t. begun < t + 1000) in (
+      begun_clock c d second more u Holds (since b.walled.told u.looks.begun undue),
+      some_since b.walled.told u.looks.begun undue,
+    )
 
 pub each_second : (a b c : Ends) (first second : Next) (buf more : List ℕ) → LogsTurn a first buf b
     → LogsTurn b second more c → is_wall first ≡ false → is_wall second ≡ false

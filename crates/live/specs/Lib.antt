@@ -6,6 +6,7 @@ pub mod Ends
 pub mod Looks
 pub mod Streams
 pub mod Redial
+pub mod InTurn
 pub mod Law
 pub mod Passed
 pub mod Memory

@@ -1,10 +1,11 @@
 //! Laws of the port over live ends, in the terms of the clock, the requests and the looks at the
 //! line.
-ghost use Rattle.std.specs.Prelude.{◌≡◌, ◌≢◌, All, IfSome, None, ◌+◌, ◌-◌, ◌<◌, ◌≤◌, ℕ, List, [], ◌∷◌, Some, true, false};
+ghost use Rattle.std.specs.Prelude.{◌⊎◌, ◌≡◌, ◌≢◌, All, IfSome, None, ◌+◌, ◌-◌, ◌<◌, ◌≤◌, ℕ, List, [], ◌∷◌, Some, true, false};
 ghost use Rattle.gateway.specs.declared.ports.Next.{Next};
 ghost use Rattle.live.specs.Ends.{Ends, LogsTurn, LogsPut};
 ghost use Rattle.live.specs.Law.{AtMoment, AtBytes, AtClock, AtBegun, IsHeardOut, KeepsOut, AtRounds, first_of, IsTickDue, IfTick};
-ghost use Rattle.gateway.specs.Log.{Closed};
+ghost use Rattle.gateway.specs.Log.{Closed, Output};
+ghost use Rattle.live.specs.InTurn.{BeginsBehind, LooksBefore, IsFarBehind};
 ghost use Rattle.session.specs.declared.kinds.Close.{Close};
 ghost use Rattle.session.specs.declared.kinds.Close.TheVariants.{Replaced};
 ghost use Rattle.live.specs.Passed.{IsFresh, Run, TellsEnds, TellsStill, line_in, line_out, centre_in, centre_out, opened_in, let_in_at, given, handed, taken_of, example_log, example_line};
@@ -49,11 +50,31 @@ pub fn an_exchange_that_is_over_is_told_at_once()
         All (λ moment. moment - r.written < old.timing.answer_ms) quiet) }
 {}
 
-/// A tick is told for one of five reasons, and else the ends are looked at again.
+/// A tick is told only where 100 ms have passed since the first round of looks began, where the
+/// answer that was awaited then comes too late, where the wall clock is due, where the event's
+/// moment is more than 50 ms behind the clock, and where 200 rounds before found nothing.
 pub fn a_tick_has_a_reason()
     ensures { (old new : Ends) (event : Next) (buf : List ℕ) → LogsTurn old event buf new →
         IfTick event (AtRounds old.clock new.clock (λ begun quiet now.
         IsTickDue old.timing new.timing new.walled (first_of begun quiet) quiet now)) }
+{}
+
+/// The next round of looks begins with the source after the one where the last event was found,
+/// whatever is put out in between.
+pub fn the_round_goes_on_behind_the_last_event()
+    ensures told { (old new : Ends) (event : Next) (buf : List ℕ) → LogsTurn old event buf new →
+        BeginsBehind event old.first new.first }
+    ensures put { (old new : Ends) (moment : ℕ) (action : Output) →
+        LogsPut old moment action new → new.first ≡ old.first }
+{}
+
+/// No source that always has something hides another: for an event each source of the round was
+/// looked at, up to the one where it was found. But where a cut is due, where octets are held, and
+/// where the event's moment is more than 50 ms behind the clock.
+pub fn no_source_hides_another()
+    ensures { (old new : Ends) (event : Next) (buf : List ℕ) → LogsTurn old event buf new →
+        old.is_cut_due ≡ false → old.held ≡ [] →
+        LooksBefore event old.first old new ⊎ IsFarBehind old.timing }
 {}
 
 /// Behind a close no connection is open, but where another has replaced the one that was.

@@ -6,14 +6,19 @@
 //! without a long wait), [`Door`], [`Clock`]. Those on the system's sockets are [`LineSocket`],
 //! [`CentreListener`], [`CentreSocket`] and [`SystemClock`].
 //!
-//! Proved, for any ends that tell what happens at them: an event is the first thing found in one
-//! round that begins after the source of the last event, else a tick; each source of the round is
-//! looked at once, and none after the one that had something; a connection that is gone is a cut;
-//! after a write to the connection that failed the next event but the wall clock is a cut, no end
-//! is looked at before, and nothing more is written to it; a close ends the connection and that
-//! cut; who comes through the door takes the place of the connection, and stays when the gateway
-//! closes the one before ([`a_close_shuts_the_connection`]); a request that the line doesn't take
-//! is lost and no failure; the line's end alone is one.
+//! Proved, for any ends that tell what happens at them: an event is the first thing found in rounds
+//! of looks, which begin after the source of the last event
+//! ([`the_round_goes_on_behind_the_last_event`]); each source of a round is looked at once, and none
+//! after the one that had something, so no source hides another ([`no_source_hides_another`]). Where
+//! nothing is found a tick is told: 100 ms after the first round began, at once where the time of an
+//! exchange is over, and where the wall clock is due ([`looks_for_an_event_begin_within_100_ms`],
+//! [`an_exchange_that_is_over_is_told_at_once`], [`a_tick_has_a_reason`]).
+//!
+//! A connection that is gone is a cut; after a write to the connection that failed the next event
+//! but the wall clock is a cut, no end is looked at before, and nothing more is written to it; a
+//! close ends the connection and that cut; who comes through the door takes the place of the
+//! connection, and stays when the gateway closes the one before ([`a_close_shuts_the_connection`]);
+//! a request that the line doesn't take is lost and no failure; the line's end alone is one.
 //!
 //! And of time, whatever the gateway stalls: an event bears the clock's moment after the looks, but
 //! none that ends an exchange whose line hasn't been looked at for `answer_ms` since the request
@@ -29,7 +34,8 @@
 //!
 //! It tells its log, and stores none of it: each event that it gave and each action that it put
 //! out. Where the ends tell what happens at them, the log's octets are those that the line and the
-//! open connection gave and were handed ([`the_log_tells_what_passed`]).
+//! open connection gave and were handed ([`the_log_tells_what_passed`]), to the end of a run
+//! ([`what_tells_goes_on_telling`]).
 //!
 //! [`Redialled`] is a wire that is reached again where it has gone: proved, for any dialler that
 //! tells its tries, is that it is quiet and takes nothing while it is away; that a try begins at
@@ -39,7 +45,8 @@
 //!
 //! One call to a stream of the system is read as one fact about its answer: octets, quiet or gone,
 //! and taken only where all was taken; of a write in two calls a stream takes the octets once, in
-//! their order. What sockets do beyond that is no matter of a proof.
+//! their order; and before a request is written what has come is read and dropped. What sockets do
+//! beyond that is no matter of a proof.
 #![tactic(auto)]
 
 #[cfg(test)]
@@ -65,11 +72,12 @@ mod wires;
 pub use guests::Guests;
 pub use laws::{
     a_close_shuts_the_connection, a_line_that_is_heard_out_holds_no_moment, a_tick_has_a_reason,
-    an_exchange_that_is_over_is_told_at_once, looks_ask_nothing, looks_for_an_event_begin_within_100_ms,
-    no_exchange_ends_unheard, nobody_but_guests_comes_in,
-    the_ends_are_looked_at_between_wall_moments, the_log_tells_what_passed,
-    the_wall_clock_is_told_each_second, what_passed_by_example,
-    what_tells_goes_on_telling, what_the_centre_sent_is_told_in_time,
+    an_exchange_that_is_over_is_told_at_once, looks_ask_nothing,
+    looks_for_an_event_begin_within_100_ms, no_exchange_ends_unheard, no_source_hides_another,
+    nobody_but_guests_comes_in, the_ends_are_looked_at_between_wall_moments,
+    the_log_tells_what_passed, the_round_goes_on_behind_the_last_event,
+    the_wall_clock_is_told_each_second, what_passed_by_example, what_tells_goes_on_telling,
+    what_the_centre_sent_is_told_in_time,
 };
 pub use port::Live;
 pub use redial::{Dialled, Dialler, Redialled};

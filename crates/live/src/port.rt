@@ -360,8 +360,8 @@ impl<L: Wire, D: Door + Drop, C: Clock + Drop> Live<L, D, C> {
         }
     }
 
-    /// What is next. The clock is read before the looks and after them. Where the wall clock is due
-    /// it is told instead.
+    /// What is next: the wall clock, where it is due, else what rounds of looks find. The clock is
+    /// read before the first round and after each.
     #[tactic(auto, using(crate::proofs::Turns::turned, crate::proofs::Turns::turned_to_wall))]
     fn find(&mut self, buf: &mut [u8; 1024]) -> Next
         requires { self.old.failed < u64.MAX }
@@ -376,7 +376,6 @@ impl<L: Wire, D: Door + Drop, C: Clock + Drop> Live<L, D, C> {
             return self.tell_wall(first);
         }
         self.walled.look();
-        // Behind a look: the line has been heard out only up to where that began.
         let (now, found) = self.look_on(first, buf);
         self.tell(now, found, buf)
     }
@@ -470,8 +469,8 @@ impl<L: Wire, D: Door + Drop, C: Clock + Drop> Port for Live<L, D, C> {
 
     ghost script = { λ _. [] };
 
-    /// The clock is read before the looks and after them. Where the wall clock is due it is told
-    /// instead.
+    /// Tells the wall clock where it is due. Else it looks at the ends round by round, until one has
+    /// something or a tick is due.
     fn next(&mut self, buf: &mut [u8; 1024]) -> Next
         requires { self.old.failed < u64.MAX }
         ensures told { Some self.new.log ≡ tell (Some self.old.log) (told_by result buf.new) }

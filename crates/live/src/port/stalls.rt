@@ -107,9 +107,14 @@ fn a_tick_ends_the_exchange_at_once(rt: HostRuntime) {
     time.pass(130);
     ask(&rt, &mut port, 130);
     // At 1000 the wall clock is due, at 1131 the exchange is over.
-    for tick in [230, 330, 430, 530, 630, 730, 830, 930, 1000, 1100, 1131, 1231] {
+    for tick in [
+        230, 330, 430, 530, 630, 730, 830, 930, 1000, 1100, 1131, 1231,
+    ] {
         let told = next(&rt, &mut port);
-        assert!(rt; matches!(told, Next::Tick(moment) if moment == tick), "{tick}");
+        assert!(rt;
+            matches!(told, Next::Tick(moment) if moment == tick),
+            "{tick}"
+        );
     }
 }
 

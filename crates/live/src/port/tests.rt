@@ -224,11 +224,7 @@ const PORTS: [(&str, Ways, Option<Ways>, &[Step]); 9] = [
         "the end of the line alone is a failure",
         (false, 2, 0),
         None,
-        &[
-            Step::Gives('F', 0, 0),
-            Step::Line(2, 0),
-            Step::Failures(1),
-        ],
+        &[Step::Gives('F', 0, 0), Step::Line(2, 0), Step::Failures(1)],
     ),
 ];
 

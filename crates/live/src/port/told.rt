@@ -8,8 +8,8 @@ ghost use Rattle.live.specs.Wires.{Happening};
 use super::Live;
 use crate::guests::Guests;
 use crate::laws::{
-    looks_ask_nothing, looks_for_an_event_begin_within_100_ms, no_exchange_ends_unheard, the_log_tells_what_passed,
-    what_tells_goes_on_telling,
+    looks_ask_nothing, looks_for_an_event_begin_within_100_ms, no_exchange_ends_unheard,
+    the_log_tells_what_passed, what_tells_goes_on_telling,
 };
 use crate::memory::{MemoryClock, MemoryDoor, MemoryWire};
 use crate::wires::{Clock, Door, Wire};

@@ -1,7 +1,7 @@
-use Rattle.std.proofs.Common.{refl, sym, ap, ◌∙◌, inl, inr}
+use Rattle.std.proofs.Common.{refl, sym, ap, ◌∙◌}
 use Rattle.live.specs.Ends.{Ends, NoRound}
 use Rattle.live.specs.Timing.{is_awaited}
-use Rattle.live.proofs.Turns.{none_failed, quiet_more, looked_due, looked_some, looked_last}
+use Rattle.live.proofs.Turns.{none_failed, quiet_more}
 use Rattle.live.proofs.port.Live.look_on.Goals as goal
 
 pub loop-init : goal.loop-init

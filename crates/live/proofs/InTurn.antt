@@ -1,0 +1,505 @@
+-- No source hides another: they are looked at in turn.
+use Rattle.std.proofs.Common.{◌≡◌, ℕ, ◌<◌, ◌≤◌, true, false, Bool, List, [], ◌∷◌, length, Option, Some, None, refl, sym, ap, subst, arith, ◌∙◌, ◌⊎◌, inl, inr}
+use Rattle.gateway.specs.declared.ports.Next.{Next}
+use Rattle.gateway.specs.declared.ports.Next.TheVariants as next
+use Rattle.gateway.specs.Log.{Log, Output, LineOut, TcpOut, Closed, GapOut}
+use Rattle.session.specs.declared.kinds.Close.{Close}
+use Rattle.session.specs.declared.kinds.Close.TheVariants as close
+use Rattle.live.specs.Timing.{is_behind, heard_at, moment_at}
+use Rattle.live.specs.Wires.{Happening, History, WasQuiet, noted, Visits, visited}
+use Rattle.live.specs.Ends.{Ends, Peer, Answers, Turns, LogsTurn, LogsPut, as_logged, IsTurn, QuietRounds, NoRound, OneRound, TurnsToEnds, event_at, taken_by, looking, told_at, turn_by, sources_by, held_by, round, look, nothing_more, after, written_open, closed_by, after_action}
+use Rattle.live.specs.InTurn.{IsMore, IsMoreAt, IsLookedAt, LooksBefore, BeginsBehind, IsFarBehind}
+use Rattle.live.proofs.Rounds.{quiet_hears}
+use Rattle.live.specs.declared.found.Found.{Found}
+use Rattle.live.specs.declared.found.Found.TheVariants as found
+use Rattle.live.specs.declared.source.Source.{Source}
+use Rattle.live.specs.declared.source.Source.TheVariants.{Door, Connection, Line}
+use Rattle.live.specs.declared.timing.Timing.{Timing}
+use Rattle.live.specs.declared.wires.Got.{Got}
+use Rattle.live.specs.declared.wires.Got.TheVariants.{Octets, Quiet, Gone}
+
+-- one more
+more_one : {A : Type 0} (before : List A) (x : A) → length before < length (x ∷ before)
+more_one before x = grind arith
+
+noted_more : (h : History) (x : Happening) → IsMore h (noted h x)
+noted_more None x = tt
+noted_more (Some before) x = more_one before x
+
+visited_more : (v : Visits) (here : Bool) → IsMore v (visited v here)
+visited_more None here = tt
+visited_more (Some before) here = more_one before here
+
+-- what a round that began at `s` found, where the next begins, and what was looked at
+Looked : Source → Option Found → (old new : Ends) → Type 0
+Looked s None old new =
+    (new.first ≡ s) × IsLookedAt Door old new × IsLookedAt Connection old new × IsLookedAt Line old new
+    × (new.is_cut_due ≡ old.is_cut_due) × (new.held ≡ old.held)
+Looked s (Some found.Open) old new = (new.first ≡ Connection) × LooksBefore (next.Open 0) s old new
+Looked s (Some (found.Bytes len)) old new = (new.first ≡ Line) × LooksBefore (next.Bytes 0 len) s old new
+Looked s (Some found.Cut) old new = (new.first ≡ Line) × LooksBefore (next.Cut 0) s old new
+Looked s (Some (found.Line len)) old new = (new.first ≡ Door) × LooksBefore (next.Line 0 len) s old new
+Looked s (Some found.Fault) old new = (new.first ≡ Door) × LooksBefore next.Fault s old new
+
+InRound : Source → Ends → Option Found × Ends → Type 0
+InRound s old p = Looked s p.0 old p.1
+
+abbrev round_from : Source → ℕ → Answers → (buf : List ℕ) → Ends → Option Found × Ends
+round_from s t a buf e =
+    look s t a buf e
+    (λ x. look (after s) t a buf x (λ y. look (after (after s)) t a buf y nothing_more))
+
+-- by what the sources answer
+abbrev ends_with : Ends → Source → Option Peer → Ends
+ends_with e s k = record e { first = s; connection = k }
+
+by_answers : (s : Source) (v k : Option Peer) (c l : Got) (t : ℕ) (buf : List ℕ) (e : Ends)
+    → InRound s (ends_with e s k)
+    (round_from s t (record { visitor = v; connection = c; line = l }) buf (ends_with e s k))
+unfolding InRound Looked
+by_answers Door (Some p) k c l t buf e = (refl, tt)
+by_answers Door None None c (Octets len) t buf e = (refl, (visited_more e.door false, tt))
+by_answers Door None None c Quiet t buf e = (refl, visited_more e.door false, tt, noted_more e.line WasQuiet, refl, refl)
+by_answers Door None None c Gone t buf e = (refl, (visited_more e.door false, tt))
+by_answers Door None (Some p) (Octets n) l t buf e = (refl, visited_more e.door false)
+by_answers Door None (Some p) Gone l t buf e = (refl, visited_more e.door false)
+by_answers Door None (Some p) Quiet (Octets len) t buf e =
+    (refl, (visited_more e.door false, noted_more p.wire WasQuiet))
+by_answers Door None (Some p) Quiet Quiet t buf e =
+    (refl, visited_more e.door false, noted_more p.wire WasQuiet, noted_more e.line WasQuiet, refl, refl)
+by_answers Door None (Some p) Quiet Gone t buf e = (refl, (visited_more e.door false, noted_more p.wire WasQuiet))
+by_answers Connection v None c (Octets len) t buf e = (refl, tt)
+by_answers Connection v None c Gone t buf e = (refl, tt)
+by_answers Connection (Some q) None c Quiet t buf e = (refl, noted_more e.line WasQuiet)
+by_answers Connection None None c Quiet t buf e =
+    (refl, visited_more e.door false, tt, noted_more e.line WasQuiet, refl, refl)
+by_answers Connection v (Some p) (Octets n) l t buf e = (refl, tt)
+by_answers Connection v (Some p) Gone l t buf e = (refl, tt)
+by_answers Connection v (Some p) Quiet (Octets len) t buf e = (refl, noted_more p.wire WasQuiet)
+by_answers Connection v (Some p) Quiet Gone t buf e = (refl, noted_more p.wire WasQuiet)
+by_answers Connection (Some q) (Some p) Quiet Quiet t buf e = (refl, noted_more e.line WasQuiet)
+by_answers Connection None (Some p) Quiet Quiet t buf e =
+    (refl, visited_more e.door false, noted_more p.wire WasQuiet, noted_more e.line WasQuiet, refl, refl)
+by_answers Line v k c (Octets len) t buf e = (refl, tt)
+by_answers Line v k c Gone t buf e = (refl, tt)
+by_answers Line (Some q) k c Quiet t buf e = (refl, noted_more e.line WasQuiet)
+by_answers Line None None c Quiet t buf e =
+    (refl, visited_more e.door false, tt, noted_more e.line WasQuiet, refl, refl)
+by_answers Line None (Some p) (Octets n) Quiet t buf e =
+    (refl, (noted_more e.line WasQuiet, visited_more e.door false))
+by_answers Line None (Some p) Gone Quiet t buf e = (refl, (noted_more e.line WasQuiet, visited_more e.door false))
+by_answers Line None (Some p) Quiet Quiet t buf e =
+    (refl, visited_more e.door false, noted_more p.wire WasQuiet, noted_more e.line WasQuiet, refl, refl)
+
+in_round : (t : ℕ) (a : Answers) (buf : List ℕ) (e : Ends) → InRound e.first e (round t a buf e)
+in_round t a buf e = by_answers e.first a.visitor e.connection a.connection a.line t buf e
+
+-- where the next round begins, by what was found
+Begins : Option Found → Source → Type 0
+Begins None first = Unit {0}
+Begins (Some found.Open) first = first ≡ Connection
+Begins (Some (found.Bytes len)) first = first ≡ Line
+Begins (Some found.Cut) first = first ≡ Line
+Begins (Some (found.Line len)) first = first ≡ Door
+Begins (Some found.Fault) first = first ≡ Door
+
+begins_in : (s : Source) (f : Option Found) (old new : Ends) → Looked s f old new → Begins f new.first
+unfolding Looked Begins
+begins_in s None old new l = tt
+begins_in s (Some found.Open) old new l = l.0
+begins_in s (Some (found.Bytes len)) old new l = l.0
+begins_in s (Some found.Cut) old new l = l.0
+begins_in s (Some (found.Line len)) old new l = l.0
+begins_in s (Some found.Fault) old new l = l.0
+
+line_begins : (t : ℕ) (a : Answers) (l : Got) (buf : List ℕ) (e : Ends)
+    → (let p = look Line t (record a { line = l }) buf e nothing_more in Begins p.0 p.1.first)
+unfolding Begins
+line_begins t a (Octets len) buf e = refl
+line_begins t a Quiet buf e = tt
+line_begins t a Gone buf e = refl
+
+held_begins : (held : List ℕ) (t : ℕ) (a : Answers) (buf : List ℕ) (e : Ends)
+    → (let p = held_by held t a buf e in Begins p.0 p.1.first)
+unfolding Begins InRound
+held_begins [] t a buf e =
+    let p = round t a buf e in begins_in e.first p.0 e p.1 (in_round t a buf e)
+held_begins (octet ∷ octets) t a buf e = refl
+
+sources_begin : (b : Bool) (t : ℕ) (a : Answers) (buf : List ℕ) (e : Ends)
+    → (let p = sources_by b t a buf e in Begins p.0 p.1.first)
+sources_begin true t a buf e = line_begins t a a.line buf e
+sources_begin false t a buf e = held_begins e.held t a buf e
+
+turn_begins : (d : Bool) (t : ℕ) (a : Answers) (buf : List ℕ) (e : Ends)
+    → (let p = turn_by d t a buf e in Begins p.0 p.1.first)
+unfolding Begins
+turn_begins true t a buf e = refl
+turn_begins false t a buf e = sources_begin (is_behind e.timing t) t a buf e
+
+taken_begins : (b : Bool) (n : ℕ) (before : Source) (buf : List ℕ) (f : Option Found) (e : Ends) → Begins f e.first
+    → BeginsBehind (event_at n (taken_by b buf f e).0) before (taken_by b buf f e).1.first
+unfolding Begins
+taken_begins false n before buf None e h = tt
+taken_begins false n before buf (Some found.Open) e h = h
+taken_begins false n before buf (Some (found.Bytes len)) e h = h
+taken_begins false n before buf (Some found.Cut) e h = h
+taken_begins false n before buf (Some (found.Line len)) e h = h
+taken_begins false n before buf (Some found.Fault) e h = h
+taken_begins true n before buf None e h = tt
+taken_begins true n before buf (Some found.Open) e h = h
+taken_begins true n before buf (Some (found.Bytes len)) e h = tt
+taken_begins true n before buf (Some found.Cut) e h = h
+taken_begins true n before buf (Some (found.Line len)) e h = h
+taken_begins true n before buf (Some found.Fault) e h = h
+
+behind_by : (old new : Ends) (event : Next) (buf : List ℕ) → Turns old event buf new
+    → BeginsBehind event old.first new.first
+behind_by old new event buf (inl t) =
+    let P : Next → Type 0 = λ e. BeginsBehind e old.first new.first in
+    subst P (sym t.told.told) (ap (λ (e : Ends). e.first) t.told.ends)
+behind_by old new event buf (inr t) =
+    let l = t.looks in
+    let n = moment_at new.timing t.now in
+    let P : Next → Type 0 = λ e. BeginsBehind e old.first new.first in
+    let Q : Option Found × Ends → Type 0 = λ p. Begins p.0 p.1.first in
+    let R : Ends → Type 0 = λ e. Begins t.f e.first in
+    let S : Option Found × Ends → Type 0 = λ p. BeginsBehind (event_at n p.0) old.first p.1.first in
+    let last : Begins t.f l.found.first =
+    subst Q (sym l.turn.turned) (turn_begins l.before.is_cut_due l.begun l.turn.answers buf l.before) in
+    let looked_on : Begins t.f t.found.first = subst R (sym l.done) last in
+    subst P (sym t.told.told) (subst S (sym t.told.ends)
+    (taken_begins (is_behind t.found.timing t.now) n old.first buf t.f t.found looked_on))
+
+pub behind : (old new : Ends) (event : Next) (buf : List ℕ) → LogsTurn old event buf new
+    → BeginsBehind event old.first new.first
+behind old new event buf l = behind_by old (as_logged old.log new) event buf l.turns
+
+-- an action leaves it
+written_first : (b : Bool) (octets : List ℕ) (taken : Bool) (p : Option Peer) (e : Ends)
+    → (written_open b octets taken p e).first ≡ e.first
+written_first true octets taken p e = refl
+written_first false octets taken None e = refl
+written_first false octets taken (Some peer) e = refl
+
+closed_first : (c : Close) (e : Ends) → (closed_by c e).first ≡ e.first
+closed_first close.Grammar e = refl
+closed_first close.SendNumber e = refl
+closed_first close.ReceiveNumber e = refl
+closed_first close.Stopped e = refl
+closed_first close.Timeout e = refl
+closed_first close.OwnAnswers e = refl
+closed_first close.Replaced e = refl
+
+action_first : (moment : ℕ) (action : Output) (written : ℕ) (taken : Bool) (e : Ends)
+    → (after_action moment action written taken e).first ≡ e.first
+action_first moment (LineOut octets) written taken e = refl
+action_first moment (TcpOut octets) written taken e = written_first e.is_cut_due octets taken e.connection e
+action_first moment (Closed cause) written taken e = closed_first cause e
+action_first moment (GapOut station session) written taken e = refl
+
+pub put_first : (old new : Ends) (moment : ℕ) (action : Output) → LogsPut old moment action new
+    → new.first ≡ old.first
+put_first old new moment action l =
+    ap (λ (e : Ends). e.first) l.puts.done ∙ action_first moment action l.puts.written l.puts.taken old
+
+-- at least as much has happened
+IsLeast : {A : Type 0} → (before now : Option (List A)) → Type 0
+IsLeast None now = Unit {0}
+IsLeast (Some before) None = ⊥
+IsLeast (Some before) (Some now) = length before ≤ length now
+
+IsLeastAt : (before now : Option Peer) → Type 0
+IsLeastAt None now = Unit {0}
+IsLeastAt (Some before) None = ⊥
+IsLeastAt (Some before) (Some now) = IsLeast before.wire now.wire
+
+least_same : {A : Type 0} (a : Option (List A)) → IsLeast a a
+unfolding IsLeast
+least_same None = tt
+least_same (Some before) = omega arith
+
+least_same_at : (a : Option Peer) → IsLeastAt a a
+unfolding IsLeastAt
+least_same_at None = tt
+least_same_at (Some peer) = least_same peer.wire
+
+least_of : {A : Type 0} (a b : Option (List A)) → IsMore a b → IsLeast a b
+unfolding IsLeast
+least_of None b m = tt
+least_of (Some a) None m = m
+least_of (Some a) (Some b) m = omega (arith, m)
+
+least_of_at : (a b : Option Peer) → IsMoreAt a b → IsLeastAt a b
+unfolding IsLeastAt
+least_of_at None b m = tt
+least_of_at (Some a) None m = m
+least_of_at (Some a) (Some b) m = least_of a.wire b.wire m
+
+least_least : {A : Type 0} (a b c : Option (List A)) → IsLeast a b → IsLeast b c → IsLeast a c
+unfolding IsLeast
+least_least None b c l m = tt
+least_least (Some a) None c l m = absurd l
+least_least (Some a) (Some b) None l m = m
+least_least (Some a) (Some b) (Some c) l m = omega (arith, l, m)
+
+least_least_at : (a b c : Option Peer) → IsLeastAt a b → IsLeastAt b c → IsLeastAt a c
+unfolding IsLeastAt
+least_least_at None b c l m = tt
+least_least_at (Some a) None c l m = absurd l
+least_least_at (Some a) (Some b) None l m = m
+least_least_at (Some a) (Some b) (Some c) l m = least_least a.wire b.wire c.wire l m
+
+least_more : {A : Type 0} (a b c : Option (List A)) → IsLeast a b → IsMore b c → IsMore a c
+unfolding IsLeast
+least_more None b c l m = tt
+least_more (Some a) None c l m = absurd l
+least_more (Some a) (Some b) None l m = m
+least_more (Some a) (Some b) (Some c) l m = omega (arith, l, m)
+
+least_more_at : (a b c : Option Peer) → IsLeastAt a b → IsMoreAt b c → IsMoreAt a c
+unfolding IsLeastAt
+least_more_at None b c l m = tt
+least_more_at (Some a) None c l m = absurd l
+least_more_at (Some a) (Some b) None l m = m
+least_more_at (Some a) (Some b) (Some c) l m = least_more a.wire b.wire c.wire l m
+
+-- what rounds that found nothing leave
+record Stays (old new : Ends) : Type 0 where
+  door : IsLeast old.door new.door
+  connection : IsLeastAt old.connection new.connection
+  line : IsLeast old.line new.line
+  first : new.first ≡ old.first
+  due : new.is_cut_due ≡ old.is_cut_due
+  held : new.held ≡ old.held
+
+StaysIf : Option Found → (old new : Ends) → Type 0
+StaysIf None old new = Stays old new
+StaysIf (Some f) old new = Unit {0}
+
+stays_round : (f : Option Found) (old new : Ends) → Looked old.first f old new → StaysIf f old new
+unfolding Looked StaysIf
+stays_round None old new l = record {
+  door = least_of old.door new.door l.1;
+  connection = least_of_at old.connection new.connection l.2;
+  line = least_of old.line new.line l.3;
+  first = l.0;
+  due = l.4;
+  held = l.5;
+}
+stays_round (Some f) old new l = tt
+
+line_stays : (t : ℕ) (a : Answers) (l : Got) (buf : List ℕ) (e : Ends)
+    → (let p = look Line t (record a { line = l }) buf e nothing_more in StaysIf p.0 e p.1)
+unfolding StaysIf
+line_stays t a (Octets len) buf e = tt
+line_stays t a Quiet buf e = record {
+  door = least_same e.door;
+  connection = least_same_at e.connection;
+  line = least_of e.line (noted e.line WasQuiet) (noted_more e.line WasQuiet);
+  first = refl;
+  due = refl;
+  held = refl;
+}
+line_stays t a Gone buf e = tt
+
+held_stays : (held : List ℕ) (t : ℕ) (a : Answers) (buf : List ℕ) (e : Ends)
+    → (let p = held_by held t a buf e in StaysIf p.0 e p.1)
+unfolding StaysIf InRound
+held_stays [] t a buf e =
+    let p = round t a buf e in stays_round p.0 e p.1 (in_round t a buf e)
+held_stays (octet ∷ octets) t a buf e = tt
+
+sources_stay : (b : Bool) (t : ℕ) (a : Answers) (buf : List ℕ) (e : Ends)
+    → (let p = sources_by b t a buf e in StaysIf p.0 e p.1)
+sources_stay true t a buf e = line_stays t a a.line buf e
+sources_stay false t a buf e = held_stays e.held t a buf e
+
+turn_stays : (d : Bool) (t : ℕ) (a : Answers) (buf : List ℕ) (e : Ends)
+    → (let p = turn_by d t a buf e in StaysIf p.0 e p.1)
+unfolding StaysIf
+turn_stays true t a buf e = tt
+turn_stays false t a buf e = sources_stay (is_behind e.timing t) t a buf e
+
+one_stays : (begun now : ℕ) (e n : Ends) (buf : List ℕ) → IsTurn begun e None buf n → Stays e (told_at now n)
+unfolding StaysIf
+one_stays begun now e n buf t =
+    let Q : Option Found × Ends → Type 0 = λ p. StaysIf p.0 e p.1 in
+    let s : Stays e n = subst Q (sym t.turned) (turn_stays e.is_cut_due begun t.answers buf e) in
+    record {
+      door = s.door;
+      connection = s.connection;
+      line = s.line;
+      first = s.first;
+      due = s.due;
+      held = s.held;
+    }
+
+quiet_stays : (start : Ends) (first count begun : ℕ) (e : Ends) → QuietRounds start first count begun e → Stays start e
+quiet_stays start first _ _ _ NoRound = record {
+  door = least_same start.door;
+  connection = least_same_at start.connection;
+  line = least_same start.line;
+  first = refl;
+  due = refl;
+  held = refl;
+}
+quiet_stays start first _ _ _ (OneRound count begun now before found buf q t undue) =
+    let s = quiet_stays start first count begun before q in
+    let m = one_stays begun now before found buf t in
+    record {
+      door = least_least start.door before.door found.door s.door m.door;
+      connection = least_least_at start.connection before.connection found.connection s.connection m.connection;
+      line = least_least start.line before.line found.line s.line m.line;
+      first = m.first ∙ s.first;
+      due = m.due ∙ s.due;
+      held = m.held ∙ s.held;
+    }
+
+-- and what they heard
+quiet_heard : (start : Ends) (first count begun : ℕ) (e : Ends) → QuietRounds start first count begun e
+    → (heard : ℕ) × (e.timing ≡ heard_at heard start.timing)
+quiet_heard start first _ _ _ NoRound = (start.timing.heard, refl)
+quiet_heard start first _ _ _ (OneRound count begun now before found buf q t undue) =
+    let h = quiet_heard start first count begun before q in
+    (begun, quiet_hears begun before found buf t ∙ ap (heard_at begun) h.1)
+
+-- the last round
+in_turn : (begun : ℕ) (e n : Ends) (f : Option Found) (buf : List ℕ) → IsTurn begun e f buf n
+    → e.is_cut_due ≡ false → is_behind e.timing begun ≡ false → e.held ≡ [] → Looked e.first f e n
+unfolding InRound
+in_turn begun e n f buf t due level none =
+    let Q : Option Found × Ends → Type 0 = λ p. InRound e.first e p in
+    let plain : (f, n) ≡ round begun t.answers buf e =
+    t.turned ∙ (ap (λ b. turn_by b begun t.answers buf e) due
+    ∙ (ap (λ b. sources_by b begun t.answers buf e) level ∙ ap (λ h. held_by h begun t.answers buf e) none)) in
+    subst Q (sym plain) (in_round begun t.answers buf e)
+
+compose : (n : ℕ) (s : Source) (f : Option Found) (old mid new : Ends) → Stays old mid → Looked s f mid new
+    → LooksBefore (event_at n f) s old new
+unfolding Looked
+compose n s None old mid new k l = tt
+compose n Door (Some found.Open) old mid new k l = tt
+compose n Connection (Some found.Open) old mid new k l = least_more old.line mid.line new.line k.line l.1
+compose n Line (Some found.Open) old mid new k l = least_more old.line mid.line new.line k.line l.1
+compose n Door (Some (found.Bytes len)) old mid new k l = least_more old.door mid.door new.door k.door l.1
+compose n Connection (Some (found.Bytes len)) old mid new k l = tt
+compose n Line (Some (found.Bytes len)) old mid new k l =
+    (least_more old.line mid.line new.line k.line l.1.0, least_more old.door mid.door new.door k.door l.1.1)
+compose n Door (Some found.Cut) old mid new k l = least_more old.door mid.door new.door k.door l.1
+compose n Connection (Some found.Cut) old mid new k l = tt
+compose n Line (Some found.Cut) old mid new k l =
+    (least_more old.line mid.line new.line k.line l.1.0, least_more old.door mid.door new.door k.door l.1.1)
+compose n Door (Some (found.Line len)) old mid new k l = (
+  least_more old.door mid.door new.door k.door l.1.0,
+  least_more_at old.connection mid.connection new.connection k.connection l.1.1,
+)
+compose n Connection (Some (found.Line len)) old mid new k l =
+    least_more_at old.connection mid.connection new.connection k.connection l.1
+compose n Line (Some (found.Line len)) old mid new k l = tt
+compose n Door (Some found.Fault) old mid new k l = (
+  least_more old.door mid.door new.door k.door l.1.0,
+  least_more_at old.connection mid.connection new.connection k.connection l.1.1,
+)
+compose n Connection (Some found.Fault) old mid new k l =
+    least_more_at old.connection mid.connection new.connection k.connection l.1
+compose n Line (Some found.Fault) old mid new k l = tt
+
+-- the clock is no matter
+same_before : (n : ℕ) (s : Source) (f : Option Found) (old e : Ends) (now first : ℕ)
+    → LooksBefore (event_at n f) s (looking (told_at first old)) e → LooksBefore (event_at n f) s old (told_at now e)
+same_before n s None old e now first h = tt
+same_before n Door (Some found.Open) old e now first h = h
+same_before n Connection (Some found.Open) old e now first h = h
+same_before n Line (Some found.Open) old e now first h = h
+same_before n Door (Some (found.Bytes len)) old e now first h = h
+same_before n Connection (Some (found.Bytes len)) old e now first h = h
+same_before n Line (Some (found.Bytes len)) old e now first h = h
+same_before n Door (Some found.Cut) old e now first h = h
+same_before n Connection (Some found.Cut) old e now first h = h
+same_before n Line (Some found.Cut) old e now first h = h
+same_before n Door (Some (found.Line len)) old e now first h = h
+same_before n Connection (Some (found.Line len)) old e now first h = h
+same_before n Line (Some (found.Line len)) old e now first h = h
+same_before n Door (Some found.Fault) old e now first h = h
+same_before n Connection (Some found.Fault) old e now first h = h
+same_before n Line (Some found.Fault) old e now first h = h
+
+taken_before : (b : Bool) (n : ℕ) (s : Source) (buf : List ℕ) (f : Option Found) (old e : Ends)
+    → LooksBefore (event_at n f) s old e
+    → LooksBefore (event_at n (taken_by b buf f e).0) s old (taken_by b buf f e).1
+taken_before false n s buf f old e h = h
+taken_before true n s buf None old e h = h
+taken_before true n s buf (Some found.Open) old e h = h
+taken_before true n s buf (Some (found.Bytes len)) old e h = tt
+taken_before true n s buf (Some found.Cut) old e h = h
+taken_before true n s buf (Some (found.Line len)) old e h = h
+taken_before true n s buf (Some found.Fault) old e h = h
+
+last_by : (old : Ends) (event : Next) (buf : List ℕ) (new : Ends) (t : TurnsToEnds old event buf new) (b : Bool)
+    → old.is_cut_due ≡ false → old.held ≡ [] → is_behind t.looks.before.timing t.looks.begun ≡ b
+    → LooksBefore event old.first old new ⊎ IsFarBehind old.timing
+last_by old event buf new t true due none is =
+    let l = t.looks in
+    let h = quiet_heard (looking (told_at t.first old)) t.first l.count l.begun l.before l.quiet in
+    inr (record {
+      begun = l.begun;
+      heard = h.0;
+      behind = ap (λ (k : Timing). is_behind k l.begun) (sym h.1) ∙ is;
+    })
+last_by old event buf new t false due none is =
+    let l = t.looks in
+    let start = looking (told_at t.first old) in
+    let n = moment_at new.timing t.now in
+    let k = quiet_stays start t.first l.count l.begun l.before l.quiet in
+    let S : Source → Type 0 = λ s. Looked s t.f l.before l.found in
+    let looked_so = subst S k.first (in_turn l.begun l.before l.found t.f buf l.turn (k.due ∙ due) is (k.held ∙ none)) in
+    let last : LooksBefore (event_at n t.f) old.first start l.found =
+    compose n old.first t.f start l.before l.found k looked_so in
+    let P : Next → Type 0 = λ e. LooksBefore e old.first old new in
+    let R : Ends → Type 0 = λ e. LooksBefore (event_at n t.f) old.first old e in
+    let Q : Option Found × Ends → Type 0 = λ p. LooksBefore (event_at n p.0) old.first old p.1 in
+    inl (subst P (sym t.told.told) (subst Q (sym t.told.ends)
+    (taken_before (is_behind t.found.timing t.now) n old.first buf t.f old t.found
+    (subst R (sym l.done) (same_before n old.first t.f old l.found t.now t.first last)))))
+
+before_by : (old new : Ends) (event : Next) (buf : List ℕ) → Turns old event buf new → old.is_cut_due ≡ false
+    → old.held ≡ [] → LooksBefore event old.first old new ⊎ IsFarBehind old.timing
+before_by old new event buf (inl t) due none =
+    let P : Next → Type 0 = λ e. LooksBefore e old.first old new in
+    inl (subst P (sym t.told.told) tt)
+before_by old new event buf (inr t) due none =
+    last_by old event buf new t (is_behind t.looks.before.timing t.looks.begun) due none refl
+
+-- the log is no matter
+logged_before : (event : Next) (s : Source) (log : Log) (old new : Ends) → LooksBefore event s old (as_logged log new)
+    → LooksBefore event s old new
+logged_before (next.Open now) Door log old new h = h
+logged_before (next.Open now) Connection log old new h = h
+logged_before (next.Open now) Line log old new h = h
+logged_before (next.Bytes now len) Door log old new h = h
+logged_before (next.Bytes now len) Connection log old new h = h
+logged_before (next.Bytes now len) Line log old new h = h
+logged_before (next.Cut now) Door log old new h = h
+logged_before (next.Cut now) Connection log old new h = h
+logged_before (next.Cut now) Line log old new h = h
+logged_before (next.Line now len) Door log old new h = h
+logged_before (next.Line now len) Connection log old new h = h
+logged_before (next.Line now len) Line log old new h = h
+logged_before next.Fault Door log old new h = h
+logged_before next.Fault Connection log old new h = h
+logged_before next.Fault Line log old new h = h
+logged_before (next.Tick now) s log old new h = tt
+logged_before (next.Wall now number) s log old new h = tt
+logged_before next.Done s log old new h = tt
+
+either_before : (event : Next) (log : Log) (old new : Ends)
+    → LooksBefore event old.first old (as_logged log new) ⊎ IsFarBehind old.timing
+    → LooksBefore event old.first old new ⊎ IsFarBehind old.timing
+either_before event log old new (inl h) = inl (logged_before event old.first log old new h)
+either_before event log old new (inr h) = inr h
+
+pub in_turns : (old new : Ends) (event : Next) (buf : List ℕ) → LogsTurn old event buf new → old.is_cut_due ≡ false
+    → old.held ≡ [] → LooksBefore event old.first old new ⊎ IsFarBehind old.timing
+in_turns old new event buf l due none =
+    either_before event old.log old new (before_by old (as_logged old.log new) event buf l.turns due none)
