@@ -28,7 +28,6 @@ mod guests;
 mod help;
 mod host;
 mod job;
-mod paged;
 mod performing;
 mod printed;
 mod replay;
