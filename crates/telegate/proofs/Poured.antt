@@ -14,11 +14,6 @@ pub appends_none : (known : Option (List ℕ)) → Appends known known []
 appends_none None = tt
 appends_none (Some octets) = sym (append-nil octets)
 
-pub kept_begun : (old new : Option (List ℕ)) (text : List ℕ) → Keeps old new → IsBegun old new text
-kept_begun None new text keeps = ([], (text, refl), tt)
-kept_begun (Some old) None text keeps = absurd keeps
-kept_begun (Some old) (Some new) text keeps = ([], (text, refl), keeps ∙ sym (append-nil old))
-
 -- one text behind another
 pub appends_more : (a b c : Option (List ℕ)) (xs ys : List ℕ) → Appends a b xs → Appends b c ys
     → Appends a c (xs ++ ys)
@@ -49,23 +44,6 @@ pub poured_begun : (is_whole : Bool) (a b : Option (List ℕ)) (xs : List ℕ) �
     → IsBegun a b xs
 poured_begun true a b xs p = appends_begun a b xs p
 poured_begun false a b xs p = p
-
--- a text that is known, or a beginning of it, goes behind one that was printed
-pub poured_more : {E : Type 0} (before old new : Option (List ℕ)) (xs ys zs : List ℕ) (r : Result (Unit {0}) E)
-    → Appends before old xs → xs ++ ys ≡ zs → OnOk r (Appends old new ys) → OnErr r (IsBegun old new ys)
-    → IsPoured (is_ok r) before new zs
-poured_more before old new xs ys zs (Ok done) p is all begun =
-    subst (Appends before new) is (appends_more before old new xs ys p all)
-poured_more before old new xs ys zs (Err e) p is all begun =
-    subst (IsBegun before new) is (begun_behind before old new xs ys p begun)
-
--- of the same output
-pub poured_as : {W : Type 0} (contents : W → Option (List ℕ)) (before : Option (List ℕ)) (text : List ℕ)
-    (taken is : Bool) (out w : W) → taken ≡ is → out ≡ w → IsPoured is before (contents w) text
-    → IsPoured taken before (contents out) text
-poured_as contents before text taken is out w e f p =
-    subst (λ (b : Bool). IsPoured b before (contents out) text) (sym e)
-    (subst (λ (x : _). IsPoured is before (contents x) text) (sym f) p)
 
 -- all lines of the log
 pub poured_all : (is_whole : Bool) (before after : Option (List ℕ)) (log poured : Log) → Some log ≡ Some poured

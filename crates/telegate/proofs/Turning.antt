@@ -38,21 +38,3 @@ begun p s told begins empty =
     let P : Option Log → Type 0 = λ t. Follows p s t in
     let Q : Option Log → Type 0 = λ t. Rests p t in
     (subst P (sym empty) begins, subst Q (sym empty) tt)
-
-same_number : (m n : ℕ) → Some m ≡ Some n → m ≡ n
-same_number m n e = cc
-
--- so many turns, and then so many more
-pub turns_joined : (n m k : ℕ) (a b c : Option Log) → k ≡ n + m → MoreEvents n a b → MoreEvents m b c
-    → MoreEvents k a c
-turns_joined n m k None None None e p q = refl
-turns_joined n m k None None (Some z) e p q = cc
-turns_joined n m k None (Some y) c e p q = cc
-turns_joined n m k (Some x) None c e p q = cc
-turns_joined n m k (Some x) (Some y) None e p q = cc
-turns_joined n m k (Some x) (Some y) (Some z) e p q =
-    let first : length (events_of y) ≡ length (events_of x) + n =
-    same_number (length (events_of y)) (length (events_of x) + n) p in
-    let second : length (events_of z) ≡ length (events_of y) + m =
-    same_number (length (events_of z)) (length (events_of y) + m) q in
-    ap Some (omega (arith, first, second, e))

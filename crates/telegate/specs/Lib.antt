@@ -1,7 +1,6 @@
 pub mod Closing
 pub mod Faults
 pub mod Answers
-pub mod Percent
 pub mod Printed
 pub mod Running
 pub mod CommandLine

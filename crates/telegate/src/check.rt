@@ -34,7 +34,7 @@ fn good(alloc: Global) -> Result<Answer, Fault>
 pub(crate) fn read_config(alloc: Global, config: &[u8]) -> Result<Config, Fault>
     ensures { IsReadConfig config.now result }
 {
-    match settings::read_config(alloc, config) {
+    match settings::read_config(alloc, config, false) {
         Ok(config) => Ok(config),
         Err(ConfigFault::NoMemory) => Err(Fault::NoMemory),
         Err(fault) => Err(Fault::Config(fault)),

@@ -30,7 +30,6 @@ mod host;
 mod job;
 mod life;
 mod living;
-mod paged;
 mod performing;
 mod printed;
 mod replay;

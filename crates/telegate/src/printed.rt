@@ -1,104 +1,11 @@
-//! Runs that print while they go on, and tell on a terminal how far they have come.
-ghost use Rattle.std.specs.Prelude.{◌≡◌, ℕ, List, Option, ◌<◌, ◌≤◌, false, true, IfSome, OnOk, Some};
-ghost use Rattle.std.specs.Io.KnownBytes.{Appends};
-ghost use Rattle.gateway.specs.Accounts.{IsAccounted};
-ghost use Rattle.gateway.specs.Agrees.{Follows, Rests};
-ghost use Rattle.gateway.specs.Reports.{Setup};
-ghost use Rattle.gateway.specs.Runs.{UnlessDevice, MoreEvents};
-ghost use Rattle.gateway.specs.Traffic.{IsFaithful, HasRested};
-ghost use Rattle.traces.specs.Actions.{lines_of_actions};
-ghost use Rattle.telegate.specs.Percent.{percent_of, percent_text, blank_text};
+//! Runs that print while they go on, and how they end.
+ghost use Rattle.std.specs.Prelude.{ℕ, List, Option};
 ghost use Rattle.telegate.specs.Printed.{IsPoured, IsClosedBy};
 
 use crate::fault::Fault;
-use crate::paged::Paged;
 use crate::performing::print;
-use gateway::{End, Gateway, drive_on};
-use std::io;
+pub(crate) use pages::{blank_if, drive_printed, tell_percent};
 use std::io::Write;
-
-/// So many turns pass before their lines are printed: some 12 KB, where each event has an action,
-/// and 1.3 MB at most, where each has as many APDUs to answer as it can bring.
-const PART: u64 = 256;
-
-/// So many turns pass before it is told how far a run has come: 2^19, about half a second.
-const STRIDE: u64 = 524_288;
-
-/// Takes the events of a port one after another, at most so many, as `drive_on` does, and prints
-/// the lines of the actions as they are made. Where the output fails, or has failed before, nothing
-/// more is printed, and the run goes on to its end: the second answer is whether all was printed.
-/// Where a run of more than one stride is watched, standard error tells after each how far it has
-/// come, and is blank again at the end; whether it takes that changes nothing.
-pub(crate) fn drive_printed<P: Paged, W: Write, E: Write>(
-    gateway: &mut Gateway,
-    port: &mut P,
-    turns: u64,
-    was_whole: bool,
-    is_watched: bool,
-    out: &mut W,
-    err: &mut E,
-) -> (End, bool)
-    requires healthy { P.failed port.old ≡ 0 }
-    // As of `drive_on`.
-    ensures faithful { (p : Setup) → Follows p gateway.old (P.log port.old) →
-        Rests p (P.log port.old) → IfSome (P.log port.new) (IsFaithful p) }
-    ensures rests { (p : Setup) → Follows p gateway.old (P.log port.old) →
-        Rests p (P.log port.old) → UnlessDevice result.0 (IfSome (P.log port.new) (HasRested p)) }
-    ensures kept { (p : Setup) → Follows p gateway.old (P.log port.old) →
-        Rests p (P.log port.old) → UnlessDevice result.0 (Follows p gateway.new (P.log port.new)) }
-    ensures accounts { (p : Setup) → Follows p gateway.old (P.log port.old) →
-        Rests p (P.log port.old) →
-        UnlessDevice result.0 (IfSome (P.log port.new) (IsAccounted p gateway.new)) }
-    ensures turns { result.0 ≡ End.Turns → MoreEvents turns (P.log port.old) (P.log port.new) }
-    ensures finished { result.0 ≡ End.Finished → P.ended port.new ≡ true }
-    ensures course { P.course port.new ≡ P.course port.old }
-    // All lines of the log were printed, or a beginning of them, where that is so of those before.
-    ensures all { P.log port.new ≡ Some (P.poured port.new) }
-    ensures healthy { UnlessDevice result.0 (P.failed port.new ≡ 0) }
-    ensures poured { (before : Option (List ℕ)) →
-        IsPoured was_whole before (W.contents out.old) (lines_of_actions (P.poured port.old)) →
-        IsPoured result.1 before (W.contents out.new) (lines_of_actions (P.poured port.new)) }
-    // Where nobody looks on, nothing is told.
-    ensures unwatched { is_watched ≡ false → err.new ≡ err.old }
-{
-    let is_told = is_watched && turns > STRIDE;
-    let mut is_whole = was_whole;
-    let mut done = 0;
-    'parts: while turns - done > PART {
-        let end = drive_on(gateway, port, PART);
-        is_whole = pour(port, is_whole, out);
-        match end {
-            End::Turns => done += PART,
-            end => {
-                blank_if(is_told, err);
-                return (end, is_whole);
-            }
-        }
-        tell_after(is_told, done, turns, err);
-    }
-    let end = drive_on(gateway, port, turns - done);
-    is_whole = pour(port, is_whole, out);
-    blank_if(is_told, err);
-    (end, is_whole)
-}
-
-/// Prints the lines that are on the page, unless the output failed before, and takes them off it.
-/// Answers whether the output has taken all.
-fn pour<P: Paged, W: Write>(port: &mut P, is_whole: bool, out: &mut W) -> bool
-    ensures all { P.log port.old ≡ Some (P.poured port.new) }
-    ensures log { P.log port.new ≡ P.log port.old }
-    ensures failed { P.failed port.new ≡ P.failed port.old }
-    ensures ended { P.ended port.new ≡ P.ended port.old }
-    ensures course { P.course port.new ≡ P.course port.old }
-    ensures poured { (before : Option (List ℕ)) →
-        IsPoured is_whole before (W.contents out.old) (lines_of_actions (P.poured port.old)) →
-        IsPoured result before (W.contents out.new) (lines_of_actions (P.poured port.new)) }
-{
-    let page = port.page();
-    let is_taken = is_whole && print(page, out).is_ok();
-    port.clear_page();
-    is_taken
-}
 
 /// Prints the lines with which a run ends, where all others were printed.
 pub(crate) fn print_closing<W: Write>(
@@ -117,51 +24,4 @@ pub(crate) fn print_closing<W: Write>(
         Ok(()) => Ok(()),
         Err(_) => Err(Fault::Device),
     }
-}
-
-/// Tells how far a run has come after each stride, where that is to be told.
-fn tell_after<E: Write>(is_told: bool, done: u64, all: u64, err: &mut E)
-    requires within { done ≤ all }
-    requires some { 0 < all }
-    ensures { is_told ≡ false → err.new ≡ err.old }
-{
-    if is_told && done % STRIDE == 0 {
-        let _ = tell_percent(done, all, err);
-    }
-}
-
-/// Takes what was told from the terminal, where something was.
-pub(crate) fn blank_if<E: Write>(is_told: bool, err: &mut E)
-    ensures { is_told ≡ false → err.new ≡ err.old }
-{
-    if is_told {
-        let _ = blank(err);
-    }
-}
-
-/// Tells which part of so many turns, or octets, is done, over what stands on the line.
-pub(crate) fn tell_percent<E: Write>(done: u64, all: u64, err: &mut E) -> io::Result<()>
-    requires within { done ≤ all }
-    requires some { 0 < all }
-    ensures { OnOk result (Appends (E.contents err.old) (E.contents err.new)
-        (percent_text (percent_of done all))) }
-{
-    let percent = percent(done, all);
-    write!(err, "\r{percent} %")
-}
-
-/// Which part of a number another is, in whole percent.
-fn percent(done: u64, all: u64) -> u8
-    requires within { done ≤ all }
-    requires some { 0 < all }
-    ensures { result ≡ percent_of done all }
-{
-    (u128::from(done) * 100 / u128::from(all)) as u8
-}
-
-/// Blanks the line on which percent were told.
-fn blank<E: Write>(err: &mut E) -> io::Result<()>
-    ensures { OnOk result (Appends (E.contents err.old) (E.contents err.new) blank_text) }
-{
-    write!(err, "\r    \r")
 }

@@ -1,22 +1,15 @@
 //! The command that runs the gateway over simulated stations and a simulated control centre.
 ghost use Rattle.std.specs.Prelude.{◌≡◌, ℕ, List, Option, false};
-ghost use Rattle.gateway.specs.Config.{Settings, AreDistinct};
-ghost use Rattle.gateway.specs.Setups.{setup_of};
-ghost use Rattle.gateway.specs.Traffic.{IsFaithful, HasRested};
+ghost use Rattle.gateway.specs.Config.{Settings};
 ghost use Rattle.sim.specs.declared.directive.Directive.{Directive};
-ghost use Rattle.sim.specs.Calls.{calls_in};
-ghost use Rattle.sim.specs.Lives.{plan_of};
-ghost use Rattle.sim.specs.Losses.{turns_of};
 ghost use Rattle.sim.specs.Scripts.{FitsSettings};
-ghost use Rattle.traces.specs.Actions.{lines_of_actions};
+ghost use Rattle.sim.specs.Simulations.{IsSimulation};
 ghost use Rattle.telegate.specs.Answers.{IsSimulatedBy, IsSimulationOf};
-ghost use Rattle.telegate.specs.Printed.{IsPoured};
 
 use crate::check::read_config;
 use crate::fault::Fault;
-use crate::printed::{drive_printed, print_closing};
-use gateway::{Config, End, Gateway};
-use sim::{Script, Sim, TextFault, read_script};
+use gateway::Config;
+use sim::{Script, SimFault, TextFault, read_script, simulate_watched};
 use std::alloc::Global;
 use std::io::Write;
 
@@ -45,8 +38,7 @@ pub(crate) fn simulate<W: Write, E: Write>(
     }
 }
 
-/// Runs the gateway as a script says. An output that fails is written to no more, and told at the
-/// end. After want of memory the beginning of the lines of a run's actions may have been printed.
+/// The run of a script, watched or not.
 fn run<W: Write, E: Write>(
     alloc: Global,
     config: &Config,
@@ -60,34 +52,21 @@ fn run<W: Write, E: Write>(
         (W.contents out.old) (W.contents out.new) result }
     ensures unwatched { is_watched ≡ false → err.new ≡ err.old }
 {
-    let _stations = config.stations();
-    let mut gateway = Gateway::new(alloc, config)?;
-    let Ok(mut sim) = Sim::new(alloc, config, script) else {
-        return Err(Fault::NoMemory);
-    };
-    let turns = script.turns();
-    let (end, is_whole) = drive_printed(&mut gateway, &mut sim, turns, true, is_watched, out, err);
-    let _page_is_clear = sim.page();
-    match end {
-        End::Turns => close(alloc, &sim, is_whole, out),
-        End::Finished => close(alloc, &sim, is_whole, out),
-        // The page wanted memory.
-        End::Device => Err(Fault::NoMemory),
+    if is_watched {
+        told(simulate_watched(alloc, config, script, out, err))
+    } else {
+        told(sim::simulate(alloc, config, script, out))
     }
 }
 
-/// Prints the closing lines of a run, where all others were printed.
-fn close<W: Write>(alloc: Global, sim: &Sim<'_>, is_whole: bool, out: &mut W) -> Result<(), Fault>
-    ensures { (c : Settings) (ds : List Directive) (before : Option (List ℕ)) →
-        sim.now.plan ≡ plan_of c ds → AreDistinct c.stations →
-        calls_in sim.now.log ≡ turns_of ds → IsFaithful (setup_of c) sim.now.log →
-        HasRested (setup_of c) sim.now.log →
-        IsPoured is_whole before (W.contents out.old) (lines_of_actions sim.now.log) →
-        IsSimulationOf c ds before (W.contents out.new) result }
+/// What the program tells of a run's fault.
+fn told(run: Result<(), SimFault>) -> Result<(), Fault>
+    ensures { (c : Settings) (ds : List Directive) (old new : Option (List ℕ)) →
+        IsSimulation c ds old new run → IsSimulationOf c ds old new result }
 {
-    let _page_is_clear = sim.page();
-    match sim.closing(alloc) {
-        Ok(lines) => print_closing(lines.as_bytes(), is_whole, out),
-        Err(_) => Err(Fault::NoMemory),
+    match run {
+        Ok(()) => Ok(()),
+        Err(SimFault::Write) => Err(Fault::Device),
+        Err(SimFault::NoMemory) => Err(Fault::NoMemory),
     }
 }
