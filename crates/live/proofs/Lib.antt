@@ -11,5 +11,6 @@ pub mod Octets
 pub mod Walls
 pub mod Ticks
 pub mod Logs
+pub mod Fixed
 pub mod Passed
 pub mod Telling
