@@ -13,5 +13,6 @@ pub mod Walls
 pub mod Ticks
 pub mod InTurn
 pub mod Logs
+pub mod Fixed
 pub mod Passed
 pub mod Telling

@@ -33,9 +33,9 @@ pub record IsGuest (guests : Guests) (peer : Peer) : Type 0 where
 
 -- Who may come in; what happened at the line, at the connection, if there is one, and at the door;
 -- octets of that connection that came and haven't been told; what the clock told; the source that
--- is looked at first; whether a write to the connection failed, so that a cut is due; how often the
--- line was gone; what tells the moment of an event; what the wall clock showed, and when it was
--- told last; and the log, the newest entry first.
+-- is looked at first; whether a write to the connection failed, so that a cut is due; whether the
+-- run goes on after a restart; how often the line was gone; what tells the moment of an event; what
+-- the wall clock showed, and when it was told last; and the log, the newest entry first.
 pub record Ends : Type 0 where
   pub guests : Guests
   pub line : History
@@ -45,11 +45,22 @@ pub record Ends : Type 0 where
   pub clock : Moments
   pub first : Source
   pub is_cut_due : Bool
+  pub goes_on : Bool
   pub failed : ℕ
   pub timing : Timing
   pub walls : Moments
   pub walled : Walled
   pub log : Log
+
+-- what is fixed of a port from its start: who may come in, how long an answer is awaited, in ms, and
+-- whether the run goes on after a restart
+pub record Fixture : Type 0 where
+  pub guests : Guests
+  pub answer_ms : ℕ
+  pub goes_on : Bool
+
+abbrev pub fixed_of : Ends → Fixture
+fixed_of e = record { guests = e.guests; answer_ms = e.timing.answer_ms; goes_on = e.goes_on }
 
 -- the sources in their round
 abbrev pub after : Source → Source

@@ -45,6 +45,8 @@ pub struct Live<L: Wire, D: Door + Drop, C: Clock + Drop> {
     first: Source,
     /// A write to the connection failed, so that the next event is a cut.
     is_cut_due: bool,
+    /// The run goes on after a restart.
+    goes_on: bool,
     /// Why the latest connection that was cut was cut.
     why_cut: CutCause,
     failures: u64,
@@ -72,6 +74,7 @@ impl<L: Wire, D: Door + Drop, C: Clock + Drop> Model for Live<L, D, C> {
       clock = C.moments a.clock;
       first = a.first;
       is_cut_due = a.is_cut_due;
+      goes_on = a.goes_on;
       failed = a.failures;
       timing = a.timing;
       walls = C.walls a.clock;
@@ -96,6 +99,7 @@ impl<L: Wire, D: Door + Drop, C: Clock + Drop> Live<L, D, C> {
           clock = C.moments clock;
           first = sources.Door;
           is_cut_due = false;
+          goes_on = false;
           failed = 0;
           timing = record { answer_ms = config.now.line.answer_ms; heard = 0; request = None };
           walls = C.walls clock;
@@ -117,6 +121,7 @@ impl<L: Wire, D: Door + Drop, C: Clock + Drop> Live<L, D, C> {
           clock = C.moments clock;
           first = sources.Door;
           is_cut_due = false;
+          goes_on = false;
           failed = 0;
           timing = record { answer_ms = answer_ms; heard = 0; request = None };
           walls = C.walls clock;
@@ -133,6 +138,7 @@ impl<L: Wire, D: Door + Drop, C: Clock + Drop> Live<L, D, C> {
             held: Held::new(),
             first: Source::Door,
             is_cut_due: false,
+            goes_on: false,
             why_cut: CutCause::Gone,
             failures: 0,
             timing: Timing {
@@ -148,9 +154,10 @@ impl<L: Wire, D: Door + Drop, C: Clock + Drop> Live<L, D, C> {
     /// The same port, of a run that goes on after a restart: the connection that was open then is
     /// cut, which is its first event but the wall clock.
     pub fn cut_first(mut self) -> Live<L, D, C>
-        ensures { result ≡ record self { is_cut_due = true } }
+        ensures { result ≡ record self { is_cut_due = true; goes_on = true } }
     {
         self.is_cut_due = true;
+        self.goes_on = true;
         self.why_cut = CutCause::Restarted;
         self
     }
@@ -467,7 +474,11 @@ impl<L: Wire, D: Door + Drop, C: Clock + Drop> Port for Live<L, D, C> {
 
     ghost ended = { λ _. false };
 
-    ghost script = { λ _. [] };
+    ghost use Rattle.live.specs.Ends.{Fixture, fixed_of};
+
+    ghost Fixed = { Fixture };
+
+    ghost script = { λ ends. fixed_of ends };
 
     /// Tells the wall clock where it is due. Else it looks at the ends round by round, until one has
     /// something or a tick is due.
@@ -477,6 +488,7 @@ impl<L: Wire, D: Door + Drop, C: Clock + Drop> Port for Live<L, D, C> {
         ensures fits { FitsBuffer result }
         ensures done { result ≡ Done → false ≡ true }
         ensures cause { self.new.failed ≡ self.old.failed + faults_of result }
+        ensures script { fixed_of self.new ≡ fixed_of self.old }
         ensures turns { LogsTurn self.old result buf.new self.new }
     {
         let next = self.find(buf);
@@ -485,11 +497,12 @@ impl<L: Wire, D: Door + Drop, C: Clock + Drop> Port for Live<L, D, C> {
     }
 
     /// It never fails: what an end doesn't take is lost.
-    #[tactic(auto, using(crate::proofs::Logs::put_told, crate::proofs::Logs::put_logged))]
+    #[tactic(auto, using(crate::proofs::Logs::put_told, crate::proofs::Logs::put_logged, crate::proofs::Fixed::put_fixed))]
     fn put(&mut self, now: u64, action: &Action<'_>) -> bool
         ensures done { result ≡ true }
         ensures told { Some self.new.log
             ≡ tell (Some self.old.log) (Went now (output_of action.now) ∷ []) }
+        ensures script { fixed_of self.new ≡ fixed_of self.old }
         ensures puts { LogsPut self.old now (output_of action.now) self.new }
     {
         self.put_out(now, action);
