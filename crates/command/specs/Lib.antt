@@ -17,3 +17,4 @@ pub mod CommandLaws
 pub mod Examples
 pub mod Saved
 pub mod Restored
+pub mod Carried

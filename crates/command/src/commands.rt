@@ -8,6 +8,8 @@ ghost use Rattle.command.specs.Octets.{negative};
 ghost use Rattle.command.specs.Command.{command_len, command_at};
 ghost use Rattle.command.specs.Mirrors.{all_over, one_confirmed, confirmed, mirrored, tag_for, element_of as element_in};
 
+mod carrying;
+
 use crate::act::{Act, Answer};
 use crate::content::{
     Command, Target, append, is_command_type, is_process_command, line_kind, read_command, refuse,

@@ -1,9 +1,8 @@
 -- A queue is taken up again from its lines.
 use Rattle.std.proofs.Common.{◌≡◌, ℕ, ◌<◌, ◌≤◌, List, [], ◌∷◌, ◌++◌, length, get_or, refl, ap, sym, subst, ◌∙◌, arith}
-use Rattle.std.proofs.lemmas.List.{take-append-drop, length-map, length-take}
-use Rattle.std.proofs.Math.Nat.{max-eq_left, le-max_right}
+use Rattle.std.proofs.lemmas.List.{take-append-drop, length-take}
 use Rattle.std.specs.List.{AllByRecursion}
-use Rattle.std.specs.Prelude.{Result, Ok, Err, OnOk, IsErrAnd, Option, Some, None, IfNone, max}
+use Rattle.std.specs.Prelude.{Result, Ok, Err, OnOk, IsErrAnd, Option, Some, None, IfNone}
 use Rattle.arrayvec.specs.ArrayVec.{ArrayVec}
 use Rattle.checkpoint.specs.Octets.{IsOctetLine}
 use Rattle.events.specs.Pieces.{IsSendable, AreSendable, AreAsdus}
@@ -35,17 +34,10 @@ sendable [] h = tt
 sendable (x ∷ xs) h = (h.0, sendable xs h.1)
 
 pub savable : (xs : List (ArrayVec ℕ)) (m places : ℕ) (q : Queue) → queue_of xs m places ≡ q → AreAsdus xs
-    → length xs ≤ places → AllByRecursion IsOctetLine (kept q) → IsSavable q
-savable xs m places q is asdus few octets =
+    → AllByRecursion IsOctetLine (kept q) → IsSavable q
+savable xs m places q is asdus octets =
     let all : kept q ≡ octets_of xs = ap kept (sym is) ∙ kept-queue_of xs m places in
-    let number = ap (λ (ps : List (List ℕ)). length ps) all in
-    let same = length-map xs (λ (p : ArrayVec ℕ). p.items) in
-    let as_many = ap (λ (r : Queue). r.places) is in
-    record {
-      sendable = subst AreSendable (sym all) (sendable xs asdus);
-      octets = octets;
-      few = omega arith;
-    }
+    record { sendable = subst AreSendable (sym all) (sendable xs asdus); octets = octets }
 
 -- ---- What is read
 
@@ -80,11 +72,11 @@ two_numbers (x ∷ []) least most = absurd (omega (arith, least))
 two_numbers (x ∷ y ∷ []) least most = refl
 two_numbers (x ∷ y ∷ z ∷ ns) least most = absurd (omega (arith, most))
 
--- so many pieces were read and the oldest of them marked
-module _ (places count sent : ℕ) (before middle after pieces : List (List ℕ)) (line : List ℕ) (e : Queue)
+-- so many pieces were read, the oldest of them marked, and the places are as many as are set
+module _ (places many count sent : ℕ) (before middle after pieces : List (List ℕ)) (line : List ℕ) (e : Queue)
     (came : before ≡ line ∷ middle) (numbers : line ≡ count ∷ sent ∷ []) (lines : middle ≡ pieces ++ after)
     (number : length pieces ≡ count) (few : sent ≤ count)
-    (is : e ≡ marked sent (queue_from [] pieces (max places count))) where
+    (is : e ≡ in_places places (marked sent (queue_from [] pieces many))) where
   all : kept e ≡ pieces
   all = ap kept is ∙ take-append-drop sent pieces
 
@@ -98,15 +90,12 @@ module _ (places count sent : ℕ) (before middle after pieces : List (List ℕ)
       → IsRead places before after e
   read_is fits octets =
       let long = ap (λ (ps : List (List ℕ)). length ps) all in
-      let there : e.places ≡ max places count = ap (λ (q : Queue). q.places) is in
-      let same : max places count ≡ max places (length (kept e)) = ap (max places) (sym number ∙ sym long) in
-      let most = le-max_right places (length (kept e)) in (
+      let there : e.places ≡ places = ap (λ (q : Queue). q.places) is in (
         record {
           sendable = subst AreSendable (sym all) fits;
           octets = subst (λ ps. AllByRecursion IsOctetLine ps) (sym all) octets;
-          few = omega arith;
         },
-        ap (λ n. record { sent = e.sent; unsent = e.unsent; places = n }) (there ∙ same),
+        ap (λ n. record { sent = e.sent; unsent = e.unsent; places = n }) there,
         came ∙ ap (λ l. l ∷ middle) (numbers ∙ ap (λ n. n ∷ sent ∷ []) (sym number ∙ sym long)
             ∙ ap (λ n. length (kept e) ∷ n ∷ []) (sym sent_are))
             ∙ ap (λ ls. (length (kept e) ∷ length e.sent ∷ []) ∷ ls) (lines ∙ ap (λ ps. ps ++ after) (sym all)),
@@ -123,10 +112,8 @@ back_is places before after rest e q is lines given =
     let others : kept e ++ after ≡ kept q ++ rest = cc in
     let fronts = same_fronts (kept e) (kept q) after rest long others in
     let halves = same_fronts e.sent q.sent e.unsent q.unsent marks fronts.0 in
-    (is ∙ same_queue _ _ _ _ _ halves.0 halves.1 ∙ ap (queue_from q.sent q.unsent) (ap (max places) long), fronts.1)
+    (is ∙ same_queue _ _ _ _ _ halves.0 halves.1, fronts.1)
 
 -- which has as many places as before where there are so many
-pub same_is : (places : ℕ) (q : Queue) → IsSavable q → q.places ≡ places → in_places places q ≡ q
-same_is places q can at =
-    let few : length (kept q) ≤ places = subst (λ n. length (kept q) ≤ n) at can.few in
-    ap (queue_from q.sent q.unsent) (max-eq_left few ∙ sym at)
+pub same_is : (places : ℕ) (q : Queue) → q.places ≡ places → in_places places q ≡ q
+same_is places q at = ap (queue_from q.sent q.unsent) (sym at)

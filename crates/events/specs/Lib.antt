@@ -2,3 +2,4 @@ pub mod Queue
 pub mod Pieces
 pub mod Runs
 pub mod Restored
+pub mod Carried

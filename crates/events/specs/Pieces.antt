@@ -14,7 +14,9 @@ AreSendable pieces = AllByRecursion IsSendable pieces
 abbrev pub AreAsdus : List (ArrayVec ℕ) → Type 0
 AreAsdus pieces = AllByRecursion (λ p. IsSendable p.items) pieces
 
--- how a queue is kept: the mark is within the pieces, and each can be sent
-pub record IsSound (pieces : List (ArrayVec ℕ)) (mark : ℕ) : Type 0 where
+-- how a queue is kept: the mark is within the pieces, each can be sent, and its ring has as many
+-- places as it, or more
+pub record IsSound (pieces : List (ArrayVec ℕ)) (mark places capacity : ℕ) : Type 0 where
   pub within : mark ≤ length pieces
   pub asdus : AreAsdus pieces
+  pub room : places ≤ capacity

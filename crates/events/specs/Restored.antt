@@ -1,5 +1,5 @@
 -- A queue as lines, and read back from them (profile).
-use Rattle.std.specs.Prelude.{ℕ, ◌≤◌, max, List, [], ◌∷◌, ◌++◌, length, take, drop}
+use Rattle.std.specs.Prelude.{ℕ, List, [], ◌∷◌, ◌++◌, length, take, drop}
 use Rattle.std.specs.List.{AllByRecursion}
 use Rattle.checkpoint.specs.Octets.{IsOctetLine}
 use Rattle.events.specs.Pieces.{AreSendable}
@@ -13,12 +13,10 @@ queue_lines q = (length (kept q) ∷ length q.sent ∷ []) ∷ kept q
 pub record IsSavable (q : Queue) : Type 0 where
   pub sendable : AreSendable (kept q)
   pub octets : AllByRecursion IsOctetLine (kept q)
-  pub few : length (kept q) ≤ q.places
 
--- the same pieces in so many places, or in as many as there are pieces where those are more
+-- the same pieces, and so many places
 abbrev pub in_places : ℕ → Queue → Queue
-in_places places q =
-    record { sent = q.sent; unsent = q.unsent; places = max places (length (kept q)) }
+in_places places q = record { sent = q.sent; unsent = q.unsent; places = places }
 
 -- the n oldest unsent pieces were sent
 abbrev pub marked : ℕ → Queue → Queue

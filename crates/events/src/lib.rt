@@ -24,6 +24,7 @@ ghost use Rattle.asdu.specs.Reading.{value_of};
 ghost use Rattle.asdu.specs.Translation.{report_pieces};
 ghost use Rattle.events.specs.Pieces.{IsSendable, AreAsdus, AreSendable};
 
+mod carrying;
 mod laws;
 mod restoring;
 
@@ -48,6 +49,9 @@ pub struct Events {
     ring: HeapCircularBuffer<Piece>,
     /// How many of the pieces were sent.
     sent: usize,
+    /// For how many pieces there are places. The ring has more where it kept more pieces when their
+    /// number was set anew.
+    places: usize,
 }
 
 impl Model for Events {
@@ -56,9 +60,9 @@ impl Model for Events {
 
     ghost Value = { Queue };
 
-    ghost view = { λ e. queue_of e.ring.items e.sent e.ring.capacity };
+    ghost view = { λ e. queue_of e.ring.items e.sent e.places };
 
-    ghost invariant = { λ e. IsSound e.ring.items e.sent };
+    ghost invariant = { λ e. IsSound e.ring.items e.sent e.places e.ring.capacity };
 }
 
 impl Events {
@@ -69,14 +73,18 @@ impl Events {
         ensures { IfOk result (λ e. e ≡ empty places) }
     {
         let ring = HeapCircularBuffer::with_capacity(alloc, places).map_err(|_| NoMemory)?;
-        Ok(Events { ring, sent: 0 })
+        Ok(Events {
+            ring,
+            sent: 0,
+            places,
+        })
     }
 
     /// How many more pieces fit.
     pub fn free(&self) -> usize
         ensures { result ≡ free_places self.now }
     {
-        self.ring.capacity() - self.ring.len()
+        self.places.saturating_sub(self.ring.len())
     }
 
     /// Whether fewer than three places are free, so that the pieces of a report may not fit.
@@ -192,9 +200,13 @@ impl Events {
     /// The ring itself, the oldest piece first.
     pub fn into_ring(self) -> HeapCircularBuffer<Piece>
         ensures pieces { octets_of result.items ≡ kept self }
-        ensures capacity { result.capacity ≡ self.places }
+        ensures capacity { self.places ≤ result.capacity }
     {
-        let Events { ring, sent: _ } = self;
+        let Events {
+            ring,
+            sent: _,
+            places: _,
+        } = self;
         ring
     }
 }

@@ -40,9 +40,8 @@ impl Events {
         Ok(())
     }
 
-    /// Reads a queue from its lines. It has so many places, or as many as there are pieces where
-    /// those are more: then nothing is lost, and it is full until enough have left. `line` and
-    /// `octets` are room for one line. `Wrong` says that what comes are no queue's lines,
+    /// Reads a queue from its lines. It has so many places. Where there are more pieces nothing is
+    /// lost, and it is full until enough have left. `line` and `octets` are room for one line. `Wrong` says that what comes are no queue's lines,
     /// `NoMemory` that there is none for the places.
     pub fn read_state<L: Lines>(
         alloc: Global,
@@ -79,6 +78,7 @@ impl Events {
         };
         events.read_pieces(count, lines, octets)?;
         events.mark_first(sent as usize);
+        events.narrow(places);
         Ok(events)
     }
 
@@ -109,6 +109,14 @@ impl Events {
             self.keep(piece);
         }
         Ok(())
+    }
+
+    /// Has so many places, and no more than before.
+    fn narrow(&mut self, places: usize)
+        requires { places ≤ self.old.places }
+        ensures { self.new ≡ in_places places self.old }
+    {
+        self.places = places;
     }
 
     /// The so many oldest unsent pieces were sent.

@@ -40,3 +40,4 @@ pub mod Moments
 pub mod Between
 pub mod ReadBack
 pub mod Unchanging
+pub mod Carrying

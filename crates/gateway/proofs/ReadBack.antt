@@ -1,5 +1,5 @@
 -- The lines of a state read back.
-use Rattle.std.proofs.Common.{◌≡◌, ℕ, List, [], ◌∷◌, ◌++◌, Option, Some, None, Result, Ok, Err, refl, sym, ap, subst, ◌∙◌, append_assoc}
+use Rattle.std.proofs.Common.{◌≡◌, ℕ, List, ◌∷◌, Option, Some, None, Result, Ok, Err, refl, sym, ap, subst, ◌∙◌}
 use Rattle.std.specs.Prelude.{length, IfSome, IfOk, is_some, true, MatchResult}
 use Rattle.asdu.specs.declared.sizes.Sizes.{Sizes}
 use Rattle.apci.specs.Assembly.{Assembly}

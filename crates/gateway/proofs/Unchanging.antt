@@ -1,7 +1,7 @@
 -- A gateway keeps its settings.
-use Rattle.std.proofs.Common.{◌≡◌, [], ◌∷◌, map, refl, sym, ap, subst, ◌∙◌}
+use Rattle.std.proofs.Common.{◌≡◌, [], ◌∷◌, refl, sym, ap, subst, ◌∙◌}
 use Rattle.std.proofs.lemmas.List.{length-map}
-use Rattle.session.specs.Runs.{Settings as SessionSettings, Run as SessionRun, run}
+use Rattle.session.specs.Runs.{Run as SessionRun, run}
 use Rattle.session.specs.Restored.{HasSettings as HasSessionSettings}
 use Rattle.session.specs.Session.{Session}
 use Rattle.session.proofs.Keeps.{run_keeps}

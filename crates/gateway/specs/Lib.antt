@@ -35,3 +35,4 @@ pub mod Steps
 pub mod Judging
 pub mod Runs
 pub mod Restored
+pub mod Carried

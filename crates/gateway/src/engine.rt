@@ -11,6 +11,7 @@ ghost use Rattle.gateway.specs.Setups.{link_of, info_of, session_of, setup_of};
 ghost use Rattle.gateway.specs.declared.settings.Station.{Station};
 ghost use Rattle.gateway.specs.State.{counts_of, first_state, at_moment, with_wall, wall_now};
 
+mod carrying;
 mod centre;
 mod restoring;
 mod saving;
@@ -266,8 +267,9 @@ impl Gateway {
         }
     }
 
-    /// The moment of the step.
-    pub(crate) fn moment(&self) -> u64
+    /// The greatest moment so far, in milliseconds: that of the step. The clock of a run that goes
+    /// on begins there.
+    pub fn moment(&self) -> u64
         ensures { result ≡ self.now.moment }
     {
         self.moment

@@ -19,3 +19,7 @@ user_data size asdu true e short all = (
 )
 user_data size asdu false e short all =
     (λ h. record { some = grind (arith, e); fits = fits_frame size asdu short; octets = all }, λ h. refl)
+
+-- a command is short enough for each line
+pub any_line : (size other : LinkSize) (asdu : List ℕ) → length asdu ≤ 12 → IsUserData size asdu → IsUserData other asdu
+any_line size other asdu short h = record { some = h.some; fits = fits_frame other asdu short; octets = h.octets }

@@ -43,3 +43,4 @@ pub mod RestoredBack
 pub mod Preceding
 pub mod Tabled
 pub mod Bursting
+pub mod GivenUp

@@ -29,3 +29,4 @@ pub mod Outcomes
 pub mod Precedence
 pub mod Tables
 pub mod Bursts
+pub mod Carried

@@ -45,6 +45,7 @@ mod asdu;
 mod asking;
 mod awaited;
 mod bursts;
+mod carrying;
 mod control;
 mod examples;
 mod flags;
@@ -63,6 +64,7 @@ mod refinement;
 mod request;
 mod runs;
 mod saving;
+mod seat;
 mod service;
 mod session;
 mod settings;
@@ -75,6 +77,7 @@ pub use answer::Answer;
 pub use asdu::{Asdu, AsduRef, CommandOctets};
 pub use asking::next_changes_nothing;
 pub use bursts::class_1_polls_go_on;
+pub use carrying::giving_up_is_for_one_station;
 pub use control::{Control, PrimaryFunction, SecondaryFunction, controls_are_octets};
 pub use examples::{
     answers_by_example, controls_by_example, outstations_by_example, requests_by_example,
@@ -104,6 +107,7 @@ pub use runs::{
     commands_are_sent_in_order, frame_count_bits_are_kept, outcomes_are_answers,
     spoilt_exchanges_are_counted, turns_go_round,
 };
+pub use seat::Seat;
 pub use service::{Asked, Service};
 pub use session::SessionState;
 pub use settings::LinkSettings;

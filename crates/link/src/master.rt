@@ -11,6 +11,7 @@ ghost use Rattle.link.specs.Outcomes.{lent};
 ghost use Rattle.link.specs.declared.outcome.Outcome.TheVariants as outcome;
 ghost use Rattle.link.specs.Holding.{outstanding_of, IsFittingChoice, frame_after, so_far_after, is_at_front, noted, completed, gathered, MayEnd, MayComplete};
 
+mod carrying;
 mod restoring;
 mod saving;
 

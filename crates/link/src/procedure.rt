@@ -32,7 +32,7 @@ impl Link {
         }
     }
 
-    fn missed(&self) -> u16
+    pub(crate) fn missed(&self) -> u16
         ensures { result ≡ missed_so_far self.now }
     {
         match self {

@@ -245,7 +245,7 @@ impl SerialSide {
 
     /// The command on a station's line, if there is one, is given up.
     #[inline(never)]
-    fn give_up(&mut self, station: usize)
+    pub(super) fn give_up(&mut self, station: usize)
         ensures { self.new ≡ given_up station self.old }
     {
         if self.commands.lost(station) {

@@ -7,10 +7,10 @@ pub returns : goal.returns
 returns c =
     let e = c.self.inside in
     let le : c.args.count ≤ e.sent =
-    within_mark e.ring.items e.sent e.ring.capacity c.args.count c.args.self.now c.self.view_is c.requires in
+    within_mark e.ring.items e.sent e.places c.args.count c.args.self.now c.self.view_is c.requires in
     let gone : length e.ring.items - (c.len.result - c.args.count) ≡ c.args.count =
     omega (arith, c.len.ensures.len, c.self.invariant) in
-    ap (λ r. queue_of r.items (e.sent - c.args.count) r.capacity) c.truncate_front.ensures
-    ∙ ap (λ k. queue_of (drop k e.ring.items) (e.sent - c.args.count) e.ring.capacity) gone
-    ∙ queue_of-acknowledged e.ring.items e.sent e.ring.capacity c.args.count le
+    ap (λ r. queue_of r.items (e.sent - c.args.count) e.places) c.truncate_front.ensures
+    ∙ ap (λ k. queue_of (drop k e.ring.items) (e.sent - c.args.count) e.places) gone
+    ∙ queue_of-acknowledged e.ring.items e.sent e.places c.args.count le
     ∙ ap (acknowledged c.args.count) c.self.view_is

@@ -7,4 +7,4 @@ pub returns : goal.returns
 returns c =
     let e = c.self.inside in
     ap octets_of c.iter-pieces.ensures.rest ∙ ap (λ (q : Queue). q.unsent)
-    (queue_of-rewound e.ring.items e.sent e.ring.capacity) ∙ ap kept c.self.view_is
+    (queue_of-rewound e.ring.items e.sent e.places) ∙ ap kept c.self.view_is

@@ -1,5 +1,4 @@
 use Rattle.std.proofs.Common.{rules, append_assoc, sym, ◌∙◌, ap}
-use Rattle.asdu.specs.declared.sizes.Sizes.{Sizes}
 use Rattle.gateway.specs.declared.settings.LineSettings.{LineSettings}
 use Rattle.gateway.specs.Restored.{serial_lines, centre_lines}
 use Rattle.gateway.proofs.ReadBack.{state_back, joined_between}

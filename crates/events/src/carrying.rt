@@ -1,0 +1,22 @@
+//! A queue goes on with another number of places.
+ghost use Rattle.std.specs.Prelude.{◌≡◌, OnOk, OnErr};
+ghost use Rattle.events.specs.Carried.{carried};
+
+use crate::{Events, NoMemory};
+
+impl Events {
+    /// Has so many places from now on. All pieces are kept, in their order, and are unsent again.
+    /// Where there are more of them than places, the queue is full until enough have left. Memory
+    /// is taken where the places become more; where there is none nothing changes.
+    pub fn carry(&mut self, places: usize) -> Result<(), NoMemory>
+        ensures ok { OnOk result (self.new ≡ carried places self.old) }
+        ensures err { OnErr result (self.new ≡ self.old) }
+    {
+        if self.ring.capacity() < places {
+            self.ring.resize(places).map_err(|_| NoMemory)?;
+        }
+        self.places = places;
+        self.sent = 0;
+        Ok(())
+    }
+}

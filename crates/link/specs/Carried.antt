@@ -1,0 +1,114 @@
+-- What a restart makes of a primary station (this gateway's own profile).
+use Rattle.std.specs.Prelude.{ℕ, ◌==◌, ◌&&◌, ◌||◌, min, Bool, true, false, List, map, slice_set, Option, Some, None, if◌then◌else◌}
+use Rattle.link.specs.Answers.{Asked}
+use Rattle.link.specs.Procedure.{LinkSettings, Link, Down, Held, holds_command, after_silence}
+use Rattle.link.specs.Turns.{StationState, Starting, Over, station_at}
+use Rattle.link.specs.Primary.{Primary, Outstanding, is_sending_command, station_down}
+use Rattle.link.specs.declared.seat.Seat.{Seat}
+
+-- ---- Commands without an answer
+
+-- The latest service to the station is a command without an answer: it is on the line, or held.
+abbrev pub awaits_command : Primary → (station : ℕ) → Bool
+awaits_command p station =
+    holds_command (station_at p.stations station).link
+    || ((p.turn == station) && is_sending_command p.outstanding)
+
+-- the link to the station is down, so that it is reset before the next service
+abbrev pub station_given_up : StationState → StationState
+station_given_up s = record {
+  address = s.address;
+  link = Down;
+  acd = s.acd;
+  dfc = s.dfc;
+  offered = s.offered;
+  session = s.session;
+}
+
+-- The link to the station is given up. An exchange with it is over, and so is its turn.
+abbrev pub given_up : (station : ℕ) → Primary → Primary
+given_up station p = record p {
+  stations =
+      slice_set p.stations station (station_given_up (station_at p.stations station));
+  phase = if p.turn == station then Over else p.phase;
+  again = if p.turn == station then false else p.again;
+  outstanding = if p.turn == station then None else p.outstanding;
+}
+
+-- ---- A line of other stations
+
+-- a service without an answer so far is held
+abbrev pub station_left : LinkSettings → StationState → Asked → StationState
+station_left settings s request = record {
+  address = s.address;
+  link = after_silence settings request false s.link;
+  acd = s.acd;
+  dfc = s.dfc;
+  offered = s.offered;
+  session = s.session;
+}
+
+abbrev pub released_from : Primary → Option Outstanding → Primary
+released_from p None = p
+released_from p (Some o) = record p {
+  stations =
+      slice_set p.stations p.turn
+      (station_left p.settings (station_at p.stations p.turn) o.request);
+  outstanding = None;
+}
+
+-- An exchange that is outstanding is broken off: its service is held, to be sent again with its
+-- frame count bit.
+abbrev pub released : Primary → Primary
+released p = released_from p p.outstanding
+
+abbrev pub with_gap_mark : StationState → StationState
+with_gap_mark s = record {
+  address = s.address;
+  link = s.link;
+  acd = s.acd;
+  dfc = s.dfc;
+  offered = s.offered;
+  session = record { number = s.session.number; has_gap = true };
+}
+
+-- Of the station's latest session a report may be lost.
+abbrev pub gap_marked : (station : ℕ) → Primary → Primary
+gap_marked station p = record p {
+  stations = slice_set p.stations station (with_gap_mark (station_at p.stations station));
+}
+
+-- a held service wasn't unanswered more often than it is repeated
+abbrev pub link_carried : (retries : ℕ) → Link → Link
+link_carried retries (Held fcb service missed) = Held fcb service (min retries missed)
+link_carried retries link = link
+
+-- The station goes on: its link, what its latest answer showed, and its session.
+abbrev pub station_carried : (retries address : ℕ) → StationState → StationState
+station_carried retries address s = record {
+  address = address;
+  link = link_carried retries s.link;
+  acd = s.acd;
+  dfc = s.dfc;
+  offered = None;
+  session = s.session;
+}
+
+-- with the place that the station had, if it had one
+abbrev pub seated : (retries address : ℕ) → List StationState → Option ℕ → StationState
+seated retries address stations None = station_down address
+seated retries address stations (Some k) = station_carried retries address (station_at stations k)
+
+-- A line with these settings and stations: each goes on that was there before, the others are new.
+-- The first turn is the first station's, and nothing is outstanding.
+abbrev pub reseated : LinkSettings → List Seat → Primary → Primary
+reseated settings seats p = record {
+  settings = settings;
+  stations =
+      map (λ (s : Seat). seated settings.retries s.address p.stations s.before) seats;
+  turn = 0;
+  phase = Starting;
+  again = false;
+  outstanding = None;
+  spoilt = p.spoilt;
+}
