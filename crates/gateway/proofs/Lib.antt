@@ -41,3 +41,4 @@ pub mod Between
 pub mod ReadBack
 pub mod Unchanging
 pub mod Carrying
+pub mod Reseating

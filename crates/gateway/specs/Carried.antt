@@ -1,8 +1,19 @@
 -- What a restart makes of a gateway (this gateway's own profile).
-use Rattle.std.specs.Prelude.{ℕ, zero, suc, length, if◌then◌else◌}
+use Rattle.std.specs.Prelude.{ℕ, zero, suc, ◌==◌, Bool, List, length, map, slice_get, position, Option, None, option_and_then, if◌then◌else◌}
 use Rattle.link.specs.Carried as line
 use Rattle.link.specs.Carried.{awaits_command}
+use Rattle.link.specs.declared.seat.Seat.{Seat}
+use Rattle.command.specs.Carried as tasks
+use Rattle.events.specs.Carried as queue
+use Rattle.gateway.specs.declared.settings.Station.{Station}
+use Rattle.gateway.specs.declared.starting_links.LinkStart.{LinkStart}
+use Rattle.gateway.specs.declared.starting_links.LinkStart.TheVariants as links
+use Rattle.gateway.specs.Config.{Settings}
+use Rattle.gateway.specs.Setups.{link_of, session_of, info_of}
+use Rattle.gateway.specs.Starts.{have_same_sizes, link_start}
 use Rattle.gateway.specs.Serial.{Serial, given_up}
+use Rattle.gateway.specs.Centre.{Centre, first_centre}
+use Rattle.gateway.specs.State.{State}
 
 -- ---- Commands without an answer
 
@@ -22,3 +33,86 @@ commands_given_up_upto (suc k) s = command_given_up k (commands_given_up_upto k 
 -- for all stations
 abbrev pub without_commands : Serial → Serial
 without_commands s = commands_given_up_upto (length s.line.stations) s
+
+-- ---- Other settings
+
+-- the place of the station with this link address, in the order of the turns
+abbrev pub place_of : (address : ℕ) → List Station → Option ℕ
+place_of address stations = position (λ (s : Station). s.address == address) stations
+
+abbrev pub station_with : (address : ℕ) → List Station → Option Station
+station_with address stations =
+    option_and_then (λ (place : ℕ). slice_get stations place) (place_of address stations)
+
+-- What becomes of the link to the station that had this place: it is known by its link address.
+abbrev pub start_of : (goes_on : Bool) → (before now : Settings) → (place : ℕ) → LinkStart
+start_of goes_on before now place =
+    let station : Option Station = slice_get before.stations place in
+    link_start goes_on (have_same_sizes before.line now.line) station
+    (option_and_then (λ (s : Station). station_with s.address now.stations) station)
+
+abbrev pub link_started : LinkStart → (station : ℕ) → Serial → Serial
+link_started links.Down station s = s
+link_started links.GoesOn station s = s
+link_started links.Dropped station s = link_given_up station s
+link_started links.Reset station s = link_given_up station s
+link_started links.ResetAfterGap station s =
+    let t : Serial = link_given_up station s in
+    record t { line = line.gap_marked station t.line }
+
+-- so many links, from the first on
+abbrev pub links_started_upto : (goes_on : Bool) → (before now : Settings) → (count : ℕ) →
+    Serial → Serial
+links_started_upto goes_on before now zero s = s
+links_started_upto goes_on before now (suc k) s =
+    link_started (start_of goes_on before now k) k (links_started_upto goes_on before now k s)
+
+-- An exchange that is outstanding is broken off, and each link goes on or is given up.
+abbrev pub links_started : (goes_on : Bool) → (before now : Settings) → Serial → Serial
+links_started goes_on before now s =
+    links_started_upto goes_on before now (length s.line.stations)
+    (record s { line = line.released s.line })
+
+-- of each station the place that it had before, if it had one
+abbrev pub seat_of : List Station → Station → Seat
+seat_of before s = record { address = s.address; before = place_of s.address before }
+
+abbrev pub seats : (before now : Settings) → List Seat
+seats before now = map (seat_of before.stations) now.stations
+
+abbrev pub places : List Seat → List (Option ℕ)
+places seats = map (λ (s : Seat). s.before) seats
+
+-- The line's side goes on with other stations: nothing is outstanding or waits, and no connection
+-- is left. Counts stay.
+abbrev pub serial_carried : (goes_on : Bool) → (before now : Settings) → Serial → Serial
+serial_carried goes_on before now s =
+    let t : Serial = links_started goes_on before now s in
+    record {
+      line = line.reseated (link_of now.line) (seats before now) t.line;
+      commands = tasks.carried (map info_of now.stations) now.line.sizes now.tcp.select_ms
+          now.tcp.max_age_ms (places (seats before now)) t.commands;
+      counts = t.counts;
+      silent = None;
+      gap = None;
+    }
+
+-- Without a connection; each piece that was kept is kept, in its order, and is unsent.
+abbrev pub centre_carried : (now : Settings) → Centre → Centre
+centre_carried now s =
+    record (first_centre (session_of now.tcp) now.line.queue) {
+      queue = queue.carried now.line.queue s.queue;
+    }
+
+-- The gateway of these settings that goes on with what the one of those has. `goes_on` is false
+-- where frame count bits and held services hold no more. No piece is dropped, and none changes its
+-- place in the order; the link of a station that goes on keeps its frame count bit; and no station
+-- is up that wasn't.
+abbrev pub carried : (goes_on : Bool) → (before now : Settings) → State → State
+carried goes_on before now s = record {
+  serial = serial_carried goes_on before now s.serial;
+  centre = centre_carried now s.centre;
+  sizes = now.line.sizes;
+  moment = s.moment;
+  wall = s.wall;
+}

@@ -35,4 +35,5 @@ pub mod Steps
 pub mod Judging
 pub mod Runs
 pub mod Restored
+pub mod Starts
 pub mod Carried

@@ -34,6 +34,7 @@ mod ordering;
 mod ports;
 mod runs;
 mod settings;
+mod starting_links;
 mod step;
 mod walls;
 
@@ -50,3 +51,4 @@ pub use ordering::{moments_never_fall, steps_keep_their_order};
 pub use ports::{Action, Event, Next, Port};
 pub use runs::{End, drive, drive_on};
 pub use settings::{LineSettings, Silence, Station, TcpSettings};
+pub use starting_links::{LinkStart, link_start};

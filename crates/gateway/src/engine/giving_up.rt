@@ -1,0 +1,71 @@
+//! Commands without an answer are given up at a restart.
+ghost use Rattle.std.specs.Prelude.{◌≡◌, ◌<◌, ℕ, true, false, length};
+ghost use Rattle.link.specs.Turns.{station_at};
+ghost use Rattle.link.specs.Leave.{is_polling};
+ghost use Rattle.link.specs.Carried.{awaits_command, station_given_up};
+ghost use Rattle.gateway.specs.Carried.{link_given_up, command_given_up, without_commands};
+ghost use Rattle.gateway.specs.State.{with_serial, IsBetweenSteps};
+
+use super::Gateway;
+use super::serial::SerialSide;
+use link::giving_up_is_for_one_station;
+
+impl SerialSide {
+    /// Gives up the link to a station, and with it the command that stands on its line.
+    pub(super) fn give_up_link(&mut self, station: usize)
+        requires { station < length self.old.line.stations }
+        ensures { self.new ≡ link_given_up station self.old }
+    {
+        self.line.give_up(station);
+        self.give_up(station);
+    }
+
+    /// Gives up the link to a station whose latest service is a command without an answer.
+    fn give_up_command(&mut self, station: usize)
+        requires { station < length self.old.line.stations }
+        ensures state { self.new ≡ command_given_up station self.old }
+        ensures number { length self.new.line.stations ≡ length self.old.line.stations }
+        ensures polls { is_polling self.new.line ≡ true → is_polling self.old.line ≡ true }
+    {
+        giving_up_is_for_one_station();
+        if self.line.awaits_command(station) {
+            self.give_up_link(station);
+        }
+    }
+
+    /// The same for all stations.
+    fn give_up_commands(&mut self)
+        ensures state { self.new ≡ without_commands self.old }
+        ensures polls { is_polling self.new.line ≡ true → is_polling self.old.line ≡ true }
+    {
+        for station in 0..self.line.count() {
+            self.give_up_command(station);
+        }
+    }
+}
+
+impl Gateway {
+    /// Gives up, at a restart, each command without an answer, whether it is on the line or held:
+    /// so none is sent again after it. Its station's link is down, and is reset before its next
+    /// service; where an exchange with it was outstanding that is over, and the turn with it. The
+    /// command is counted as lost, as where a station goes down. No other station changes; the
+    /// queue and the session stay.
+    pub fn give_up_commands(&mut self)
+        ensures state { self.new ≡ with_serial (without_commands self.old.serial) self.old }
+        ensures done { (k : ℕ) → k < length self.old.serial.line.stations →
+            awaits_command self.new.serial.line k ≡ false }
+        ensures down { (k : ℕ) → k < length self.old.serial.line.stations →
+            awaits_command self.old.serial.line k ≡ true →
+            station_at self.new.serial.line.stations k
+            ≡ station_given_up (station_at self.old.serial.line.stations k) }
+        ensures others { (k : ℕ) → awaits_command self.old.serial.line k ≡ false →
+            station_at self.new.serial.line.stations k
+            ≡ station_at self.old.serial.line.stations k }
+        ensures unchanged { ((k : ℕ) → k < length self.old.serial.line.stations →
+            awaits_command self.old.serial.line k ≡ false) → self.new ≡ self.old }
+        ensures between { IsBetweenSteps self.old → IsBetweenSteps self.new }
+    {
+        giving_up_is_for_one_station();
+        self.serial.give_up_commands();
+    }
+}
