@@ -36,7 +36,7 @@ changed what limit now = if is_free limit now then happened what limit now else 
 -- The line
 
 abbrev pub new_line : LineWatch
-new_line = record { told = Nothing; there = new_limit; away = new_limit }
+new_line = record { told = Nothing; there = new_limit; away = new_limit; is_heard = false }
 
 -- A line is told once it was tried, and that it isn't there again each minute. One that was lost is
 -- there again once it has given octets, or is there for a minute.
@@ -75,10 +75,22 @@ abbrev pub line_changed : Option (LineTold × Note) → (is_away : Bool) → ℕ
 line_changed None is_away now w = (w, None)
 line_changed (Some (told, what)) is_away now w = line_tried is_away now told what w
 
-abbrev pub line_seen : Presence → ℕ → LineWatch → LineWatch × Option Line
-line_seen presence now w =
+-- A line that is there, and from which nothing has come, was away if octets had come before.
+abbrev pub seen_as : (was_heard : Bool) → Presence → Presence
+seen_as true presence.There = Away
+seen_as was_heard presence = presence
+
+abbrev pub is_heard : Presence → Bool
+is_heard presence.Heard = true
+is_heard presence = false
+
+abbrev pub line_seen_so : Presence → ℕ → LineWatch → LineWatch × Option Line
+line_seen_so presence now w =
     line_changed (line_change w.told presence (is_minute_after w.away.told now)) (is_away presence)
-    now w
+    now (record w { is_heard = is_heard presence })
+
+abbrev pub line_seen : Presence → ℕ → LineWatch → LineWatch × Option Line
+line_seen presence now w = line_seen_so (seen_as w.is_heard presence) now w
 
 -- Those who aren't let in
 

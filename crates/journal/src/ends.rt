@@ -51,6 +51,8 @@ pub(crate) struct LineWatch {
     told: LineTold,
     there: Limit,
     away: Limit,
+    /// Octets had come from it when it was seen last.
+    is_heard: bool,
 }
 
 impl LineWatch {
@@ -61,6 +63,7 @@ impl LineWatch {
             told: LineTold::Nothing,
             there: Limit::new(),
             away: Limit::new(),
+            is_heard: false,
         }
     }
 
@@ -68,6 +71,9 @@ impl LineWatch {
     pub(crate) fn see(&mut self, presence: Presence, now: u64) -> Option<Line>
         ensures { (self.new, result) ≡ spec.line_seen presence now self.old }
     {
+        // It may go and come back between two events: then nothing has come from it any more.
+        let presence = seen_as(self.is_heard, presence);
+        self.is_heard = matches!(presence, Presence::Heard);
         let is_minute = self.away.is_minute_after(now);
         let (told, note) = line_change(self.told, presence, is_minute)?;
         let line = if matches!(presence, Presence::Away) {
@@ -77,6 +83,16 @@ impl LineWatch {
         };
         self.told = told;
         Some(line)
+    }
+}
+
+/// A line that is there, and from which nothing has come, was away if octets had come before.
+fn seen_as(was_heard: bool, presence: Presence) -> Presence
+    ensures { result ≡ spec.seen_as was_heard presence }
+{
+    match (was_heard, presence) {
+        (true, Presence::There) => Presence::Away,
+        (_, presence) => presence,
     }
 }
 
