@@ -43,3 +43,4 @@ pub mod Unchanging
 pub mod Carrying
 pub mod Reseating
 pub mod Given
+pub mod Going

@@ -3,6 +3,7 @@ use Rattle.std.specs.Prelude.{ℕ, zero, suc, ◌==◌, Bool, List, length, map,
 use Rattle.link.specs.Carried as line
 use Rattle.link.specs.Carried.{awaits_command}
 use Rattle.link.specs.declared.seat.Seat.{Seat}
+use Rattle.link.specs.declared.turn.StationState.{StationState}
 use Rattle.command.specs.Carried as tasks
 use Rattle.events.specs.Carried as queue
 use Rattle.gateway.specs.declared.settings.Station.{Station}
@@ -116,3 +117,13 @@ carried goes_on before now s = record {
   moment = s.moment;
   wall = s.wall;
 }
+
+-- ---- What becomes of a station
+
+-- of one that was there, by the table: its link goes on or is down, and a gap is marked or not
+abbrev pub station_started : LinkStart → StationState → StationState
+station_started links.Down s = s
+station_started links.GoesOn s = s
+station_started links.Dropped s = line.station_given_up s
+station_started links.Reset s = line.station_given_up s
+station_started links.ResetAfterGap s = line.with_gap_mark (line.station_given_up s)

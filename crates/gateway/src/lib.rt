@@ -28,6 +28,7 @@ mod counts;
 mod engine;
 mod entries;
 mod gaps;
+mod going_on;
 mod history;
 mod laws;
 mod ordering;
@@ -42,6 +43,7 @@ pub use config::Config;
 pub use counts::Counts;
 pub use engine::{Gateway, LAST_MOMENT, NoMemory};
 pub use entries::{Entry, Told, announce, cause_number, keep};
+pub use going_on::stations_go_on_by_their_addresses;
 pub use history::History;
 pub use laws::{
     counts_tell_commands, courses_keep_commands, one_cause, one_course, one_reading,

@@ -44,3 +44,4 @@ pub mod Preceding
 pub mod Tabled
 pub mod Bursting
 pub mod GivenUp
+pub mod GoingOn

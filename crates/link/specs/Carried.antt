@@ -1,7 +1,7 @@
 -- What a restart makes of a primary station (this gateway's own profile).
 use Rattle.std.specs.Prelude.{ℕ, ◌==◌, ◌&&◌, ◌||◌, min, Bool, true, false, List, map, slice_set, Option, Some, None, if◌then◌else◌}
 use Rattle.link.specs.Answers.{Asked}
-use Rattle.link.specs.Procedure.{LinkSettings, Link, Down, Held, holds_command, after_silence}
+use Rattle.link.specs.Procedure.{LinkSettings, Link, Down, Available, Next, Held, holds_command, after_silence}
 use Rattle.link.specs.Turns.{StationState, Starting, Over, station_at}
 use Rattle.link.specs.Primary.{Primary, Outstanding, is_sending_command, station_down}
 use Rattle.link.specs.declared.seat.Seat.{Seat}
@@ -112,3 +112,12 @@ reseated settings seats p = record {
   outstanding = None;
   spoilt = p.spoilt;
 }
+
+-- ---- What a station that goes on keeps
+
+-- the frame count bit of the next service, or of the one without an answer, where the link is up
+abbrev pub bit_of : Link → Option Bool
+bit_of Down = None
+bit_of Available = None
+bit_of (Next fcb) = Some fcb
+bit_of (Held fcb service missed) = Some fcb

@@ -1,9 +1,13 @@
 //! What giving up the link to a station does to the line.
-ghost use Rattle.std.specs.Prelude.{◌≡◌, ◌≢◌, ◌<◌, ℕ, true, false, length};
-ghost use Rattle.link.specs.Turns.{station_at};
+ghost use Rattle.std.specs.Prelude.{◌≡◌, ◌≢◌, ◌<◌, ℕ, true, false, List, length, slice_get, Some};
+ghost use Rattle.link.specs.Procedure.{LinkSettings};
+ghost use Rattle.link.specs.Turns.{StationState, station_at};
 ghost use Rattle.link.specs.Primary.{Primary};
 ghost use Rattle.link.specs.Leave.{is_polling};
+ghost use Rattle.link.specs.Telling.{IsAllowed};
 ghost use Rattle.link.specs.Carried.{awaits_command, station_given_up, given_up};
+ghost use Rattle.link.specs.Carried.{released, station_carried, seated, reseated, bit_of};
+ghost use Rattle.link.specs.declared.seat.Seat.{Seat};
 
 /// A station whose link is given up awaits no command any more, and keeps all else; every other
 /// station stays as it was, and awaits what it awaited. No poll is begun by it.
@@ -19,4 +23,20 @@ pub fn giving_up_is_for_one_station()
     ensures number { (p : Primary) (k : ℕ) → length (given_up k p).stations ≡ length p.stations }
     ensures polls { (p : Primary) (k : ℕ) →
         is_polling (given_up k p) ≡ true → is_polling p ≡ true }
+{}
+
+/// A station that goes on keeps its frame count bit: where an exchange is broken off whose request
+/// was one that may be sent, and where the station goes on with other settings; and it goes on in
+/// the seat that has its place, and in no other.
+pub fn frame_count_bits_go_on()
+    ensures released { (p : Primary) (k : ℕ) → p.turn < length p.stations →
+        IsAllowed p.stations p.turn p.outstanding →
+        bit_of (station_at (released p).stations k).link ≡ bit_of (station_at p.stations k).link }
+    ensures carried { (retries address : ℕ) (s : StationState) →
+        bit_of (station_carried retries address s).link ≡ bit_of s.link }
+    ensures seats { (settings : LinkSettings) (seats : List Seat) (p : Primary) (i : ℕ)
+        (seat : Seat) → slice_get seats i ≡ Some seat →
+        station_at (reseated settings seats p).stations i
+        ≡ seated settings.retries seat.address p.stations seat.before }
+    ensures number { (p : Primary) → length (released p).stations ≡ length p.stations }
 {}

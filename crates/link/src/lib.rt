@@ -77,7 +77,7 @@ pub use answer::Answer;
 pub use asdu::{Asdu, AsduRef, CommandOctets};
 pub use asking::next_changes_nothing;
 pub use bursts::class_1_polls_go_on;
-pub use carrying::giving_up_is_for_one_station;
+pub use carrying::{frame_count_bits_go_on, giving_up_is_for_one_station};
 pub use control::{Control, PrimaryFunction, SecondaryFunction, controls_are_octets};
 pub use examples::{
     answers_by_example, controls_by_example, outstations_by_example, requests_by_example,

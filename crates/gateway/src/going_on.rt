@@ -1,0 +1,36 @@
+//! What becomes of each station where a gateway goes on with other settings.
+ghost use Rattle.std.specs.Prelude.{◌≡◌, ◌<◌, ℕ, Bool, Some, None, length, slice_get};
+ghost use Rattle.link.specs.Turns.{station_at};
+ghost use Rattle.link.specs.Primary.{station_down};
+ghost use Rattle.link.specs.Carried.{released, station_carried};
+ghost use Rattle.gateway.specs.declared.settings.Station.{Station};
+ghost use Rattle.gateway.specs.Config.{Settings};
+ghost use Rattle.gateway.specs.State.{State};
+ghost use Rattle.gateway.specs.Carried.{place_of, start_of, station_started, carried};
+
+use link::{frame_count_bits_go_on, giving_up_is_for_one_station};
+
+/// Each station of the new settings is the one that had its link address before, whatever places
+/// they have: it goes on, or its link is down, as the table says of it, and of no other. Where it
+/// goes on it has the link that it had (so its frame count bit, by `frame_count_bits_go_on`), what
+/// its latest answer showed and its session. One that wasn't there is new.
+pub fn stations_go_on_by_their_addresses()
+    ensures known { (goes_on : Bool) (before now : Settings) (s : State) (i k : ℕ)
+        (station : Station) →
+        slice_get now.stations i ≡ Some station →
+        place_of station.address before.stations ≡ Some k →
+        k < length s.serial.line.stations →
+        station_at (carried goes_on before now s).serial.line.stations i
+        ≡ station_carried now.line.retries station.address
+        (station_started (start_of goes_on before now k)
+        (station_at (released s.serial.line).stations k)) }
+    ensures other { (goes_on : Bool) (before now : Settings) (s : State) (i : ℕ)
+        (station : Station) →
+        slice_get now.stations i ≡ Some station →
+        place_of station.address before.stations ≡ None →
+        station_at (carried goes_on before now s).serial.line.stations i
+        ≡ station_down station.address }
+{
+    giving_up_is_for_one_station();
+    frame_count_bits_go_on();
+}
