@@ -434,7 +434,7 @@ def settings_that_change(count, program, settings, resets):
         gateway.kill()
         gateway.set(**settings)
         gateway.start()
-        told = gateway.waits("settings have changed")
+        told = gateway.waits("goes on")
         got = drained(gateway)
         queue_up(gateway, 2)
         more = drained(gateway)
