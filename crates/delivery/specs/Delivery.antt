@@ -14,7 +14,8 @@ use Rattle.link.specs.Delivery.{is_command_pending, pending_after}
 use Rattle.gateway.specs.Log.{Log}
 use Rattle.gateway.specs.Objects.{monitor_objects}
 use Rattle.gateway.specs.Reports.{Setup, address_at, exchanges_with, reports_in, taken_objects}
-use Rattle.gateway.specs.Frames.{Connection, AreInOrder}
+use Rattle.gateway.specs.Frames.{AreInOrder}
+use Rattle.gateway.specs.Course.{Course, here_of, Runs}
 use Rattle.gateway.specs.Connections.{present, past, AreConnections, IsBegun}
 use Rattle.delivery.specs.Merges.{values_of, IsMerge}
 use Rattle.delivery.specs.Arrivals.{arrivals}
@@ -82,7 +83,9 @@ pub record IsRelayed (p : Setup) (log : Log) (i : ℕ) (turns : List Turn) : Typ
       ≡ commands (all_done turns)
 
 -- Nothing is lost, and nothing taken twice: the monitor objects sent on each connection are a
--- contiguous run of the objects taken, from the first that no earlier connection acknowledged; the
+-- contiguous run of the objects taken, from the first that no earlier connection acknowledged (which
+-- the log's one course tells, also where a connection was closed for want of a place for an own
+-- answer, whose octets alone don't tell how far they were taken); the
 -- objects taken are a merge of those taken from the stations; and from an honest outstation whose
 -- link stays up, what was taken is what it reported, or all but its last report. Each command that
 -- is put on the line for the first time is one of the control centre's, given once, in the line's
@@ -90,16 +93,18 @@ pub record IsRelayed (p : Setup) (log : Log) (i : ℕ) (turns : List Turn) : Typ
 -- moments of the log; and so is each that an honest outstation accepted, also where its link was
 -- reset on the way.
 pub record Delivers (p : Setup) (log : Log) : Type 0 where
-  pub here : Connection
-  pub begun : IsBegun (present log) here
-  pub earlier : List Connection
-  pub are : AreConnections (past log) earlier
-  pub run : AreInOrder (taken_objects p log) (here ∷ earlier)
+  pub course : Course
+  pub course_runs : Runs p log course
+  pub begun : IsBegun (present log) (here_of course)
+  pub are : AreConnections (past log) course.earlier
+  pub run : AreInOrder (taken_objects p log) (here_of course ∷ course.earlier)
   pub merged : IsMerge (length p.addresses) (taken_from p log) (taken_objects p log)
   pub relayed : (i : ℕ) (turns : List Turn) → i < length p.addresses →
       IsHonest p log i turns → IsSteady p log i → IsRelayed p log i turns
-  pub sent : IsSetUp p → (i : ℕ) → AreCommandsOf p i (arrivals log (here ∷ earlier))
+  pub sent : IsSetUp p → (i : ℕ) →
+      AreCommandsOf p i (arrivals log (here_of course ∷ course.earlier))
       (first_sendings (address_at p.addresses i) None (exchanges_with p i log))
   pub accepted : IsSetUp p → (i : ℕ) (turns : List Turn) → i < length p.addresses →
-      IsHonest p log i turns → AreCommandsOf p i (arrivals log (here ∷ earlier))
+      IsHonest p log i turns →
+      AreCommandsOf p i (arrivals log (here_of course ∷ course.earlier))
       (commands (all_done turns))

@@ -44,3 +44,4 @@ pub mod Carrying
 pub mod Reseating
 pub mod Given
 pub mod Going
+pub mod LineTurns

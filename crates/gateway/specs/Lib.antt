@@ -38,3 +38,4 @@ pub mod Restored
 pub mod Starts
 pub mod Carried
 pub mod Given
+pub mod Turning

@@ -37,6 +37,7 @@ mod runs;
 mod settings;
 mod starting_links;
 mod step;
+mod turning;
 mod walls;
 
 pub use config::Config;
@@ -54,3 +55,4 @@ pub use ports::{Action, Event, Next, Port};
 pub use runs::{End, drive, drive_on};
 pub use settings::{LineSettings, Silence, Station, TcpSettings};
 pub use starting_links::{LinkStart, link_start};
+pub use turning::logs_keep_turns;

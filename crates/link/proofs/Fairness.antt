@@ -17,7 +17,7 @@ use Rattle.link.specs.Waits.{WantsAt, AlwaysWants, station_in, stations_by, stat
 use Rattle.link.proofs.Choice.{place_fits}
 use Rattle.link.proofs.Resting.{left}
 use Rattle.link.proofs.Running.{call_tells, calls_tell}
-use Rattle.link.proofs.Telling.{start_tells}
+use Rattle.link.proofs.Called.{start_tells}
 use Rattle.link.proofs.VisitRuns.{InVisit, Stays, IsAsked, nothing, goes_on, begins, in_visits, many_most, asked_visits, heard_visits, due_visits, offer_visits, withdraw_visits, start_visits}
 
 -- ---- the exchanges are visits
@@ -100,7 +100,7 @@ pub run_tells_it : (settings : LinkSettings) (addresses : List ℕ) → IsStable
     (exchanged_all (start settings addresses) calls no_exchanges)
 run_tells_it settings addresses stable calls some fit may =
     calls_tell settings addresses stable (start settings addresses) no_exchanges calls may
-    (start_tells (front_of settings.size) settings addresses some fit)
+    (start_tells settings addresses some fit)
 
 run_visit : (settings : LinkSettings) (addresses : List ℕ) → IsStable (front_of settings.size) → (calls : List Call) →
     0 < length addresses → All (FitsAddress settings.size) addresses → 0 < settings.burst
@@ -109,7 +109,7 @@ run_visit : (settings : LinkSettings) (addresses : List ℕ) → IsStable (front
     (exchanged_all (start settings addresses) calls no_exchanges)
 run_visit settings addresses stable calls some fit burst may =
     calls_visit settings addresses stable (start settings addresses) no_exchanges calls burst may
-    (start_tells (front_of settings.size) settings addresses some fit)
+    (start_tells settings addresses some fit)
     (0, start_visits (front_of settings.size) settings addresses)
 
 pub run_visits : (settings : LinkSettings) (addresses : List ℕ) → IsStable (front_of settings.size)

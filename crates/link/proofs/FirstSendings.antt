@@ -16,7 +16,7 @@ use Rattle.link.specs.Holding.{IsFitting}
 use Rattle.link.specs.Runs as runs
 use Rattle.link.specs.Runs.{Call, Octets, Due, Offer, Withdraw, MayCall, MayCallAll, called, exchanged, Deed, Offered, FirstSent, Withdrawn, first_sent, sent_deeds, deeds, all_deeds, AreInOrder}
 use Rattle.link.proofs.Running.{call_tells}
-use Rattle.link.proofs.Telling.{start_tells}
+use Rattle.link.proofs.Called.{start_tells}
 use Rattle.link.proofs.Choice.{MayChooseIt, choice_may}
 use Rattle.link.proofs.Known.{IsKnownCommand, IsKnownChoice, choice_known}
 
@@ -427,5 +427,5 @@ run_in_order settings addresses stable calls station some fit may =
     subst (λ (o : Option (List ℕ)). AreInOrder o (all_deeds (start settings addresses) station calls))
     (down_offer addresses station)
     (in_order settings addresses stable (start settings addresses) no_exchanges calls station may
-    (start_tells (front_of settings.size) settings addresses some fit)
+    (start_tells settings addresses some fit)
     (record { held = λ i h. down_offer addresses i; sent = λ is. down_offer addresses 0 }))

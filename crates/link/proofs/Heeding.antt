@@ -9,7 +9,7 @@ use Rattle.link.specs.Turns.{StationState, Phase, Starting, Commanding, Polling,
 use Rattle.link.specs.Primary.{Primary, sending}
 use Rattle.link.specs.Telling.{TellsBy, flags_of}
 use Rattle.link.specs.Runs.{BeginsTurn}
-use Rattle.link.proofs.Telling.{links_at}
+use Rattle.link.proofs.Called.{links_at}
 use Rattle.link.proofs.Turning.{present, GoesOn, free_where, either_turn}
 
 abbrev pub HeedsIt : Flags → Option Wanted → Type 0

@@ -45,3 +45,4 @@ pub mod Tabled
 pub mod Bursting
 pub mod GivenUp
 pub mod GoingOn
+pub mod Called

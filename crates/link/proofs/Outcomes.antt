@@ -11,7 +11,8 @@ use Rattle.link.specs.Primary.{Outstanding, Primary, received_from, received, ou
 use Rattle.link.specs.declared.outcome.Outcome.TheVariants as outcome
 use Rattle.link.specs.Telling.{IsAllowed, IsHeard, IsAwaited, IsOver, IsCurrent, TellsBy}
 use Rattle.link.specs.Runs.{silence_outcome}
-use Rattle.link.proofs.Telling.{said_now, heard_open, links_at}
+use Rattle.link.proofs.Telling.{said_now, heard_open}
+use Rattle.link.proofs.Called.{links_at}
 
 -- an exchange that is over isn't outstanding
 over_not : (front : List ℕ → Front) (address : ℕ) (x : OpenExchange) → IsOver front address x

@@ -1,31 +1,29 @@
 -- Over every list of calls the primary tells the exchanges of its line.
 use Rattle.std.proofs.Common.{ℕ, ◌<◌, List, [], ◌∷◌, All, length, slice_index, sym, subst}
 use Rattle.ft12.specs.Fronts.{front_of}
-use Rattle.link.specs.Exchanges.{Exchanges, no_exchanges, all_of, views, with_station, heard_current, timed_current}
+use Rattle.link.specs.Exchanges.{Exchanges, no_exchanges, all_of, views, with_station, timed_current}
 use Rattle.link.specs.Procedure.{LinkSettings, Down, KeepsFrameCountBit}
 use Rattle.link.specs.Requests.{FitsAddress}
-use Rattle.link.specs.Primary.{Primary, start, received, timed_out}
+use Rattle.link.specs.Primary.{Primary, start, timed_out}
 use Rattle.link.specs.Telling.{IsStable, AreSpoilt, Tells}
 use Rattle.link.specs.Runs.{Call, Next, Octets, Due, Offer, Withdraw, called, exchanged, MayCall, MayCallAll, called_all, exchanged_all}
-use Rattle.link.proofs.Telling.{start_tells, hear_tells, due_tells, ask_tells, offer_tells, withdraw_tells}
+use Rattle.link.proofs.Called.{start_tells, hear_tells, due_tells, ask_tells, offer_tells, withdraw_tells}
 
 pub call_tells : (settings : LinkSettings) (addresses : List ℕ) → IsStable (front_of settings.size)
     → (p : Primary) (e : Exchanges) (call : Call) →
     MayCall p call → Tells settings addresses p e → Tells settings addresses (called p call) (exchanged p call e)
 call_tells settings addresses stable p e (Next now may_poll) may t =
-    ask_tells (front_of settings.size) settings addresses p e now may_poll stable t
+    ask_tells settings addresses p e now may_poll stable t
 call_tells settings addresses stable p e (Octets octets) may t =
-    subst (λ (s : LinkSettings). Tells settings addresses (received (front_of s.size) p octets)
-    (record { ended = e.ended; current = heard_current octets e.current })) (sym t.settings_are)
-    (hear_tells (front_of settings.size) settings addresses p e.ended e.current octets stable t)
+    hear_tells settings addresses p e octets stable t
 call_tells settings addresses stable p e (Due now) may t =
     subst (λ (s : LinkSettings). Tells settings addresses (timed_out p now)
     (record { ended = e.ended; current = timed_current s.answer_ms now e.current })) (sym t.settings_are)
-    (due_tells (front_of settings.size) settings addresses p e.ended e.current now t)
+    (due_tells settings addresses p e now t)
 call_tells settings addresses stable p e (Offer station asdu) may t =
-    offer_tells (front_of settings.size) settings addresses p e station asdu may.0 may.1 t
+    offer_tells settings addresses p e station asdu may.0 may.1 t
 call_tells settings addresses stable p e Withdraw may t =
-    withdraw_tells (front_of settings.size) settings addresses p e t
+    withdraw_tells settings addresses p e t
 
 pub calls_tell : (settings : LinkSettings) (addresses : List ℕ) → IsStable (front_of settings.size)
     → (p : Primary) (e : Exchanges) (calls : List Call) →
@@ -42,7 +40,7 @@ run_tells : (settings : LinkSettings) (addresses : List ℕ) → IsStable (front
     (exchanged_all (start settings addresses) calls no_exchanges)
 run_tells settings addresses stable calls some fit may =
     calls_tell settings addresses stable (start settings addresses) no_exchanges calls may
-    (start_tells (front_of settings.size) settings addresses some fit)
+    (start_tells settings addresses some fit)
 
 pub run_keeps : (settings : LinkSettings) (addresses : List ℕ) → IsStable (front_of settings.size)
     → (calls : List Call) (station : ℕ) →

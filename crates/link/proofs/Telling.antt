@@ -5,20 +5,69 @@ use Rattle.ft12.specs.declared.frame.Front.{Front}
 use Rattle.ft12.specs.declared.frame.Front.TheVariants.{Whole, More, Never}
 use Rattle.link.specs.Answers.{Frame, Single, Fixed, Data, Asked, Answer, answer_of}
 use Rattle.link.specs.Counts.{saturated}
-use Rattle.link.specs.Exchanges.{OpenExchange, Exchanges, no_exchanges, as_list, whole_of, view, heard_octets, heard_current, timed, timed_current, begun_by, spoilt_count}
+use Rattle.link.specs.Exchanges.{OpenExchange, Exchanges, no_exchanges, all_of, as_list, whole_of, view, heard_octets, heard_current, timed, timed_current, begun_by, spoilt_count}
 use Rattle.link.specs.Flags.{clear, flags_in}
 use Rattle.link.specs.Procedure.{LinkSettings, Link, Down, MaySend, after_outcome, after_answer, after_silence}
 use Rattle.link.specs.Requests.{IsUserData, FitsAddress, FitsAsked}
 use Rattle.link.specs.Turns.{StationState, no_session, Chosen, station_at}
 use Rattle.link.specs.Primary.{Outstanding, Primary, start, station_down, choice, station_asked, after_choice, asked_from, asked, sending_from, sending_by, sending, acd_of, dfc_of, session_answered, station_answered, awaits, answer_at, said_by, open_octets, took, with_octets, received_after, received_from, received, station_unanswered, unanswered, is_late, due_from, timed_out, may_offer, with_offer, offered_to, without_offer, withdrawn}
-use Rattle.link.specs.Holding.{FitsOutstanding}
+use Rattle.link.specs.Holding.{FitsOutstanding, IsFitting}
 use Rattle.link.specs.Telling.{IsStable, IsSaid, IsAllowed, IsHeard, IsOver, IsCurrent, past, AreKept, AreLinks, flags_of, AreFlags, AreSessions, AreSpoilt, TellsBy}
+use Rattle.link.specs.Runs.{AreCalled}
 use Rattle.link.proofs.Fitting.{FitStations, station_fits, set_fits, down_fits, withdrawn_fits, asked_fits, offered_fits, answered_fits, unanswered_fits, length-down}
 use Rattle.link.proofs.Choice.{MayChooseIt, choice_may}
 use Rattle.link.proofs.Links.{set_view, grown_keeps, begun_keeps, ended_links, alike_links}
 use Rattle.link.proofs.Flagging.{unanswered_flags, alike_flags, answered_flags}
 use Rattle.link.proofs.OneMore.{begun_sessions, alike_sessions, answered_sessions}
 use Rattle.link.proofs.Spoilt.{open_push, answered_push, missed_push, more_octets}
+
+-- what `TellsBy` says of the state, without the calls that led to it
+pub record SaysBy (front : List ℕ → Front) (settings : LinkSettings) (addresses : List ℕ)
+    (p : Primary) (e : Exchanges) : Type 0 where
+  pub settings_are : p.settings ≡ settings
+  pub fits : IsFitting p
+  pub count : length p.stations ≡ length addresses
+  pub address : (i : ℕ) → (station_at p.stations i).address ≡ slice_index addresses i
+  pub allowed : IsAllowed p.stations p.turn p.outstanding
+  pub current : IsCurrent front addresses p.turn p.outstanding e.current
+  pub keeps : AreKept front settings addresses (all_of e)
+  pub links : AreLinks front settings addresses p.stations (past p.outstanding e)
+  pub flags : AreFlags front addresses p.stations (all_of e)
+  pub sessions : AreSessions front addresses p.stations (all_of e)
+  pub spoilt : AreSpoilt front addresses p.spoilt (all_of e)
+
+pub says : (front : List ℕ → Front) (settings : LinkSettings) (addresses : List ℕ) (p : Primary) (e : Exchanges)
+    → TellsBy front settings addresses p e → SaysBy front settings addresses p e
+says front settings addresses p e t = record {
+  settings_are = t.settings_are;
+  fits = t.fits;
+  count = t.count;
+  address = t.address;
+  allowed = t.allowed;
+  current = t.current;
+  keeps = t.keeps;
+  links = t.links;
+  flags = t.flags;
+  sessions = t.sessions;
+  spoilt = t.spoilt;
+}
+
+pub tells : (front : List ℕ → Front) (settings : LinkSettings) (addresses : List ℕ) (p : Primary) (e : Exchanges)
+    → SaysBy front settings addresses p e → AreCalled settings addresses p e → TellsBy front settings addresses p e
+tells front settings addresses p e t called = record {
+  settings_are = t.settings_are;
+  fits = t.fits;
+  count = t.count;
+  address = t.address;
+  allowed = t.allowed;
+  current = t.current;
+  keeps = t.keeps;
+  links = t.links;
+  flags = t.flags;
+  sessions = t.sessions;
+  spoilt = t.spoilt;
+  called = called;
+}
 
 nil : (xs : List ℕ) → xs ++ [] ≡ xs
 nil [] = refl
@@ -75,14 +124,14 @@ heard_closed octets x closed =
 -- the primary is as it was, and the latest exchange another
 same_state : (front : List ℕ → Front) (settings : LinkSettings) (addresses : List ℕ) (p : Primary)
     (ended : List OpenExchange) (cur cur' : Option OpenExchange) (o : Option Outstanding) →
-    p.outstanding ≡ o → TellsBy front settings addresses p (record { ended = ended; current = cur }) →
+    p.outstanding ≡ o → SaysBy front settings addresses p (record { ended = ended; current = cur }) →
     IsCurrent front addresses p.turn o cur' → AreKept front settings addresses (ended ++ as_list cur') →
     AreLinks front settings addresses p.stations (past o (record { ended = ended; current = cur' })) →
     AreFlags front addresses p.stations (ended ++ as_list cur') →
     AreSessions front addresses p.stations (ended ++ as_list cur') →
     spoilt_count front (λ i. slice_index addresses i) (ended ++ as_list cur')
     ≡ spoilt_count front (λ i. slice_index addresses i) (ended ++ as_list cur) →
-    TellsBy front settings addresses p (record { ended = ended; current = cur' })
+    SaysBy front settings addresses p (record { ended = ended; current = cur' })
 same_state front settings addresses p ended cur cur' o is t current keeps links flags sessions count = record {
   settings_are = t.settings_are;
   fits = t.fits;
@@ -99,10 +148,10 @@ same_state front settings addresses p ended cur cur' o is t current keeps links 
 }
 
 -- the links that are known while nothing, or something, is outstanding
-pub links_at : (front : List ℕ → Front) (settings : LinkSettings) (addresses : List ℕ) (p : Primary) (e : Exchanges)
+pub links_said : (front : List ℕ → Front) (settings : LinkSettings) (addresses : List ℕ) (p : Primary) (e : Exchanges)
     (o : Option Outstanding) →
-    p.outstanding ≡ o → TellsBy front settings addresses p e → AreLinks front settings addresses p.stations (past o e)
-links_at front settings addresses p e o is t =
+    p.outstanding ≡ o → SaysBy front settings addresses p e → AreLinks front settings addresses p.stations (past o e)
+links_said front settings addresses p e o is t =
     subst (λ (q : Option Outstanding). AreLinks front settings addresses p.stations (past q e)) is t.links
 
 -- what is awaited isn't answered
@@ -126,19 +175,19 @@ answered_front front a x octets answer stable said = go (front x.octets) refl sa
 
 -- `next`
 
-pub ask_tells : (front : List ℕ → Front) (settings : LinkSettings) (addresses : List ℕ) (p : Primary) (e : Exchanges)
+pub ask_says : (front : List ℕ → Front) (settings : LinkSettings) (addresses : List ℕ) (p : Primary) (e : Exchanges)
     (now : ℕ) (may_poll : Bool) → IsStable front →
-    TellsBy front settings addresses p e → TellsBy front settings addresses (asked p now may_poll)
+    SaysBy front settings addresses p e → SaysBy front settings addresses (asked p now may_poll)
     (begun_by now (sending p may_poll) e)
-ask_tells front settings addresses p e now may_poll stable t = go p.outstanding refl
+ask_says front settings addresses p e now may_poll stable t = go p.outstanding refl
   where
     go : (o : Option Outstanding) → p.outstanding ≡ o →
-        TellsBy front settings addresses (asked_from p o now may_poll) (begun_by now (sending_from p o may_poll) e)
+        SaysBy front settings addresses (asked_from p o now may_poll) (begun_by now (sending_from p o may_poll) e)
     go (Some o) is = t
     go None is = choose (choice p may_poll) (choice_may p may_poll t.fits)
       where
         choose : (c : Option Chosen) → MayChooseIt p.settings.size p.stations c →
-            TellsBy front settings addresses (after_choice p now c) (begun_by now (sending_by c) e)
+            SaysBy front settings addresses (after_choice p now c) (begun_by now (sending_by c) e)
         choose None may = record {
           settings_are = t.settings_are;
           fits = record { turn = t.fits.turn; stations = t.fits.stations; outstanding = t.fits.outstanding };
@@ -162,7 +211,7 @@ ask_tells front settings addresses p e now may_poll stable t = go p.outstanding 
                   [];
               closed = false;
             } in
-            let links = links_at front settings addresses p e None is t in
+            let links = links_said front settings addresses p e None is t in
             let there = station_fits p.settings.size p.stations c.station may.within t.fits.stations in
             record {
               settings_are = t.settings_are;
@@ -204,33 +253,33 @@ ask_tells front settings addresses p e now may_poll stable t = go p.outstanding 
 
 -- `due`
 
-pub due_tells : (front : List ℕ → Front) (settings : LinkSettings) (addresses : List ℕ) (p : Primary)
+pub due_says : (front : List ℕ → Front) (settings : LinkSettings) (addresses : List ℕ) (p : Primary)
     (ended : List OpenExchange) (cur : Option OpenExchange) (at : ℕ) →
-    TellsBy front settings addresses p (record { ended = ended; current = cur }) →
-    TellsBy front settings addresses (timed_out p at) (record {
+    SaysBy front settings addresses p (record { ended = ended; current = cur }) →
+    SaysBy front settings addresses (timed_out p at) (record {
       ended = ended;
       current =
           timed_current settings.answer_ms at cur;
     })
-due_tells front settings addresses p ended cur at t = go p.outstanding cur refl t t.current
+due_says front settings addresses p ended cur at t = go p.outstanding cur refl t t.current
   where
     ms : ℕ
     ms = settings.answer_ms
 
     go : (o : Option Outstanding) (c : Option OpenExchange) → p.outstanding ≡ o
-        → TellsBy front settings addresses p (record { ended = ended; current = c }) →
+        → SaysBy front settings addresses p (record { ended = ended; current = c }) →
         IsCurrent front addresses p.turn o c →
-        TellsBy front settings addresses (due_from p o at)
+        SaysBy front settings addresses (due_from p o at)
         (record { ended = ended; current = timed_current settings.answer_ms at c })
     go None None is t c = t
     go (Some o) None is t c = absurd c
     go None (Some x) is t over = over_case over
       where
         links : AreLinks front settings addresses p.stations (ended ++ x ∷ [])
-        links = links_at front settings addresses p (record { ended = ended; current = Some x }) None is t
+        links = links_said front settings addresses p (record { ended = ended; current = Some x }) None is t
 
         over_case : IsOver front (slice_index addresses x.station) x →
-            TellsBy front settings addresses p (record {
+            SaysBy front settings addresses p (record {
               ended = ended;
               current =
                   Some (timed settings.answer_ms at x);
@@ -253,7 +302,7 @@ due_tells front settings addresses p ended cur at t = go p.outstanding cur refl 
                   x.octets;
               closed = b;
             }) (sym closed) in
-            subst (λ (z : OpenExchange). TellsBy front settings addresses p
+            subst (λ (z : OpenExchange). SaysBy front settings addresses p
             (record { ended = ended; current = Some z })) (sym same) t
         over_case (inr a) =
             let e = said_now front (slice_index addresses x.station) x (Some a.0) a.1 in
@@ -272,7 +321,7 @@ due_tells front settings addresses p ended cur at t = go p.outstanding cur refl 
     go (Some q) (Some x) is t w = late (is_late p q at) refl
       where
         links : AreLinks front settings addresses p.stations ended
-        links = links_at front settings addresses p (record { ended = ended; current = Some x }) (Some q) is t
+        links = links_said front settings addresses p (record { ended = ended; current = Some x }) (Some q) is t
 
         asked_fits' : FitsAsked p.settings.size q.request
         asked_fits' = subst (λ (r : Option Outstanding). FitsOutstanding p.settings.size r) is t.fits.outstanding
@@ -284,7 +333,7 @@ due_tells front settings addresses p ended cur at t = go p.outstanding cur refl 
             ∙ ap (λ (s : LinkSettings). nat_le (q.since + s.answer_ms) at) (sym t.settings_are) ∙ e
 
         late : (b : Bool) → is_late p q at ≡ b →
-            TellsBy front settings addresses (if b then unanswered p q else p)
+            SaysBy front settings addresses (if b then unanswered p q else p)
             (record { ended = ended; current = Some (timed settings.answer_ms at x) })
         late false e =
             same_state front settings addresses p ended (Some x) (Some (timed settings.answer_ms at x)) (Some q) is t
@@ -358,27 +407,27 @@ flags_are Single = refl
 flags_are (Fixed control address) = refl
 flags_are (Data control address body) = refl
 
-pub hear_tells : (front : List ℕ → Front) (settings : LinkSettings) (addresses : List ℕ) (p : Primary)
+pub hear_says : (front : List ℕ → Front) (settings : LinkSettings) (addresses : List ℕ) (p : Primary)
     (ended : List OpenExchange) (cur : Option OpenExchange) (octets : List ℕ) →
-    IsStable front → TellsBy front settings addresses p (record { ended = ended; current = cur }) →
-    TellsBy front settings addresses (received front p octets)
+    IsStable front → SaysBy front settings addresses p (record { ended = ended; current = cur }) →
+    SaysBy front settings addresses (received front p octets)
     (record { ended = ended; current = heard_current octets cur })
-hear_tells front settings addresses p ended cur octets stable t = go p.outstanding cur refl t t.current
+hear_says front settings addresses p ended cur octets stable t = go p.outstanding cur refl t t.current
   where
     go : (o : Option Outstanding) (c : Option OpenExchange) → p.outstanding ≡ o
-        → TellsBy front settings addresses p (record { ended = ended; current = c }) →
+        → SaysBy front settings addresses p (record { ended = ended; current = c }) →
         IsCurrent front addresses p.turn o c →
-        TellsBy front settings addresses (received_from front p o octets)
+        SaysBy front settings addresses (received_from front p o octets)
         (record { ended = ended; current = heard_current octets c })
     go None None is t c = t
     go (Some o) None is t c = absurd c
     go None (Some x) is t over = by_closed x.closed refl
       where
         links : AreLinks front settings addresses p.stations (ended ++ x ∷ [])
-        links = links_at front settings addresses p (record { ended = ended; current = Some x }) None is t
+        links = links_said front settings addresses p (record { ended = ended; current = Some x }) None is t
 
         over_case : x.closed ≡ false → IsOver front (slice_index addresses x.station) x →
-            TellsBy front settings addresses p (record { ended = ended; current = Some (grown x octets) })
+            SaysBy front settings addresses p (record { ended = ended; current = Some (grown x octets) })
         over_case alive (inl closed) = cc
         over_case alive (inr a) =
             let before = said_now front (slice_index addresses x.station) x (Some a.0) a.1 in
@@ -396,16 +445,16 @@ hear_tells front settings addresses p ended cur octets stable t = go p.outstandi
             (answered_push front (λ i. slice_index addresses i) ended (grown x octets) a.0 (a.1 octets)
             ∙ sym (answered_push front (λ i. slice_index addresses i) ended x a.0 before))
 
-        by_closed : (b : Bool) → x.closed ≡ b → TellsBy front settings addresses p
+        by_closed : (b : Bool) → x.closed ≡ b → SaysBy front settings addresses p
             (record { ended = ended; current = Some (heard_octets octets x) })
         by_closed true e =
-            subst (λ (z : OpenExchange). TellsBy front settings addresses p
+            subst (λ (z : OpenExchange). SaysBy front settings addresses p
             (record { ended = ended; current = Some z })) (sym (heard_closed octets x e)) t
         by_closed false e =
-            subst (λ (z : OpenExchange). TellsBy front settings addresses p
+            subst (λ (z : OpenExchange). SaysBy front settings addresses p
             (record { ended = ended; current = Some z })) (sym (heard_open octets x e)) (over_case e over)
     go (Some q) (Some x) is t w =
-        subst (λ (z : OpenExchange). TellsBy front settings addresses (received_from front p (Some q) octets)
+        subst (λ (z : OpenExchange). SaysBy front settings addresses (received_from front p (Some q) octets)
         (record { ended = ended; current = Some z }))
         (sym (heard_open octets x w.waits)) (by_heard q.heard refl w.heard)
       where
@@ -413,7 +462,7 @@ hear_tells front settings addresses p ended cur octets stable t = go p.outstandi
         here = slice_index addresses p.turn
 
         links : AreLinks front settings addresses p.stations ended
-        links = links_at front settings addresses p (record { ended = ended; current = Some x }) (Some q) is t
+        links = links_said front settings addresses p (record { ended = ended; current = Some x }) (Some q) is t
 
         keeps : AreKept front settings addresses (ended ++ grown x octets ∷ [])
         keeps = grown_keeps front settings addresses ended x (grown x octets) refl refl t.keeps
@@ -439,7 +488,7 @@ hear_tells front settings addresses p ended cur octets stable t = go p.outstandi
             ∙ ap saturated (sym (open_push front (λ i. slice_index addresses i) ended (grown x octets) w.waits))
 
         waits : (heard : Option (List ℕ)) → IsHeard front (slice_index addresses p.turn) (grown x octets) heard →
-            TellsBy front settings addresses (awaits p (with_octets octets q) heard)
+            SaysBy front settings addresses (awaits p (with_octets octets q) heard)
             (record { ended = ended; current = Some (grown x octets) })
         waits heard so = record {
           settings_are = t.settings_are;
@@ -475,7 +524,7 @@ hear_tells front settings addresses p ended cur octets stable t = go p.outstandi
         }
 
         by_front : (f : Front) → front (x.octets ++ octets) ≡ f →
-            TellsBy front settings addresses (took p (with_octets octets q) (open_octets (x.octets ++ octets) f)
+            SaysBy front settings addresses (took p (with_octets octets q) (open_octets (x.octets ++ octets) f)
             (whole_of f)) (record { ended = ended; current = Some (grown x octets) })
         by_front More e = waits (Some (x.octets ++ octets)) (refl, e)
         by_front (Never place why) e = waits None
@@ -496,7 +545,7 @@ hear_tells front settings addresses p ended cur octets stable t = go p.outstandi
                 (stable.whole (x.octets ++ octets) more frame n e) ∙ told m e'
 
             say : (m : Option Answer) → answer_at p q frame ≡ m →
-                TellsBy front settings addresses (said_by p (with_octets octets q) frame m)
+                SaysBy front settings addresses (said_by p (with_octets octets q) frame m)
                 (record { ended = ended; current = Some (grown x octets) })
             say None e' = waits None (said None e')
             say (Some answer) e' =
@@ -542,11 +591,11 @@ hear_tells front settings addresses p ended cur octets stable t = go p.outstandi
                 }
 
         by_heard : (h : Option (List ℕ)) → q.heard ≡ h → IsHeard front (slice_index addresses p.turn) x h →
-            TellsBy front settings addresses (received_after front p (with_octets octets q) h octets)
+            SaysBy front settings addresses (received_after front p (with_octets octets q) h octets)
             (record { ended = ended; current = Some (grown x octets) })
         by_heard None at so = waits None (said_later front (slice_index addresses p.turn) x octets None so)
         by_heard (Some before) at so =
-            subst (λ (b : List ℕ). TellsBy front settings addresses
+            subst (λ (b : List ℕ). SaysBy front settings addresses
             (received_after front p (with_octets octets q) (Some b) octets)
             (record { ended = ended; current = Some (grown x octets) })) (sym so.0)
             (by_front (front (x.octets ++ octets)) refl)
@@ -560,7 +609,7 @@ same_views : (front : List ℕ → Front) (settings : LinkSettings) (addresses :
     → ((i : ℕ) → (station_at stations i).address ≡ (station_at p.stations i).address) →
     ((i : ℕ) → flags_of (station_at stations i) ≡ flags_of (station_at p.stations i)) →
     ((i : ℕ) → (station_at stations i).session ≡ (station_at p.stations i).session) →
-    TellsBy front settings addresses p e → TellsBy front settings addresses (record p { stations = stations }) e
+    SaysBy front settings addresses p e → SaysBy front settings addresses (record p { stations = stations }) e
 same_views front settings addresses p e stations fit count link address flags sessions t = record {
   settings_are = t.settings_are;
   fits = record {
@@ -584,16 +633,16 @@ same_views front settings addresses p e stations fit count link address flags se
     go None allowed = tt
     go (Some o) allowed = subst (λ (l : Link). MaySend l o.request) (sym (link p.turn)) allowed
 
-pub offer_tells : (front : List ℕ → Front) (settings : LinkSettings) (addresses : List ℕ) (p : Primary) (e : Exchanges)
+pub offer_says : (front : List ℕ → Front) (settings : LinkSettings) (addresses : List ℕ) (p : Primary) (e : Exchanges)
     (station : ℕ) (asdu : List ℕ) →
-    station < length p.stations → IsUserData p.settings.size asdu → TellsBy front settings addresses p e →
-    TellsBy front settings addresses (offered_to p station asdu) e
-offer_tells front settings addresses p e station asdu within carried t = go (may_offer p station)
+    station < length p.stations → IsUserData p.settings.size asdu → SaysBy front settings addresses p e →
+    SaysBy front settings addresses (offered_to p station asdu) e
+offer_says front settings addresses p e station asdu within carried t = go (may_offer p station)
   where
     s : StationState
     s = with_offer (station_at p.stations station) (Some asdu)
 
-    go : (b : Bool) → TellsBy front settings addresses
+    go : (b : Bool) → SaysBy front settings addresses
         (if b then record p {
           stations = slice_set p.stations station
               (with_offer (station_at p.stations station) (Some asdu));
@@ -611,10 +660,10 @@ offer_tells front settings addresses p e station asdu within carried t = go (may
         (set_view flags_of p.stations station _ refl)
         (set_view (λ (r : StationState). r.session) p.stations station _ refl) t
 
-pub withdraw_tells : (front : List ℕ → Front) (settings : LinkSettings) (addresses : List ℕ) (p : Primary)
-    (e : Exchanges) → TellsBy front settings addresses p e →
-    TellsBy front settings addresses (withdrawn p) e
-withdraw_tells front settings addresses p e t =
+pub withdraw_says : (front : List ℕ → Front) (settings : LinkSettings) (addresses : List ℕ) (p : Primary)
+    (e : Exchanges) → SaysBy front settings addresses p e →
+    SaysBy front settings addresses (withdrawn p) e
+withdraw_says front settings addresses p e t =
     same_views front settings addresses p e (map without_offer p.stations)
     (withdrawn_fits p.settings.size p.stations t.fits.stations)
     (length-map p.stations without_offer) (link p.stations) (address p.stations) (flags p.stations)
@@ -645,10 +694,10 @@ withdraw_tells front settings addresses p e t =
 
 -- `new`
 
-pub start_tells : (front : List ℕ → Front) (settings : LinkSettings) (addresses : List ℕ) → 0 < length addresses
+pub start_says : (front : List ℕ → Front) (settings : LinkSettings) (addresses : List ℕ) → 0 < length addresses
     → All (FitsAddress settings.size) addresses →
-    TellsBy front settings addresses (start settings addresses) no_exchanges
-start_tells front settings addresses some fit = record {
+    SaysBy front settings addresses (start settings addresses) no_exchanges
+start_says front settings addresses some fit = record {
   settings_are = refl;
   fits = record {
     turn = subst (λ (n : ℕ). 0 < n) (sym (length-down addresses)) some;

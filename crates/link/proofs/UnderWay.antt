@@ -12,7 +12,8 @@ use Rattle.link.specs.Turns.{station_at}
 use Rattle.link.specs.Primary.{Outstanding, Primary, is_command, is_sending_command, may_offer}
 use Rattle.link.specs.Telling.{IsAllowed, IsAwaited, IsCurrent, AreLinks, TellsBy}
 use Rattle.link.proofs.Links.{nil, with_one, link_after-push}
-use Rattle.link.proofs.Telling.{links_at, unheard}
+use Rattle.link.proofs.Telling.{unheard}
+use Rattle.link.proofs.Called.{links_at}
 
 -- ---- the link and what is pending
 

@@ -15,7 +15,7 @@ use Rattle.link.specs.Visits.{Left, whole_visit, MayFollow, Visit, at_station, l
 use Rattle.link.proofs.Beginning.{IsBegun, none_known, begun_choice, begun_none, begun_awaits, begun_answered, begun_unanswered, begun_linked, withdrawn_link, begun_start}
 use Rattle.link.proofs.Choice.{MayWant, MayChooseIt, at_may, first_may}
 use Rattle.link.proofs.Links.{set_view, with_station-append, views-append}
-use Rattle.link.proofs.Telling.{links_at}
+use Rattle.link.proofs.Called.{links_at}
 use Rattle.link.proofs.Turning.{IsFound, found, present}
 use Rattle.link.proofs.Visiting.{Leads, leads_visit, leads_on, visit_room, whole_room, Awaits, HasPlan, IsReady, over, starting, serving, IsStarting, Follows, FollowsIt, ready_follows, begin_follows}
 

@@ -3,11 +3,11 @@
 use Rattle.std.specs.Prelude.{◌≡◌, ℕ, zero, suc, ◌<◌, ◌==◌, ◌&&◌, not, Bool, false, List, [], ◌∷◌, ◌++◌, length, Option, Some, None, if◌then◌else◌}
 use Rattle.ft12.specs.Fronts.{front_of}
 use Rattle.link.specs.Answers.{Asked, Counted, Command}
-use Rattle.link.specs.Exchanges.{Exchanges, Sending, heard_current, timed_current, begun_by}
-use Rattle.link.specs.Procedure.{Link, is_held, is_up}
+use Rattle.link.specs.Exchanges.{Exchanges, Sending, no_exchanges, heard_current, timed_current, begun_by}
+use Rattle.link.specs.Procedure.{LinkSettings, Link, is_held, is_up}
 use Rattle.link.specs.Requests.{IsUserData}
 use Rattle.link.specs.Turns.{Starting, Wanted, station_at, wanted, place_after}
-use Rattle.link.specs.Primary.{Primary, asked, sending, received, timed_out, may_offer, offered_to, withdrawn, Outcome}
+use Rattle.link.specs.Primary.{Primary, start, asked, sending, received, timed_out, may_offer, offered_to, withdrawn, Outcome}
 use Rattle.link.specs.declared.outcome.Outcome.TheVariants as outcome
 
 pub data Call : Type 0 where
@@ -53,6 +53,15 @@ called_all p (call ∷ calls) = called_all (called p call) calls
 abbrev pub exchanged_all : Primary → List Call → Exchanges → Exchanges
 exchanged_all p [] e = e
 exchanged_all p (call ∷ calls) e = exchanged_all (called p call) calls (exchanged p call e)
+
+-- The primary, and the exchanges of its line, are what calls that may be made have made of a new
+-- one.
+pub record AreCalled (settings : LinkSettings) (addresses : List ℕ) (p : Primary)
+    (e : Exchanges) : Type 0 where
+  pub calls : List Call
+  pub may : MayCallAll (start settings addresses) calls
+  pub primary : called_all (start settings addresses) calls ≡ p
+  pub exchanges : exchanged_all (start settings addresses) calls no_exchanges ≡ e
 
 -- Turns
 

@@ -17,6 +17,7 @@ use Rattle.link.specs.Turns.{StationState, SessionState, station_at}
 use Rattle.link.specs.Primary.{Outstanding, Primary, Outcome}
 use Rattle.link.specs.declared.outcome.Outcome.TheVariants as outcome
 use Rattle.link.specs.Holding.{IsFitting}
+use Rattle.link.specs.Runs.{AreCalled}
 
 -- A reader of fronts tells each as soon as it is decided, and then sticks to it.
 pub record IsStable (front : List ℕ → Front) : Type 0 where
@@ -130,6 +131,7 @@ pub record TellsBy (front : List ℕ → Front) (settings : LinkSettings) (addre
   pub flags : AreFlags front addresses p.stations (all_of e)
   pub sessions : AreSessions front addresses p.stations (all_of e)
   pub spoilt : AreSpoilt front addresses p.spoilt (all_of e)
+  pub called : AreCalled settings addresses p e
 
 -- The primary's state is what these exchanges make it, and they keep the frame count bit of each
 -- station.

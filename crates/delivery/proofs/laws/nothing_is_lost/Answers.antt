@@ -1,4 +1,3 @@
-use Rattle.gateway.specs.Course.{here_of}
 use Rattle.std.proofs.Common.{ℕ, ap, subst, sym, ◌∙◌, length, List}
 use Rattle.link.specs.Outstation.{all_done}
 use Rattle.link.specs.Delivery.{IsAllOrButLast, reports}
@@ -11,9 +10,9 @@ use Rattle.delivery.proofs.laws.nothing_is_lost.Goals as goal
 
 pub returns : goal.returns
 returns c = λ p log f. record {
-  here = here_of f.course;
+  course = f.course;
   begun = f.begun;
-  earlier = f.course.earlier;
+  course_runs = f.course_runs;
   are = f.are;
   run = f.orders;
   merged = merged_by (monitor_objects p.sizes) (length p.addresses) (reports_in p log) (reporters p log);

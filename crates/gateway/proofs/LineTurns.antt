@@ -1,0 +1,72 @@
+-- Turns on logs.
+use Rattle.std.proofs.Common.{ℕ, suc, ◌<◌, ◌≤◌, ◌*◌, ◌-◌, List, [], ◌∷◌, ◌++◌, All, length, sym, subst, arith}
+use Rattle.std.proofs.lemmas.List.{length-map}
+use Rattle.ft12.specs.Fronts.{front_of}
+use Rattle.link.specs.Exchanges.{Exchanges, no_exchanges, all_of, views}
+use Rattle.link.specs.declared.settings.LinkSettings.{LinkSettings}
+use Rattle.link.specs.Requests.{FitsAddress}
+use Rattle.link.specs.Primary.{Primary, start}
+use Rattle.link.specs.Runs.{Call, called, MayCallAll, called_all, exchanged_all, AreCalled}
+use Rattle.link.specs.Visits.{AreInVisits, most_of_visit}
+use Rattle.link.specs.Waits.{AlwaysWants, stations_asked, waited}
+use Rattle.link.specs.Precedence.{CommandsGoFirst}
+use Rattle.gateway.specs.declared.settings.Station.{Station}
+use Rattle.gateway.specs.Config.{Settings, AreStations}
+use Rattle.gateway.specs.Setups.{setup_of}
+use Rattle.gateway.specs.Log.{Log}
+use Rattle.gateway.specs.Reports.{Setup, exchanges_of}
+use Rattle.gateway.specs.State.{State}
+use Rattle.gateway.specs.Phases.{resting}
+use Rattle.gateway.specs.Agrees.{Agrees}
+use Rattle.gateway.specs.Turning.{new_line, KeepsTurns}
+use Rattle.gateway.proofs.Starting.{first_fits}
+
+-- what `link` says of turns
+abbrev pub TurnsEnd : Type 0
+TurnsEnd = (settings : LinkSettings) (addresses : List ℕ) (calls : List Call) → 0 < length addresses
+    → All (FitsAddress settings.size) addresses → 0 < settings.burst → MayCallAll (start settings addresses) calls
+    → AreInVisits settings addresses (views (front_of settings.size)
+    (all_of (exchanged_all (start settings addresses) calls no_exchanges)))
+
+abbrev pub NoneStarves : Type 0
+NoneStarves = (settings : LinkSettings) (addresses : List ℕ) (first later : List Call) (station : ℕ)
+    → 0 < length addresses → All (FitsAddress settings.size) addresses → 0 < settings.burst
+    → station < length addresses → MayCallAll (start settings addresses) first
+    → MayCallAll (called_all (start settings addresses) first) later
+    → AlwaysWants (called_all (start settings addresses) first) station later
+    → waited station 0 (stations_asked (called_all (start settings addresses) first) later)
+    ≤ most_of_visit settings * (length addresses - 1)
+
+abbrev pub CommandsFirst : Type 0
+CommandsFirst = (p : Primary) (station : ℕ) (calls : List Call)
+    → CommandsGoFirst p station (suc p.settings.burst) calls
+
+-- each of two parts of the calls may be made
+split : (p : Primary) (first later : List Call) → MayCallAll p (first ++ later)
+    → MayCallAll p first × MayCallAll (called_all p first) later
+split p [] later may = (tt, may)
+split p (call ∷ first) later may =
+    let rest = split (called p call) first later may.1 in ((may.0, rest.0), rest.1)
+
+pub turns : TurnsEnd → NoneStarves → CommandsFirst → (c : Settings) (s : State) (log : Log)
+    → AreStations c.line.link c.line.sizes.ca c.stations → 1 ≤ c.line.burst
+    → Agrees (setup_of c) s log [] (resting log) → KeepsTurns (setup_of c) log
+turns ends starves first c s log rules burst a =
+    let p : Setup = setup_of c in
+    let called : AreCalled p.link p.addresses s.serial.line (exchanges_of p log) = a.line.called in
+    let some : 0 < length p.addresses =
+    omega (arith, rules.some, length-map c.stations (λ (s : Station). s.address)) in
+    let fit : All (FitsAddress p.link.size) p.addresses =
+    first_fits c.line.link c.line.sizes.ca c.stations rules.each in
+    let more : 0 < p.link.burst = omega (arith, burst) in
+    record {
+      visits = subst (λ (e : Exchanges). AreInVisits p.link p.addresses (views (front_of p.link.size) (all_of e)))
+          called.exchanges (ends p.link p.addresses called.calls some fit more called.may);
+      calls = called.calls;
+      exchanges = called.exchanges;
+      fair = λ before later is station within wants.
+          let may = split (new_line p) before later
+          (subst (λ (calls : List Call). MayCallAll (new_line p) calls) (sym is) called.may) in
+          starves p.link p.addresses before later station some fit more within may.0 may.1 wants;
+      commands = λ station. first (new_line p) station called.calls;
+    }

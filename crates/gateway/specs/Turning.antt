@@ -1,0 +1,36 @@
+-- The turns of the line, as a log shows them (this gateway's own profile, over the procedures of IEC
+-- 60870-5-2).
+use Rattle.std.specs.Prelude.{◌≡◌, ℕ, suc, ◌<◌, ◌≤◌, ◌*◌, ◌-◌, List, ◌++◌, length}
+use Rattle.ft12.specs.Fronts.{front_of}
+use Rattle.link.specs.Exchanges.{no_exchanges, all_of, views}
+use Rattle.link.specs.Primary.{Primary, start}
+use Rattle.link.specs.Runs.{Call, called_all, exchanged_all}
+use Rattle.link.specs.Visits.{AreInVisits, most_of_visit}
+use Rattle.link.specs.Waits.{AlwaysWants, stations_asked, waited}
+use Rattle.link.specs.Precedence.{CommandsGoFirst}
+use Rattle.gateway.specs.Log.{Log}
+use Rattle.gateway.specs.Reports.{Setup, exchanges_of}
+
+-- a primary station of the line that has sent nothing yet
+abbrev pub new_line : Setup → Primary
+new_line p = start p.link p.addresses
+
+-- After these calls, and while those behind them are made: a station of which something is left to
+-- be asked each time that a request goes out is asked before the others have had more than a visit
+-- each.
+abbrev pub StarvesNone : Setup → (first later : List Call) → Type 0
+StarvesNone p first later = (station : ℕ) → station < length p.addresses →
+    AlwaysWants (called_all (new_line p) first) station later →
+    waited station 0 (stations_asked (called_all (new_line p) first) later)
+    ≤ most_of_visit p.link * (length p.addresses - 1)
+
+-- The exchanges of the log's line are visits, one after another, each of one station and as long as
+-- a visit is. They are the exchanges of calls, one after another, in which no station starves, from
+-- any of them on, and a command that waits goes before any new poll of its station.
+pub record KeepsTurns (p : Setup) (log : Log) : Type 0 where
+  pub visits : AreInVisits p.link p.addresses
+      (views (front_of p.link.size) (all_of (exchanges_of p log)))
+  pub calls : List Call
+  pub exchanges : exchanged_all (new_line p) calls no_exchanges ≡ exchanges_of p log
+  pub fair : (first later : List Call) → first ++ later ≡ calls → StarvesNone p first later
+  pub commands : (station : ℕ) → CommandsGoFirst (new_line p) station (suc p.link.burst) calls
