@@ -104,10 +104,10 @@ fn found(alloc: Global, first: &[u8], second: &[u8]) -> Result<Option<u64>, Fail
         return Err("a file isn't usable".into());
     }
     let mut start = Start::open(alloc, Files { log, db })?;
-    let Some(text) = start.checkpoint() else {
+    let Some(checkpoint) = start.checkpoint() else {
         return Ok(None);
     };
-    let mut lines = TextLines::new(alloc, text);
+    let mut lines = TextLines::new(alloc, checkpoint.text);
     let (mut numbers, mut octets) = (Vec::new(alloc), Vec::new(alloc));
     lines.next(&mut numbers)?;
     lines.next_octets(&mut octets)?;

@@ -585,3 +585,16 @@ pub held_if : (done : Bool) (outcomes : List ℕ → Type 0) (stored : ℕ) (see
 held_if true outcomes stored seen page page' octets is none = held_no_other outcomes stored seen page page' octets is none
 held_if false outcomes stored seen page page' octets is none =
     subst (λ (l : List ℕ). HasNoOther outcomes (text_in stored seen l)) (sym is) none
+
+-- What is read from a place on to the file's end
+
+pub read_rest : (at : ℕ) (file text : List ℕ) → length text ≡ length file - at → (0 < length text → Holds file at text)
+    → text ≡ drop at file
+read_rest at file [] long holds =
+    sym (drop_of_length-le file {i = at} (none (length file) at (sym long)))
+  where
+    none : (n m : ℕ) → n - m ≡ 0 → n ≤ m
+    none n m is = omega (arith, is)
+read_rest at file (x ∷ text) long holds =
+    ext_get_or 0 (x ∷ text) (drop at file) (long ∙ sym (length-drop at file))
+    (λ i lt. sym ((holds (omega arith)).each i lt) ∙ sym (get_or-drop at file i 0))

@@ -5,3 +5,4 @@ pub mod Segment
 pub mod Head
 pub mod Writer
 pub mod Starts
+pub mod Found

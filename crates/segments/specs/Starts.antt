@@ -24,9 +24,9 @@ number_in fronts.Shut = 0
 number_in (fronts.Head head) = head.number
 number_in fronts.Other = 0
 
--- the file has a segment with this checkpoint, whose length and whose sum its first line tells
-pub record IsFoundIn (file text : List ℕ) : Type 0 where
-  pub head : Head
+-- the file has a segment with this first line, and this checkpoint, whose length and whose sum the
+-- line tells
+pub record IsFoundIn (file : List ℕ) (head : Head) (text : List ℕ) : Type 0 where
   pub first : Holds file 0 (head_of head)
   pub octets : length text ≡ head.octets
   pub sum : sum_of text ≡ head.sum

@@ -25,5 +25,5 @@ mod writer;
 pub use fault::SegmentFault;
 pub use head::Head;
 pub use segment::Segment;
-pub use start::{Side, Start};
+pub use start::{Found, Side, Start};
 pub use writer::{Failed, Writer};

@@ -83,7 +83,7 @@ fn store<D: Disk>(file: &mut D, at: usize, page: &[u8]) -> Result<usize, Segment
 }
 
 impl<D: Disk> Segment<D> {
-    ghost use Rattle.segments.specs.Segment.{text_of, durable_of, size_of, is_open, mixes, outcomes_of};
+    ghost use Rattle.segments.specs.Segment.{text_of, durable_of, size_of, is_open, mixes, outcomes_of, file_of};
 
     /// A segment in a file that is synced: the text ends there, zeros stand behind it.
     pub(crate) fn begun(alloc: Global, file: D, end: usize, size: usize) -> Segment<D>
@@ -110,7 +110,9 @@ impl<D: Disk> Segment<D> {
     }
 
     /// The file, with what is held given up.
-    pub fn into_file(self) -> D {
+    pub fn into_file(self) -> D
+        ensures { result ≡ file_of self }
+    {
         let Segment { file, .. } = self;
         file
     }

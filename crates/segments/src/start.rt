@@ -1,5 +1,6 @@
 //! What a start finds in the two files.
-ghost use Rattle.std.specs.Prelude.{◌≡◌, ◌==◌, ◌-◌, ◌<◌, length, position, IsTrue, IfOk, IfSome};
+ghost use Rattle.std.specs.Option.{ForSome};
+ghost use Rattle.std.specs.Prelude.{◌≡◌, ◌==◌, ◌+◌, ◌-◌, ◌<◌, length, position, IsTrue, IfOk, IfSome};
 ghost use Rattle.sqlite_disk.specs.Disk.{Holds};
 ghost use Rattle.segments.specs.Starts.{IsFoundIn, IsHeadIn, before_zero, number_in, other_side};
 ghost use Rattle.statetext.specs.Sum.{sum_of};
@@ -160,6 +161,13 @@ fn place_of_zero(text: &[u8]) -> Option<usize>
     text.iter().position(|octet| *octet == 0)
 }
 
+/// A checkpoint, and the first line before it.
+#[derive(Drop)]
+pub struct Found {
+    pub head: Head,
+    pub text: Vec<u8>,
+}
+
 /// What a start finds: the newest segment that is whole, its checkpoint in memory, and the other
 /// file, into which the next segment goes.
 #[derive(Drop)]
@@ -168,8 +176,8 @@ pub struct Start<D: Disk> {
     other: D,
     /// Where the newest segment stands.
     side: Side,
-    /// The text of its checkpoint, until it is taken.
-    checkpoint: Option<Vec<u8>>,
+    /// Its checkpoint, until it is taken.
+    checkpoint: Option<Found>,
     /// Where the lines behind it begin.
     at: usize,
     /// Above the number of each segment that stands in a file, whole or not.
@@ -178,6 +186,9 @@ pub struct Start<D: Disk> {
     is_doubtful: bool,
     ghost usable: { IsTrue (D.Disk.is_usable newest) },
     ghost other_usable: { IsTrue (D.Disk.is_usable other) },
+    ghost stands: { ForSome checkpoint (λ c. (at ≡ 87 + length c.text.items)
+        × (IsTrue (D.Disk.is_clean newest) →
+        IsFoundIn (D.Disk.seen newest) c.head c.text.items)) },
 }
 
 /// The number of a segment, or 0.
@@ -195,17 +206,20 @@ fn found_in<D: Disk>(
     alloc: Global,
     file: &mut D,
     front: Front,
-) -> Result<Option<Vec<u8>>, SegmentFault>
+) -> Result<Option<Found>, SegmentFault>
     requires usable { IsTrue (D.Disk.is_usable file.old) }
     requires head { IsTrue (D.Disk.is_clean file.old) → IsHeadIn (D.Disk.seen file.old) front }
-    ensures found { IfOk result (λ found. IfSome found (λ text. IsTrue (D.Disk.is_clean file.new) →
-        IsFoundIn (D.Disk.seen file.new) text.items)) }
+    ensures found { IfOk result (λ found. IfSome found (λ c. IsTrue (D.Disk.is_clean file.new) →
+        IsFoundIn (D.Disk.seen file.new) c.head c.text.items)) }
     ensures usable { IsTrue (D.Disk.is_usable file.new) }
 {
     let Front::Head(head) = front else {
         return Ok(None);
     };
-    text_at(alloc, file, &head)
+    match text_at(alloc, file, &head)? {
+        Some(text) => Ok(Some(Found { head, text })),
+        None => Ok(None),
+    }
 }
 
 impl<D: Disk + Drop> Start<D> {
@@ -242,9 +256,9 @@ impl<D: Disk + Drop> Start<D> {
         requires other { IsTrue (D.Disk.is_clean older) → IsHeadIn (D.Disk.seen older) other_front }
     {
         let (mut newer, mut older) = (newer, older);
-        if let Some(text) = found_in(alloc, &mut newer, front)? {
+        if let Some(found) = found_in(alloc, &mut newer, front)? {
             let is_doubtful = matches!(other_front, Front::Other);
-            return Start::made(newer, older, side, Some(text), number, is_doubtful);
+            return Start::made(newer, older, side, Some(found), number, is_doubtful);
         }
         let found = found_in(alloc, &mut older, other_front)?;
         let is_doubtful = !matches!(front, Front::Shut)
@@ -256,15 +270,17 @@ impl<D: Disk + Drop> Start<D> {
         newest: D,
         other: D,
         side: Side,
-        checkpoint: Option<Vec<u8>>,
+        checkpoint: Option<Found>,
         number: u64,
         is_doubtful: bool,
     ) -> Result<Start<D>, SegmentFault>
         requires newest { IsTrue (D.Disk.is_usable newest) }
         requires other { IsTrue (D.Disk.is_usable other) }
+        requires stands { IfSome checkpoint (λ c. IsTrue (D.Disk.is_clean newest) →
+            IsFoundIn (D.Disk.seen newest) c.head c.text.items) }
     {
         let at = match &checkpoint {
-            Some(text) => HEAD.checked_add(text.len()),
+            Some(found) => HEAD.checked_add(found.text.len()),
             None => Some(0),
         };
         let Some(at) = at else {
@@ -283,6 +299,8 @@ impl<D: Disk + Drop> Start<D> {
 }
 
 impl<D: Disk> Start<D> {
+    ghost use Rattle.segments.specs.Found.{begins_at, events_in, newest_of};
+
     /// Whether a segment was found, and its checkpoint wasn't taken yet.
     pub fn is_found(&self) -> bool {
         self.checkpoint.is_some()
@@ -305,14 +323,27 @@ impl<D: Disk> Start<D> {
         self.side
     }
 
-    /// The text of the checkpoint, once.
-    pub fn checkpoint(&mut self) -> Option<Vec<u8>> {
+    /// The checkpoint, once.
+    pub fn checkpoint(&mut self) -> Option<Found>
+        ensures found { IfSome result (λ c. IsTrue (D.Disk.is_clean (newest_of self.new)) →
+            IsFoundIn (D.Disk.seen (newest_of self.new)) c.head c.text.items) }
+        ensures behind { IfSome result (λ c. begins_at self.new ≡ 87 + length c.text.items) }
+        ensures newest { newest_of self.new ≡ newest_of self.old }
+    {
         self.checkpoint.take()
     }
 
     /// The octets behind the checkpoint, up to the first octet 0 or the file's end: the lines that
     /// were appended, and what a crash left of one.
-    pub fn events(&mut self, alloc: Global) -> Result<Vec<u8>, SegmentFault> {
+    #[tactic(auto, using(crate::proofs::CrashLemmas::read_rest))]
+    pub fn events(&mut self, alloc: Global) -> Result<Vec<u8>, SegmentFault>
+        ensures text { IfOk result (λ text. IsTrue (D.Disk.is_clean (newest_of self.new)) →
+            text.items ≡ events_in self.new) }
+        ensures seen { D.Disk.seen (newest_of self.new) ≡ D.Disk.seen (newest_of self.old) }
+        ensures clean { IsTrue (D.Disk.is_clean (newest_of self.new)) →
+            IsTrue (D.Disk.is_clean (newest_of self.old)) }
+        ensures same { begins_at self.new ≡ begins_at self.old }
+    {
         let mut text = rest_at(alloc, &mut self.newest, self.at)?;
         cut_at_zero(&mut text);
         Ok(text)
@@ -321,6 +352,7 @@ impl<D: Disk> Start<D> {
     /// The two files: that of the segment that was found, and the one for the next segment.
     pub fn into_files(self) -> (D, D)
         ensures found { IsTrue (D.Disk.is_usable result.0) }
+        ensures newest { result.0 ≡ newest_of self }
         ensures next { IsTrue (D.Disk.is_usable result.1) }
     {
         let Start { newest, other, .. } = self;

@@ -1,5 +1,5 @@
 -- What holds of each history, deed by deed.
-use Rattle.std.proofs.Common.{◌≡◌, ◌⊎◌, Bool, true, false, List, [], ◌∷◌, ◌++◌, refl, ap, inl, inr}
+use Rattle.std.proofs.Common.{◌≡◌, Bool, true, false, [], ◌∷◌, ◌++◌, refl, ap, inl, inr}
 use Rattle.gateway.specs.Log.{LogEntry}
 use Rattle.state.specs.Deeds.{Deed, Deeds, AreRight, IsAllOnDisk, IsSafe, MayBe, Heard, Appended, Synced, Begun, GivenUp, PutOut, appended, on_disk}
 use Rattle.state.specs.Stores.{led_to_head, safe, written}

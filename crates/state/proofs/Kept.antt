@@ -1,11 +1,11 @@
 -- What keeping an event does to the history.
-use Rattle.std.proofs.Common.{◌≡◌, ◌∙◌, ℕ, ◌+◌, ◌<◌, ◌≤◌, ◌^◌, ◌⊎◌, Bool, true, false, List, [], ◌∷◌, ◌++◌, map, Some, None, ap, sym, subst, refl, inl, inr, arith, if◌then◌else◌}
+use Rattle.std.proofs.Common.{◌≡◌, ◌∙◌, ℕ, ◌+◌, ◌<◌, ◌≤◌, ◌^◌, Bool, true, false, [], ◌∷◌, ◌++◌, map, Some, None, ap, sym, subst, refl, inl, inr, arith, if◌then◌else◌}
 use Rattle.gateway.specs.Log.{Log}
 use Rattle.gateway.specs.Log.{LogEntry}
 use Rattle.gateway.specs.Ports.{faults_of}
 use Rattle.gateway.specs.declared.ports.Next.{Next}
 use Rattle.gateway.specs.declared.ports.Next.TheVariants as answers
-use Rattle.state.specs.Deeds.{Deeds, AreRight, IsInTime, MayBe, Appended, Heard, PutOut, is_kept, waiting}
+use Rattle.state.specs.Deeds.{Deeds, AreRight, IsInTime, MayBe, Heard, PutOut, waiting}
 use Rattle.state.specs.Keeping.{IsOrderly}
 use Rattle.state.specs.Standings.{HasHeard, IsSettled, IsStanding, is_stopped, since_of}
 use Rattle.state.specs.declared.standing.Standing.{Standing}

@@ -1,6 +1,6 @@
 -- What a log tells as it is begun, appended to and synced.
-use Rattle.std.proofs.Common.{◌≡◌, ◌∙◌, ℕ, ◌≤◌, List, [], ◌∷◌, ◌++◌, length, take, drop, ap, sym, refl, subst, arith}
-use Rattle.std.proofs.lemmas.List.{append-nil, drop-append-le, take-append-le, take_all, length-append}
+use Rattle.std.proofs.Common.{◌≡◌, ◌∙◌, ℕ, ◌≤◌, List, [], ◌∷◌, ◌++◌, length, take, drop, ap, refl, arith}
+use Rattle.std.proofs.lemmas.List.{drop-append-le, take-append-le, take_all}
 use Rattle.std.proofs.Math.ListN.{drop_of_length-le}
 use Rattle.segments.specs.Head.{head_of, whole_text}
 use Rattle.segments.proofs.HeadLemmas.{head_length}
@@ -8,7 +8,6 @@ use Rattle.statetext.specs.Sum.{sum_of}
 use Rattle.statetext.specs.Text.{lines_in}
 use Rattle.statetext.proofs.TextLemmas.{no_text}
 use Rattle.state.specs.Logs.{IsHeaded, told_by}
-use Rattle.state.specs.Stores.{Stored}
 
 body_behind : (n : ℕ) (head body : List ℕ) → length head ≡ n → drop n (head ++ body) ≡ body
 body_behind n head body is =

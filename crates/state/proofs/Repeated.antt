@@ -7,7 +7,7 @@ use Rattle.std.specs.Option.{is_none}
 use Rattle.gateway.specs.Agrees.{Follows, Rests}
 use Rattle.gateway.specs.Entries.{IsAnnounced}
 use Rattle.gateway.specs.Entries.{event_of as entry_event}
-use Rattle.gateway.specs.Log.{Log, LogEntry, Came, Went, Input, LineIn, Opened, TcpIn, CutOff, Ticked, WallIs, events_of}
+use Rattle.gateway.specs.Log.{Log, LogEntry, events_of}
 use Rattle.gateway.specs.Ports.{told_by}
 use Rattle.gateway.specs.Reports.{Setup}
 use Rattle.gateway.specs.State.{State}
@@ -17,7 +17,7 @@ use Rattle.gateway.specs.declared.ports.Next.{Next}
 use Rattle.traces.specs.Event.{Event, event_of, event_in, line, opening, received, cut, tick, wall}
 use Rattle.traces.specs.Progress.{came}
 use Rattle.traces.specs.Trace.{lines_of, told, is_skipped, is_wrong, first_wrong}
-use Rattle.state.specs.Replays.{IsEvent, IsFirst, IsRepeating, IsReplayed, IsTold, Replaying, ToldGap, before_those, events_in_front, events_left, last_gap, log_of}
+use Rattle.state.specs.Replays.{IsFirst, IsRepeating, IsReplayed, IsTold, Replaying, ToldGap, before_those, events_in_front, events_left, last_gap, log_of}
 
 -- A line
 

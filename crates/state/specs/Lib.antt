@@ -7,3 +7,4 @@ pub mod Both
 pub mod Replays
 pub mod Renewals
 pub mod Starts
+pub mod Beginnings

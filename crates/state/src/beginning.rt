@@ -1,11 +1,15 @@
 //! What a run begins with.
-ghost use Rattle.std.specs.Prelude.{◌≡◌, ℕ, List, ◌∷◌, ◌++◌, Some, IfOk, IsTrue};
+ghost use Rattle.std.specs.Prelude.{◌≡◌, None, Some, IfOk, IsTrue, true, false};
+ghost use Rattle.gateway.specs.State.{first_state};
+ghost use Rattle.segments.specs.Found.{begins_at, events_in, newest_of};
+ghost use Rattle.state.specs.Beginnings.{GoesOnFrom, HasRead, IsHeadOf, IsRead, WentOn, given_up, has_past, moment_at};
+ghost use Rattle.state.specs.Logs.{NewestIs};
+ghost use Rattle.state.specs.Starts.{beginning_of};
 
-use crate::carry::{carried, give_up_commands, moment};
 use crate::disk_store::DiskStore;
 use crate::event_text::EventText;
 use crate::folder::{Folder, FolderFault};
-use crate::replaying::{ToldGap, replay};
+use crate::replaying::{Lineage, ToldGap, replay};
 use crate::start::{Beginning, Found, beginning_of};
 use checkpoint::{Lines, StateFault};
 use gateway::{Config, Gateway, NoMemory};
@@ -55,7 +59,9 @@ fn unread(fault: ConfigFault) -> StateFault {
 }
 
 /// What the two files are, and their mark.
-fn found_in<D: Disk + Drop>(start: &Start<D>, is_stale: bool) -> Found {
+fn found_in<D: Disk + Drop>(start: &Start<D>, is_stale: bool) -> Found
+    ensures { beginning_of result ≡ Beginning.GoesOn → is_stale ≡ false }
+{
     match (start.is_found(), start.is_doubtful()) {
         (false, false) => Found::Nothing,
         (false, true) => Found::Unread,
@@ -65,72 +71,148 @@ fn found_in<D: Disk + Drop>(start: &Start<D>, is_stale: bool) -> Found {
     }
 }
 
+/// The gateway with these settings whose state some lines say.
+fn read<K: Lineage>(alloc: Global, config: &Config, lines: TextLines) -> Result<Gateway, StateFault>
+    ensures { IfOk result (λ g. HasRead config.now K.log (⟦<TextLines as Lines>⟧.coming lines) g) }
+{
+    let mut lines = lines;
+    let (mut line, mut octets) = (Vec::new(alloc), Vec::new(alloc));
+    match Gateway::read_state(alloc, config, &mut lines, &mut line, &mut octets) {
+        Ok(gateway) => Ok(gateway),
+        Err(fault) => Err(fault),
+    }
+}
+
 /// The gateway with these settings that stood at the head of a log, behind the lines of its events.
-fn replayed<D: Disk + Drop>(
+fn replayed<K: Lineage, D: Disk + Drop>(
     alloc: Global,
     config: &Config,
-    mut lines: TextLines,
+    lines: TextLines,
     start: &mut Start<D>,
-) -> Result<Resumed, StateFault> {
-    let (mut line, mut octets) = (Vec::new(alloc), Vec::new(alloc));
-    let mut gateway = Gateway::read_state(alloc, config, &mut lines, &mut line, &mut octets)?;
+) -> Result<Resumed, StateFault>
+    ensures read { IfOk result (λ r. IsTrue (D.Disk.is_clean (newest_of start.new)) →
+        IsRead config.now K.log (⟦<TextLines as Lines>⟧.coming lines) (events_in start.new)
+        r.gap r.gateway) }
+    ensures seen { D.Disk.seen (newest_of start.new) ≡ D.Disk.seen (newest_of start.old) }
+    ensures clean { IsTrue (D.Disk.is_clean (newest_of start.new)) →
+        IsTrue (D.Disk.is_clean (newest_of start.old)) }
+    ensures same { begins_at start.new ≡ begins_at start.old }
+{
     // The checkpoint may be as long as the queue: its text goes before the events are read.
-    drop(lines);
+    let mut gateway = read::<K>(alloc, config, lines)?;
     let events = match start.events(alloc) {
         Ok(events) => EventText::new(events),
         Err(SegmentFault::NoMemory) => return Err(StateFault::NoMemory),
         Err(SegmentFault::Full | SegmentFault::Device) => return Err(StateFault::Device),
     };
-    let gap = replay::<Brand, EventText>(alloc, &mut gateway, events)?;
+    let gap = replay::<K, EventText>(alloc, &mut gateway, events)?;
     Ok(Resumed { gateway, gap })
 }
 
-/// The gateway goes on with the state that was found, under the settings that wrote it, and is then
-/// moved to these, which this text says.
-fn resume<D: Disk + Drop>(
+/// What stands at the head of a log.
+#[derive(Drop)]
+struct Opening {
+    settings: Vec<u8>,
+    lines: TextLines,
+}
+
+/// The settings at the head of the log that was found, and the lines behind them.
+fn read_opening<D: Disk + Drop>(alloc: Global, start: &mut Start<D>) -> Result<Opening, StateFault>
+    ensures head { IfOk result (λ o. IsTrue (D.Disk.is_clean (newest_of start.new)) →
+        IsHeadOf (D.Disk.seen (newest_of start.new)) (begins_at start.new) o.settings.items
+        (⟦<TextLines as Lines>⟧.coming o.lines)) }
+{
+    let Some(checkpoint) = start.checkpoint() else {
+        return Err(StateFault::Wrong);
+    };
+    let mut lines = TextLines::new(alloc, checkpoint.text);
+    let mut settings = Vec::new(alloc);
+    lines.next_octets(&mut settings)?;
+    Ok(Opening { settings, lines })
+}
+
+/// Whether both are the same octets.
+fn are_same(first: &[u8], second: &[u8]) -> bool
+    ensures same { result ≡ true → first.now ≡ second.now }
+    ensures others { result ≡ false → first.now ≡ second.now → ⊥ }
+{
+    first == second
+}
+
+/// It has given up each command without an answer.
+fn without_commands(resumed: Resumed) -> Resumed
+    ensures gateway { result.gateway ≡ given_up resumed.gateway }
+    ensures gap { result.gap ≡ resumed.gap }
+{
+    let Resumed { mut gateway, gap } = resumed;
+    gateway.give_up_commands();
+    Resumed { gateway, gap }
+}
+
+/// The gateway goes on with the state that was found, under the settings that wrote it, which are
+/// these.
+fn go_on<K: Lineage, D: Disk + Drop>(
+    alloc: Global,
+    config: &Config,
+    lines: TextLines,
+    start: &mut Start<D>,
+) -> Result<Resumed, StateFault>
+    ensures went { IfOk result (λ r. IsTrue (D.Disk.is_clean (newest_of start.new)) →
+        WentOn config.now K.log (⟦<TextLines as Lines>⟧.coming lines) (events_in start.new)
+        r.gap r.gateway) }
+    ensures seen { D.Disk.seen (newest_of start.new) ≡ D.Disk.seen (newest_of start.old) }
+    ensures clean { IsTrue (D.Disk.is_clean (newest_of start.new)) →
+        IsTrue (D.Disk.is_clean (newest_of start.old)) }
+    ensures same { begins_at start.new ≡ begins_at start.old }
+{
+    let resumed = replayed::<K, D>(alloc, config, lines, start)?;
+    Ok(without_commands(resumed))
+}
+
+/// The gateway hears again what was kept, under the settings that wrote it, and is then moved to
+/// these.
+fn move_on<D: Disk + Drop>(
+    alloc: Global,
+    config: &Config,
+    opening: Opening,
+    start: &mut Start<D>,
+    goes_on: bool,
+) -> Result<Resumed, StateFault>
+    ensures seen { D.Disk.seen (newest_of start.new) ≡ D.Disk.seen (newest_of start.old) }
+    ensures clean { IsTrue (D.Disk.is_clean (newest_of start.new)) →
+        IsTrue (D.Disk.is_clean (newest_of start.old)) }
+    ensures same { begins_at start.new ≡ begins_at start.old }
+{
+    let Opening { settings, lines } = opening;
+    let before = match read_config(alloc, &settings) {
+        Ok(before) => before,
+        Err(fault) => return Err(unread(fault)),
+    };
+    let resumed = go_on::<Brand, D>(alloc, &before, lines, start)?;
+    let Resumed { gateway, gap } = resumed;
+    match gateway.carried(alloc, &before, config, goes_on) {
+        Ok(gateway) => Ok(Resumed { gateway, gap }),
+        Err(NoMemory) => Err(StateFault::NoMemory),
+    }
+}
+
+/// The gateway goes on with the state that was found. `text` says its settings.
+fn resume<K: Lineage, D: Disk + Drop>(
     alloc: Global,
     config: &Config,
     text: &[u8],
     start: &mut Start<D>,
     goes_on: bool,
-) -> Result<Resumed, StateFault> {
-    let Some(checkpoint) = start.checkpoint() else {
-        return Err(StateFault::Wrong);
-    };
-    let mut lines = TextLines::new(alloc, checkpoint);
-    let mut settings = Vec::new(alloc);
-    lines.next_octets(&mut settings)?;
-    if settings.as_slice() == text {
-        let resumed = replayed(alloc, config, lines, start)?;
-        return settle(alloc, resumed, config, config, goes_on, true);
+) -> Result<Resumed, StateFault>
+    ensures { goes_on ≡ true → IfOk result (λ r. IsTrue (D.Disk.is_clean (newest_of start.new)) →
+        GoesOnFrom config.now text.now K.log (D.Disk.seen (newest_of start.new)) r.gap r.gateway) }
+{
+    let opening = read_opening(alloc, start)?;
+    if goes_on && are_same(&opening.settings, text) {
+        let Opening { settings: _, lines } = opening;
+        return go_on::<K, D>(alloc, config, lines, start);
     }
-    let before = match read_config(alloc, &settings) {
-        Ok(before) => before,
-        Err(fault) => return Err(unread(fault)),
-    };
-    let resumed = replayed(alloc, &before, lines, start)?;
-    settle(alloc, resumed, &before, config, goes_on, false)
-}
-
-/// Gives up the commands that are held, and moves the gateway to these settings, unless they are
-/// its own and its links go on.
-fn settle(
-    alloc: Global,
-    resumed: Resumed,
-    before: &Config,
-    now: &Config,
-    goes_on: bool,
-    is_same: bool,
-) -> Result<Resumed, StateFault> {
-    let Resumed { mut gateway, gap } = resumed;
-    give_up_commands(&mut gateway);
-    if goes_on && is_same {
-        return Ok(Resumed { gateway, gap });
-    }
-    match carried(&gateway, alloc, before, now, goes_on) {
-        Ok(gateway) => Ok(Resumed { gateway, gap }),
-        Err(NoMemory) => Err(StateFault::NoMemory),
-    }
+    move_on(alloc, config, opening, start, goes_on)
 }
 
 /// Begins a run: with the state that the directory has, or anew. `text` is the file of settings
@@ -140,40 +222,88 @@ pub fn begin<F: Folder + Drop>(
     config: &Config,
     text: &[u8],
     folder: F,
-) -> Result<Begun<F>, FolderFault> {
+) -> Result<Begun<F>, FolderFault>
+    ensures moment { IfOk result (λ b. b.moment ≡ moment_at b.beginning b.gateway.moment) }
+    ensures anew { IfOk result (λ b. has_past b.beginning ≡ false →
+        (b.gateway ≡ first_state config.now) × (b.gap ≡ None)) }
+    ensures settings { IfOk result (λ b. b.store.settings.items ≡ text.now) }
+    // A state that is marked as stale is never gone on with.
+    ensures trusted { IfOk result (λ b. b.beginning ≡ Beginning.GoesOn →
+        F.mark b.store.folder ≡ Some false) }
+    ensures goes_on { IfOk result (λ b. b.beginning ≡ Beginning.GoesOn →
+        NewestIs (λ newest. IsTrue (F.File.is_clean newest) → GoesOnFrom config.now text.now
+        F.lineage (F.File.seen newest) b.gap b.gateway) b.store.opened) }
+{
     let mut folder = folder;
     let Ok(settings) = Vec::from_slice(alloc, text) else {
         return Err(FolderFault::NoMemory);
     };
     let files = folder.open()?;
     let is_stale = folder.is_stale()?;
-    let mut start = Start::open(alloc, files)?;
-    let beginning = beginning_of(found_in(&start, is_stale));
-    let (side, number) = (start.side(), start.next_number());
-    let goes_on = match beginning {
+    let start = Start::open(alloc, files)?;
+    match beginning_of(found_in(&start, is_stale)) {
         Beginning::Anew => {
+            let store = DiskStore::new(alloc, folder, settings, start.side(), start.next_number());
             let (newest, spare) = start.into_files();
-            let store = DiskStore::new(alloc, folder, settings, side, number);
-            let store = store.with_files(newest, spare);
-            return anew(alloc, config, store, beginning);
+            anew(
+                alloc,
+                config,
+                store.with_files(newest, spare),
+                Beginning::Anew,
+            )
         }
         Beginning::PutAside => {
             drop(start);
-            return put_aside(alloc, config, settings, folder);
+            put_aside(alloc, config, settings, folder)
         }
-        Beginning::LinksReset => false,
-        Beginning::GoesOn => true,
-    };
-    match resume(alloc, config, text, &mut start, goes_on) {
+        Beginning::LinksReset => carry_on(alloc, config, settings, folder, start, false),
+        Beginning::GoesOn => carry_on(alloc, config, settings, folder, start, true),
+    }
+}
+
+/// How a run begins that has a past.
+fn with_past(goes_on: bool) -> Beginning
+    ensures past { has_past result ≡ true }
+    ensures goes_on { result ≡ Beginning.GoesOn → goes_on ≡ true }
+{
+    if goes_on {
+        Beginning::GoesOn
+    } else {
+        Beginning::LinksReset
+    }
+}
+
+/// Begins with what was found, or anew where that can't be read.
+fn carry_on<F: Folder + Drop>(
+    alloc: Global,
+    config: &Config,
+    settings: Vec<u8>,
+    folder: F,
+    start: Start<F::File>,
+    goes_on: bool,
+) -> Result<Begun<F>, FolderFault>
+    requires { goes_on ≡ true → F.mark folder ≡ Some false }
+    ensures moment { IfOk result (λ b. b.moment ≡ moment_at b.beginning b.gateway.moment) }
+    ensures anew { IfOk result (λ b. has_past b.beginning ≡ false →
+        (b.gateway ≡ first_state config.now) × (b.gap ≡ None)) }
+    ensures settings { IfOk result (λ b. b.store.settings ≡ settings) }
+    ensures trusted { IfOk result (λ b. b.beginning ≡ Beginning.GoesOn →
+        F.mark b.store.folder ≡ Some false) }
+    ensures goes_on { IfOk result (λ b. b.beginning ≡ Beginning.GoesOn →
+        NewestIs (λ newest. IsTrue (F.File.is_clean newest) → GoesOnFrom config.now settings.items
+        F.lineage (F.File.seen newest) b.gap b.gateway) b.store.opened) }
+{
+    let mut start = start;
+    match resume::<Brand, F::File>(alloc, config, &settings, &mut start, goes_on) {
         Ok(resumed) => {
+            let Resumed { gateway, gap } = resumed;
+            let store = DiskStore::new(alloc, folder, settings, start.side(), start.next_number());
             let (newest, spare) = start.into_files();
-            let store = DiskStore::new(alloc, folder, settings, side, number);
-            let moment = Some(moment(&resumed.gateway));
             Ok(Begun {
-                gateway: resumed.gateway,
-                moment,
-                beginning,
-                gap: resumed.gap,
+                moment: Some(gateway.moment()),
+                gateway,
+                beginning: with_past(goes_on),
+                gap,
                 store: store.with_files(newest, spare),
             })
         }
@@ -192,7 +322,16 @@ fn anew<F: Folder + Drop>(
     config: &Config,
     store: DiskStore<F>,
     beginning: Beginning,
-) -> Result<Begun<F>, FolderFault> {
+) -> Result<Begun<F>, FolderFault>
+    requires { has_past beginning ≡ false }
+    ensures { IfOk result (λ b. b ≡ record {
+      gateway = first_state config.now;
+      moment = None;
+      beginning = beginning;
+      gap = None;
+      store = store;
+    }) }
+{
     match Gateway::new(alloc, config) {
         Ok(gateway) => Ok(Begun {
             gateway,
@@ -211,8 +350,14 @@ fn put_aside<F: Folder + Drop>(
     alloc: Global,
     config: &Config,
     settings: Vec<u8>,
-    mut folder: F,
-) -> Result<Begun<F>, FolderFault> {
+    folder: F,
+) -> Result<Begun<F>, FolderFault>
+    ensures anew { IfOk result (λ b. (b.gateway ≡ first_state config.now) × (b.gap ≡ None)
+        × (b.moment ≡ None)) }
+    ensures beginning { IfOk result (λ b. b.beginning ≡ Beginning.PutAside) }
+    ensures settings { IfOk result (λ b. b.store.settings ≡ settings) }
+{
+    let mut folder = folder;
     if !folder.mark_stale() || !folder.put_aside() {
         return Err(FolderFault::Device);
     }

@@ -3,12 +3,12 @@ ghost use Rattle.std.specs.Prelude.{◌≡◌, ◌++◌, ◌∷◌, [], IfOk, If
 ghost use Rattle.gateway.specs.Restored.{state_lines};
 ghost use Rattle.segments.specs.Segment.{durable_of, text_of};
 ghost use Rattle.segments.specs.Writer.{appended_to};
-ghost use Rattle.state.specs.Logs.{IsHeaded};
+ghost use Rattle.state.specs.Logs.{AreFilesOf, IsHeaded, in_order};
 ghost use Rattle.statetext.specs.Text.{lines_in};
 
 use crate::folder::Folder;
 use crate::loss::Loss;
-use crate::opened::{Current, Opened, files_of};
+use crate::opened::{Current, Opened};
 use crate::store::Store;
 use checkpoint::{Sheet, StateFault};
 use gateway::Gateway;
@@ -17,10 +17,6 @@ use sqlite_disk::{Disk, Files};
 use statetext::TextSheet;
 use std::alloc::Global;
 use std::mem;
-
-/// How many blocks of 4,096 zeros stand behind a checkpoint, for the lines to come: 3,997,696
-/// octets. A new log is due before they are full.
-const BLOCKS: usize = 976;
 
 /// A log in two files of a directory, which are written in turn: a segment begins with the settings
 /// and the state of a gateway, and then has lines. The next one goes into the other file, and
@@ -43,7 +39,8 @@ pub struct DiskStore<F: Folder + Drop> {
 }
 
 impl<F: Folder + Drop> DiskStore<F> {
-    ghost use Rattle.state.specs.Logs.{stored_in};
+    ghost use Rattle.segments.specs.Starts.{other_side};
+    ghost use Rattle.state.specs.Logs.{SpareIs, stored_in};
 
     /// One over a directory whose files aren't open. The newest segment stands in this file, and
     /// the next one has this number.
@@ -56,7 +53,6 @@ impl<F: Folder + Drop> DiskStore<F> {
     ) -> DiskStore<F>
         ensures settings { result.settings ≡ settings }
         ensures folder { result.folder ≡ folder }
-        ensures side { result.side ≡ side }
     {
         DiskStore {
             alloc,
@@ -70,7 +66,11 @@ impl<F: Folder + Drop> DiskStore<F> {
     }
 
     /// The same with both files open.
-    pub(crate) fn with_files(self, newest: F::File, spare: F::File) -> DiskStore<F> {
+    pub(crate) fn with_files(self, newest: F::File, spare: F::File) -> DiskStore<F>
+        ensures opened { result.opened ≡ Opened.Both newest spare }
+        ensures folder { result.folder ≡ self.folder }
+        ensures settings { result.settings ≡ self.settings }
+    {
         let DiskStore {
             alloc,
             folder,
@@ -107,10 +107,41 @@ impl<F: Folder + Drop> DiskStore<F> {
         }
     }
 
+    /// Begins a segment in the one file, while the newest one stands in the other as it is.
+    fn begin_in(&mut self, newest: F::File, spare: F::File, gateway: &Gateway) -> bool
+        requires { IsTrue (F.File.is_usable spare) }
+        ensures begun { result ≡ true → stored_in self.new.opened ≡ record {
+          head = self.old.settings.items ∷ state_lines gateway.now;
+          text = [];
+          safe = [];
+        } }
+        ensures newest { result ≡ true → SpareIs newest self.new.opened }
+        ensures side { result ≡ true → self.new.side ≡ other_side self.old.side }
+        ensures mark { result ≡ true → F.mark self.new.folder ≡ Some false }
+        ensures settings { self.new.settings ≡ self.old.settings }
+    {
+        let number = self.number;
+        self.number = number.saturating_add(1);
+        let blocks = self.folder.blocks();
+        let segment = write_segment(self.alloc, spare, number, blocks, &self.settings, gateway);
+        let Some(segment) = segment else {
+            return false;
+        };
+        let head = segment.octets();
+        self.side = self.side.other();
+        self.opened = Opened::Current(Current {
+            segment,
+            head,
+            spare: newest,
+        });
+        self.unmark()
+    }
+
     /// Takes the mark away, unless none stands.
     fn unmark(&mut self) -> bool
         ensures mark { result ≡ true → F.mark self.new.folder ≡ Some false }
         ensures opened { self.new.opened ≡ self.old.opened }
+        ensures side { self.new.side ≡ self.old.side }
         ensures settings { self.new.settings ≡ self.old.settings }
     {
         if self.is_unmarked {
@@ -121,12 +152,41 @@ impl<F: Folder + Drop> DiskStore<F> {
     }
 }
 
+/// Both files, where no write or sync has failed at either.
+fn files_of<D: Disk + Drop>(opened: Opened<D>) -> Option<(D, D)>
+    ensures newest { IfSome result (λ files. IsTrue (D.Disk.is_usable files.0)) }
+    ensures spare { IfSome result (λ files. IsTrue (D.Disk.is_usable files.1)) }
+    ensures order { IfSome result (λ files. AreFilesOf opened files.0 files.1) }
+{
+    let (newest, spare) = match opened {
+        Opened::Neither => return None,
+        Opened::Both(newest, spare) => (newest, spare),
+        Opened::Current(current) => {
+            let Current {
+                segment,
+                head: _,
+                spare,
+            } = current;
+            if !segment.is_open() {
+                return None;
+            }
+            (segment.into_file(), spare)
+        }
+    };
+    if newest.may_be_used() && spare.may_be_used() {
+        Some((newest, spare))
+    } else {
+        None
+    }
+}
+
 /// Both files: that of the newest segment, which stands there, and the other one.
 fn in_order<D: Disk + Drop>(files: Files<D>, side: Side) -> (D, D)
     requires log { IsTrue (D.Disk.is_usable files.log) }
     requires db { IsTrue (D.Disk.is_usable files.db) }
     ensures newest { IsTrue (D.Disk.is_usable result.0) }
     ensures spare { IsTrue (D.Disk.is_usable result.1) }
+    ensures order { result ≡ in_order side files }
 {
     let Files { log, db } = files;
     match side {
@@ -169,11 +229,12 @@ fn with_head<D: Disk + Drop>(
     }
 }
 
-/// Writes a segment with this head into a file, with room for lines.
+/// Writes a segment with this head into a file, with room for lines: so many blocks.
 fn write_segment<D: Disk + Drop>(
     alloc: Global,
     spare: D,
     number: u64,
+    blocks: usize,
     settings: &[u8],
     gateway: &Gateway,
 ) -> Option<Segment<D>>
@@ -187,7 +248,7 @@ fn write_segment<D: Disk + Drop>(
     let Some(writer) = with_head(alloc, writer, settings, gateway) else {
         return None;
     };
-    match writer.finish(alloc, number, BLOCKS) {
+    match writer.finish(alloc, number, blocks) {
         Ok(segment) => Some(segment),
         Err(_) => None,
     }
@@ -217,23 +278,10 @@ impl<F: Folder + Drop> Store for DiskStore<F> {
     }
 
     fn begin(&mut self, gateway: &Gateway) -> bool {
-        let Some((newest, spare)) = self.take_files() else {
-            return false;
-        };
-        let number = self.number;
-        self.number = number.saturating_add(1);
-        let Some(segment) = write_segment(self.alloc, spare, number, &self.settings, gateway)
-        else {
-            return false;
-        };
-        let head = segment.octets();
-        self.side = self.side.other();
-        self.opened = Opened::Current(Current {
-            segment,
-            head,
-            spare: newest,
-        });
-        self.unmark()
+        match self.take_files() {
+            Some((newest, spare)) => self.begin_in(newest, spare, gateway),
+            None => false,
+        }
     }
 
     fn event_octets(&self) -> u64 {

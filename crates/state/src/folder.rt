@@ -3,6 +3,9 @@
 use sqlite_disk::{Disk, Files};
 use thiserror::Error;
 
+/// That many have 3,997,696 octets.
+const BLOCKS: usize = 976;
+
 /// Why the state of a directory isn't opened.
 #[derive(Clone, Copy, Debug, PartialEq, Eq, Error)]
 pub enum FolderFault {
@@ -23,12 +26,22 @@ pub enum FolderFault {
 /// The directory of a state: two files, and a mark that says that they are stale. A start that
 /// finds the mark trusts none of the links in them.
 pub trait Folder {
-    ghost use Rattle.std.specs.Prelude.{◌≡◌, Option, Some, Bool, true, false, IfOk, IsTrue};
+    ghost use Rattle.gateway.specs.Log.{LogEntry};
+    ghost use Rattle.std.specs.Prelude.{◌≡◌, List, [], Option, Some, Bool, true, false, IfOk, IsTrue};
 
     type File: Disk + Drop;
 
     /// Whether the mark stands on the disk, where that is known.
     ghost mark: { Self → Option Bool };
+
+    /// What led to the state at the head of the newest segment, which no code holds.
+    ghost lineage: { List LogEntry } = { [] };
+
+    /// How many blocks of 4,096 zeros stand behind a checkpoint, for the lines to come: a new log is
+    /// due before they are full.
+    fn blocks(&self) -> usize {
+        BLOCKS
+    }
 
     /// Opens both files, locked. Neither may be open: they are dropped before.
     fn open(&mut self) -> Result<Files<Self::File>, FolderFault>

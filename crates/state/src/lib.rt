@@ -2,7 +2,6 @@
 #![tactic(auto)]
 
 mod beginning;
-mod carry;
 mod disk_store;
 mod ends;
 mod event_text;
@@ -32,8 +31,6 @@ pub use pair::Pair;
 pub use renewal::{Patience, is_renewal_due};
 pub use replaying::{EventLines, Lineage, ToldGap, replay};
 pub use standing::Standing;
-pub use start::{
-    Beginning, Found, LinkStart, beginning_of, link_start, missed_at_start, places_at_start,
-};
+pub use start::{Beginning, Found, beginning_of};
 pub use store::Store;
 pub use trail::{Done, Trail};

@@ -1,5 +1,5 @@
 //! What of a log's two files is open.
-ghost use Rattle.std.specs.Prelude.{◌≤◌, IfSome, IsTrue};
+ghost use Rattle.std.specs.Prelude.{◌≤◌};
 ghost use Rattle.segments.specs.Segment.{durable_of};
 
 use segments::Segment;
@@ -25,31 +25,3 @@ pub(crate) enum Opened<D: Disk + Drop> {
     /// The newest segment takes lines.
     Current(Current<D>),
 }
-
-/// Both files, where no write or sync has failed at either.
-pub(crate) fn files_of<D: Disk + Drop>(opened: Opened<D>) -> Option<(D, D)>
-    ensures newest { IfSome result (λ files. IsTrue (D.Disk.is_usable files.0)) }
-    ensures spare { IfSome result (λ files. IsTrue (D.Disk.is_usable files.1)) }
-{
-    let (newest, spare) = match opened {
-        Opened::Neither => return None,
-        Opened::Both(newest, spare) => (newest, spare),
-        Opened::Current(current) => {
-            let Current {
-                segment,
-                head: _,
-                spare,
-            } = current;
-            if !segment.is_open() {
-                return None;
-            }
-            (segment.into_file(), spare)
-        }
-    };
-    if newest.may_be_used() && spare.may_be_used() {
-        Some((newest, spare))
-    } else {
-        None
-    }
-}
-

@@ -1,4 +1,4 @@
-use Rattle.std.proofs.Common.{sym, ◌∙◌}
+use Rattle.std.proofs.Common.{sym}
 use Rattle.state.proofs.EventTexts.{row_behind, no_row_behind, one_row}
 use Rattle.state.proofs.event_text.row_at.Goals as goal
 

@@ -1,4 +1,4 @@
-use Rattle.std.proofs.Common.{◌≡◌, ◌+◌, ◌<◌, sym, subst}
+use Rattle.std.proofs.Common.{◌+◌, ◌<◌, sym, subst}
 use Rattle.state.specs.Keeping.{Keeping}
 use Rattle.state.proofs.Kept.{heard_right, few_faults, few_more}
 use Rattle.state.proofs.keeper.KeeperPort.next.Goals as goal

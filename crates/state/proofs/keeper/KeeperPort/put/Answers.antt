@@ -1,4 +1,4 @@
-use Rattle.std.proofs.Common.{◌≡◌, ◌+◌, ◌<◌, sym, subst}
+use Rattle.std.proofs.Common.{◌+◌, ◌<◌, sym, subst}
 use Rattle.state.specs.Keeping.{Keeping}
 use Rattle.state.proofs.Kept.{put_orderly, few_put, few_stops}
 use Rattle.state.proofs.keeper.KeeperPort.put.Goals as goal

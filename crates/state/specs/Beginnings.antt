@@ -1,0 +1,71 @@
+-- What a run begins with (profile).
+use Rattle.std.specs.Prelude.{◌≡◌, ℕ, ◌+◌, Bool, true, false, List, ◌∷◌, ◌++◌, drop, length, Option, Some, None, if◌then◌else◌}
+use Rattle.gateway.specs.Agrees.{Follows, Rests}
+use Rattle.gateway.specs.Carried.{without_commands}
+use Rattle.gateway.specs.Config.{Settings}
+use Rattle.gateway.specs.Log.{Log}
+use Rattle.gateway.specs.Restored.{IsSavable, state_lines}
+use Rattle.gateway.specs.Setups.{setup_of}
+use Rattle.gateway.specs.State.{State, with_serial}
+use Rattle.segments.specs.Starts.{IsFoundIn, before_zero}
+use Rattle.segments.specs.declared.head.Head.{Head}
+use Rattle.statetext.specs.Text.{lines_in}
+use Rattle.state.specs.Replays.{IsReplayed, ToldGap, events_in_front, whole_lines}
+use Rattle.state.specs.declared.start.Beginning.{Beginning}
+use Rattle.state.specs.declared.start.Beginning.TheVariants as beginnings
+
+-- the run goes on with a state that was kept
+abbrev pub has_past : Beginning → Bool
+has_past beginnings.Anew = false
+has_past beginnings.PutAside = false
+has_past beginnings.LinksReset = true
+has_past beginnings.GoesOn = true
+
+-- where the clock goes on, if there was one
+abbrev pub moment_at : Beginning → ℕ → Option ℕ
+moment_at beginning moment = if has_past beginning then Some moment else None
+
+-- a gateway that has given up each command without an answer
+abbrev pub given_up : State → State
+given_up s = with_serial (without_commands s.serial) s
+
+-- The gateway is in the state that some lines say, and follows this log if that state does.
+abbrev pub HasRead : Settings → Log → (lines : List (List ℕ)) → State → Type 0
+HasRead c log lines s =
+    (first : State) (rest : List (List ℕ)) → lines ≡ state_lines first ++ rest → IsSavable first
+    → Follows (setup_of c) first (Some log) → Follows (setup_of c) s (Some log)
+
+-- The gateway has heard these events behind the state that some lines say, whose log was this one.
+abbrev pub IsRead : Settings → (log : Log) → (lines : List (List ℕ)) → (events : List ℕ)
+    → Option ToldGap → State → Type 0
+IsRead c log lines events gap s =
+    (first : State) (rest : List (List ℕ)) → lines ≡ state_lines first ++ rest → IsSavable first
+    → Follows (setup_of c) first (Some log) → Rests (setup_of c) (Some log)
+    → IsReplayed (setup_of c) log (events_in_front (whole_lines events)) gap s
+
+-- These settings and these lines stand at the head of the log in a file, whose events begin there.
+pub record IsHeadOf (file : List ℕ) (begins : ℕ) (settings : List ℕ) (lines : List (List ℕ)) :
+    Type 0 where
+  pub head : Head
+  pub body : List ℕ
+  pub found : IsFoundIn file head body
+  pub says : lines_in body ≡ settings ∷ lines
+  pub behind : begins ≡ 87 + length body
+
+-- It has heard the events behind the state that these lines say, and has then given up each command
+-- without an answer.
+pub record WentOn (c : Settings) (log : Log) (lines : List (List ℕ)) (events : List ℕ)
+    (gap : Option ToldGap) (s : State) : Type 0 where
+  pub before : State
+  pub read : IsRead c log lines events gap before
+  pub given : s ≡ given_up before
+
+-- A gateway with these settings, which this text says, goes on with what stands in a file. Where the
+-- log there was written under the same text, it went on from the state at its head.
+pub record GoesOnFrom (c : Settings) (text : List ℕ) (log : Log) (file : List ℕ)
+    (gap : Option ToldGap) (s : State) : Type 0 where
+  pub begins : ℕ
+  pub written : List ℕ
+  pub lines : List (List ℕ)
+  pub head : IsHeadOf file begins written lines
+  pub same : written ≡ text → WentOn c log lines (before_zero (drop begins file)) gap s
