@@ -9,6 +9,7 @@ use Rattle.apci.specs.declared.apdu.Uf.TheVariants.{StartAct, StartCon, StopAct,
 use Rattle.apci.specs.Spelling.{spelling}
 use Rattle.session.specs.declared.kinds.Close.{Close}
 use Rattle.session.specs.declared.kinds.Close.TheVariants.{Grammar, SendNumber, ReceiveNumber, Stopped, Timeout, OwnAnswers, Replaced}
+use Rattle.gateway.specs.Course.{here_of}
 use Rattle.gateway.specs.Connections.{closed_by, Channel, no_channel, receiving, sending, ends, present, past, over, AreConnections, IsBegun}
 use Rattle.gateway.specs.Frames.{Connection, Sent, data_frames, objects_of_frames, monitor_objects_sent}
 use Rattle.gateway.specs.Log.{Log, Came, Went, LineIn, Opened, TcpIn, CutOff, Ticked, WallIs, LineOut, TcpOut, Closed, GapOut}
@@ -323,9 +324,9 @@ lines_counted (c ∷ cs) =
 
 -- The lines of the text are those of the connections.
 pub lines_are : Cancels → (p : Setup) (log : Log) → IsFaithful p log → (d : Delivers p log)
-    → connection_lines 1 (counted_in log) ≡ lines_of_connections (connections_in log d.here d.earlier)
+    → connection_lines 1 (counted_in log) ≡ lines_of_connections (connections_in log (here_of d.course) d.course.earlier)
 lines_are cancel p log f d =
     text_lines log
     ∙ ap lines_of_counts (counts_all cancel (present log) (past log)
-    (sent_counts log) d.here d.earlier (counted_log p log f.acts) d.begun d.are)
-    ∙ lines_counted (connections_in log d.here d.earlier)
+    (sent_counts log) (here_of d.course) d.course.earlier (counted_log p log f.acts) d.begun d.are)
+    ∙ lines_counted (connections_in log (here_of d.course) d.course.earlier)

@@ -2,6 +2,7 @@
 use Rattle.std.proofs.Common.{◌≡◌, ℕ, ◌<◌, ◌^◌, List, Option, ap, subst, ◌∙◌}
 use Rattle.ft12.specs.declared.frame.Frame.{Frame}
 use Rattle.link.specs.Secondary.{Secondary}
+use Rattle.gateway.specs.Course.{here_of}
 use Rattle.gateway.specs.Log.{Log}
 use Rattle.gateway.specs.Order.{KeepsOrder}
 use Rattle.gateway.specs.Config.{Settings}
@@ -37,7 +38,7 @@ pub told_run : (c : Settings) (ds : List Directive) (s : Simulated) (closing : L
     (played : IsPlayed (plan_of c ds) s.log answers ss) → ts ≡ tallies_of (plan_of c ds) s.log answers ss played.lived
     → requests_in s.log < 2 ^ 64 → HaveServed c ds s.log 0 ss ts) →
     ((d : Delivers (setup_of c) s.log)
-    → connection_lines 1 (counted_in s.log) ≡ lines_of_connections (connections_in s.log d.here d.earlier))
+    → connection_lines 1 (counted_in s.log) ≡ lines_of_connections (connections_in s.log (here_of d.course) d.course.earlier))
     → IsRun c ds s.log closing
 told_run c ds s closing plan calls faithful rests order lines k delivers serve count =
     let was : IsTold s.plan s.log s.stations k.answers s.standing.tallied.each =

@@ -3,6 +3,7 @@ use Rattle.std.specs.Prelude.{◌≡◌, ◌≤◌, ◌++◌, ℕ, List, Option}
 use Rattle.std.specs.Io.KnownBytes.{Appends}
 use Rattle.ft12.specs.declared.frame.Frame.{Frame}
 use Rattle.link.specs.Secondary.{Secondary}
+use Rattle.gateway.specs.Course.{here_of}
 use Rattle.gateway.specs.Config.{Settings}
 use Rattle.gateway.specs.Log.{Log}
 use Rattle.gateway.specs.Order.{KeepsOrder}
@@ -41,7 +42,8 @@ pub record IsRun (c : Settings) (ds : List Directive) (log : Log) (closing : Lis
   pub delivers : Delivers (setup_of c) log
   pub served : HaveServed c ds log 0 stations tallies
   pub lines : closing ≡ closing_lines ds stations
-      (lines_of_connections (connections_in log delivers.here delivers.earlier)) tallies
+      (lines_of_connections
+      (connections_in log (here_of delivers.course) delivers.course.earlier)) tallies
 
 -- What was written is the text of a run of the script: a line for each action, and closing lines.
 pub record IsSimulated (c : Settings) (ds : List Directive)

@@ -2,6 +2,7 @@
 ghost use Rattle.std.specs.Prelude.{◌≡◌, ◌<◌, ◌^◌, List, Option};
 ghost use Rattle.ft12.specs.declared.frame.Frame.{Frame};
 ghost use Rattle.link.specs.Secondary.{Secondary};
+ghost use Rattle.gateway.specs.Course.{here_of};
 ghost use Rattle.gateway.specs.Config.{Settings, AreDistinct};
 ghost use Rattle.gateway.specs.Log.{Log};
 ghost use Rattle.gateway.specs.Reports.{Setup};
@@ -53,7 +54,7 @@ pub fn stations_are_honest()
 pub fn connections_are_counted()
     ensures { (p : Setup) (log : Log) → IsFaithful p log → (d : Delivers p log) →
         connection_lines 1 (counted_in log)
-        ≡ lines_of_connections (connections_in log d.here d.earlier) }
+        ≡ lines_of_connections (connections_in log (here_of d.course) d.course.earlier) }
 {
     spellings_cancel();
 }

@@ -184,7 +184,7 @@ fn move_on<D: Disk + Drop>(
     ensures same { begins_at start.new ≡ begins_at start.old }
 {
     let Opening { settings, lines } = opening;
-    let before = match read_config(alloc, &settings) {
+    let before = match read_config(alloc, &settings, false) {
         Ok(before) => before,
         Err(fault) => return Err(unread(fault)),
     };
