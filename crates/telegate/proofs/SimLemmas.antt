@@ -24,7 +24,7 @@ use Rattle.telegate.specs.Answers.{IsSimulationOf, IsSimulatedBy}
 use Rattle.telegate.proofs.Poured.{appends_none}
 use Rattle.telegate.specs.Printed.{IsClosedBy}
 use Rattle.telegate.specs.declared.fault.Fault.{Fault}
-use Rattle.telegate.specs.declared.fault.Fault.TheVariants.{Config, Trace, Script, Record, Differs, Sizes, Octets, Address, Device, Unread, NoMemory}
+use Rattle.telegate.specs.declared.fault.Fault.TheVariants.{Config, Trace, Script, Record, Sizes, Octets, Address, NoState, StateInUse, StateUnusable, Device, Unread, NoMemory}
 
 length-events : (log : Log) → length (events_of log) ≡ calls_in log
 length-events [] = refl
@@ -111,7 +111,9 @@ ended c ds log closing old new (Err (Config why)) run h = absurd h
 ended c ds log closing old new (Err (Trace n)) run h = absurd h
 ended c ds log closing old new (Err (Script n)) run h = absurd h
 ended c ds log closing old new (Err (Record n)) run h = absurd h
-ended c ds log closing old new (Err (Differs n)) run h = absurd h
+ended c ds log closing old new (Err NoState) run h = absurd h
+ended c ds log closing old new (Err StateInUse) run h = absurd h
+ended c ds log closing old new (Err StateUnusable) run h = absurd h
 ended c ds log closing old new (Err Sizes) run h = absurd h
 ended c ds log closing old new (Err Octets) run h = absurd h
 ended c ds log closing old new (Err Address) run h = absurd h
@@ -132,7 +134,9 @@ scripted config text c ds old new (Err (Config why)) read said h = absurd h
 scripted config text c ds old new (Err (Trace n)) read said h = absurd h
 scripted config text c ds old new (Err (Script n)) read said h = absurd h
 scripted config text c ds old new (Err (Record n)) read said h = absurd h
-scripted config text c ds old new (Err (Differs n)) read said h = absurd h
+scripted config text c ds old new (Err NoState) read said h = absurd h
+scripted config text c ds old new (Err StateInUse) read said h = absurd h
+scripted config text c ds old new (Err StateUnusable) read said h = absurd h
 scripted config text c ds old new (Err Sizes) read said h = absurd h
 scripted config text c ds old new (Err Octets) read said h = absurd h
 scripted config text c ds old new (Err Address) read said h = absurd h
