@@ -32,5 +32,5 @@ pub use laws::lines_of_a_kind_are_a_second_apart;
 pub use note::{Line, Note, Tally, Trouble};
 pub use port::Journal;
 pub use sink::{Sink, StandardError};
-pub use teller::Teller;
+pub use teller::{Teller, taken_places};
 pub use watch::Watch;

@@ -32,7 +32,7 @@ impl<S: Sink + Drop> Model for Teller<S> {
 }
 
 /// How many pieces the gateway keeps.
-fn taken_places(gateway: &Gateway) -> u64
+pub fn taken_places(gateway: &Gateway) -> u64
     ensures { result ≡ counted (length (kept gateway.now.centre.queue)) }
 {
     let mut taken = 0u64;
@@ -90,7 +90,7 @@ impl<S: Sink + Drop> Teller<S> {
     }
 
     /// An action goes out.
-    pub(crate) fn put(&mut self, now: u64, action: &Action<'_>)
+    pub fn put(&mut self, now: u64, action: &Action<'_>)
         ensures { Puts self.old now (output_of action.now) self.new }
     {
         if self.is_over {

@@ -7,7 +7,7 @@ use Rattle.sim.specs.declared.directive.Directive.{Directive}
 use Rattle.sim.specs.Scripts.{IsScriptOf}
 use Rattle.telegate.specs.Answers.{IsSimulationOf, IsSimulatedBy}
 use Rattle.telegate.specs.declared.fault.Fault.{Fault}
-use Rattle.telegate.specs.declared.fault.Fault.TheVariants.{Config, Trace, Script, Record, Differs, Sizes, Octets, Address, Device, Unread, NoMemory}
+use Rattle.telegate.specs.declared.fault.Fault.TheVariants.{Config, Trace, Script, Record, Sizes, Octets, Address, NoState, StateInUse, StateUnusable, Device, Unread, NoMemory}
 
 -- the command, where its files were read
 pub scripted : (config text : List ℕ) (c : Settings) (ds : List Directive) (old new : Option (List ℕ))
@@ -24,7 +24,9 @@ scripted config text c ds old new (Err (Config why)) read said h = absurd h
 scripted config text c ds old new (Err (Trace n)) read said h = absurd h
 scripted config text c ds old new (Err (Script n)) read said h = absurd h
 scripted config text c ds old new (Err (Record n)) read said h = absurd h
-scripted config text c ds old new (Err (Differs n)) read said h = absurd h
+scripted config text c ds old new (Err NoState) read said h = absurd h
+scripted config text c ds old new (Err StateInUse) read said h = absurd h
+scripted config text c ds old new (Err StateUnusable) read said h = absurd h
 scripted config text c ds old new (Err Sizes) read said h = absurd h
 scripted config text c ds old new (Err Octets) read said h = absurd h
 scripted config text c ds old new (Err Address) read said h = absurd h

@@ -12,3 +12,4 @@ pub mod Source
 pub mod Parts
 pub mod Lives
 pub mod Sites
+pub mod Living

@@ -6,7 +6,7 @@ ghost use Rattle.telegate.specs.declared.host.Unread.TheVariants as unread;
 ghost use Rattle.telegate.specs.declared.host.Wishes.{Wishes};
 
 use crate::fault::Fault;
-use crate::living::{read_live, run_anew};
+use crate::living::{read_live, run_at};
 use crate::running::DeviceFailed;
 use crate::site::Process;
 use crate::source::Source;
@@ -14,8 +14,7 @@ use live::Guests;
 use std::fs::File;
 use std::io;
 use std::io::Read;
-use std::net::{Net, TcpListener, TcpStream};
-use std::rt::{Clock, Files};
+use std::rt::Files;
 
 /// A file that has nothing, which each system has.
 const NOWHERE: &str = "/dev/null";
@@ -83,28 +82,22 @@ pub(crate) trait Host {
 
 /// The system of a process. Of what its files hold nothing is known.
 #[derive(Clone, Copy)]
-pub(crate) struct System<'r, R> {
-    pub(crate) rt: &'r R,
+pub(crate) struct System<'r> {
+    pub(crate) rt: &'r HostRuntime,
     /// Whether its standard error is a terminal, and its standard output isn't.
     pub(crate) is_watched: bool,
 }
 
-impl<R> Host for System<'_, R>
-where
-    R: Files
-        + Print
-        + Eprint
-        + AllocGlobal
-        + Clock
-        + Net<Listener = TcpListener, Stream = TcpStream>,
-{
+impl Host for System<'_> {
     ghost has = { λ _ _ _. Unit {0} };
 
     ghost lacks = { λ _ _. Unit {0} };
 
-    ghost ran = { λ _ _ _ _. Unit {0} };
+    ghost use Rattle.telegate.specs.Living.{HasRunBy};
 
-    type Text = R::File;
+    ghost ran = { λ _ text _ ended. HasRunBy text ended };
+
+    type Text = File;
 
     fn read(&self, name: &str) -> Result<Vec<u8>, Unread> {
         match std::fs::read(self.rt, name) {
@@ -114,7 +107,7 @@ where
         }
     }
 
-    fn open(&self, name: &str) -> Result<R::File, Unread> {
+    fn open(&self, name: &str) -> Result<File, Unread> {
         match File::open(self.rt, name) {
             Ok(file) => Ok(file),
             Err(fault) if fault.kind() == io::ErrorKind::OutOfMemory => Err(Unread::NoMemory),
@@ -134,17 +127,16 @@ where
     }
 
     fn run(&self, config: &[u8], wishes: Wishes<'_>) -> Result<(), Fault> {
+        let (settings, places) = read_live(self.rt.alloc(), config)?;
         // Held until the run is over.
         let Ok(_held) = standard_descriptors(self.rt) else {
             return Err(Fault::Device);
         };
-        let (config, places) = read_live(self.rt.alloc(), config)?;
         let site = Process {
             rt: self.rt,
             places: &places,
         };
-        let lived = run_anew(&site, &config, wishes)?;
-        match lived.ended {
+        match run_at(&site, &settings, config, wishes)? {
             Ok(()) => Ok(()),
             Err(DeviceFailed) => Err(Fault::Device),
         }

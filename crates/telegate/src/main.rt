@@ -41,39 +41,35 @@ mod site;
 mod source;
 
 use fault::{Fault, USAGE};
-use host::System;
+use host::{Host, System};
 use performing::tell;
 use shell::obey;
 use std::io;
 use std::io::{IsTerminal, Write};
-use std::net::{Net, TcpListener, TcpStream};
 use std::process::ExitCode;
-use std::rt::{Clock, Env, Files};
+use std::rt::Env;
 
 fn main(rt: HostRuntime) -> ExitCode {
     let mut out = rt.stdout();
     let mut err = rt.stderr();
-    ExitCode::from(run(&rt, &mut out, &mut err))
+    // Lines that pass on a terminal tell by their moments how far a run has come.
+    let is_watched = err.is_terminal() && !out.is_terminal();
+    let system = System {
+        rt: &rt,
+        is_watched,
+    };
+    ExitCode::from(run(&rt, &system, &mut out, &mut err))
 }
 
 /// Does what the process's words ask for, and answers the exit status.
-fn run<R, W: Write + IsTerminal, E: Write + IsTerminal>(rt: &R, out: &mut W, err: &mut E) -> u8
-where
-    R: Env
-        + Files
-        + Print
-        + Eprint
-        + AllocGlobal
-        + Clock
-        + Net<Listener = TcpListener, Stream = TcpStream>,
-{
+fn run<R: Env + AllocGlobal, H: Host, W: Write, E: Write>(
+    rt: &R,
+    system: &H,
+    out: &mut W,
+    err: &mut E,
+) -> u8 {
     match words_of(rt) {
-        Ok(words) => {
-            // Lines that pass on a terminal tell by their moments how far a run has come.
-            let is_watched = err.is_terminal() && !out.is_terminal();
-            let system = System { rt, is_watched };
-            obey(rt.alloc(), &system, words.as_slice(), out, err)
-        }
+        Ok(words) => obey(rt.alloc(), system, words.as_slice(), out, err),
         Err(Unspoken::NoMemory) => tell(&Fault::NoMemory, err),
         Err(Unspoken::NotText) => {
             let _ = writeln!(err, "error: the words are not UTF-8");

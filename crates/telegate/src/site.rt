@@ -8,10 +8,12 @@ use live::{
 };
 use record::{Sheet, StandardOutput};
 use settings::LiveSettings;
-use std::alloc::Global;
+use state::Folder;
+use state_files::Directory;
+use std::alloc::{AllocError, Global};
 use std::io;
-use std::io::{Eprint, ErrorKind, Print};
-use std::net::{Net, SocketAddr, TcpListener, TcpStream};
+use std::io::ErrorKind;
+use std::net::{Net, SocketAddr, TcpStream};
 use std::rt::Clock;
 
 /// Why an end can't be had.
@@ -39,6 +41,7 @@ pub(crate) trait Site {
     type Line: Wire + Reached;
     type Door: Door + Drop;
     type Clock: live::Clock + Drop;
+    type Folder: Folder + Drop;
     type Sink: Sink + Drop;
     type Sheet: Sheet + Drop;
 
@@ -59,12 +62,15 @@ pub(crate) trait Site {
 
     /// A clock that begins at this moment, in ms.
     fn clock(&self, moment: u64) -> Result<Self::Clock, Refusal>;
+
+    /// The directory of this name, in which a state is kept. Nothing in it is touched yet.
+    fn folder(&self, name: &str) -> Result<Self::Folder, AllocError>;
 }
 
 /// The ends that a process has at these places.
 #[derive(Clone, Copy)]
-pub(crate) struct Process<'r, R> {
-    pub(crate) rt: &'r R,
+pub(crate) struct Process<'r> {
+    pub(crate) rt: &'r HostRuntime,
     pub(crate) places: &'r LiveSettings,
 }
 
@@ -106,29 +112,27 @@ impl<R: Net<Stream = TcpStream> + Clock> Reached for ProcessLine<'_, R> {
     }
 }
 
-impl<'r, R> Site for Process<'r, R>
-where
-    R: Net<Listener = TcpListener, Stream = TcpStream> + Clock + Print + Eprint + AllocGlobal,
-{
-    type Line = ProcessLine<'r, R>;
-    type Door = CentreListener<'r, R>;
-    type Clock = SystemClock<'r, R>;
-    type Sink = StandardError<'r, R>;
-    type Sheet = StandardOutput<'r, R>;
+impl<'r> Site for Process<'r> {
+    type Line = ProcessLine<'r, HostRuntime>;
+    type Door = CentreListener<'r, HostRuntime>;
+    type Clock = SystemClock<'r, HostRuntime>;
+    type Folder = Directory;
+    type Sink = StandardError<'r, HostRuntime>;
+    type Sheet = StandardOutput<'r, HostRuntime>;
 
     fn alloc(&self) -> Global {
         self.rt.alloc()
     }
 
-    fn sink(&self) -> StandardError<'r, R> {
+    fn sink(&self) -> StandardError<'r, HostRuntime> {
         StandardError::new(self.rt)
     }
 
-    fn sheet(&self) -> StandardOutput<'r, R> {
+    fn sheet(&self) -> StandardOutput<'r, HostRuntime> {
         StandardOutput::new(self.rt)
     }
 
-    fn door(&self) -> Result<(CentreListener<'r, R>, Option<SocketAddr>), Refusal> {
+    fn door(&self) -> Result<(CentreListener<'r, HostRuntime>, Option<SocketAddr>), Refusal> {
         match CentreListener::listen(self.rt, self.places.listen.as_str()) {
             Ok(door) => {
                 let address = door.address().ok();
@@ -138,18 +142,22 @@ where
         }
     }
 
-    fn line(&self, redial: bool) -> Result<ProcessLine<'r, R>, Refusal> {
+    fn line(&self, redial: bool) -> Result<ProcessLine<'r, HostRuntime>, Refusal> {
         match reached(self.rt, self.places.line.as_str(), redial) {
             Ok(line) => Ok(line),
             Err(fault) => Err(refusal_by(line_trouble(&fault), &fault)),
         }
     }
 
-    fn clock(&self, moment: u64) -> Result<SystemClock<'r, R>, Refusal> {
+    fn clock(&self, moment: u64) -> Result<SystemClock<'r, HostRuntime>, Refusal> {
         match SystemClock::start_at(self.rt, moment) {
             Ok(clock) => Ok(clock),
             Err(fault) => Err(refusal_by(Trouble::LineUnreached, &fault)),
         }
+    }
+
+    fn folder(&self, name: &str) -> Result<Directory, AllocError> {
+        Ok(Directory::new(*self.rt, String::from_str(self.rt.alloc(), name)?))
     }
 }
 
