@@ -87,7 +87,7 @@ impl Commands {
     ghost use Rattle.command.specs.Judging.{answer_of, judged, admitted, placed, ends_selection, without_selection, fault as fault_of, cause_fault as fault_of_cause, address_fault as fault_of_addresses, lacks_selection, lacks_place, makes_selection, forwarded, queued, selected, others};
     ghost use Rattle.command.specs.Stations.{is_addressed};
 
-    /// No command, no selection and no own answer. This alone takes memory.
+    /// No command, no selection and no own answer. This takes memory for all that may be kept.
     ///
     /// `stations` are those of the line, in the order of the settings, at most 32; `sizes` those of
     /// the line's ASDUs; `select_ms` is how long a select may wait for its con, and how long an

@@ -13,8 +13,9 @@
 //!
 //! Proved: each call is one small function on the two lists. Above it, after every list of calls
 //! the queue keeps what was pushed and isn't acknowledged, in its order: nothing is overwritten or
-//! lost. Only `new` takes memory, and after it no call can fail. The lines that a queue puts give
-//! the same queue again ([`Events::put_state`], [`Events::read_state`]).
+//! lost. Only a new queue, one that is read and one that gets more places ([`Events::carry`]) take
+//! memory, and no other call can fail. The lines that a queue puts give the same queue again
+//! ([`Events::put_state`], [`Events::read_state`]).
 #![tactic(auto)]
 
 ghost use Rattle.std.specs.Map.Iter.{TakesFirst, deref};
@@ -68,7 +69,7 @@ impl Model for Events {
 impl Events {
     ghost use Rattle.events.specs.Queue.{empty, kept, free_places, pushed, marked_sent, acknowledged, rewound, octets_of};
 
-    /// An empty queue of so many places. This alone takes memory.
+    /// An empty queue of so many places. This takes memory for them.
     pub fn new(alloc: Global, places: usize) -> Result<Events, NoMemory>
         ensures { IfOk result (λ e. e ≡ empty places) }
     {

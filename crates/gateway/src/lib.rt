@@ -20,7 +20,12 @@
 //! All of these speak of one course of the log: there is no other ([`one_course`]), and of two
 //! causes never both stand ([`one_cause`]). What is free is only how far the octets of an event
 //! were judged where the device failed in its step. A port whose device fails breaks none of this
-//! for the log so far.
+//! for the log so far. What is due to the control centre is given ([`what_is_due_is_given`]), and on
+//! the line turns end, no station starves and commands go before polls ([`logs_keep_turns`]).
+//!
+//! At a restart a gateway is read from the lines of its state ([`Gateway::read_state`]), gives up
+//! the commands without an answer ([`Gateway::give_up_commands`]), and goes on with other settings
+//! where these were changed ([`Gateway::carried`], [`stations_go_on_by_their_addresses`]).
 #![tactic(auto)]
 
 mod config;
@@ -48,7 +53,7 @@ pub use going_on::stations_go_on_by_their_addresses;
 pub use history::History;
 pub use laws::{
     counts_tell_commands, courses_keep_commands, one_cause, one_course, one_reading,
-    settings_are_kept, settings_reach_the_promises, steps_leave_nothing_open,
+    settings_are_kept, settings_reach_the_promises, steps_leave_nothing_open, what_is_due_is_given,
 };
 pub use ordering::{moments_never_fall, steps_keep_their_order};
 pub use ports::{Action, Event, Next, Port};

@@ -24,6 +24,9 @@
 //!   ([`spoilt_exchanges_are_counted`]);
 //! - a reset that ends a session whose last report may be lost is told, and no other
 //!   ([`gaps_are_told`], [`gaps_are_ended_sessions`]);
+//! - where a link is given up at a restart no other station changes
+//!   ([`giving_up_is_for_one_station`]), and where a line goes on with other settings each station
+//!   that goes on keeps its frame count bit ([`frame_count_bits_go_on`]);
 //! - what the crates above go by is one record ([`line_keeps_the_procedures`]);
 //! - a station runs as an outstation that hears each request to it ([`station_is_an_outstation`]),
 //!   and its answers say what waits there ([`station_tells_what_waits`]);

@@ -229,7 +229,7 @@ fn inner_in(assembler: &mut Assembler, piece: &[u8]) -> usize
 impl Master {
     /// A primary station of the stations with these link addresses, in the order of their turns.
     /// Their links are down. It asks for at least one, and for addresses that fit their size. Only
-    /// this call takes memory: `Err` where there is none.
+    /// this call and [`Master::reseated`] take memory: `Err` where there is none.
     pub fn new(alloc: Global, settings: LinkSettings, addresses: &[u16]) -> Result<Master, NoMemory>
         requires some { 0 < length addresses.now }
         requires fit { All (FitsAddress settings.size) addresses.now }
