@@ -6,7 +6,6 @@ pub mod Addresses
 pub mod Turning
 pub mod Lives
 pub mod Begins
-pub mod Settled
 pub mod AuditLemmas
 pub mod Worded
 pub mod Poured
