@@ -1,6 +1,5 @@
 -- What a live run begins with.
 use Rattle.std.proofs.Common.{◌≡◌, ◌++◌, ℕ, List, [], Option, Some, None, refl, sym, ap, subst, ◌∙◌}
-use Rattle.std.specs.Prelude.{IfSome}
 use Rattle.gateway.specs.Log.{Log}
 use Rattle.record.specs.Recording.{Recording, added, log_of, told_behind, told_first}
 use Rattle.record.specs.Written.{IsText, IsWritten}

@@ -1,5 +1,5 @@
 -- What passes behind other lives.
-use Rattle.std.proofs.Common.{◌≡◌, ◌++◌, Option, Some, None, ap, ◌∙◌}
+use Rattle.std.proofs.Common.{◌≡◌, Option, Some, None, ap, ◌∙◌}
 use Rattle.std.proofs.Common.{append_assoc}
 use Rattle.gateway.specs.Log.{Log, tell}
 use Rattle.telegate.specs.Lives.{behind}

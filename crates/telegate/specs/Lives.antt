@@ -1,5 +1,5 @@
 -- A run behind the lives in which its gateway came to be as it is (profile).
-use Rattle.std.specs.Prelude.{◌++◌, List, Option, Some, None}
+use Rattle.std.specs.Prelude.{◌++◌, Option, Some, None}
 use Rattle.gateway.specs.Log.{Log}
 use Rattle.record.specs.Recording.{Recording, log_of, told_first}
 

@@ -1,5 +1,5 @@
 -- What is told of a live run goes to new places (profile).
-use Rattle.std.specs.Prelude.{◌≡◌, ℕ, List, [], Option, Some, None, IfSome}
+use Rattle.std.specs.Prelude.{◌≡◌, ℕ, List, [], Option, IfSome}
 use Rattle.gateway.specs.Log.{Log}
 
 -- nothing stands on a sheet yet, and nothing passed it, as far as it tells

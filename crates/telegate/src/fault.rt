@@ -94,7 +94,8 @@ impl Fault {
             | Fault::Sizes
             | Fault::Octets => BAD_CONTENT,
             Fault::Address | Fault::NoState => USAGE,
-            Fault::StateInUse | Fault::StateUnusable | Fault::Device | Fault::Unread => DEVICE_FAILED,
+            Fault::StateInUse | Fault::StateUnusable | Fault::Device | Fault::Unread =>
+                DEVICE_FAILED,
             Fault::NoMemory => NO_MEMORY,
         }
     }

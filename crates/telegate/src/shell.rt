@@ -144,7 +144,15 @@ pub(crate) fn respond<H: Host, W: Write, E: Write>(
             state,
             state_or_stop,
             allow,
-        } => match wishes_of(alloc, *redial, *log, *record, *state, *state_or_stop, *allow) {
+        } => match wishes_of(
+            alloc,
+            *redial,
+            *log,
+            *record,
+            *state,
+            *state_or_stop,
+            *allow,
+        ) {
             Ok(wishes) => run_file(host, *config, wishes, err),
             Err(fault) => tell(&fault, err),
         },

@@ -39,10 +39,15 @@ pub(crate) trait Site {
     ghost use Rattle.telegate.specs.Sites.{IsNew};
 
     type Line: Wire + Reached;
+
     type Door: Door + Drop;
+
     type Clock: live::Clock + Drop;
+
     type Folder: Folder + Drop;
+
     type Sink: Sink + Drop;
+
     type Sheet: Sheet + Drop;
 
     fn alloc(&self) -> Global;
@@ -114,10 +119,15 @@ impl<R: Net<Stream = TcpStream> + Clock> Reached for ProcessLine<'_, R> {
 
 impl<'r> Site for Process<'r> {
     type Line = ProcessLine<'r, HostRuntime>;
+
     type Door = CentreListener<'r, HostRuntime>;
+
     type Clock = SystemClock<'r, HostRuntime>;
+
     type Folder = Directory;
+
     type Sink = StandardError<'r, HostRuntime>;
+
     type Sheet = StandardOutput<'r, HostRuntime>;
 
     fn alloc(&self) -> Global {
