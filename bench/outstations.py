@@ -87,8 +87,9 @@ class Field(threading.Thread):
         self.stations = {address: Outstation(address, chance) for address in addresses}
         self.chance = chance
         self.loss = loss
-        # The number of each request to a station that is silent altogether.
+        # The stations that are silent altogether, and whether one is from its next command on.
         self.silent = set()
+        self.mute_at_command = False
         self.requests = 0
         self.start()
 
@@ -111,9 +112,11 @@ class Field(threading.Thread):
     def hear(self, line):
         _, address, frame = line.request()
         self.requests += 1
+        control = frame[1] if frame[0] == 0x10 else frame[4]
+        if self.mute_at_command and control % 16 == COMMAND:
+            self.silent.add(address)
         if address in self.silent or self.chance.random() < self.loss:
             return
-        control = frame[1] if frame[0] == 0x10 else frame[4]
         answer = self.stations[address].answer(control, frame[6:-2])
         if answer is not None and self.chance.random() >= self.loss:
             line.answer(answer)

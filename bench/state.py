@@ -385,7 +385,7 @@ def a_full_disk(count, program):
         gateway.waits("listening")
         queue_up(gateway, 4)
         gateway.kill()
-        gateway.start(preexec_fn=limit_files(100))
+        gateway.start(preexec_fn=limit_files(1_000_000))
         count.judge("a full disk is told", gateway.waits("isn't kept"), gateway.said)
         queue_up(gateway, 2)
         gateway.kill()
@@ -401,7 +401,7 @@ def a_full_disk(count, program):
         count.judge("each link is reset once", anew == [n + 1 for n in resets], (resets, anew))
         count.judge("and the gaps are told", all(f"station {a} gap" in told for a in gateway.field.stations), told)
         gateway.flags = ["--state-or-stop"]
-        gateway.start(preexec_fn=limit_files(100))
+        gateway.start(preexec_fn=limit_files(1_000_000))
         try:
             status = gateway.process.wait(timeout=ends.PATIENCE)
         except subprocess.TimeoutExpired:
@@ -453,15 +453,16 @@ def a_command_at_a_restart(count, program):
         gateway.start()
         gateway.waits("listening")
         queue_up(gateway, 2)
-        gateway.field.silent.add(1)
+        gateway.field.mute_at_command = True
         visitor = Visitor(gateway.door, [1], random.Random(1), commands=1, stays=1)
         end = time.monotonic() + ends.PATIENCE
-        while not visitor.sent and time.monotonic() < end:
+        while not gateway.field.silent and time.monotonic() < end:
             time.sleep(0.02)
         visitor.commands = 0
-        time.sleep(1)
+        time.sleep(0.5)
         gateway.kill()
         visitor.is_over = True
+        gateway.field.mute_at_command = False
         gateway.field.silent.clear()
         station = gateway.field.stations[1]
         resets = station.resets
@@ -472,6 +473,9 @@ def a_command_at_a_restart(count, program):
         count.judge("and no other", gateway.field.stations[2].resets == 1, gateway.field.stations[2].resets)
         got = drained(gateway)
         told = gateway.kill()
+        for heard in visitor.connections:
+            for where, number in heard:
+                got[where].append(number)
         count.judge("no report is lost by it", all(sorted(set(n)) == [1, 2, 3, 4] for n in got.values()), got)
         count.judge("and no gap told", "gap" not in told, told)
         gateway.field.server.close()
