@@ -83,9 +83,9 @@ pub record IsRelayed (p : Setup) (log : Log) (i : ℕ) (turns : List Turn) : Typ
       ≡ commands (all_done turns)
 
 -- Nothing is lost, and nothing taken twice: the monitor objects sent on each connection are a
--- contiguous run of the objects taken, from the first that no earlier connection acknowledged (which
--- the log's one course tells, also where a connection was closed for want of a place for an own
--- answer, whose octets alone don't tell how far they were taken); the
+-- contiguous run of the objects taken, from the first that no earlier connection acknowledged. (The
+-- log's one course tells which that is, also where a connection was closed for want of a place for
+-- an own answer: its octets alone don't tell how far they were taken.) The
 -- objects taken are a merge of those taken from the stations; and from an honest outstation whose
 -- link stays up, what was taken is what it reported, or all but its last report. Each command that
 -- is put on the line for the first time is one of the control centre's, given once, in the line's

@@ -41,8 +41,9 @@ impl Events {
     }
 
     /// Reads a queue from its lines. It has so many places. Where there are more pieces nothing is
-    /// lost, and it is full until enough have left. `line` and `octets` are room for one line. `Wrong` says that what comes are no queue's lines,
-    /// `NoMemory` that there is none for the places.
+    /// lost, and it is full until enough have left. `line` and `octets` are room for one line.
+    /// `Wrong` says that what comes are no queue's lines, `NoMemory` that there is none for the
+    /// places.
     pub fn read_state<L: Lines>(
         alloc: Global,
         places: usize,

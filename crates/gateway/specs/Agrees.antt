@@ -103,8 +103,8 @@ pub record Presently (s : Centre) (octets : Channel) (unjudged : List ℕ)
 
 -- The queue
 
--- What was taken: acknowledged on earlier connections, sent on this one, and unsent; and so octet by
--- octet, piece by piece. Each piece has a place until it is acknowledged.
+-- What was taken: acknowledged on earlier connections, sent on this one, and unsent; and so piece
+-- by piece, octet by octet. Each piece has a place until it is acknowledged.
 pub record Carries (objs : List InformationObject) (parts : ℕ) (all : List (List ℕ))
     (earlier : List Connection) (sent : List Sent) (unsent : List (List ℕ)) : Type 0 where
   pub whole : list_all has_objects unsent ≡ true

@@ -170,9 +170,9 @@ with_sent frame now c =
       works = sent_works frame c.works;
     }
 
--- An I frame goes out once all confirmations are out. It bears the next of the objects taken, and is
--- the next of the pieces of reports, octet by octet, once no own answer waits; or it is the oldest
--- own answer (5.3; profile).
+-- An I frame goes out once all confirmations are out. It bears the next of the objects taken, and
+-- is the next of the pieces of reports, octet by octet, once no own answer waits; or it is the
+-- oldest own answer (5.3; profile).
 pub record IsNextData (p : Setup) (log : Log) (asdu : List ℕ) (c : Course) : Type 0 where
   pub confirmed : confirmation_of c.talk ≡ None
   pub own : has_objects asdu ≡ false → first_answer c.works.serial.commands.answers ≡ Some asdu

@@ -1,5 +1,5 @@
--- The turns of the line, as a log shows them (this gateway's own profile, over the procedures of IEC
--- 60870-5-2).
+-- The turns of the line, as a log shows them (this gateway's own profile, over the procedures of
+-- IEC 60870-5-2).
 use Rattle.std.specs.Prelude.{◌≡◌, ℕ, suc, ◌<◌, ◌≤◌, ◌*◌, ◌-◌, List, ◌++◌, length}
 use Rattle.ft12.specs.Fronts.{front_of}
 use Rattle.link.specs.Exchanges.{no_exchanges, all_of, views}

@@ -52,8 +52,8 @@ pub record Ends : Type 0 where
   pub walled : Walled
   pub log : Log
 
--- what is fixed of a port from its start: who may come in, how long an answer is awaited, in ms, and
--- whether the run goes on after a restart
+-- what is fixed of a port from its start: who may come in, how long an answer is awaited, in ms,
+-- and whether the run goes on after a restart
 pub record Fixture : Type 0 where
   pub guests : Guests
   pub answer_ms : ℕ

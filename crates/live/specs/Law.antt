@@ -77,8 +77,8 @@ KeepsOut old (next.Wall now number) new = IsSameOrNone (peer_of old) new.connect
 KeepsOut old next.Done new = IsSameOrNone (peer_of old) new.connection
 KeepsOut old next.Fault new = IsSameOrNone (peer_of old) new.connection
 
--- The moments that the clock told for an event: `begun`, when the last round of looks began, `quiet`,
--- when each before it did, the newest first, and `now`, behind the last one.
+-- The moments that the clock told for an event: `begun`, when the last round of looks began,
+-- `quiet`, when each before it did, the newest first, and `now`, behind the last one.
 pub record SomeRounds (before after : List ℕ) (Holds : ℕ → List ℕ → ℕ → Type 0) : Type 0 where
   pub begun : ℕ
   pub quiet : List ℕ
@@ -100,7 +100,8 @@ first_of begun (earlier ∷ quiet) = first_of earlier quiet
 -- Why a tick is told: 100 ms have passed since the first round began; the answer that was awaited
 -- then comes too late; the wall clock is due; the event's moment is too far behind the clock for
 -- octets that came, which are held; or 200 rounds before the last one found nothing.
-pub data IsTickDue (old new : Timing) (walled : Walled) (first : ℕ) (quiet : List ℕ) (now : ℕ) : Type 0 where
+pub data IsTickDue (old new : Timing) (walled : Walled) (first : ℕ) (quiet : List ℕ) (now : ℕ) :
+    Type 0 where
   LongSince : first + 100 ≤ now → IsTickDue old new walled first quiet now
   TooLate : is_awaited old ≡ true → is_awaited new ≡ false
       → IsTickDue old new walled first quiet now

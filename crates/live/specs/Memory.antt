@@ -1,4 +1,4 @@
--- What has happened at ends in memory, which note it as entries of a log (this gateway's own profile).
+-- What has happened at ends in memory, which note it as entries of a log (profile).
 use Rattle.std.specs.Prelude.{ℕ, List, [], ◌∷◌, Bool, true, false, ◌==◌}
 use Rattle.gateway.specs.Log.{Log, Came, Went, LineIn, LineOut, Opened, CutOff, Ticked, WallIs}
 use Rattle.live.specs.Wires.{Happening, Gave, WasQuiet, WasGone, Wrote}

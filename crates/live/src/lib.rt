@@ -8,10 +8,11 @@
 //!
 //! Proved, for any ends that tell what happens at them: an event is the first thing found in rounds
 //! of looks, which begin after the source of the last event
-//! ([`the_round_goes_on_behind_the_last_event`]); each source of a round is looked at once, and none
-//! after the one that had something, so no source hides another ([`no_source_hides_another`]). Where
-//! nothing is found a tick is told: 100 ms after the first round began, at once where the time of an
-//! exchange is over, and where the wall clock is due ([`looks_for_an_event_begin_within_100_ms`],
+//! ([`the_round_goes_on_behind_the_last_event`]); each source of a round is looked at once, and
+//! none after the one that had something, so no source hides another ([`no_source_hides_another`]).
+//! Where nothing is found a tick is told: 100 ms after the first round began, at once where the
+//! time of an exchange is over, and where the wall clock is due
+//! ([`looks_for_an_event_begin_within_100_ms`],
 //! [`an_exchange_that_is_over_is_told_at_once`], [`a_tick_has_a_reason`]).
 //!
 //! A connection that is gone is a cut; after a write to the connection that failed the next event

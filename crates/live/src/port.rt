@@ -409,9 +409,9 @@ impl<L: Wire, D: Door + Drop, C: Clock + Drop> Live<L, D, C> {
         (self.read_clock(), found)
     }
 
-    /// A tick is due at this moment, behind a round that found nothing: enough time has passed since
-    /// the first round began, or the answer that was awaited then has come too late, or the wall
-    /// clock is due.
+    /// A tick is due at this moment, behind a round that found nothing: enough time has passed
+    /// since the first round began, or the answer that was awaited then has come too late, or the
+    /// wall clock is due.
     fn is_tick_due(&self, first: u64, was_awaited: bool, now: u64) -> bool
         ensures { result ≡ is_tick_due first was_awaited now self.now }
     {
@@ -480,8 +480,8 @@ impl<L: Wire, D: Door + Drop, C: Clock + Drop> Port for Live<L, D, C> {
 
     ghost script = { λ ends. fixed_of ends };
 
-    /// Tells the wall clock where it is due. Else it looks at the ends round by round, until one has
-    /// something or a tick is due.
+    /// Tells the wall clock where it is due. Else it looks at the ends round by round, until one
+    /// has something or a tick is due.
     fn next(&mut self, buf: &mut [u8; 1024]) -> Next
         requires { self.old.failed < u64.MAX }
         ensures told { Some self.new.log ≡ tell (Some self.old.log) (told_by result buf.new) }

@@ -60,8 +60,8 @@ pub record WentOn (c : Settings) (log : Log) (lines : List (List ℕ)) (events :
   pub read : IsRead c log lines events gap before
   pub given : s ≡ given_up before
 
--- A gateway with these settings, which this text says, goes on with what stands in a file. Where the
--- log there was written under the same text, it went on from the state at its head.
+-- A gateway with these settings, which this text says, goes on with what stands in a file. Where
+-- the log there was written under the same text, it went on from the state at its head.
 pub record GoesOnFrom (c : Settings) (text : List ℕ) (log : Log) (file : List ℕ)
     (gap : Option ToldGap) (s : State) : Type 0 where
   pub begins : ℕ

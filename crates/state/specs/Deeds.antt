@@ -128,8 +128,8 @@ IsInTime deeds = (is_some (loss_of deeds) ≡ true) ⊎ (span (waiting deeds) < 
 
 -- When a deed may be done, behind these. An action is handed out where all events that were heard
 -- are on the disk, or where the store has failed, the state on the disk is marked as stale and that
--- is borne. None is heard while one waits for the disk for a second. A log whose store has failed is neither appended to nor synced again,
--- and none is synced for nothing.
+-- is borne. None is heard while one waits for the disk for a second. A log whose store has failed
+-- is neither appended to nor synced again, and none is synced for nothing.
 abbrev pub MayBe : (bears : Bool) → Deed → Deeds → Type 0
 MayBe bears (PutOut action) deeds =
     IsAllOnDisk deeds ⊎ ((loss_of deeds ≡ Some Marked) × (bears ≡ true))

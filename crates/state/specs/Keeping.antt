@@ -34,16 +34,16 @@ pub record IsKeeping (deeds : Deeds) (standing : Standing) (bears_loss : Bool) (
 -- what a keeper does between two steps, when the gateway is in this state: where the store has
 -- failed a new log is tried if that is due, and none otherwise; where it hasn't, one is begun or
 -- nothing is done
-pub record HasLooked {E : Type 0} (deeds : E → Deeds) (old : Keeping E) (state : State) (new : Keeping E) :
-    Type 0 where
+pub record HasLooked {E : Type 0} (deeds : E → Deeds) (old : Keeping E) (state : State)
+    (new : Keeping E) : Type 0 where
   pub tries : is_lost old.standing ≡ true → is_try_due old.patience ≡ true →
       Renews (deeds old.ends) state (deeds new.ends)
   pub waits : is_lost old.standing ≡ true → is_try_due old.patience ≡ false → new ≡ old
   pub looks : (new ≡ old) ⊎ Renews (deeds old.ends) state (deeds new.ends)
 
 -- it looks, and then tells what is to be told
-pub record HasTended {E : Type 0} (deeds : E → Deeds) (old : Keeping E) (state : State) (new : Keeping E)
-    (notice : Option Notice) : Type 0 where
+pub record HasTended {E : Type 0} (deeds : E → Deeds) (old : Keeping E) (state : State)
+    (new : Keeping E) (notice : Option Notice) : Type 0 where
   pub looked : Keeping E
   pub looks : HasLooked deeds old state looked
   pub tells : notice ≡ notice_of (is_lost looked.standing) looked.patience

@@ -239,7 +239,8 @@ fn write_segment<D: Disk + Drop>(
     gateway: &Gateway,
 ) -> Option<Segment<D>>
     requires { IsTrue (D.Disk.is_usable spare) }
-    ensures head { IfSome result (λ s. IsHeaded settings.now (state_lines gateway.now) (text_of s)) }
+    ensures head { IfSome result
+        (λ s. IsHeaded settings.now (state_lines gateway.now) (text_of s)) }
     ensures synced { IfSome result (λ s. durable_of s ≡ length (text_of s)) }
 {
     let Ok(writer) = Writer::begin(alloc, spare) else {

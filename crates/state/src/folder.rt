@@ -37,8 +37,8 @@ pub trait Folder {
     /// What led to the state at the head of the newest segment, which no code holds.
     ghost lineage: { List LogEntry } = { [] };
 
-    /// How many blocks of 4,096 zeros stand behind a checkpoint, for the lines to come: a new log is
-    /// due before they are full.
+    /// How many blocks of 4,096 zeros stand behind a checkpoint, for the lines to come: a new log
+    /// is due before they are full.
     fn blocks(&self) -> usize {
         BLOCKS
     }

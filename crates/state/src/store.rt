@@ -33,8 +33,8 @@ pub trait Store {
         ensures mark { mark self.new ≡ mark self.old }
         ensures settings { settings self.new ≡ settings self.old };
 
-    /// Begins a new log behind the settings and this gateway's state. Where `true` is answered it stands on the
-    /// disk, takes the place of the one before, and isn't marked as stale.
+    /// Begins a new log behind the settings and this gateway's state. Where `true` is answered it
+    /// stands on the disk, takes the place of the one before, and isn't marked as stale.
     fn begin(&mut self, gateway: &Gateway) -> bool
         ensures begun { result ≡ true → stored self.new
             ≡ record { head = settings self.old ∷ state_lines gateway.now; text = []; safe = [] } }
