@@ -270,8 +270,11 @@ def live_through(count, program, name, lives, seed, stretch, **settings):
                 cut_power(folder, kill_chance)
         visitor.commands, visitor.stays, field.loss = 0, 1, 0
         gateway.start()
-        end = time.monotonic() + ends.PATIENCE
+        # Until all have come, as long as some come.
+        heard, end = 0, time.monotonic() + ends.PATIENCE
         while time.monotonic() < end and any("didn't come" in fault for fault in faults_of(field, visitor)):
+            if heard < (now := sum(map(len, visitor.connections))):
+                heard, end = now, time.monotonic() + ends.PATIENCE
             time.sleep(0.05)
         time.sleep(0.2)
         gateway.kill()
